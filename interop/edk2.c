@@ -1,9 +1,9 @@
 /*
  * EDK2's own front of a Xen disk uses a ring in a guest's memory: the shim of its libraries and of its bus, and the program around it.
  *
- *     edk2 SECTORS
+ *     edk2 NAME=TEXT...
  *
- * The guest's memory is 1024 frames of 4096 bytes, with its grant table in frames 0 and 1 and its ring in frame 2; the frames of data
+ * The words are the keys that its back published, but for the state. The guest's memory is 1024 frames of 4096 bytes, with its grant table in frames 0 and 1 and its ring in frame 2; the frames of data
  * are 18 and on. Standard input and output are a conversation with whoever holds the machine, line by line. At each memory barrier, and
  * wherever else the front waits, it tells each word that it changed since, and that it sent an event, and then gives the turn away:
  *
@@ -18,7 +18,8 @@
  *     read SECTOR COUNT OFFSET         and read
  *     issue write .. or issue read ..  the same without waiting for the answer, up to 88 sectors
  *     wait                             until all that was issued is answered
- *     flush                            its block device is flushed
+ *     flush                            its block device is flushed: EDK2 pushes the operations for it that the keys offer, and waits
+ *                                      for all answers
  *     shutdown                         the front closes
  *
  * After each it says `done` with EDK2's status, 0 where it went well, and with the data of a read as hexadecimal digits; after `wait` so
@@ -49,8 +50,8 @@
 
 static UINT32 *guest, seen[FRAMES * WORDS];
 static unsigned next_frame = FIRST_DATA;
-static UINT64 sectors;
-static int event_sent, state_of_front;
+static char **keys;
+static int key_count, event_sent, state_of_front;
 static XEN_BLOCK_FRONT_DEVICE *device;
 
 static void give_up(const char *what)
@@ -260,17 +261,25 @@ static XENSTORE_STATUS EFIAPI read_own(XENBUS_PROTOCOL *This, CONST XENSTORE_TRA
     return XENSTORE_STATUS_SUCCESS;
 }
 
-/* What the back says by its keys: it is connected until the front says that it closes, and then follows it. */
+/* A key that the back published, or nothing. */
+static const char *key_of(const char *name)
+{
+    size_t length = strlen(name);
+    for (int i = 0; i < key_count; i++) {
+        if (!strncmp(keys[i], name, length) && keys[i][length] == '=') {
+            return keys[i] + length + 1;
+        }
+    }
+    return NULL;
+}
+
+/* What the back says by its keys. Its state is connected until the front says that it closes, and then follows it. */
 static XENSTORE_STATUS EFIAPI read_back(XENBUS_PROTOCOL *This, CONST XENSTORE_TRANSACTION *T, CONST CHAR8 *Node, VOID **Result)
 {
-    char text[24] = "0";
-    if (!strcmp(Node, "state")) {
-        snprintf(text, sizeof text, "%d", state_of_front == XenbusStateInitialising ? XenbusStateInitWait : state_of_front);
-    } else if (!strcmp(Node, "sectors")) {
-        snprintf(text, sizeof text, "%llu", (unsigned long long)sectors);
-    } else if (!strcmp(Node, "sector-size")) {
-        strcpy(text, "512");
-    } else if (strcmp(Node, "info") && strcmp(Node, "feature-barrier") && strcmp(Node, "feature-flush-cache")) {
+    char state[24];
+    const char *text = strcmp(Node, "state") ? key_of(Node) : state;
+    snprintf(state, sizeof state, "%d", state_of_front == XenbusStateInitialising ? XenbusStateInitWait : state_of_front);
+    if (!text) {
         return XENSTORE_STATUS_ENOENT;
     }
     *Result = text_of(text);
@@ -438,6 +447,7 @@ static void begin(void)
         give_up("EDK2's front doesn't begin");
     }
     media.LastBlock = device->MediaInfo.Sectors - 1;
+    media.ReadOnly = !device->MediaInfo.ReadWrite;
     device->BlockIo.Media = &media;
 }
 
@@ -465,10 +475,8 @@ static void obey(const char *line)
 int main(int count, char **words)
 {
     char line[128];
-    if (count != 2) {
-        give_up("edk2 SECTORS");
-    }
-    sectors = strtoull(words[1], NULL, 10);
+    keys = words + 1;
+    key_count = count - 1;
     guest = mmap(NULL, 4 * FRAMES * WORDS, PROT_READ | PROT_WRITE, MAP_PRIVATE | MAP_ANONYMOUS, -1, 0);
     if (guest == MAP_FAILED) {
         give_up("there is no memory");

@@ -356,9 +356,9 @@ void blk_aio_pwritev(BlockBackend *disk, int64_t at, QEMUIOVector *vector, int f
 
 void blk_aio_pdiscard(BlockBackend *disk, int64_t at, int64_t size, BlockCompletionFunc *then, void *opaque)
 {
-    bool may = is_within(disk, at, size);
-    if (may) {
+    int status = !is_within(disk, at, size) ? -EIO : !disk->writable ? -EPERM : 0;
+    if (!status) {
         memset(disk->bytes + at, 0, size);
     }
-    then(opaque, may ? 0 : -EIO);
+    then(opaque, status);
 }

@@ -117,3 +117,18 @@ pub taken_done : (works : List Work) (done : ℕ) (t : Work) → done ≡ done_p
 taken_done works done t same within here =
     let at : slice_get works done ≡ Some t = slice_get_read works (length works) done t refl within here in
     ap (work_at works) (passes (λ (u : Work). is_done u) works done same within) ∙ at
+
+-- and it is done
+over_first : (works : List Work) (t d : Work) (b : Bool) → is_done t ≡ b → (done_place works < length works → is_done (slice_index_or works (done_place works) d) ≡ true)
+    → cond (not b) (1 + done_place works) 0 < suc (length works) → is_done (slice_index_or (t ∷ works) (cond (not b) (1 + done_place works) 0) d) ≡ true
+over_first works t d true test later within = test
+over_first works t d false test later within =
+    let next : 1 + done_place works ≡ suc (done_place works) = omega arith in
+    ap (λ k. is_done (slice_index_or (t ∷ works) k d)) next ∙ later (omega arith)
+
+over : (works : List Work) (d : Work) → done_place works < length works → is_done (slice_index_or works (done_place works) d) ≡ true
+over [] d within = absurd (omega arith)
+over (t ∷ works) d within = over_first works t d (is_done t) refl (over works d) within
+
+pub taken_over : (works : List Work) (done : ℕ) (d : Work) → done ≡ done_place works → done < length works → is_done (slice_index_or works done d) ≡ true
+taken_over works done d same within = rw same (over works d (rw (← same) within))

@@ -1,6 +1,6 @@
 -- The mappings in the jobs' hands.
 use Rattle.std.proofs.Common.{◌≡◌, ℕ, ◌+◌, ◌≤◌, Bool, true, false, zero, suc, if◌then◌else◌, cond, List, [], ◌∷◌, ◌++◌, take, length, get_or, refl, sym, ap, ◌∙◌, append_assoc, arith, length-append}
-use Rattle.std.specs.Prelude.{Option, Some, None, Contains, option_to_list, slice_get, slice_set, remove, position, is_some, ◌==◌, nat_le}
+use Rattle.std.specs.Prelude.{Option, Some, None, Contains, option_to_list, slice_get, slice_set, remove, position, is_some, not, ◌==◌, nat_le}
 use Rattle.std.proofs.lemmas.Bool.{false≢true}
 use Rattle.std.proofs.lemmas.Option.{none-some, same_Some, slice_get-get_or}
 use Rattle.std.proofs.lemmas.List.{append-nil}
@@ -21,7 +21,7 @@ use Rattle.segment_list.specs.declared.verdict.Verdict.TheVariants as verdict
 use Rattle.segment_list.specs.Verdict.{verdict_of}
 use Rattle.back_jobs.specs.declared.stage.Stage.{Stage}
 use Rattle.back_jobs.specs.declared.stage.Stage.TheVariants as stage
-use Rattle.back_jobs.specs.Task.{Work, ask_of, ask_at, map_ask, step_of, step_at, sector_stage, next_sector, next_segment, counted, rest_of, last_of, begun, served, moving, ended, IsAnswer}
+use Rattle.back_jobs.specs.Task.{Work, ask_of, ask_at, map_ask, step_of, step_at, sector_stage, next_sector, next_segment, counted, rest_of, last_of, begun, served, moving, ended, frameless, IsAnswer}
 use Rattle.back_jobs.specs.Jobs.{Held, mapping_at, asked, work_at, told_at, removed_at, is_done, is_done_at, first_mapping, behind_mapping, start_job, without_done}
 use Rattle.back_jobs.specs.Hands.{hand_of, hands_in, Names, HasOneMore, HandsAfter}
 
@@ -94,6 +94,10 @@ hand_step_at (stage.DiskRead m) t answer.DiskFailed h = refl
 hand_step_at (stage.WriteWord m k) t answer.Done h = either_hand_of (k == 127) (next_sector t m) (record t { stage = stage.WriteWord m (k + 1) }) (m ∷ []) (hand_next t m) refl
 hand_step_at (stage.Unmap m) t answer.Done h = rw (hand_of_segment t (rest_of t.rest)) (alone m)
 hand_step_at (stage.GiveUp m) t answer.Done h = alone m
+hand_step_at stage.Flush t answer.Done h = refl
+hand_step_at stage.Flush t answer.DiskFailed h = refl
+hand_step_at (stage.Trim count) t answer.Done h = refl
+hand_step_at (stage.Trim count) t answer.DiskFailed h = refl
 hand_step_at s t given h = absurd h
 
 -- what the answer to a job's ask makes of its hand
@@ -130,10 +134,11 @@ told_between front rest works changed t given is now h =
     rw (is, now, hands_between front rest t, hands_between front rest (step_of t given)) (framed (ask_of t) given (hands_in front) (hands_in rest) (hand_of t) (hand_of (step_of t given)) (hand_step t given h))
 
 -- what the answer to the ask of one job makes of all hands
-pub told_hands : (works : List Work) (place : Option ℕ) (found : Option Work) (given : BackAnswer) → work_at works place ≡ found → IsAnswer (asked found) given → HandsAfter (asked found) given (hands_in works) (hands_in (told_at works place found given))
-told_hands works place None given found h = absurd h
-told_hands works None (Some t) given found h = absurd (none-some t found)
-told_hands works (Some place) (Some t) given found h =
+pub told_hands : (works : List Work) (place : Option ℕ) (waits : Bool) (found : Option Work) (given : BackAnswer) → work_at works place ≡ found → IsAnswer (asked waits found) given → HandsAfter (asked waits found) given (hands_in works) (hands_in (told_at works place found given))
+told_hands works place waits None given found h = absurd h
+told_hands works place true (Some t) given found h = absurd h
+told_hands works None false (Some t) given found h = absurd (none-some t found)
+told_hands works (Some place) false (Some t) given found h =
     let r = place_among works place t found in
     told_between r.front r.rest works (slice_set works place (step_of t given)) t given r.is (r.set (step_of t given)) h
 
@@ -164,7 +169,10 @@ pub done_hands : (h : Held) → hands_in (without_done h).works ≡ hands_in h.w
 done_hands h = removed_done h.works (position (λ (t : Work). is_done t) h.works) refl
 
 served_hand : (number : ℕ) (request : RawRequest) (size : ℕ) → hand_of (served number request size) ≡ []
-served_hand number (Direct op count device id sector segments) size = either_hand_of (nat_le op 1) (moving number (Direct op count device id sector segments) size (op == 1) sector (take count segments)) (ended number (Direct op count device id sector segments) size (stage.Done Error)) [] refl refl
+served_hand number (Direct op count device id sector segments) size =
+    let request : RawRequest = Direct op count device id sector segments in
+    let other = either_hand_of (op == 3) (frameless number request size sector stage.Flush) (ended number request size (stage.Done Error)) [] refl refl in
+    either_hand_of (nat_le op 2) (moving number request size (not (op == 0)) sector (take count segments)) _ [] refl other
 served_hand number (Discard flag device id sector count) size = refl
 served_hand number (Indirect op count device id sector pages) size = refl
 

@@ -4,6 +4,7 @@ pub mod Sizes
 pub mod Order
 pub mod Numbers
 pub mod Done
+pub mod First
 pub mod Finding
 pub mod Listed
 pub mod Telling

@@ -1,6 +1,6 @@
 -- Every job knows the disk's size, and names only what it may.
 use Rattle.std.proofs.Common.{◌≡◌, ℕ, ◌+◌, Bool, true, false, if◌then◌else◌, cond, List, [], ◌∷◌, ◌++◌, take, refl, sym, ap, ◌∙◌, suc, arith}
-use Rattle.std.specs.Prelude.{Option, Some, None, Contains, is_some, remove, ◌==◌, nat_le}
+use Rattle.std.specs.Prelude.{Option, Some, None, Contains, is_some, not, remove, ◌==◌, nat_le}
 use Rattle.std.proofs.lemmas.Option.{get_or_from_slice_get, slice_get_within}
 use Rattle.std.proofs.lemmas.List.Elements.{All-tail, All-set, All-push, All-append, All-take, All-drop, All-get_or}
 use Rattle.blk_base.specs.declared.parts.Mapping.{Mapping}
@@ -14,7 +14,7 @@ use Rattle.segment_list.specs.declared.verdict.Verdict.{Verdict}
 use Rattle.segment_list.specs.declared.verdict.Verdict.TheVariants as verdict
 use Rattle.back_jobs.specs.declared.stage.Stage.{Stage}
 use Rattle.back_jobs.specs.declared.stage.Stage.TheVariants as stage
-use Rattle.back_jobs.specs.Task.{Work, ask_of, ask_at, map_ask, mode_of, step_of, step_at, sector_stage, next_sector, next_segment, counted, rest_of, last_of, begun, served, moving, ended}
+use Rattle.back_jobs.specs.Task.{Work, ask_of, ask_at, map_ask, mode_of, step_of, step_at, sector_stage, next_sector, next_segment, counted, rest_of, last_of, begun, served, moving, ended, frameless}
 use Rattle.back_jobs.specs.Jobs.{mapping_at, work_at, told_at, behind_mapping}
 use Rattle.back_jobs.specs.Sound.{AreSized, IsPlaced, StaysInPageAndDisk}
 use Rattle.back_jobs.specs.Hands.{hand_of, Names}
@@ -23,6 +23,38 @@ use Rattle.back_jobs.proofs.Hands.{hand_at}
 -- the number and the disk's size that a job has
 abbrev Has : ℕ → ℕ → Work → Type 0
 Has number size t = (t.number ≡ number) × (t.size ≡ size)
+
+-- an answer leaves a job its operation
+either_op : (b : Bool) (x y : Work) (op : ℕ) → x.op ≡ op → y.op ≡ op → (if b then x else y).op ≡ op
+either_op true x y op p q = p
+either_op false x y op p q = q
+
+next_sector_op : (t : Work) (m : Mapping) → (next_sector t m).op ≡ t.op
+next_sector_op t m = either_op (t.within == last_of t.rest) (record t { stage = stage.Unmap m }) (record t { within = t.within + 1; stage = sector_stage t.writes m }) t.op refl refl
+
+next_segment_op : (t : Work) (rest : List Segment) → (next_segment t rest).op ≡ t.op
+next_segment_op t [] = refl
+next_segment_op t (s ∷ rest) = refl
+
+step_op_at : (s : Stage) (t : Work) (given : BackAnswer) → (step_at s t given).op ≡ t.op
+step_op_at stage.Map t (answer.Mapped m) = refl
+step_op_at stage.Map t (answer.MapRefused status) = refl
+step_op_at (stage.ReadWord m k) t (answer.Word word) = refl
+step_op_at (stage.DiskWrite m) t answer.Done = next_sector_op (counted t) m
+step_op_at (stage.DiskWrite m) t answer.DiskFailed = refl
+step_op_at (stage.DiskRead m) t (answer.Sector words) = refl
+step_op_at (stage.DiskRead m) t answer.DiskFailed = refl
+step_op_at (stage.WriteWord m k) t answer.Done = either_op (k == 127) (next_sector t m) (record t { stage = stage.WriteWord m (k + 1) }) t.op (next_sector_op t m) refl
+step_op_at (stage.Unmap m) t answer.Done = next_segment_op t (rest_of t.rest)
+step_op_at (stage.GiveUp m) t answer.Done = refl
+step_op_at stage.Flush t answer.Done = refl
+step_op_at stage.Flush t answer.DiskFailed = refl
+step_op_at (stage.Trim count) t answer.Done = refl
+step_op_at (stage.Trim count) t answer.DiskFailed = refl
+step_op_at s t given = refl
+
+pub step_op : (t : Work) (given : BackAnswer) → (step_of t given).op ≡ t.op
+step_op t given = step_op_at t.stage t given
 
 either_has : (b : Bool) (x y : Work) (number size : ℕ) → Has number size x → Has number size y → Has number size (if b then x else y)
 either_has true x y number size p q = p
@@ -46,6 +78,10 @@ step_has (stage.DiskRead m) t answer.DiskFailed = (refl, refl)
 step_has (stage.WriteWord m k) t answer.Done = either_has (k == 127) (next_sector t m) (record t { stage = stage.WriteWord m (k + 1) }) t.number t.size (next_sector_has t m) (refl, refl)
 step_has (stage.Unmap m) t answer.Done = next_segment_has t (rest_of t.rest)
 step_has (stage.GiveUp m) t answer.Done = (refl, refl)
+step_has stage.Flush t answer.Done = (refl, refl)
+step_has stage.Flush t answer.DiskFailed = (refl, refl)
+step_has (stage.Trim count) t answer.Done = (refl, refl)
+step_has (stage.Trim count) t answer.DiskFailed = (refl, refl)
 step_has s t given = (refl, refl)
 
 -- an answer leaves a job its number and the disk's size
@@ -56,7 +92,10 @@ pub step_size : (t : Work) (given : BackAnswer) → (step_of t given).size ≡ t
 step_size t given = (step_has t.stage t given).1
 
 served_has : (number : ℕ) (request : RawRequest) (size : ℕ) → Has number size (served number request size)
-served_has number (Direct op count device id sector segments) size = either_has (nat_le op 1) (moving number (Direct op count device id sector segments) size (op == 1) sector (take count segments)) (ended number (Direct op count device id sector segments) size (stage.Done Error)) number size (refl, refl) (refl, refl)
+served_has number (Direct op count device id sector segments) size =
+    let request : RawRequest = Direct op count device id sector segments in
+    let other = either_has (op == 3) (frameless number request size sector stage.Flush) (ended number request size (stage.Done Error)) number size (refl, refl) (refl, refl) in
+    either_has (nat_le op 2) (moving number request size (not (op == 0)) sector (take count segments)) _ number size (refl, refl) other
 served_has number (Discard flag device id sector count) size = (refl, refl)
 served_has number (Indirect op count device id sector pages) size = (refl, refl)
 
@@ -121,6 +160,8 @@ names_at size (stage.DiskRead m) t placed within = tt
 names_at size (stage.WriteWord m k) t placed within = (only m, placed.2 ∙ ap mode_of placed.3, within)
 names_at size (stage.Unmap m) t placed within = only m
 names_at size (stage.GiveUp m) t placed within = only m
+names_at size stage.Flush t placed within = tt
+names_at size (stage.Trim count) t placed within = tt
 names_at size (stage.Done status) t placed within = tt
 
 -- a job names what is in its hand, and writes only to a frame that it mapped for writing

@@ -1,16 +1,24 @@
 -- One of the jobs is told an answer.
-use Rattle.std.proofs.Common.{◌≡◌, ◌≤◌, ◌<◌, ℕ, Bool, true, false, List, length, sym, ap, ◌∙◌, arith}
-use Rattle.std.specs.Prelude.{Some, slice_get, slice_set, slice_index_or}
+use Rattle.std.proofs.Common.{◌≡◌, ◌≤◌, ◌<◌, ℕ, Bool, true, false, List, length, sym, ap, ◌∙◌, subst, arith}
+use Rattle.std.specs.Prelude.{Option, Some, slice_get, slice_set, slice_index_or}
 use Rattle.std.proofs.lemmas.Option.{get_or_from_slice_get, slice_get_within}
 use Rattle.std.proofs.Math.ListN.{length-set}
 use Rattle.blk_base.specs.declared.ask.BackAnswer.{BackAnswer}
 use Rattle.back_jobs.specs.Task.{Work, ask_of, step_of, IsAnswer}
-use Rattle.back_jobs.specs.Jobs.{place_of, work_at, work_of, told_at, is_done}
+use Rattle.back_jobs.specs.Jobs.{place_of, work_at, work_of, asked, told_at, is_done}
 use Rattle.back_jobs.specs.Sound.{AreSized, IsKept, done_numbers}
 use Rattle.back_jobs.proofs.Done.{done_after, told_done, undone}
 use Rattle.back_jobs.proofs.Listed.{noted, told_listed, listed_fewer, noting}
 use Rattle.back_jobs.proofs.Numbers.{set_ascending}
 use Rattle.back_jobs.proofs.Sizes.{step_number, told_sized}
+
+-- a job that is told an answer waits for none
+pub unheld : (held : Bool) (found : Option Work) (t : Work) (a : BackAnswer) → found ≡ Some t → IsAnswer (asked held found) a → IsAnswer (ask_of t) a
+unheld held found t a is h = by_test held (subst (λ (x : Option Work). IsAnswer (asked held x) a) is h)
+  where
+    by_test : (b : Bool) → IsAnswer (asked b (Some t)) a → IsAnswer (ask_of t) a
+    by_test true told = absurd told
+    by_test false told = told
 
 -- the job of the number
 pub work_there : (works : List Work) (number place : ℕ) (t : Work) → place_of works number ≡ Some place → slice_get works place ≡ Some t → work_of works number ≡ Some t

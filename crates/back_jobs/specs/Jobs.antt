@@ -1,6 +1,7 @@
 -- The jobs that the back holds, in order of number.
-use Rattle.std.specs.Prelude.{ℕ, Bool, true, false, List, [], ◌∷◌, ◌++◌, find, position, remove, slice_get, slice_set, Option, Some, None, ◌==◌, nat_lt, cond, is_some}
+use Rattle.std.specs.Prelude.{ℕ, Bool, true, false, not, ◌&&◌, ◌||◌, List, [], ◌∷◌, ◌++◌, take, find, position, remove, slice_get, slice_set, Option, Some, None, ◌==◌, nat_lt, cond, is_some}
 use Rattle.std.specs.Option.{option_map}
+use Rattle.std.specs.List.{list_any}
 use Rattle.blk_base.specs.declared.operation.Status.{Status}
 use Rattle.blk_base.specs.declared.parts.Mapping.{Mapping}
 use Rattle.blk_base.specs.declared.ask.BackAsk.{BackAsk}
@@ -8,6 +9,7 @@ use Rattle.blk_base.specs.declared.ask.BackAsk.TheVariants.{Wait}
 use Rattle.blk_base.specs.declared.ask.BackAnswer.{BackAnswer}
 use Rattle.blk_base.specs.declared.ask.BackAnswer.TheVariants as answer
 use Rattle.back_jobs.specs.declared.effect.Effect.{Effect}
+use Rattle.back_jobs.specs.declared.effect.Effect.TheVariants as effect
 use Rattle.blk_layout.specs.declared.request.RawRequest.{RawRequest}
 use Rattle.segment_list.specs.declared.verdict.DiskInfo.{DiskInfo}
 use Rattle.segment_list.specs.Verdict.{verdict_of}
@@ -36,13 +38,57 @@ work_at works (Some place) = slice_get works place
 abbrev pub work_of : List Work → ℕ → Option Work
 work_of works number = work_at works (place_of works number)
 
--- what the job of a number asks; one that isn't held waits
-abbrev pub asked : Option Work → BackAsk
-asked None = Wait
-asked (Some t) = ask_of t
+-- a job that is done
+abbrev pub is_done_at : Stage → Bool
+is_done_at (stage.Done status) = true
+is_done_at s = false
+
+abbrev pub is_done : Work → Bool
+is_done t = is_done_at t.stage
+
+-- the operations that a barrier orders: WRITE (1), WRITE_BARRIER (2) and DISCARD (5) of `io/blkif.h`
+abbrev pub is_ordered : Work → Bool
+is_ordered t = t.op == 1 || t.op == 2 || t.op == 5
+
+abbrev pub is_barrier : Work → Bool
+is_barrier t = t.op == 2
+
+-- a barrier waits for each of them that was fetched before it and isn't done; and each of them waits for a barrier
+abbrev pub holds_barriers : Work → Bool
+holds_barriers t = is_ordered t && not (is_done t)
+
+abbrev pub holds_all : Work → Bool
+holds_all t = is_barrier t && not (is_done t)
+
+-- a job waits at its beginning: before its first map, or before its trim
+abbrev pub is_fresh_at : Stage → ℕ → Bool
+is_fresh_at stage.Map moved = moved == 0
+is_fresh_at (stage.Trim count) moved = true
+is_fresh_at s moved = false
+
+-- these jobs were fetched before it
+abbrev pub is_held : Work → (ordered barrier : Bool) → Bool
+is_held t ordered barrier = (is_barrier t && ordered) || (is_ordered t && barrier)
+
+abbrev pub is_behind : List Work → Work → Bool
+is_behind earlier t = is_held t (list_any holds_barriers earlier) (list_any holds_all earlier)
+
+-- the job at a place, where it is held, waits for one before it
+abbrev pub waits_at : List Work → Option ℕ → Option Work → Bool
+waits_at works (Some place) (Some t) = is_fresh_at t.stage t.moved && is_behind (take place works) t
+waits_at works place found = false
+
+abbrev pub waits : List Work → ℕ → Bool
+waits works number = waits_at works (place_of works number) (work_of works number)
+
+-- what the job of a number asks; one that isn't held waits, and one that waits for another
+abbrev pub asked : Bool → Option Work → BackAsk
+asked held None = Wait
+asked true (Some t) = Wait
+asked false (Some t) = ask_of t
 
 abbrev pub ask_job : Held → ℕ → BackAsk
-ask_job h number = asked (work_of h.works number)
+ask_job h number = asked (waits h.works number) (work_of h.works number)
 
 -- the job of a number is told an answer
 abbrev pub told_at : List Work → Option ℕ → Option Work → BackAnswer → List Work
@@ -56,14 +102,6 @@ tell_job h number a = record h { works = told_at h.works (place_of h.works numbe
 -- a request is begun under a number above all that are held
 abbrev pub start_job : Held → ℕ → RawRequest → Held
 start_job h number request = record h { works = h.works ++ begun number request h.info.sectors (verdict_of request h.info) ∷ [] }
-
--- a job that is done
-abbrev pub is_done_at : Stage → Bool
-is_done_at (stage.Done status) = true
-is_done_at s = false
-
-abbrev pub is_done : Work → Bool
-is_done t = is_done_at t.stage
 
 -- number, id, operation and status of a job that is done
 abbrev pub response_at : Stage → Work → Option (ℕ × ℕ × ℕ × Status)
@@ -112,12 +150,16 @@ abbrev pub first_mapping : List Work → Option Mapping
 first_mapping [] = None
 first_mapping (t ∷ works) = cond (is_some (mapping_at t.stage)) (mapping_at t.stage) (first_mapping works)
 
--- what a job's move does to its request: the id and the sector's place in it, and whether the disk failed there
+-- what a job's move does to its request, by the id and the sector's place in it (`io/blkif.h`)
 abbrev pub effect_at : Stage → Work → BackAnswer → Option Effect
-effect_at (stage.DiskWrite m) t answer.Done = Some (record { id = t.id; index = t.moved; failed = false })
-effect_at (stage.DiskWrite m) t answer.DiskFailed = Some (record { id = t.id; index = t.moved; failed = true })
-effect_at (stage.DiskRead m) t (answer.Sector words) = Some (record { id = t.id; index = t.moved; failed = false })
-effect_at (stage.DiskRead m) t answer.DiskFailed = Some (record { id = t.id; index = t.moved; failed = true })
+effect_at (stage.DiskWrite m) t answer.Done = Some (effect.Moved t.id t.moved)
+effect_at (stage.DiskWrite m) t answer.DiskFailed = Some (effect.Failed t.id t.moved)
+effect_at (stage.DiskRead m) t (answer.Sector words) = Some (effect.Moved t.id t.moved)
+effect_at (stage.DiskRead m) t answer.DiskFailed = Some (effect.Failed t.id t.moved)
+effect_at stage.Flush t answer.Done = Some (effect.Flushed t.id)
+effect_at stage.Flush t answer.DiskFailed = Some (effect.Failed t.id t.moved)
+effect_at (stage.Trim count) t answer.Done = Some (effect.Trimmed t.id)
+effect_at (stage.Trim count) t answer.DiskFailed = Some (effect.Failed t.id t.moved)
 effect_at s t a = None
 
 abbrev pub effect_of : Option Work → BackAnswer → Option Effect

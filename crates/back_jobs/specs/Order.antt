@@ -38,6 +38,10 @@ abbrev pub put : ℕ → List ℕ → List ℕ
 put n [] = n ∷ []
 put n (m ∷ ms) = if nat_lt m n then m ∷ put n ms else n ∷ m ∷ ms
 
+-- the place of the first of some jobs, once another job was removed
+abbrev pub without : ℕ → ℕ → ℕ
+without first removed = if nat_lt removed first then first - 1 else first
+
 -- the place of the lowest job that is done, once one more is held
 abbrev pub done_with : ℕ → ℕ → Bool → ℕ
 done_with done count is_done = if done == count then (if is_done then count else count + 1) else done

@@ -9,7 +9,7 @@ use Rattle.segment_list.specs.Segments.{IsSound, sectors_of}
 use Rattle.back_jobs.specs.declared.stage.Stage.{Stage}
 use Rattle.back_jobs.specs.declared.stage.Stage.TheVariants as stage
 use Rattle.back_jobs.specs.Task.{Work, mode_of}
-use Rattle.back_jobs.specs.Jobs.{is_done}
+use Rattle.back_jobs.specs.Jobs.{is_done, holds_barriers, holds_all}
 
 -- the present segment has come as far as `within`; after `ahead` more sectors of it, those of the others lie on the disk
 abbrev pub IsUnderWay : Work → ℕ → List Segment → Type 0
@@ -34,7 +34,16 @@ IsPlaced (stage.DiskRead m) t = IsUnderWay t 1 t.rest × IsInMode m t × (t.writ
 IsPlaced (stage.WriteWord m k) t = (k < 128) × IsUnderWay t 0 t.rest × IsInMode m t × (t.writes ≡ false)
 IsPlaced (stage.Unmap m) t = IsLeft t t.rest × IsInMode m t
 IsPlaced (stage.GiveUp m) t = IsInMode m t
+IsPlaced stage.Flush t = Unit {0}
+IsPlaced (stage.Trim count) t = t.disk + count ≤ t.size
 IsPlaced (stage.Done status) t = Unit {0}
+
+-- a job without a mapping: it flushes the disk, trims sectors that lie on it, or is done
+abbrev pub IsFrameless : Stage → (sector size : ℕ) → Type 0
+IsFrameless stage.Flush sector size = Unit {0}
+IsFrameless (stage.Trim count) sector size = sector + count ≤ size
+IsFrameless (stage.Done status) sector size = Unit {0}
+IsFrameless s sector size = ⊥
 
 -- every job knows the disk's size
 abbrev pub AreSized : ℕ → List Work → Type 0
@@ -63,15 +72,27 @@ pub record IsKept (ascending : Bool) (finished : List ℕ) (done room capacity l
   pub is_listed : ascending ≡ true → finished ≡ done_numbers works
   pub is_done : done ≡ done_place works
 
+-- where the first job stands that a barrier waits for, and the first barrier that isn't done; how many jobs there are where there is none
+abbrev pub ordered_place : List Work → ℕ
+ordered_place works = position_or_len holds_barriers works
+
+abbrev pub barrier_place : List Work → ℕ
+barrier_place works = position_or_len holds_all works
+
+pub record AreFirst (ordered barrier : ℕ) (works : List Work) : Type 0 where
+  pub ordered_is : ordered ≡ ordered_place works
+  pub barrier_is : barrier ≡ barrier_place works
+
 -- segments that a job may begin with: there is one, each has a sector and none beyond its frame, and all lie on the disk
 abbrev pub AreMovable : ℕ → ℕ → List Segment → Type 0
 AreMovable size sector [] = ⊥
 AreMovable size sector (s ∷ rest) = (sector + sectors_of (s ∷ rest) ≤ size) × AllByRecursion IsSound (s ∷ rest)
 
--- an ask that touches memory names a word below 1024, and one that calls the disk a sector below `size`
+-- an ask that touches memory names a word below 1024, and one that calls the disk sectors below `size`
 abbrev pub StaysInPageAndDisk : ℕ → BackAsk → Type 0
 StaysInPageAndDisk size (ask.Read m word) = word < 1024
 StaysInPageAndDisk size (ask.Write m word value) = word < 1024
 StaysInPageAndDisk size (ask.DiskRead sector) = sector < size
 StaysInPageAndDisk size (ask.DiskWrite sector words) = sector < size
+StaysInPageAndDisk size (ask.Trim sector count) = sector + count ≤ size
 StaysInPageAndDisk size a = Unit {0}

@@ -1,5 +1,5 @@
 -- One job as a machine: what it asks, and what an answer makes of it.
-use Rattle.std.specs.Prelude.{◌≡◌, ℕ, ◌+◌, ◌*◌, ◌%◌, ◌^◌, Bool, true, false, List, [], ◌∷◌, take, replicate, slice_index, slice_set, if◌then◌else◌, ◌==◌, nat_le}
+use Rattle.std.specs.Prelude.{◌≡◌, ℕ, ◌+◌, ◌*◌, ◌%◌, ◌^◌, Bool, true, false, not, List, [], ◌∷◌, take, replicate, slice_index, slice_set, if◌then◌else◌, ◌==◌, nat_le}
 use Rattle.blk_base.specs.declared.parts.Mapping.{Mapping}
 use Rattle.blk_base.specs.declared.parts.Mode.{Mode}
 use Rattle.blk_base.specs.declared.parts.Mode.TheVariants.{ReadOnly, ReadWrite}
@@ -51,6 +51,8 @@ ask_at (stage.DiskRead m) t = ask.DiskRead t.disk
 ask_at (stage.WriteWord m k) t = ask.Write m (word_at t k) (slice_index t.words k)
 ask_at (stage.Unmap m) t = ask.Unmap m
 ask_at (stage.GiveUp m) t = ask.Unmap m
+ask_at stage.Flush t = ask.Flush
+ask_at (stage.Trim count) t = ask.Trim t.disk count
 ask_at (stage.Done status) t = ask.Wait
 
 -- what a job asks
@@ -106,6 +108,10 @@ step_at (stage.DiskRead m) t DiskFailed = record t { stage = stage.GiveUp m }
 step_at (stage.WriteWord m k) t Done = if k == 127 then next_sector t m else record t { stage = stage.WriteWord m (k + 1) }
 step_at (stage.Unmap m) t Done = next_segment t (rest_of t.rest)
 step_at (stage.GiveUp m) t Done = record t { stage = stage.Done Error }
+step_at stage.Flush t Done = record t { stage = stage.Done Okay }
+step_at stage.Flush t DiskFailed = record t { stage = stage.Done Error }
+step_at (stage.Trim count) t Done = record t { stage = stage.Done Okay }
+step_at (stage.Trim count) t DiskFailed = record t { stage = stage.Done Error }
 step_at s t answer = t
 
 -- what an answer makes of a job
@@ -133,6 +139,10 @@ IsAnswer (ask.DiskRead sector) (Sector words) = Unit {0}
 IsAnswer (ask.DiskRead sector) DiskFailed = Unit {0}
 IsAnswer (ask.DiskWrite sector words) Done = Unit {0}
 IsAnswer (ask.DiskWrite sector words) DiskFailed = Unit {0}
+IsAnswer ask.Flush Done = Unit {0}
+IsAnswer ask.Flush DiskFailed = Unit {0}
+IsAnswer (ask.Trim sector count) Done = Unit {0}
+IsAnswer (ask.Trim sector count) DiskFailed = Unit {0}
 IsAnswer a answer = ⊥
 
 -- the id and the operation that a response names: the entry's first byte, or the inner operation of an INDIRECT
@@ -146,21 +156,24 @@ response_op (Direct op count device id sector segments) = op
 response_op (Discard flag device id sector count) = 5
 response_op (Indirect op count device id sector pages) = op
 
--- a job that is done before it began
-abbrev pub ended : ℕ → RawRequest → ℕ → Stage → Work
-ended number request size s = record {
+-- a job that moves no sectors between frames and the disk: one that flushes or trims, or is done before it began
+abbrev pub frameless : ℕ → RawRequest → ℕ → ℕ → Stage → Work
+frameless number request size sector s = record {
   number = number;
   id = id_of request;
   op = response_op request;
   writes = false;
   size = size;
-  disk = 0;
+  disk = sector;
   moved = 0;
   rest = [];
   within = 0;
   words = replicate 128 0;
   stage = s;
 }
+
+abbrev pub ended : ℕ → RawRequest → ℕ → Stage → Work
+ended number request size s = frameless number request size 0 s
 
 -- a job that reads or writes these segments
 abbrev pub moving : ℕ → RawRequest → ℕ → Bool → ℕ → List Segment → Work
@@ -178,11 +191,16 @@ moving number request size writes sector segments = record {
   stage = stage.Map;
 }
 
--- a served request: of READ (0) and WRITE (1) the segments are moved; of no other operation is one served that this back publishes
+-- a served request: of READ (0), WRITE (1) and WRITE_BARRIER (2) the segments are moved; FLUSH_DISKCACHE (3) flushes the disk and DISCARD trims its sectors; of no other operation is one served that this back publishes
+abbrev pub served_direct : ℕ → RawRequest → ℕ → ℕ → ℕ → List Segment → Work
+served_direct number request size op sector segments =
+    if nat_le op 2 then moving number request size (not (op == 0)) sector segments
+    else (if op == 3 then frameless number request size sector stage.Flush
+    else ended number request size (stage.Done Error))
+
 abbrev pub served : ℕ → RawRequest → ℕ → Work
-served number (Direct op count device id sector segments) size =
-    if nat_le op 1 then moving number (Direct op count device id sector segments) size (op == 1) sector (take count segments)
-    else ended number (Direct op count device id sector segments) size (stage.Done Error)
+served number (Direct op count device id sector segments) size = served_direct number (Direct op count device id sector segments) size op sector (take count segments)
+served number (Discard flag device id sector count) size = frameless number (Discard flag device id sector count) size sector (stage.Trim count)
 served number request size = ended number request size (stage.Done Error)
 
 -- the job of a request with this verdict

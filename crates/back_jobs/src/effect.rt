@@ -1,13 +1,14 @@
 // What a job's move does.
 
-/// What a job's move did to its request: a sector was read from or written to the disk, or the disk
-/// failed at it.
+/// What a job's move did to its request, by the request's id.
 #[derive(Clone, Copy, Debug, PartialEq, Eq)]
-pub struct Effect {
-    /// The request's id.
-    pub id: u64,
-    /// The sector's place in the request, from 0.
-    pub index: u32,
-    /// Whether the disk failed.
-    pub failed: bool,
+pub enum Effect {
+    /// The sector at this place of it, from 0, was read from or written to the disk.
+    Moved { id: u64, index: u32 },
+    /// The disk made everything written and trimmed so far stable.
+    Flushed { id: u64 },
+    /// The disk discarded its sectors.
+    Trimmed { id: u64 },
+    /// The disk failed: at the sector at this place; at place 0 of a flush or a discard.
+    Failed { id: u64, index: u32 },
 }

@@ -1,14 +1,15 @@
 // All jobs of the back.
-ghost use Rattle.std.specs.Prelude.{◌≡◌, ◌<◌, ◌≤◌, ◌+◌, ◌↔◌, IfOk, IfSome, IsSome, IsTrue, length, vec_capacity, option_and_then};
+ghost use Rattle.std.specs.Prelude.{◌≡◌, ◌<◌, ◌≤◌, ◌+◌, ◌↔◌, Some, IfOk, IfSome, IsSome, IsTrue, length, take, slice_get, vec_capacity, option_and_then};
 ghost use Rattle.std.specs.Option.{option_map};
 ghost use Rattle.back_jobs.specs.Task.{IsAnswer, Work};
 ghost use Rattle.back_jobs.specs.Sound.{StaysInPageAndDisk};
 ghost use Rattle.back_jobs.specs.Hands.{hands_in, Names};
-ghost use Rattle.back_jobs.specs.Jobs.{none_held, place_of, work_of, ask_job, tell_job, start_job, without_done, first_mapping, behind_mapping, effect_of, done_of, response_of, next_after};
+ghost use Rattle.back_jobs.specs.Jobs.{none_held, place_of, work_of, waits_at, is_held, is_behind, ask_job, tell_job, start_job, without_done, first_mapping, behind_mapping, effect_of, done_of, response_of, next_after};
 ghost use Rattle.ring_words.specs.Shape.{entries_of};
 
 mod finding;
 mod finished;
+mod order;
 
 use crate::effect::Effect;
 use crate::task::Task;
@@ -18,6 +19,7 @@ use finding::{
     by_halves, first_above, goes_on_ascending, guess, is_first, next_in, number_at, place_in,
 };
 use finished::{done_with, drop_first, first_done, lowest_done, note};
+use order::{barrier_after, first_barrier, first_ordered, ordered_after, without};
 use ring_words::RingShape;
 use segment_list::DiskInfo;
 use std::alloc::Global;
@@ -37,18 +39,23 @@ pub struct Jobs {
     finished: Vec<u64>,
     // The place of the lowest job that is done; how many are held where none is.
     done: usize,
+    // The place of the first write, barrier or discard that isn't done, and that of the first barrier;
+    // how many jobs are held where there is none.
+    ordered: usize,
+    barrier: usize,
 }
 
 impl Model for Jobs {
     ghost use Rattle.std.specs.Prelude.{◌≤◌, vec_capacity};
     ghost use Rattle.back_jobs.specs.Jobs.{Held};
-    ghost use Rattle.back_jobs.specs.Sound.{IsKept};
+    ghost use Rattle.back_jobs.specs.Sound.{IsKept, AreFirst};
 
     ghost Value = { Held };
 
     ghost view = { λ j. record { works = j.tasks.items; room = j.room; info = j.info } };
 
-    ghost invariant = { λ j. IsKept j.ascending j.finished.items j.done j.room (vec_capacity j.tasks) (vec_capacity j.finished) j.info.sectors j.tasks.items };
+    ghost invariant = { λ j. IsKept j.ascending j.finished.items j.done j.room (vec_capacity j.tasks) (vec_capacity j.finished) j.info.sectors j.tasks.items
+        × AreFirst j.ordered j.barrier j.tasks.items };
 }
 
 impl Jobs {
@@ -67,6 +74,8 @@ impl Jobs {
             ascending: true,
             finished,
             done: 0,
+            ordered: 0,
+            barrier: 0,
         })
     }
 
@@ -102,7 +111,10 @@ impl Jobs {
     {
         let task = Task::begin(number, request, &self.info);
         let is_done = task.is_done();
-        self.done = done_with(self.done, self.tasks.len(), is_done);
+        let count = self.tasks.len();
+        self.done = done_with(self.done, count, is_done);
+        self.ordered = done_with(self.ordered, count, task.holds_barriers());
+        self.barrier = done_with(self.barrier, count, task.holds_all());
         self.ascending = goes_on_ascending(self.ascending, self.tasks.as_slice(), number);
         let _ = self.tasks.push(task);
         if is_done {
@@ -119,8 +131,29 @@ impl Jobs {
     {
         match self.place(number) {
             None => BackAsk::Wait,
+            Some(place) if self.waits(place) => BackAsk::Wait,
             Some(place) => self.tasks[place].ask(),
         }
+    }
+
+    // Whether the job at this place waits for one that was fetched before it (BLKIF_OP_WRITE_BARRIER).
+    #[inline(always)]
+    fn waits(&self, place: usize) -> bool
+        requires { place < length self.now.works }
+        ensures { result ≡ waits_at self.now.works (Some place) (slice_get self.now.works place) }
+    {
+        let task = &self.tasks[place];
+        task.is_fresh() && self.is_behind(place, task)
+    }
+
+    // Whether jobs before this place hold up this one, at its beginning.
+    #[inline(never)]
+    fn is_behind(&self, place: usize, task: &Task) -> bool
+        requires { place ≤ length self.now.works }
+        ensures { result ≡ is_behind (take place self.now.works) task.now }
+    {
+        let (ordered, barrier) = (self.ordered < place, self.barrier < place);
+        is_held(task, ordered, barrier)
     }
 
     /// Tells the job of a number the answer to what it asks, and gives what that does to its request;
@@ -136,8 +169,11 @@ impl Jobs {
         let effect = task.effect(answer);
         task.tell(answer);
         if task.is_done() {
+            let (ordered, barrier) = (task.is_ordered(), task.is_barrier());
             self.done = self.done.min(place);
             note(&mut self.finished, task.number(), self.ascending);
+            self.ordered = ordered_after(self.tasks.as_slice(), self.ordered, ordered);
+            self.barrier = barrier_after(self.tasks.as_slice(), self.barrier, barrier);
         }
         effect
     }
@@ -186,6 +222,8 @@ impl Jobs {
             return None;
         }
         let task = self.tasks.remove(self.done);
+        self.ordered = without(self.ordered, self.done);
+        self.barrier = without(self.barrier, self.done);
         drop_first(&mut self.finished);
         self.done = lowest_done(
             self.tasks.as_slice(),
@@ -221,9 +259,18 @@ impl Jobs {
         // Those that are left no more go on, and are found by a walk.
         self.ascending = tasks.is_empty();
         self.done = first_done(tasks);
+        self.ordered = first_ordered(tasks);
+        self.barrier = first_barrier(tasks);
         self.finished.clear();
         mapping
     }
+}
+
+// Whether a job waits where one that a barrier waits for stands before it, or a barrier does.
+fn is_held(task: &Task, ordered: bool, barrier: bool) -> bool
+    ensures { result ≡ is_held task.now ordered barrier }
+{
+    (task.is_barrier() && ordered) || (task.is_ordered() && barrier)
 }
 
 // Drops the jobs up to the lowest that has a mapping in its hand, and gives that mapping.

@@ -18,6 +18,10 @@ pub enum Stage {
     Unmap(Mapping),
     /// Gives the mapping up after the disk failed.
     GiveUp(Mapping),
+    /// Has the disk make stable what was written and trimmed so far.
+    Flush,
+    /// Has the disk discard so many sectors.
+    Trim(u64),
     /// Is done, with the status of the response.
     Done(Status),
 }

@@ -3,7 +3,7 @@ ghost use Rattle.std.specs.Prelude.{◌≡◌};
 ghost use Rattle.back_jobs.specs.Task.{ask_of, map_ask, step_of, IsAnswer, begun};
 ghost use Rattle.back_jobs.specs.Sound.{StaysInPageAndDisk};
 ghost use Rattle.back_jobs.specs.Hands.{hand_of, Names};
-ghost use Rattle.back_jobs.specs.Jobs.{is_done, response_of, mapping_at, effect_at};
+ghost use Rattle.back_jobs.specs.Jobs.{is_done, is_fresh_at, is_ordered, is_barrier, holds_barriers, holds_all, response_of, mapping_at, effect_at};
 ghost use Rattle.segment_list.specs.Verdict.{verdict_of};
 
 mod begun;
@@ -48,7 +48,7 @@ impl Model for Task {
 
 impl Task {
     /// The job of a request that was fetched as the `number`-th, on a disk of this kind: by the
-    /// verdict on it, it moves the request's sectors, or is done at once.
+    /// verdict on it, it moves the request's sectors, flushes or trims the disk, or is done at once.
     pub fn begin(number: u64, request: &RawRequest, info: &DiskInfo) -> Task
         ensures { result ≡ begun number request.now info.now.sectors (verdict_of request.now info.now) }
     {
@@ -94,6 +94,47 @@ impl Task {
         matches!(self.stage, Stage::Done(_))
     }
 
+    /// Whether it is at its beginning: before its first map, or before its trim.
+    #[inline(always)]
+    pub fn is_fresh(&self) -> bool
+        ensures { result ≡ is_fresh_at self.now.stage self.now.moved }
+    {
+        match self.stage {
+            Stage::Map => self.moved == 0,
+            Stage::Trim(_) => true,
+            _ => false,
+        }
+    }
+
+    /// Whether barriers order it: a write, a barrier or a discard (`BLKIF_OP_WRITE`,
+    /// `BLKIF_OP_WRITE_BARRIER`, `BLKIF_OP_DISCARD`).
+    pub fn is_ordered(&self) -> bool
+        ensures { result ≡ is_ordered self.now }
+    {
+        self.op == 1 || self.op == 2 || self.op == 5
+    }
+
+    /// Whether it is a barrier (`BLKIF_OP_WRITE_BARRIER`).
+    pub fn is_barrier(&self) -> bool
+        ensures { result ≡ is_barrier self.now }
+    {
+        self.op == 2
+    }
+
+    /// Whether a barrier after it waits for it: it is a write, a barrier or a discard, and not done.
+    pub fn holds_barriers(&self) -> bool
+        ensures { result ≡ holds_barriers self.now }
+    {
+        self.is_ordered() && !self.is_done()
+    }
+
+    /// Whether each write, barrier and discard after it waits for it: it is a barrier, and not done.
+    pub fn holds_all(&self) -> bool
+        ensures { result ≡ holds_all self.now }
+    {
+        self.is_barrier() && !self.is_done()
+    }
+
     /// Number, id, operation and status where it is done.
     pub fn response(&self) -> Option<(u64, u64, u8, Status)>
         ensures { result ≡ response_of self.now }
@@ -109,18 +150,18 @@ impl Task {
     pub fn effect(&self, answer: &BackAnswer) -> Option<Effect>
         ensures { result ≡ effect_at self.now.stage self.now answer.now }
     {
-        let failed = match (self.stage, answer) {
-            (Stage::DiskWrite(_), BackAnswer::Done) => false,
-            (Stage::DiskWrite(_), BackAnswer::DiskFailed) => true,
-            (Stage::DiskRead(_), BackAnswer::Sector(_)) => false,
-            (Stage::DiskRead(_), BackAnswer::DiskFailed) => true,
-            _ => return None,
-        };
-        Some(Effect {
-            id: self.id,
-            index: self.moved,
-            failed,
-        })
+        let (id, index) = (self.id, self.moved);
+        match (self.stage, answer) {
+            (Stage::DiskWrite(_), BackAnswer::Done) => Some(Effect::Moved { id, index }),
+            (Stage::DiskWrite(_), BackAnswer::DiskFailed) => Some(Effect::Failed { id, index }),
+            (Stage::DiskRead(_), BackAnswer::Sector(_)) => Some(Effect::Moved { id, index }),
+            (Stage::DiskRead(_), BackAnswer::DiskFailed) => Some(Effect::Failed { id, index }),
+            (Stage::Flush, BackAnswer::Done) => Some(Effect::Flushed { id }),
+            (Stage::Flush, BackAnswer::DiskFailed) => Some(Effect::Failed { id, index }),
+            (Stage::Trim(_), BackAnswer::Done) => Some(Effect::Trimmed { id }),
+            (Stage::Trim(_), BackAnswer::DiskFailed) => Some(Effect::Failed { id, index }),
+            _ => None,
+        }
     }
 
     /// The mapping in its hand.
@@ -134,7 +175,7 @@ impl Task {
             Stage::WriteWord(mapping, _) => Some(mapping),
             Stage::Unmap(mapping) => Some(mapping),
             Stage::GiveUp(mapping) => Some(mapping),
-            Stage::Map | Stage::Done(_) => None,
+            Stage::Map | Stage::Flush | Stage::Trim(_) | Stage::Done(_) => None,
         }
     }
 
@@ -160,6 +201,8 @@ impl Task {
             },
             Stage::Unmap(mapping) => BackAsk::Unmap(mapping),
             Stage::GiveUp(mapping) => BackAsk::Unmap(mapping),
+            Stage::Flush => BackAsk::Flush,
+            Stage::Trim(count) => BackAsk::Trim(self.disk, count),
             Stage::Done(_) => BackAsk::Wait,
         }
     }
@@ -210,6 +253,12 @@ impl Task {
             (Stage::WriteWord(mapping, k), BackAnswer::Done) => self.wrote_word(mapping, k),
             (Stage::Unmap(_), BackAnswer::Done) => self.next_segment(),
             (Stage::GiveUp(_), BackAnswer::Done) => self.stage = Stage::Done(Status::Error),
+            (Stage::Flush | Stage::Trim(_), BackAnswer::Done) => {
+                self.stage = Stage::Done(Status::Okay);
+            }
+            (Stage::Flush | Stage::Trim(_), BackAnswer::DiskFailed) => {
+                self.stage = Stage::Done(Status::Error);
+            }
             _ => {}
         }
     }

@@ -11,14 +11,18 @@ use std::alloc::Global;
 use std::process::Abort;
 use std::test::Fail;
 
-// No jobs, on a disk of eight sectors that publishes nothing.
+// No jobs, on a disk of eight sectors that publishes nothing, or barriers, flushes and discards.
 fn jobs(alloc: Global) -> Result<Jobs, OutOfMemory> {
+    jobs_offering(alloc, false)
+}
+
+fn jobs_offering(alloc: Global, offered: bool) -> Result<Jobs, OutOfMemory> {
     let info = DiskInfo {
         sectors: 8,
         read_only: false,
-        barrier: false,
-        flush: false,
-        discard: false,
+        barrier: offered,
+        flush: offered,
+        discard: offered,
         max_indirect: 0,
     };
     Jobs::reserve(alloc, RingShape::of(Abi::X64, 0), info)
@@ -31,7 +35,11 @@ fn start(jobs: &mut Jobs, number: u64, op: u8, sector: u64)
 }
 
 fn ask(jobs: &Jobs) -> BackAsk<'_> {
-    jobs.ask(1)
+    ask_of(jobs, 1)
+}
+
+fn ask_of(jobs: &Jobs, number: u64) -> BackAsk<'_> {
+    jobs.ask(number)
 }
 
 fn at(jobs: &Jobs) -> Option<(u64, u32)> {
@@ -76,9 +84,13 @@ fn request(op: u8, sector: u64) -> RawRequest {
     }
 }
 
-// Tells job 1 an answer, if it is one of the kind that it asks for.
 fn answer(jobs: &mut Jobs, given: BackAnswer) -> Option<Effect> {
-    let allowed = match (jobs.ask(1), &given) {
+    answer_of(jobs, 1, given)
+}
+
+// Tells a job an answer, if it is one of the kind that it asks for.
+fn answer_of(jobs: &mut Jobs, number: u64, given: BackAnswer) -> Option<Effect> {
+    let allowed = match (jobs.ask(number), &given) {
         (BackAsk::Map { gref, mode }, BackAnswer::Mapped(m)) => m.gref == gref && m.mode == mode,
         (BackAsk::Map { .. }, BackAnswer::MapRefused(_)) => true,
         (BackAsk::Read { .. }, BackAnswer::Word(_)) => true,
@@ -88,9 +100,15 @@ fn answer(jobs: &mut Jobs, given: BackAnswer) -> Option<Effect> {
         (BackAsk::DiskRead(_), BackAnswer::DiskFailed) => true,
         (BackAsk::DiskWrite(_, _), BackAnswer::Done) => true,
         (BackAsk::DiskWrite(_, _), BackAnswer::DiskFailed) => true,
+        (BackAsk::Flush | BackAsk::Trim(_, _), BackAnswer::Done) => true,
+        (BackAsk::Flush | BackAsk::Trim(_, _), BackAnswer::DiskFailed) => true,
         _ => false,
     };
-    if allowed { jobs.tell(1, &given) } else { None }
+    if allowed {
+        jobs.tell(number, &given)
+    } else {
+        None
+    }
 }
 
 fn mapping(mode: Mode) -> Mapping {
@@ -115,11 +133,7 @@ fn read_words(rt: &impl Abort, jobs: &mut Jobs, sector: u32) {
 fn first_is_written(rt: &impl Abort, jobs: &mut Jobs) {
     read_words(rt, jobs, 2);
     assert!(rt; matches!(ask(jobs), BackAsk::DiskWrite(6, _)));
-    let effect = Effect {
-        id: 5,
-        index: 0,
-        failed: false,
-    };
+    let effect = Effect::Moved { id: 5, index: 0 };
     assert_eq!(rt; answer(jobs, BackAnswer::Done), Some(effect));
 }
 
@@ -127,11 +141,7 @@ fn first_is_written(rt: &impl Abort, jobs: &mut Jobs) {
 fn second_is_failed(rt: &impl Abort, jobs: &mut Jobs) {
     read_words(rt, jobs, 3);
     assert!(rt; matches!(ask(jobs), BackAsk::DiskWrite(7, _)));
-    let failed = Effect {
-        id: 5,
-        index: 1,
-        failed: true,
-    };
+    let failed = Effect::Failed { id: 5, index: 1 };
     assert_eq!(rt; answer(jobs, BackAnswer::DiskFailed), Some(failed));
     assert_eq!(rt; done(jobs), None);
 }
@@ -250,5 +260,105 @@ fn those_that_are_done_leave_in_order(rt: HostRuntime) -> Result<(), Fail> {
     }
     lowest_leaves(&rt, &mut jobs);
     others_leave(&rt, &mut jobs);
+    Ok(())
+}
+
+// Begins, as job 1, a discard of id 5.
+fn discard(jobs: &mut Jobs, sector: u64, count: u64)
+    requires { length jobs.old.works < jobs.old.room }
+{
+    let request = RawRequest::Discard {
+        flag: 0,
+        device: 51712,
+        id: 5,
+        sector,
+        count,
+    };
+    jobs.start(1, &request);
+}
+
+// Begins, as job 1, a flush of id 5, which has no segments.
+fn flush(jobs: &mut Jobs)
+    requires { length jobs.old.works < jobs.old.room }
+{
+    let request = RawRequest::Direct {
+        op: 3,
+        count: 0,
+        device: 51712,
+        id: 5,
+        sector: 0,
+        segments: [Segment::default(); 11],
+    };
+    jobs.start(1, &request);
+}
+
+// The disk fails at the one call of job 1.
+fn fails(rt: &impl Abort, jobs: &mut Jobs, op: u8) {
+    let failed = Effect::Failed { id: 5, index: 0 };
+    assert_eq!(rt; answer(jobs, BackAnswer::DiskFailed), Some(failed));
+    assert_eq!(rt; take_done(jobs), Some((1, 5, op, Status::Error)));
+}
+
+#[test]
+fn a_flush_is_one_call_of_the_disk(rt: HostRuntime) -> Result<(), Fail> {
+    let mut jobs = jobs_offering(rt.alloc(), true)?;
+    assert!(rt; jobs.has_room());
+    flush(&mut jobs);
+    assert_eq!(rt; ask(&jobs), BackAsk::Flush);
+    assert_eq!(rt; done(&jobs), None);
+    assert_eq!(rt;
+        answer(&mut jobs, BackAnswer::Done),
+        Some(Effect::Flushed { id: 5 })
+    );
+    assert_eq!(rt; take_done(&mut jobs), Some((1, 5, 3, Status::Okay)));
+    assert!(rt; jobs.has_room());
+    flush(&mut jobs);
+    fails(&rt, &mut jobs, 3);
+    Ok(())
+}
+
+#[test]
+fn a_discard_trims_its_sectors(rt: HostRuntime) -> Result<(), Fail> {
+    let mut jobs = jobs_offering(rt.alloc(), true)?;
+    assert!(rt; jobs.has_room());
+    discard(&mut jobs, 2, 6);
+    assert_eq!(rt; ask(&jobs), BackAsk::Trim(2, 6));
+    assert_eq!(rt;
+        answer(&mut jobs, BackAnswer::Done),
+        Some(Effect::Trimmed { id: 5 })
+    );
+    assert_eq!(rt; take_done(&mut jobs), Some((1, 5, 5, Status::Okay)));
+    assert!(rt; jobs.has_room());
+    discard(&mut jobs, 0, 8);
+    fails(&rt, &mut jobs, 5);
+    assert!(rt; jobs.has_room());
+    discard(&mut jobs, 3, 6);
+    assert_eq!(rt; take_done(&mut jobs), Some((1, 5, 5, Status::Error)));
+    Ok(())
+}
+
+// Whether these jobs ask for their frame; those that don't wait.
+fn go_on(rt: &impl Abort, jobs: &Jobs, wanted: [bool; 5]) {
+    for (number, goes_on) in (1..6u64).zip(wanted) {
+        let asked = ask_of(jobs, number);
+        assert_eq!(rt; matches!(asked, BackAsk::Map { .. }), goes_on);
+        assert_eq!(rt; asked == BackAsk::Wait, !goes_on);
+    }
+}
+
+#[test]
+fn a_barrier_stands_between_the_writes_before_and_after_it(rt: HostRuntime) -> Result<(), Fail> {
+    let mut jobs = jobs_offering(rt.alloc(), true)?;
+    for (number, op) in (1..6u64).zip([1, 1, 2, 0, 1]) {
+        assert!(rt; jobs.has_room());
+        start(&mut jobs, number, op, 0);
+    }
+    go_on(&rt, &jobs, [true, true, false, true, false]);
+    let _ = answer_of(&mut jobs, 2, BackAnswer::MapRefused(-1));
+    go_on(&rt, &jobs, [true, false, false, true, false]);
+    let _ = answer(&mut jobs, BackAnswer::MapRefused(-1));
+    go_on(&rt, &jobs, [false, false, true, true, false]);
+    let _ = answer_of(&mut jobs, 3, BackAnswer::MapRefused(-1));
+    go_on(&rt, &jobs, [false, false, false, true, true]);
     Ok(())
 }

@@ -15,7 +15,7 @@ use Rattle.blk_layout.specs.Entry.{request_of}
 use Rattle.ring_words.specs.Shape.{Shape, entry_words_of, slot_word_of}
 use Rattle.ring_words.specs.Ring.{requests_of, overruns, notifies}
 use Rattle.back_jobs.specs.Task.{IsAnswer as IsJobAnswer}
-use Rattle.back_jobs.specs.Jobs.{place_of, work_of, ask_job, first_mapping, behind_mapping, next_after}
+use Rattle.back_jobs.specs.Jobs.{place_of, work_of, waits, ask_job, first_mapping, behind_mapping, next_after}
 use Rattle.back_jobs.specs.Hands.{hands_in, Names, HasOneMore, HandsAfter}
 use Rattle.back_jobs.proofs.Hands.{framed, named_among, told_hands, done_hands, started_hands, behind_hands, few_in_hands}
 use Rattle.back_jobs.proofs.Order.{next_above}
@@ -168,7 +168,7 @@ attached_hands shape grefs port v = by_stage v.stage refl
 framed_job : (a : BackAsk) (v : View) (given : BackAnswer) (number : ℕ) → a ≡ ask_job v.jobs number → IsJobAnswer a given → HandsAfter a given (hands_of v) (hands_of (job_step v number given))
 framed_job a v given number same h =
     rw same (framed (ask_job v.jobs number) given (given_up v.stage) v.pages (hands_in v.jobs.works) (hands_in (job_step v number given).jobs.works)
-    (told_hands v.jobs.works (place_of v.jobs.works number) (work_of v.jobs.works number) given refl (rw same at h)))
+    (told_hands v.jobs.works (place_of v.jobs.works number) (waits v.jobs.works number) (work_of v.jobs.works number) given refl (rw same at h)))
 
 job_hands_after_at : (halted : Bool) (v : View) (number : ℕ) (given : BackAnswer) → IsJobAnswer (if halted then ask.Wait else ask_job v.jobs number) given → HandsAfter (if halted then ask.Wait else ask_job v.jobs number) given (hands_of v) (hands_of (job_step v number given))
 job_hands_after_at true v number given h = absurd h

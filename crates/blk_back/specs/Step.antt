@@ -9,6 +9,7 @@ use Rattle.ring_words.specs.Shape.{Shape, entries_of, entry_words_of}
 use Rattle.ring_words.specs.Ring.{next_of, requests_of, overruns, notifies}
 use Rattle.blk_layout.specs.Entry.{request_of}
 use Rattle.back_jobs.specs.declared.effect.Effect.{Effect}
+use Rattle.back_jobs.specs.declared.effect.Effect.TheVariants as effect
 use Rattle.back_jobs.specs.Jobs.{start_job, tell_job, without_done, first_mapping, behind_mapping, work_of, effect_of, ask_job, next_after}
 use Rattle.blk_back.specs.declared.stage.Reply.{Reply}
 use Rattle.blk_back.specs.declared.stage.Stage.{Stage}
@@ -173,7 +174,10 @@ next_job_of v after = if is_some v.halted then None else next_after v.jobs after
 -- what a job's move tells
 abbrev pub told_effect : Option Effect → Option BackTold
 told_effect None = None
-told_effect (Some e) = Some (if e.failed then told.Fault e.id e.index else told.Effect e.id e.index)
+told_effect (Some (effect.Moved id index)) = Some (told.Effect id index)
+told_effect (Some (effect.Flushed id)) = Some (told.Flushed id)
+told_effect (Some (effect.Trimmed id)) = Some (told.Trimmed id)
+told_effect (Some (effect.Failed id index)) = Some (told.Fault id index)
 
 -- what an answer to the job of a number makes of the back
 abbrev pub job_step : View → ℕ → BackAnswer → View

@@ -1,5 +1,5 @@
 -- What contracts see of the back.
-use Rattle.std.specs.Prelude.{ℕ, Bool, false, List, [], slice_index_or, Option, None}
+use Rattle.std.specs.Prelude.{ℕ, Bool, false, List, [], slice_index_or, not, Option, None}
 use Rattle.blk_base.specs.Options.{Options}
 use Rattle.blk_base.specs.declared.operation.Abi.TheVariants.{X64}
 use Rattle.blk_base.specs.declared.parts.Mapping.{Mapping}
@@ -42,9 +42,16 @@ slot_page v k i = page_of v (slot_word_of v.shape k i).0
 abbrev pub slot_word : Shape → ℕ → ℕ → ℕ
 slot_word s k i = (slot_word_of s k i).1
 
--- the disk as this back publishes it: no barriers, flushes, discards or indirect requests
+-- the disk as this back publishes it: barriers, flushes and discards where it may be written, and no indirect requests
 abbrev pub info_of : Options → DiskInfo
-info_of config = record { sectors = config.sectors; read_only = config.read_only; barrier = false; flush = false; discard = false; max_indirect = 0 }
+info_of config = record {
+  sectors = config.sectors;
+  read_only = config.read_only;
+  barrier = not config.read_only;
+  flush = not config.read_only;
+  discard = not config.read_only;
+  max_indirect = 0;
+}
 
 -- the shape of a ring that isn't known yet
 abbrev pub no_shape : Shape

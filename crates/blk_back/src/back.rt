@@ -67,9 +67,9 @@ impl Back {
         let info = DiskInfo {
             sectors: config.sectors,
             read_only: config.read_only,
-            barrier: false,
-            flush: false,
-            discard: false,
+            barrier: !config.read_only,
+            flush: !config.read_only,
+            discard: !config.read_only,
             max_indirect: 0,
         };
         let jobs = Jobs::reserve(alloc, largest, info)?;

@@ -6,7 +6,11 @@ use blk_base::{ShortText, Status};
 pub enum BackTold {
     /// A sector of a request was written to the disk or read from it.
     Effect { id: u64, index: u32 },
-    /// The disk failed at a sector of a request.
+    /// Everything written and trimmed so far was made stable, for a flush.
+    Flushed { id: u64 },
+    /// The sectors of a discard were discarded.
+    Trimmed { id: u64 },
+    /// The disk failed at a sector of a request; at place 0 of a flush or a discard.
     Fault { id: u64, index: u32 },
     /// A reply was pushed.
     Reply { id: u64, status: Status },

@@ -1,5 +1,5 @@
 -- What the front asks.
-use Rattle.std.specs.Prelude.{ℕ, ◌+◌, ◌/◌, ◌%◌, ◌<◌, Option, Some, None, if◌then◌else◌, ◌==◌, ◌&&◌, ◌||◌, Bool, length, slice_index}
+use Rattle.std.specs.Prelude.{ℕ, ◌+◌, ◌/◌, ◌%◌, ◌<◌, Option, Some, None, if◌then◌else◌, ◌==◌, ◌&&◌, ◌||◌, Bool, List, length, slice_index}
 use Rattle.blk_base.specs.declared.ask.FrontAsk.{FrontAsk}
 use Rattle.blk_base.specs.declared.ask.FrontAsk.TheVariants.{Wait, Fence, Read, Write, Cas, NewPort, Send, ClosePort}
 use Rattle.blk_base.specs.declared.ask.FrontAnswer.{FrontAnswer}
@@ -12,6 +12,7 @@ use Rattle.blk_front.specs.declared.request.Request.{Request}
 use Rattle.blk_front.specs.declared.request.Transfer.{Transfer}
 use Rattle.blk_front.specs.declared.request.Transfer.TheVariants as transfer
 use Rattle.blk_front.specs.Request.{grant_flags, frame_at, filling_at}
+use Rattle.blk_front.specs.Entry.{entry_of}
 use Rattle.blk_front.specs.View.{View, ring_frame, ring_page_frame, entry_frame, entry_word, slot_frame, slot_word, fresh_word, next_request}
 
 -- word n of a write's data is written; the frame of this place is named in its grant entry, and granted
@@ -40,10 +41,17 @@ abbrev pub read_ask : Option Ending → ℕ → FrontAsk
 read_ask None n = Wait
 read_ask (Some e) n = Read (frame_at e.request (n / 1024)) (n % 1024)
 
--- a request is begun: a write with its data, a read with its grants
-abbrev pub issue_ask : Request → Transfer → FrontAsk
-issue_ask r (transfer.Write tag) = data_ask (Some r) 0
-issue_ask r transfer.Read = name_ask (Some r) 0
+-- a word of an entry is written to its place in the ring
+abbrev pub entry_ask : View → List ℕ → ℕ → FrontAsk
+entry_ask v entry k = Write (slot_frame v.shape v.ring.prod k) (slot_word v.shape v.ring.prod k) (slice_index entry k)
+
+-- a request is begun: a write or a barrier with its data, a read with its grants, one without frames with its entry
+abbrev pub issue_ask : View → Request → Transfer → FrontAsk
+issue_ask v r (transfer.Write tag) = data_ask (Some r) 0
+issue_ask v r (transfer.Barrier tag) = data_ask (Some r) 0
+issue_ask v r transfer.Read = name_ask (Some r) 0
+issue_ask v r transfer.Flush = entry_ask v (entry_of v.shape.abi r) 0
+issue_ask v r (transfer.Discard sectors) = entry_ask v (entry_of v.shape.abi r) 0
 
 -- it closes, and has no request left
 abbrev pub is_through : View → Bool
@@ -51,7 +59,7 @@ is_through v = v.closing && length v.requests == 0
 
 -- in the loop: a request that waits is issued; else sleep, or nothing more to do; else the next response; else the responses' producer
 abbrev pub loop_ask : View → Option Request → FrontAsk
-loop_ask v (Some r) = issue_ask r r.transfer
+loop_ask v (Some r) = issue_ask v r r.transfer
 loop_ask v None =
     if v.asleep || is_through v then Wait
     else (if responses_of v.ring v.seen == 0 then Read ring_frame 2
@@ -69,7 +77,7 @@ ask_at (stage.Data n) v = data_ask (next_request v) n
 ask_at (stage.GrantFrame place) v = name_ask (next_request v) place
 ask_at (stage.GrantFence place) v = Fence
 ask_at (stage.GrantFlags place) v = grant_ask (next_request v) place
-ask_at (stage.Slot k) v = Write (slot_frame v.shape v.ring.prod k) (slot_word v.shape v.ring.prod k) (slice_index v.entry k)
+ask_at (stage.Slot k) v = entry_ask v v.entry k
 ask_at stage.Producer v = Write ring_frame 0 (next_of v.ring.prod)
 ask_at (stage.ProducerFence old) v = Fence
 ask_at (stage.RequestEvent old) v = Read ring_frame 1

@@ -7,6 +7,7 @@ view_of f = record {
   sectors = f.sectors;
   read_only = f.read_only;
   start = f.start;
+  offers = f.offers;
   shape = record { abi = f.abi; order = f.order };
   ring = f.ring;
   stage = f.stage;

@@ -2,6 +2,7 @@ pub mod Pool
 pub mod Request
 pub mod View
 pub mod Inside
+pub mod Entry
 pub mod Ask
 pub mod Step
 pub mod Submit

@@ -6,26 +6,44 @@ use Rattle.blk_base.specs.declared.operation.Status.TheVariants.{Okay}
 use Rattle.blk_layout.specs.declared.segment.Segment.{Segment}
 use Rattle.blk_front.specs.declared.request.Request.{Request}
 use Rattle.blk_front.specs.declared.request.Transfer.{Transfer}
-use Rattle.blk_front.specs.declared.request.Transfer.TheVariants.{Read, Write}
+use Rattle.blk_front.specs.declared.request.Transfer.TheVariants.{Read, Write, Barrier, Flush, Discard}
 
 abbrev pub is_write : Transfer → Bool
-is_write Read = false
 is_write (Write tag) = true
+is_write (Barrier tag) = true
+is_write transfer = false
 
--- the word that fills the first sector of a write
+-- the word that fills the first sector of a write or a barrier
 abbrev pub tag_of : Transfer → ℕ
-tag_of Read = 0
 tag_of (Write tag) = tag
+tag_of (Barrier tag) = tag
+tag_of transfer = 0
 
--- BLKIF_OP_READ and BLKIF_OP_WRITE
+-- sectors go between frames and the disk
+abbrev pub is_moving : Transfer → Bool
+is_moving Read = true
+is_moving (Write tag) = true
+is_moving (Barrier tag) = true
+is_moving transfer = false
+
+-- so many sectors of the disk are named by a request that moves `count`: a discard moves none
+abbrev pub named_of : Transfer → ℕ → ℕ
+named_of (Discard sectors) count = sectors
+named_of transfer count = count
+
+-- BLKIF_OP_READ, BLKIF_OP_WRITE, BLKIF_OP_WRITE_BARRIER, BLKIF_OP_FLUSH_DISKCACHE and BLKIF_OP_DISCARD
 abbrev pub operation_of : Transfer → ℕ
 operation_of Read = 0
 operation_of (Write tag) = 1
+operation_of (Barrier tag) = 2
+operation_of Flush = 3
+operation_of (Discard sectors) = 5
 
--- GTF_permit_access, with GTF_readonly for the frames of a write
+-- GTF_permit_access, with GTF_readonly for the frames of a write or a barrier
 abbrev pub grant_flags : Transfer → ℕ
-grant_flags Read = 1
 grant_flags (Write tag) = 5
+grant_flags (Barrier tag) = 5
+grant_flags transfer = 1
 
 -- a read that went well has its data told after its answer
 abbrev pub has_data : Transfer → Status → Bool
@@ -44,7 +62,7 @@ words_in r = 128 * r.count
 abbrev pub frame_at : Request → ℕ → ℕ
 frame_at r place = slice_index_or r.frames.items place 18
 
--- sector i of a write is 128 words of its tag and i
+-- sector i of a write or a barrier is 128 words of its tag and i
 abbrev pub filling_at : Transfer → ℕ → ℕ
 filling_at way n = (tag_of way + n / 128) % 2 ^ 32
 
@@ -63,8 +81,12 @@ segment_at r place = segment_in r.count place (slice_get r.frames.items place)
 abbrev pub segments_of : Request → List Segment
 segments_of r = map (segment_at r) (range_with_len 0 11)
 
--- a request has a sector, and no more than one entry can name: 11 segments (BLKIF_MAX_SEGMENTS_PER_REQUEST)
+-- a read, a write or a barrier moves a sector, and no more than one entry can name: 11 segments (BLKIF_MAX_SEGMENTS_PER_REQUEST); other requests move none
+pub record IsCounted (way : Transfer) (count : ℕ) : Type 0 where
+  pub some : is_moving way ≡ true → 1 ≤ count
+  pub none : is_moving way ≡ false → count ≡ 0
+  pub few : count ≤ 88
+
 pub record IsShaped (r : Request) : Type 0 where
-  pub some : 1 ≤ r.count
-  pub few : r.count ≤ 88
+  pub counted : IsCounted r.transfer r.count
   pub frames : length r.frames.items ≡ frames_for r.count

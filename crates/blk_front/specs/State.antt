@@ -35,7 +35,7 @@ is_unmade s = false
 -- An order no greater than it wished is agreed before its ring is begun. It is connected where it waits for it, and begins to close once. It leaves, and is closed, only with no request left, and is closed only without a ring.
 abbrev pub may_enter : FrontState → View → Bool
 may_enter (state.Agreed order) v = is_unmade v.stage && nat_le order v.shape.order
-may_enter state.Connected v = is_initialised v.stage
+may_enter (state.Connected offers) v = is_initialised v.stage
 may_enter state.Closing v = not v.closing && is_open v.stage
 may_enter state.Leaving v = is_through v && is_made v.stage
 may_enter state.Closed v = is_through v && is_bare v.stage
@@ -47,7 +47,7 @@ in_state (state.Agreed order) v = record v {
   ring = record { entries = entries_of order; prod = v.start; cons = v.start };
   seen = v.start;
 }
-in_state state.Connected v = record v { stage = stage.Loop }
+in_state (state.Connected offers) v = record v { offers = offers; stage = stage.Loop }
 in_state state.Closing v = record v { closing = true }
 in_state state.Leaving v = record v { stage = stage.RingRead 0 }
 in_state state.Closed v = record v { stage = stage.Closed }

@@ -2,16 +2,12 @@
 use Rattle.std.specs.Prelude.{ℕ, ◌+◌, ◌-◌, ◌*◌, ◌/◌, ◌%◌, ◌^◌, Bool, true, false, List, [], ◌∷◌, length, take, remove, position, Option, Some, None, slice_get, slice_set, Result, Ok, Err, if◌then◌else◌, ◌==◌, nat_lt}
 use Rattle.std.specs.Option.{option_map}
 use Rattle.blk_base.specs.Distance.{distance_of}
-use Rattle.blk_base.specs.declared.operation.Abi.{Abi}
 use Rattle.blk_base.specs.declared.operation.Status.{Status}
 use Rattle.blk_base.specs.declared.ask.FrontAnswer.{FrontAnswer}
 use Rattle.blk_base.specs.declared.ask.FrontAnswer.TheVariants.{Event, Word}
 use Rattle.ring_words.specs.Ring.{next_of, responses_of, notifies}
 use Rattle.ring_words.specs.Shape.{entry_words_of}
 use Rattle.blk_layout.specs.declared.response.Response.{Response}
-use Rattle.blk_layout.specs.declared.request.RawRequest.{RawRequest}
-use Rattle.blk_layout.specs.declared.request.RawRequest.TheVariants.{Direct}
-use Rattle.blk_layout.specs.Entry.{words_of}
 use Rattle.blk_layout.specs.Response.{response_of}
 use Rattle.blk_front.specs.declared.stage.Stage.{Stage}
 use Rattle.blk_front.specs.declared.stage.Stage.TheVariants as stage
@@ -19,7 +15,8 @@ use Rattle.blk_front.specs.declared.stage.Ending.{Ending}
 use Rattle.blk_front.specs.declared.request.Request.{Request}
 use Rattle.blk_front.specs.declared.request.Transfer.{Transfer}
 use Rattle.blk_front.specs.declared.request.Transfer.TheVariants as transfer
-use Rattle.blk_front.specs.Request.{operation_of, has_data, frames_for, words_in, segments_of}
+use Rattle.blk_front.specs.Request.{has_data, words_in}
+use Rattle.blk_front.specs.Entry.{entry_of}
 use Rattle.blk_front.specs.declared.told.Told.TheVariants as told
 use Rattle.blk_front.specs.Pool.{with_all_free}
 use Rattle.blk_front.specs.View.{View, next_request}
@@ -30,14 +27,6 @@ at s v = record v { stage = s }
 -- a word that no honest back leaves was found
 abbrev pub broken : ℕ → View → View
 broken word v = record v { stage = stage.Broken word; told = Some (told.Broken word) }
-
--- the request as its entry has it: a READ (0) or a WRITE (1) of as many segments as it has frames, of device 51712
-abbrev pub entry_request : Request → RawRequest
-entry_request r = Direct (operation_of r.transfer) (frames_for r.count) 51712 r.number r.sector (segments_of r)
-
--- the words of the request's entry under a layout
-abbrev pub entry_of : Abi → Request → List ℕ
-entry_of abi r = words_of abi (entry_request r)
 
 -- the responses' producer was read: further ahead than the requests' own is broken; where nothing is new, `otherwise`
 abbrev pub looked : View → ℕ → View → View
@@ -51,10 +40,16 @@ loop_word v word =
     then looked v word (record v { seen = word; stage = stage.StoreEvent })
     else at (stage.ResponseHigh word) v
 
--- a request was begun: of a write a word of its data was written, of a read a word of its first grant
-abbrev pub issue_stage : Transfer → Stage
-issue_stage (transfer.Write tag) = stage.Data 1
-issue_stage transfer.Read = stage.GrantFence 0
+-- a request was begun: of a write or a barrier a word of its data was written, of a read a word of its first grant, of one without frames a word of its entry
+abbrev pub entered : View → Request → Stage → View
+entered v r s = record v { stage = s; entry = entry_of v.shape.abi r }
+
+abbrev pub begun : View → Request → Transfer → View
+begun v r (transfer.Write tag) = at (stage.Data 1) v
+begun v r (transfer.Barrier tag) = at (stage.Data 1) v
+begun v r transfer.Read = at (stage.GrantFence 0) v
+begun v r transfer.Flush = entered v r (stage.Slot 1)
+begun v r (transfer.Discard sectors) = entered v r (stage.Slot 1)
 
 -- a word of its data was written: the next one is, or its frames are granted
 abbrev pub data_stage : Option Request → ℕ → Stage
@@ -64,11 +59,11 @@ data_stage (Some r) n = if nat_lt (n + 1) (words_in r) then stage.Data (n + 1) e
 -- a frame of it was granted: the next one is, or its entry is written
 abbrev pub granted : Option Request → ℕ → View → View
 granted None place v = v
-granted (Some r) place v = if nat_lt (place + 1) (length r.frames.items) then at (stage.GrantFrame (place + 1)) v else record v { stage = stage.Slot 0; entry = entry_of v.shape.abi r }
+granted (Some r) place v = if nat_lt (place + 1) (length r.frames.items) then at (stage.GrantFrame (place + 1)) v else entered v r (stage.Slot 0)
 
 -- an event ends sleep; a watch has nothing to tell where there are no keys
 abbrev pub loop_step : View → Option Request → FrontAnswer → View
-loop_step v (Some r) answer = at (issue_stage r.transfer) v
+loop_step v (Some r) answer = begun v r r.transfer
 loop_step v None (Word word) = loop_word v word
 loop_step v None Event = record v { asleep = false }
 loop_step v None answer = v
@@ -81,14 +76,18 @@ found_at requests (Some place) = option_map (λ r. (place, r)) (slice_get reques
 abbrev pub issued : View → ℕ → Option (ℕ × Request)
 issued v id = found_at v.requests (position (λ (r : Request). r.number == id) (take (length v.requests - v.waiting) v.requests))
 
--- the response is taken: its request's grants are ended next
+-- the response is taken: its request's grants are ended next; one without frames is answered and finished
+abbrev pub freed : View → ℕ → View
+freed v place = record v { ring = record v.ring { cons = next_of v.ring.cons }; requests = remove v.requests place }
+
+abbrev pub revokes : View → Request → Status → View
+revokes v r status = record v { ending = Some (record { request = r; status = status }); stage = stage.GrantRead 0 }
+
+abbrev pub answered : View → Request → Status → View
+answered v r status = record v { stage = stage.Loop; told = Some (told.Answer r.number status) }
+
 abbrev pub taken : View → ℕ → Request → Status → View
-taken v place r status = record v {
-  ring = record v.ring { cons = next_of v.ring.cons };
-  requests = remove v.requests place;
-  ending = Some (record { request = r; status = status });
-  stage = stage.GrantRead 0;
-}
+taken v place r status = if length r.frames.items == 0 then answered (freed v place) r status else revokes (freed v place) r status
 
 -- a response was read whole: its id is looked at first, then its status
 abbrev pub response_at : View → Result Response ℕ → ℕ → Option (ℕ × Request) → View

@@ -13,7 +13,8 @@ use Rattle.blk_front.specs.declared.stage.Stage.TheVariants as stage
 use Rattle.blk_front.specs.declared.told.Refusal.{Refusal}
 use Rattle.blk_front.specs.declared.told.Refusal.TheVariants as refusal
 use Rattle.blk_front.specs.Pool.{taking}
-use Rattle.blk_front.specs.Request.{is_write, frames_for}
+use Rattle.blk_front.specs.Request.{is_write, named_of, frames_for}
+use Rattle.blk_front.specs.declared.state.Offers.{Offers}
 use Rattle.ring_words.specs.Shape.{entries_of}
 use Rattle.blk_front.specs.View.{View}
 use Rattle.blk_front.specs.Ask.{ask_of}
@@ -61,11 +62,16 @@ ending_sectors (Some e) = e.request.count
 abbrev pub sectors_owed : View → ℕ
 sectors_owed v = sum_by (λ (r : Request). r.count) v.requests + (if ending_of v.stage == 0 then 0 else ending_sectors v.ending)
 
--- the sectors of a read or a write, and which way they go
-abbrev pub wish_of : Job → Option Wish
-wish_of (jobs.Read sector count) = Some (record { sector = sector; count = count; transfer = transfer.Read })
-wish_of (jobs.Write sector count tag) = Some (record { sector = sector; count = count; transfer = transfer.Write tag })
-wish_of job = None
+-- the sectors of a request, and what is done with them; none where the back doesn't serve such a request
+abbrev pub wished : Bool → Wish → Option Wish
+wished offered wish = if offered then Some wish else None
+
+abbrev pub wish_of : Offers → Job → Option Wish
+wish_of offers (jobs.Read sector count) = Some (record { sector = sector; count = count; transfer = transfer.Read })
+wish_of offers (jobs.Write sector count tag) = Some (record { sector = sector; count = count; transfer = transfer.Write tag })
+wish_of offers (jobs.Barrier sector count tag) = wished offers.barrier (record { sector = sector; count = count; transfer = transfer.Barrier tag })
+wish_of offers jobs.Flush = wished offers.flush (record { sector = 0; count = 0; transfer = transfer.Flush })
+wish_of offers (jobs.Discard sector count) = wished offers.discard (record { sector = sector; count = 0; transfer = transfer.Discard count })
 
 -- it waits until it is connected
 abbrev pub is_initialised : Stage → Bool
@@ -108,7 +114,7 @@ abbrev pub submit_one : View → Option Wish → Result ℕ Refusal × View
 submit_one v None = (Err refusal.Unsupported, v)
 submit_one v (Some wish) =
     if is_write wish.transfer && v.read_only then (Err refusal.ReadOnly, v)
-    else (if nat_lt v.sectors (wish.sector + wish.count) then (Err refusal.Range, v)
+    else (if nat_lt v.sectors (wish.sector + named_of wish.transfer wish.count) then (Err refusal.Range, v)
     else (if nat_lt 11 (frames_for wish.count) then (Err refusal.Long, v)
     else (if nat_le (entries_of v.shape.order) (unfinished v) then (Err refusal.Full, v)
     else submit_with v wish (taking (frames_for wish.count) v.pool []))))
@@ -119,4 +125,4 @@ submit_of v job =
     if v.last == 4294967295 then (Err refusal.Spent, v)
     else (if v.closing then (Err refusal.Closing, v)
     else (if not (is_ready v.stage) then (Err refusal.NotReady, v)
-    else submit_one v (wish_of job)))
+    else submit_one v (wish_of v.offers job)))

@@ -9,12 +9,14 @@ use Rattle.blk_front.specs.Pool.{empty_pool}
 use Rattle.blk_front.specs.declared.request.Request.{Request}
 use Rattle.blk_front.specs.declared.stage.Ending.{Ending}
 use Rattle.blk_front.specs.declared.told.Told.{Told}
+use Rattle.blk_front.specs.declared.state.Offers.{Offers}
 
--- The front: the disk's sectors and whether it is read-only, and the ring's first index; the shape of its ring; its own indices and what it does; whether it sleeps, and whether it closes; the responses' producer as last read; the last number given; the unfinished requests in order of number, of which the last `waiting` aren't issued yet; the request whose response was taken, until it is finished; the frames in use; the words of the entry being written, and those of the sector being read; what is to be told.
+-- The front: the disk's sectors and whether it is read-only, and the ring's first index; what its back serves beside reads and writes; the shape of its ring; its own indices and what it does; whether it sleeps, and whether it closes; the responses' producer as last read; the last number given; the unfinished requests in order of number, of which the last `waiting` aren't issued yet; the request whose response was taken, until it is finished; the frames in use; the words of the entry being written, and those of the sector being read; what is to be told.
 pub record View : Type 0 where
   pub sectors : ℕ
   pub read_only : Bool
   pub start : ℕ
+  pub offers : Offers
   pub shape : Shape
   pub ring : Ring
   pub stage : Stage
@@ -73,6 +75,7 @@ start_of config = record {
   sectors = config.sectors;
   read_only = config.read_only;
   start = config.start;
+  offers = record { barrier = false; flush = false; discard = false };
   shape = record { abi = config.abi; order = config.order };
   ring = record { entries = entries_of config.order; prod = config.start; cons = config.start };
   stage = stage.RingWord 0;

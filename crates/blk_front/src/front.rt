@@ -1,11 +1,13 @@
 // The front end.
-ghost use Rattle.std.specs.Prelude.{◌≡◌, ◌<◌, ◌≤◌, ◌+◌, ◌^◌, Some, None, IfOk, IsOk, OnErr, slice_index, option_map};
+ghost use Rattle.std.specs.Prelude.{◌≡◌, ◌<◌, ◌≤◌, ◌+◌, ◌^◌, Some, None, IfOk, IfSome, IsOk, OnErr, slice_index, option_map};
 ghost use Rattle.blk_base.specs.declared.ask.FrontAsk.TheVariants.{Wait};
 ghost use Rattle.std.specs.Option.{option_copied};
 ghost use Rattle.ring_words.specs.Shape.{entry_words_of};
 ghost use Rattle.blk_front.specs.View.{start_of, next_request, ring_page_frame, slot_frame, slot_word, entry_frame, entry_word};
-ghost use Rattle.blk_front.specs.Ask.{ask_of, is_through, loop_ask, issue_ask, data_ask, name_ask, grant_ask, revoke_ask, end_ask, read_ask, IsAnswer, IsPlace, StaysInMemory};
+ghost use Rattle.blk_front.specs.Ask.{ask_of, is_through, loop_ask, issue_ask, entry_ask, data_ask, name_ask, grant_ask, revoke_ask, end_ask, read_ask, IsAnswer, IsPlace, StaysInMemory};
 ghost use Rattle.blk_front.specs.Step.{step_of, step_at, ring_read, ring_ended};
+ghost use Rattle.blk_front.specs.Entry.{entry_of};
+ghost use Rattle.blk_front.specs.Request.{IsShaped};
 ghost use Rattle.blk_front.specs.Submit.{submit_of, unfinished};
 
 mod state;
@@ -16,21 +18,26 @@ use crate::place;
 use crate::pool::{Pool, PoolFrame};
 use crate::request::{Request, Transfer};
 use crate::stage::{Ending, Stage};
+use crate::state::Offers;
 use crate::told::{Refusal, Told};
 use arrayvec::ArrayVec;
 use blk_base::{Abi, Config, Endpoint, FrontAnswer, FrontAsk, Job, OutOfMemory};
+use blk_layout::request_words;
 use grant_table::GTF_PERMIT_ACCESS;
 use ring_words::{FrontRing, REQ_EVENT, REQ_PROD, RSP_EVENT, RSP_PROD, RingShape};
 use std::alloc::Global;
 use std::marker::Model;
+use steps::wire;
 
 /// The front end of a ring of 1 to 16 pages under the layout of its guest, which issues reads and
-/// writes of up to 88 sectors. After `new` it takes no memory.
+/// writes of up to 88 sectors, and barriers, flushes and discards where its back serves them. After
+/// `new` it takes no memory.
 #[derive(Drop)]
 pub struct Front {
     sectors: u64,
     read_only: bool,
     start: u32,
+    offers: Offers,
     abi: Abi,
     order: u32,
     ring: FrontRing,
@@ -72,6 +79,11 @@ impl Front {
             sectors: config.sectors,
             read_only: config.read_only,
             start: config.start,
+            offers: Offers {
+                barrier: false,
+                flush: false,
+                discard: false,
+            },
             abi: config.abi,
             order: config.order,
             ring: FrontRing::attach(shape, config.start),
@@ -110,7 +122,8 @@ impl Front {
 
     // The request that is issued next.
     fn next_request(&self) -> Option<&Request>
-        ensures { option_copied result ≡ next_request self.now }
+        ensures value { option_copied result ≡ next_request self.now }
+        ensures shaped { IfSome result (λ r. IsShaped r.now) }
     {
         if self.waiting == 0 {
             return None;
@@ -125,7 +138,7 @@ impl Front {
         ensures within { StaysInMemory result }
     {
         if let Some(r) = self.next_request() {
-            return issue(r);
+            return self.issue(r);
         }
         if self.asleep || self.is_through() {
             FrontAsk::Wait
@@ -157,18 +170,48 @@ impl Front {
     // Writes a word of the next request's entry.
     fn write_slot(&self, word: u32) -> FrontAsk<'_>
         requires { word < entry_words_of self.now.shape.abi }
-        ensures value { let prod = self.now.ring.prod in
-            result ≡ FrontAsk.Write (slot_frame self.now.shape prod word) (slot_word self.now.shape prod word) (slice_index self.now.entry word) }
+        ensures value { result ≡ entry_ask self.now self.now.entry word }
+        ensures within { StaysInMemory result }
+    {
+        self.write_entry(self.entry.as_slice(), word)
+    }
+
+    // The same, of an entry of these words.
+    #[inline(always)]
+    fn write_entry(&self, entry: &[u32], word: u32) -> FrontAsk<'_>
+        requires { word < entry_words_of self.now.shape.abi }
+        ensures value { result ≡ entry_ask self.now entry.now word }
         ensures within { StaysInMemory result }
     {
         let (frame, place) = place::slot(self.shape(), self.ring.prod(), word);
-        let value = self
-            .entry
-            .as_slice()
-            .get(word as usize)
-            .copied()
-            .unwrap_or(0);
-        write(frame, place, value)
+        write(frame, place, entry.get(word as usize).copied().unwrap_or(0))
+    }
+
+    // A request is begun: a write or a barrier with its data, a read with its grants, one without frames
+    // with its entry.
+    #[inline(always)]
+    fn issue(&self, r: &Request) -> FrontAsk<'_>
+        requires { IsShaped r.now }
+        ensures value { result ≡ issue_ask self.now r.now r.now.transfer }
+        ensures within { StaysInMemory result }
+    {
+        match r.transfer {
+            Transfer::Write(_) | Transfer::Barrier(_) => write_data(r, 0),
+            Transfer::Read => write_frame(&r.frame(0)),
+            Transfer::Flush | Transfer::Discard(_) => self.write_first(r),
+        }
+    }
+
+    // Writes the first word of the entry of a request without frames.
+    #[inline(never)]
+    #[tactic(auto, using(crate::proofs::Shapes::wide_entries))]
+    fn write_first(&self, r: &Request) -> FrontAsk<'_>
+        requires { IsShaped r.now }
+        ensures value { result ≡ entry_ask self.now (entry_of self.now.shape.abi r.now) 0 }
+        ensures within { StaysInMemory result }
+    {
+        let entry = request_words(self.abi, &wire(r));
+        self.write_entry(entry.as_slice(), 0)
     }
 
     // Writes a word of the data of the request that is issued next.
@@ -235,17 +278,6 @@ impl Front {
             Some(ending) => read(ending.request.frame(n / 1024).number(), n % 1024),
             None => FrontAsk::Wait,
         }
-    }
-}
-
-// A request is begun: a write with its data, a read with its grants.
-fn issue<'a>(r: &Request) -> FrontAsk<'a>
-    ensures value { result ≡ issue_ask r.now r.now.transfer }
-    ensures within { StaysInMemory result }
-{
-    match r.transfer {
-        Transfer::Write(_) => write_data(r, 0),
-        Transfer::Read => write_frame(&r.frame(0)),
     }
 }
 

@@ -17,5 +17,5 @@ pub use front::Front;
 pub use pool::PoolFrame;
 pub use request::{Request, Transfer};
 pub use stage::{Ending, Stage};
-pub use state::FrontState;
+pub use state::{FrontState, Offers};
 pub use told::{Refusal, Told};

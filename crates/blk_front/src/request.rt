@@ -1,6 +1,6 @@
 // A request that isn't finished.
 ghost use Rattle.std.specs.Prelude.{◌≡◌, ◌/◌, ◌%◌, ◌<◌};
-ghost use Rattle.blk_front.specs.Request.{tag_of, grant_flags, operation_of, filling_at, frames_for, frame_at, segment_at, segments_of};
+ghost use Rattle.blk_front.specs.Request.{tag_of, named_of, grant_flags, operation_of, filling_at, frames_for, frame_at, segment_at, segments_of};
 
 use crate::pool::PoolFrame;
 use arrayvec::ArrayVec;
@@ -14,7 +14,7 @@ pub const FRAME_SECTORS: u32 = 8;
 /// Segments that an entry can name (`BLKIF_MAX_SEGMENTS_PER_REQUEST`).
 pub const MAX_SEGMENTS: u32 = 11;
 
-/// Which way a request's sectors go.
+/// What a request has done: which way its sectors go, or that none go between frames and the disk.
 #[derive(Clone, Copy, Debug, PartialEq, Eq)]
 pub enum Transfer {
     /// From the disk into the frames (`BLKIF_OP_READ`).
@@ -22,33 +22,50 @@ pub enum Transfer {
     /// From the frames to the disk (`BLKIF_OP_WRITE`): each word of sector i is this one and i, modulo
     /// 2^32.
     Write(u32),
+    /// The same, before all that is written or discarded after it and after all before it
+    /// (`BLKIF_OP_WRITE_BARRIER`).
+    Barrier(u32),
+    /// The disk makes what was written so far stable (`BLKIF_OP_FLUSH_DISKCACHE`).
+    Flush,
+    /// The disk discards so many sectors (`BLKIF_OP_DISCARD`).
+    Discard(u32),
 }
 
 impl Transfer {
-    /// The word that fills the first sector of a write; 0 for a read, which fills none.
+    /// The word that fills the first sector of a write or a barrier; 0 for any other, which fills none.
     pub fn tag(&self) -> u32
         ensures { result ≡ tag_of self.now }
     {
         match *self {
-            Transfer::Read => 0,
-            Transfer::Write(tag) => tag,
+            Transfer::Write(tag) | Transfer::Barrier(tag) => tag,
+            _ => 0,
         }
     }
 
-    /// Word `n` of a write's data: the word of its sector.
+    /// How many sectors of the disk a request names that moves so many: a discard moves none.
+    pub fn named(&self, count: u32) -> u32
+        ensures { result ≡ named_of self.now count }
+    {
+        match *self {
+            Transfer::Discard(sectors) => sectors,
+            _ => count,
+        }
+    }
+
+    /// Word `n` of the data of a write or a barrier: the word of its sector.
     pub fn filling(&self, n: u32) -> u32
         ensures { result ≡ filling_at self.now n }
     {
         self.tag().wrapping_add(n / SECTOR_WORDS)
     }
 
-    /// The flags of a frame's grant entry: a write's frames are for reading alone.
+    /// The flags of a frame's grant entry: the frames of a write or a barrier are for reading alone.
     pub fn grant_flags(&self) -> u32
         ensures { result ≡ grant_flags self.now }
     {
         match *self {
-            Transfer::Read => GTF_PERMIT_ACCESS,
-            Transfer::Write(_) => GTF_PERMIT_ACCESS | GTF_READONLY,
+            Transfer::Write(_) | Transfer::Barrier(_) => GTF_PERMIT_ACCESS | GTF_READONLY,
+            _ => GTF_PERMIT_ACCESS,
         }
     }
 }
@@ -60,7 +77,8 @@ pub fn frames_for(count: u32) -> u32
     count.div_ceil(FRAME_SECTORS)
 }
 
-/// What is asked of the front: the first disk sector, how many sectors, and which way they go.
+/// What is asked of the front: the first disk sector, how many sectors go between frames and the
+/// disk, and what is done.
 #[derive(Clone, Copy, Debug, PartialEq, Eq)]
 pub struct Wish {
     pub sector: u64,
@@ -68,9 +86,10 @@ pub struct Wish {
     pub transfer: Transfer,
 }
 
-/// A read or a write that was submitted and isn't finished: its number, which is the id that it has
-/// on the ring, its first disk sector, how many sectors it moves (1 to 88), which way they go, and
-/// the frames of its data, eight sectors in each, in order.
+/// A request that was submitted and isn't finished: its number, which is the id that it has on the
+/// ring, its first disk sector, how many sectors go between frames and the disk (1 to 88 of a read, a
+/// write or a barrier, none of a flush or a discard), what is done, and the frames of its data, eight
+/// sectors in each, in order.
 #[derive(Debug, Drop)]
 pub struct Request {
     pub number: u32,

@@ -1,12 +1,22 @@
 // The states that the negotiation has the front enter.
 
+/// What the back serves beside reads and writes, as it published it (`feature-barrier`,
+/// `feature-flush-cache` and `feature-discard` of `io/blkif.h`).
+#[derive(Clone, Copy, Debug, PartialEq, Eq)]
+pub struct Offers {
+    pub barrier: bool,
+    pub flush: bool,
+    pub discard: bool,
+}
+
 /// A state that the front enters as its negotiation with the back goes (`io/xenbus.h`).
 #[derive(Clone, Copy, Debug, PartialEq, Eq)]
 pub enum FrontState {
     /// Its ring has this order, 0 to 4, no greater than it wished: the order is agreed with the back.
     Agreed(u32),
-    /// Its ring and its port are used from now on (XenbusStateConnected).
-    Connected,
+    /// Its ring and its port are used from now on (XenbusStateConnected), and its back serves these
+    /// requests beside reads and writes.
+    Connected(Offers),
     /// It takes no more requests (XenbusStateClosing is written once it has none left).
     Closing,
     /// The back is gone: the front ends the grants of its ring, and closes its port.

@@ -1,6 +1,7 @@
 // How the front begins, sleeps, refuses, reads and writes, held against a guest's memory.
 mod answers;
 mod closing;
+mod frameless;
 mod guest;
 mod long;
 mod reads;
@@ -9,8 +10,8 @@ mod shapes;
 use crate::{FrontState, Refusal, Told};
 use blk_base::{FrontAsk, Job, SectorCount};
 use guest::{
-    Memory, asks, asleep, connect, connected, front_of, front_of_read_only, one_move, quiet_moves,
-    read, read_of, untold_move, write, write_of,
+    Memory, NOTHING, asks, asleep, connect, connected, front_of, front_of_read_only, one_move,
+    quiet_moves, read, read_of, untold_move, write, write_of,
 };
 use std::test::Fail;
 
@@ -65,7 +66,7 @@ fn the_start_writes_a_fresh_ring_and_grants_it_by_reference_8(rt: HostRuntime) -
 fn it_waits_with_its_port_until_it_is_connected_once(rt: HostRuntime) -> Result<(), Fail> {
     let mut memory = Memory::new(rt.alloc())?;
     let mut front = front_of(rt.alloc(), 0)?;
-    assert!(rt; !front.enter(FrontState::Connected));
+    assert!(rt; !front.enter(FrontState::Connected(NOTHING)));
     quiet_moves(&rt, &mut front, &mut memory, 20)?;
     for _ in 0..2 {
         asks(&rt, &mut front, &mut memory, &[FrontAsk::Wait])?;
@@ -73,8 +74,8 @@ fn it_waits_with_its_port_until_it_is_connected_once(rt: HostRuntime) -> Result<
         assert!(rt; front.is_connected());
         assert!(rt; !front.idle());
     }
-    assert!(rt; front.enter(FrontState::Connected));
-    assert!(rt; !front.enter(FrontState::Connected));
+    assert!(rt; front.enter(FrontState::Connected(NOTHING)));
+    assert!(rt; !front.enter(FrontState::Connected(NOTHING)));
     assert_eq!(rt; front.submit(write(0, 7)?), Ok(1));
     Ok(())
 }

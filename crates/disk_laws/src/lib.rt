@@ -7,9 +7,9 @@
 //! The premises: a ring of 1 to 16 pages, under either layout of entries (`IsPlain`); the order that is
 //! agreed and the terms that the back takes are those of the front's ring; the back moves only once the
 //! front made its ring and its port, and halts only where the front closes, has no request left and is
-//! at nothing; the front leaves after the back, and finds nothing that breaks it; what is submitted are
-//! reads and writes, keys are spelled as the grammar has them, and all is quiet where it is found so
-//! (`AreServed`).
+//! at nothing; the front leaves after the back, and finds nothing that breaks it; as it connects it
+//! knows what the back published; what is submitted moves or discards some sectors, or is a flush, keys
+//! are spelled as the grammar has them, and all is quiet where it is found so (`AreServed`).
 //! What a schedule makes happen (`vbd_model`) is such until a word is overwritten. Where the disk
 //! doesn't tell what it holds, the laws speak of a report whose effects are the calls of some disk
 //! (`IsOfADisk`): two reads of a sector with no write between them give the same words.

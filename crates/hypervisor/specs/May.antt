@@ -1,5 +1,5 @@
 -- What may be asked: words of memory that are there, mappings that live, sectors of the disk.
-use Rattle.std.specs.Prelude.{◌≡◌, ℕ, ◌+◌, ◌^◌, ◌<◌, length, Option, Some, None, IfSome}
+use Rattle.std.specs.Prelude.{◌≡◌, ◌≢◌, ℕ, ◌+◌, ◌^◌, ◌<◌, length, Option, Some, None, IfSome}
 use Rattle.blk_base.specs.declared.parts.Mapping.{Mapping}
 use Rattle.blk_base.specs.declared.parts.Mode.TheVariants.{ReadWrite}
 use Rattle.blk_base.specs.declared.ask.FrontAsk.{FrontAsk}
@@ -41,7 +41,7 @@ BackMay h attached (back_ask.Map gref mode) = HasMappingLeft h.grants
 BackMay h attached (back_ask.Unmap m) = IsLive h.grants m
 BackMay h attached (back_ask.DiskRead sector) = IsIn attached sector
 BackMay h attached (back_ask.DiskWrite sector words) = IsIn attached sector
-BackMay h attached back_ask.Flush = IsIn attached 0
+BackMay h attached back_ask.Flush = attached ≢ None
 BackMay h attached (back_ask.Trim sector count) = AreIn attached sector count
 BackMay h attached ask = Unit {0}
 

@@ -1,5 +1,5 @@
 -- The front announces the request that it pushed: a back that sleeps, and knew of none before it, is sent an event.
-use Rattle.std.proofs.Common.{◌≡◌, ℕ, ◌+◌, ◌-◌, Bool, true, false, List, refl, inl, inr, arith, None, length}
+use Rattle.std.proofs.Common.{◌≡◌, ℕ, ◌+◌, ◌-◌, Bool, true, false, List, [], refl, inl, inr, arith, length}
 use Rattle.std.specs.Prelude.{if◌then◌else◌}
 use Rattle.std.specs.List.{list_any}
 use Rattle.blk_base.specs.Options.{Options}
@@ -39,7 +39,7 @@ turned_on config w g d s s' i i' same h at full full' few few' unnamed ungranted
 pub producer_fence_goes : (config : Options) (w : World) (g : Flow) (d : Pipeline) (old : ℕ) → IsSafe w → Holds config w g d (front.ProducerFence old) w.back.stage → FrontGoes config w d (front.ProducerFence old)
 producer_fence_goes config w g d old safe h = record {
   flow = g;
-  step = None;
+  steps = [];
   does = said_nothing d _ w.front.told safe.front_told;
   holds = turned_on config w g d (front.ProducerFence old) (front.RequestEvent old) refl refl refl h h.front_at refl refl refl refl refl refl (λ t sends. sends);
 }
@@ -54,7 +54,7 @@ notified start fetched pushed old prod event e f i one =
 pub event_goes : (config : Options) (w : World) (g : Flow) (d : Pipeline) (old : ℕ) → IsSafe w → Holds config w g d (front.RequestEvent old) w.back.stage → FrontGoes config w d (front.RequestEvent old)
 event_goes config w g d old safe h = record {
   flow = g;
-  step = None;
+  steps = [];
   does = said_nothing d _ w.front.told safe.front_told;
   holds = by_test (notifies old w.front.ring.prod (word_of w.under.pages 2 1)) refl;
 }
@@ -84,7 +84,7 @@ send_goes config w g d safe h =
     let u = h.back_sleep in
     record {
       flow = g;
-      step = None;
+      steps = [];
       does = said_nothing d _ w.front.told safe.front_told;
       holds = record {
         started = h.started;
@@ -100,7 +100,7 @@ send_goes config w g d safe h =
         info = h.info;
         replies = h.replies;
         front_at = tt;
-        unused = tt;
+        offered = h.offered;
         back_at = h.back_at;
         unhalted = h.unhalted;
         memory = h.memory;

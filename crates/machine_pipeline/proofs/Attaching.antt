@@ -1,6 +1,5 @@
 -- The back takes the terms of its front, which are the front's own: all else stays as it is.
 use Rattle.std.proofs.Common.{◌≡◌, ℕ, ◌^◌, List, [], ◌∷◌, length, refl, ap, ◌∙◌, subst, arith}
-use Rattle.std.specs.Prelude.{None}
 use Rattle.std.specs.List.{range_with_len}
 use Rattle.std.proofs.lemmas.Bool.{false≢true}
 use Rattle.blk_base.specs.Options.{Options}
@@ -28,7 +27,7 @@ takes : (config : Options) (w : World) (g : Flow) (d : Pipeline) (shape : Shape)
     → Goes config (Move (layout_read w) ∷ []) (record { front = w.front; back = attached shape grefs port w.back; under = w.under }) d
 takes config w g d shape grefs port terms h = record {
   flow = g;
-  step = None;
+  steps = [];
   does = asides_do d (Move (layout_read w) ∷ []) (refl, tt);
   holds = record {
     started = h.started;
@@ -64,7 +63,7 @@ takes config w g d shape grefs port terms h = record {
     info = h.info;
     replies = h.replies;
     front_at = h.front_at;
-    unused = h.unused;
+    offered = h.offered;
     back_at = h.back_at;
     unhalted = h.unhalted;
     memory = h.memory;
@@ -102,5 +101,5 @@ takes config w g d shape grefs port terms h = record {
 pub attaches_goes : (config : Options) (w : World) (g : Flow) (d : Pipeline) (shape : Shape) (grefs : List ℕ) (port : ℕ) → AreTerms w shape grefs port → Holds config w g d w.front.stage w.back.stage
     → Goes config (lines_at w (BackAttaches shape grefs port)) (happens w (BackAttaches shape grefs port)) d
 attaches_goes config w g d shape grefs port terms h = attach_cases (λ v shown. Goes config shown (record { front = w.front; back = v; under = w.under }) d) w shape grefs port
-    (λ may layout. takes config w g d shape grefs port terms (subst (Holds config w g d w.front.stage) (attaches_waiting shape grefs w.back may) h))
+    (λ may layout says. takes config w g d shape grefs port terms (subst (Holds config w g d w.front.stage) (attaches_waiting shape grefs w.back may) h))
     (stays IsSame config w g d (λ a b same. same) h)

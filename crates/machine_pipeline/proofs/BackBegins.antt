@@ -1,114 +1,192 @@
 -- The job that the back makes of an entry.
-use Rattle.std.proofs.Common.{◌≡◌, ℕ, ◌+◌, ◌-◌, ◌^◌, ◌<◌, ◌≤◌, ◌==◌, true, false, List, [], ◌∷◌, ◌++◌, refl, ap, sym, ◌∙◌, arith}
+use Rattle.std.proofs.Common.{◌≡◌, ℕ, ◌+◌, ◌-◌, ◌^◌, ◌<◌, ◌≤◌, ◌==◌, Bool, true, false, List, [], ◌∷◌, ◌++◌, get_or, refl, ap, sym, ◌∙◌, arith}
 use Rattle.std.specs.Prelude.{Some, slice_get, nat_lt}
+use Rattle.std.proofs.lemmas.Bool.{true≢false}
 use Rattle.std.proofs.lemmas.Bool.Decides.{nat_tests}
 use Rattle.std.proofs.lemmas.List.Elements.{All-push}
 use Rattle.std.proofs.lemmas.List.Quantifiers.{all_pairs_push}
 use Rattle.blk_base.specs.Options.{Options}
+use Rattle.pipeline_laws.specs.Station.{Working}
+use Rattle.back_jobs.specs.declared.stage.Stage.TheVariants as job
 use Rattle.back_jobs.specs.Task.{Work}
+use Rattle.std.proofs.lemmas.Option.{none-some}
+use Rattle.machine_pipeline.proofs.ReadBack.{IsReadBack, ReadAt}
 use Rattle.blk_front.specs.declared.request.Request.{Request}
 use Rattle.blk_front.specs.declared.request.Transfer.{Transfer}
 use Rattle.blk_front.specs.declared.request.Transfer.TheVariants as transfer
-use Rattle.blk_front.specs.Request.{is_write, operation_of, frames_for, IsShaped}
-use Rattle.blk_front.specs.Step.{entry_of}
+use Rattle.blk_front.specs.Request.{is_write, is_moving, named_of, operation_of, frames_for, segments_of, IsCounted, IsShaped}
+use Rattle.blk_front.specs.Entry.{entry_as, entry_request, entry_of}
 use Rattle.blk_back.specs.View.{info_of}
 use Rattle.blk_back.specs.Step.{fetched}
 use Rattle.machine_pipeline.specs.Plain.{IsPlain}
-use Rattle.machine_pipeline.proofs.Flow.{frames_of, own_segments}
-use Rattle.machine_pipeline.proofs.Segments.{few_frames, own_here, own_sound, own_sectors, ranged, eleven}
-use Rattle.machine_pipeline.proofs.Holds.{IsSubmitted, AreWorks, IsWork}
+use Rattle.machine_pipeline.proofs.Flow.{frames_of, own_segments, worked}
+use Rattle.machine_pipeline.proofs.Segments.{own_here, own_sound, own_sectors, ranged, eleven}
+use Rattle.machine_pipeline.proofs.Holds.{IsSubmitted, AreNumbers, AtWork, IsUnhindered, AreWorks, IsWork}
 use Rattle.blk_base.specs.declared.operation.Abi.{Abi}
 use Rattle.blk_layout.specs.Entry.{request_of}
 use Rattle.blk_layout.specs.Range.{IsInRange}
 use Rattle.blk_layout.proofs.Back.{reads_back}
 use Rattle.blk_layout.specs.declared.request.RawRequest.{RawRequest}
+use Rattle.blk_layout.specs.declared.request.RawRequest.TheVariants.{Direct}
 use Rattle.segment_list.specs.Verdict.{verdict_of}
 use Rattle.segment_list.specs.Segments.{sectors_of}
-use Rattle.back_jobs.specs.Task.{begun, moving, first_of}
-use Rattle.blk_front.specs.Step.{entry_request}
+use Rattle.back_jobs.specs.Task.{begun, frameless, moving, first_of}
 
--- both operations are small
-pub small_operation : (way : Transfer) → operation_of way ≤ 1
+-- an operation is a byte
+pub small_operation : (way : Transfer) → operation_of way < 2 ^ 8
 small_operation transfer.Read = omega arith
 small_operation (transfer.Write tag) = omega arith
+small_operation (transfer.Barrier tag) = omega arith
+small_operation transfer.Flush = omega arith
+small_operation (transfer.Discard sectors) = omega arith
 
 in_range : (sectors : ℕ) (k : ℕ) (r : Request) → sectors ≤ 2 ^ 64 → k < 2 ^ 32 → IsSubmitted sectors k r → IsInRange (entry_request r)
-in_range sectors k r sized few s =
-    let number = s.number in let sector = s.sector in let op = small_operation r.transfer in
-    let some = s.shaped.some in let most = s.shaped.few in
-    (omega arith, omega arith, omega arith, omega arith, omega arith, omega arith, omega arith, eleven r, ranged r s.frames)
+in_range sectors k r sized few s = by_way r.transfer s.sector s.numbers s.shaped.counted
+  where
+    number : r.number < 2 ^ 64
+    number = let number = s.number in omega arith
 
--- a read, and a write of a disk that may be written, is served: the job moves its sectors
+    moves : (op : ℕ) → op ≤ 2 → r.sector + r.count ≤ sectors → 1 ≤ r.count → r.count ≤ 88 → IsInRange (Direct op (frames_for r.count) 51712 r.number r.sector (segments_of r))
+    moves op below within some few = (omega arith, omega arith, omega arith, omega arith, omega arith, number, omega arith, eleven r, ranged r s.frames)
+
+    by_way : (way : Transfer) → r.sector + named_of way r.count ≤ sectors → AreNumbers way r.sector → IsCounted way r.count → IsInRange (entry_as way r)
+    by_way (transfer.Discard sectors) within numbers counted = (omega arith, omega arith, number, omega (arith, numbers.0), omega (arith, numbers.1))
+    by_way transfer.Flush within numbers counted = let most = counted.few in (omega arith, omega arith, omega arith, omega arith, omega arith, number, omega (arith, numbers), eleven r, ranged r s.frames)
+    by_way transfer.Read within numbers counted = moves 0 (omega arith) within (counted.some refl) counted.few
+    by_way (transfer.Write tag) within numbers counted = moves 1 (omega arith) within (counted.some refl) counted.few
+    by_way (transfer.Barrier tag) within numbers counted = moves 2 (omega arith) within (counted.some refl) counted.few
+
+-- a request that moves sectors passes the tests of its segments
+record Passes (config : Options) (r : Request) : Type 0 where
+  pub some : (frames_for r.count == 0) ≡ false
+  pub few : nat_lt 11 (frames_for r.count) ≡ false
+  pub on_disk : nat_lt config.sectors (r.sector + sectors_of (own_segments r)) ≡ false
+
+passes : (config : Options) (r : Request) → r.sector + r.count ≤ config.sectors → IsShaped r → is_moving r.transfer ≡ true → Passes config r
+passes config r within shaped moves =
+    let least = shaped.counted.some moves in
+    let most = shaped.counted.few in
+    let all = own_sectors r shaped in
+    record { some = grind (arith, nat_tests); few = grind (arith, nat_tests); on_disk = grind (arith, nat_tests) }
+
+-- the job of a request: that of a read, a write or a barrier moves its sectors
+abbrev pub job_as : Transfer → (number size : ℕ) → Request → Work
+job_as transfer.Flush number size r = frameless number (entry_request r) size r.sector job.Flush
+job_as (transfer.Discard sectors) number size r = frameless number (entry_request r) size r.sector (job.Trim sectors)
+job_as way number size r = moving number (entry_request r) size (is_write way) r.sector (own_segments r)
+
+-- each request is served where the disk may be written, and a read on each disk
 serves : (config : Options) (number size : ℕ) (r : Request) (way : Transfer)
     → r.transfer ≡ way
-    → (is_write r.transfer ≡ true → config.read_only ≡ false)
-    → r.sector + r.count ≤ config.sectors
+    → (is_write way ≡ true → config.read_only ≡ false)
+    → (is_moving way ≡ false → config.read_only ≡ false)
+    → r.sector + named_of way r.count ≤ config.sectors
+    → AreNumbers way r.sector
     → IsShaped r
-    → begun number (entry_request r) size (verdict_of (entry_request r) (info_of config)) ≡ moving number (entry_request r) size (is_write way) r.sector
-    (own_segments r)
-serves config number size r transfer.Read way writable within shaped =
-    let some : (frames_for r.count == 0) ≡ false = (let least = shaped.some in grind (arith, nat_tests)) in
-    let few : nat_lt 11 (frames_for r.count) ≡ false = (let most = shaped.few in grind (arith, nat_tests)) in
-    let on_disk : nat_lt config.sectors (r.sector + sectors_of (own_segments r)) ≡ false = (let all = own_sectors r shaped in grind (arith, nat_tests)) in
-    rw (way, some, few, own_sound r shaped, on_disk) refl
-serves config number size r (transfer.Write tag) way writable within shaped =
-    let some : (frames_for r.count == 0) ≡ false = (let least = shaped.some in grind (arith, nat_tests)) in
-    let few : nat_lt 11 (frames_for r.count) ≡ false = (let most = shaped.few in grind (arith, nat_tests)) in
-    let on_disk : nat_lt config.sectors (r.sector + sectors_of (own_segments r)) ≡ false = (let all = own_sectors r shaped in grind (arith, nat_tests)) in
-    rw (way, writable (ap is_write way), some, few, own_sound r shaped, on_disk) refl
+    → begun number (entry_request r) size (verdict_of (entry_request r) (info_of config)) ≡ job_as way number size r
+serves config number size r transfer.Flush way writable served within numbers shaped =
+    let none : r.count ≡ 0 = shaped.counted.none (ap is_moving way) in
+    let bare : (frames_for r.count == 0) ≡ true = grind (arith, nat_tests) in
+    rw (way, served refl, bare) refl
+serves config number size r (transfer.Discard sectors) way writable served within numbers shaped =
+    let some : (sectors == 0) ≡ false = grind (arith, nat_tests, numbers.0) in
+    let on_disk : nat_lt config.sectors (r.sector + sectors) ≡ false = grind (arith, nat_tests) in
+    rw (way, served refl, some, on_disk) refl
+serves config number size r transfer.Read way writable served within numbers shaped =
+    let may = passes config r within shaped (ap is_moving way) in
+    rw (way, may.some, may.few, own_sound r shaped, may.on_disk) refl
+serves config number size r (transfer.Write tag) way writable served within numbers shaped =
+    let may = passes config r within shaped (ap is_moving way) in
+    rw (way, writable refl, may.some, may.few, own_sound r shaped, may.on_disk) refl
+serves config number size r (transfer.Barrier tag) way writable served within numbers shaped =
+    let may = passes config r within shaped (ap is_moving way) in
+    rw (way, writable refl, may.some, may.few, own_sound r shaped, may.on_disk) refl
 
 -- the job of the entry's words
-pub entry_job : (abi : Abi) (config : Options) (number size k : ℕ) (r : Request) → IsPlain config → k < 2 ^ 32 → IsSubmitted config.sectors k r → (is_write r.transfer ≡ true → config.read_only ≡ false) → begun number (request_of abi (entry_of abi r)) size (verdict_of (request_of abi (entry_of abi r)) (info_of config)) ≡ moving number (entry_request r) size (is_write r.transfer) r.sector (own_segments r)
-entry_job abi config number size k r plain few s writable =
+pub entry_job : (abi : Abi) (config : Options) (number size k : ℕ) (r : Request) → IsPlain config → k < 2 ^ 32 → IsSubmitted config.sectors k r → (is_write r.transfer ≡ true → config.read_only ≡ false) → (is_moving r.transfer ≡ false → config.read_only ≡ false) → begun number (request_of abi (entry_of abi r)) size (verdict_of (request_of abi (entry_of abi r)) (info_of config)) ≡ job_as r.transfer number size r
+entry_job abi config number size k r plain few s writable served =
     ap (λ (x : RawRequest). begun number x size (verdict_of x (info_of config))) (reads_back abi (entry_request r) (in_range config.sectors k r plain.sectors few s))
-    ∙ serves config number size r r.transfer refl writable s.sector s.shaped
+    ∙ serves config number size r r.transfer refl writable served s.sector s.numbers s.shaped
+
+-- its number, its id and its operation are those of the request; it begins with none of its sectors moved; it waits at its beginning, if at all
+pub record IsJobOf (way : Transfer) (number : ℕ) (r : Request) (t : Work) : Type 0 where
+  pub numbered : t.number ≡ number
+  pub id : t.id ≡ r.number
+  pub op : t.op ≡ operation_of way
+  pub unmoved : worked t.stage t.moved ≡ Working 0
+  pub unhindered : (u : Work) → IsUnhindered u t
+  pub unread : (pages : List ℕ) (y : Request) → ReadAt pages y t.moved t.words [] t.stage
+
+pub is_job : (way : Transfer) (number size : ℕ) (r : Request) → r.transfer ≡ way → IsJobOf way number r (job_as way number size r)
+is_job way number size r is = by_way way is
+  where
+    none : (pages : List ℕ) (y : Request) → IsReadBack pages y 0 []
+    none pages y = record { counted = refl; few = omega arith; sectors = λ i ws none. absurd (none-some ws none) }
+
+    by_way : (way : Transfer) → r.transfer ≡ way → IsJobOf way number r (job_as way number size r)
+    by_way transfer.Flush is = rw is (record { numbered = refl; id = refl; op = refl; unmoved = refl; unhindered = λ u undone begun. refl; unread = none })
+    by_way way is = rw is (record { numbered = refl; id = refl; op = refl; unmoved = refl; unhindered = λ u undone begun. absurd (true≢false begun); unread = none })
+
+-- a request that moves sectors begins at its first segment
+begins_moving : (writes : Bool) (number size : ℕ) (r : Request) → IsShaped r → is_moving r.transfer ≡ true → is_write r.transfer ≡ writes → (let t : Work = moving number (entry_request r) size writes r.sector (own_segments r) in AtWork r t job.Map)
+begins_moving writes number size r shaped moves same = (
+  record {
+    place = 0;
+    here = frames;
+    writes = sym same;
+    rest = refl;
+    within = omega (arith, first);
+    moved = omega (arith, first);
+    disk = omega arith;
+    words = refl;
+  },
+  first,
+)
+  where
+    frames : 1 ≤ frames_of r
+    frames = let some = shaped.counted.some moves in let frames = shaped.frames in omega arith
+
+    first : first_of (own_segments r) ≡ 0
+    first = ap first_of (own_here r 0 shaped frames)
+
+at_begin : (way : Transfer) (number size : ℕ) (r : Request) → r.transfer ≡ way → IsShaped r → (let t : Work = job_as way number size r in AtWork r t t.stage)
+at_begin transfer.Flush number size r is shaped = (is, refl)
+at_begin (transfer.Discard sectors) number size r is shaped = (is, refl, refl)
+at_begin transfer.Read number size r is shaped = begins_moving false number size r shaped (ap is_moving is) (ap is_write is)
+at_begin (transfer.Write tag) number size r is shaped = begins_moving true number size r shaped (ap is_moving is) (ap is_write is)
+at_begin (transfer.Barrier tag) number size r is shaped = begins_moving true number size r shaped (ap is_moving is) (ap is_write is)
 
 -- that job is the one of the request
 pub is_work : (submitted : List Request) (fetched size sectors : ℕ) (number : ℕ) (r : Request)
     → number ≡ fetched + 1
     → slice_get submitted fetched ≡ Some r
     → IsSubmitted sectors fetched r
-    → IsWork submitted (fetched + 1) (moving number (entry_request r) size (is_write r.transfer) r.sector (own_segments r))
-is_work submitted fetched size sectors number r e known s = record {
-  r = r;
-  known = ap (λ (k : ℕ). slice_get submitted k) before ∙ known;
-  positive = omega arith;
-  reached = omega arith;
-  id = s.number ∙ sym e;
-  op = refl;
-  at = (
+    → IsWork submitted (fetched + 1) (job_as r.transfer number size r)
+is_work submitted fetched size sectors number r e known s =
+    let t : Work = job_as r.transfer number size r in
+    let it : IsJobOf r.transfer number r t = is_job r.transfer number size r refl in
+    let before : t.number - 1 ≡ fetched = omega (arith, it.numbered) in
     record {
-      place = 0;
-      here = frames.0;
-      writes = refl;
-      rest = refl;
-      within = omega (arith, first);
-      moved = omega (arith, first);
-      disk = omega arith;
-      words = refl;
-    },
-    first,
-  );
-}
-  where
-    before : number - 1 ≡ fetched
-    before = omega arith
-
-    frames : (1 ≤ frames_of r) × (frames_of r ≤ 11)
-    frames = few_frames r s.shaped
-
-    first : first_of (own_segments r) ≡ 0
-    first = ap first_of (own_here r 0 s.shaped frames.0)
+      r = r;
+      known = ap (λ (k : ℕ). slice_get submitted k) before ∙ known;
+      positive = omega (arith, it.numbered);
+      reached = omega (arith, it.numbered);
+      id = it.id ∙ (s.number ∙ (sym e ∙ sym it.numbered));
+      op = it.op;
+      at = at_begin r.transfer number size r refl s.shaped;
+    }
 
 -- the jobs with it
 pub works_with : (submitted : List Request) (fetched : ℕ) (works : List Work) (t : Work)
     → AreWorks submitted fetched works
     → IsWork submitted (fetched + 1) t
     → t.number ≡ fetched + 1
+    → ((u : Work) → IsUnhindered u t)
     → AreWorks submitted (fetched + 1) (works ++ t ∷ [])
-works_with submitted fetched works t h here number = record {
+works_with submitted fetched works t h here number fresh = record {
   each = All-push (IsWork submitted (fetched + 1)) works t (λ k d lt. one_further (h.each k d lt)) here;
   ascending = all_pairs_push (λ (a b : Work). a.number < b.number) works t h.ascending (λ k d lt. let was = h.each k d lt in omega (arith, was.reached));
+  clear = all_pairs_push IsUnhindered works t h.clear (λ k d lt. fresh (get_or works k d));
 }
   where
     one_further : {u : Work} → IsWork submitted fetched u → IsWork submitted (fetched + 1) u

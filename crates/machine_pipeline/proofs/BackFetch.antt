@@ -13,7 +13,7 @@ use Rattle.xen_pages.specs.Pages.{word_of}
 use Rattle.grant_table.specs.Table.{frame_of}
 use Rattle.blk_front.specs.declared.request.Request.{Request}
 use Rattle.blk_front.specs.View.{slot_frame, slot_word}
-use Rattle.blk_front.specs.Step.{entry_of, entry_request}
+use Rattle.blk_front.specs.Entry.{entry_of, entry_request}
 use Rattle.std.proofs.lemmas.Bool.{cases_eq}
 use Rattle.std.proofs.lemmas.List.{take_more}
 use Rattle.blk_base.specs.declared.operation.Abi.{Abi}
@@ -100,7 +100,7 @@ goes_first config w g d shown given word read awake some p =
     let more : g.fetched < g.back_seen = some_requests g.start g.fetched g.back_seen w.back.seen w.back.ring x.fetched x.back_saw x.back_from some in
     let n : IsNext w g = next_pushed config w g d stage.Loop p i more in
     let s = begins_fetch config g d (is_ready w.front.stage) (is_issuing w.front.stage) (ending_at w.front.stage w.front.ending) (telling_at w.front.stage) None w.front.requests w.back.jobs.works w.under.pages (omega (arith, more, x.back_to)) h.stations in
-    goes_moved config w g d (Some s.step) stage.Loop (stage.Fetch 1) (record w.back { entry = word ∷ [] }) w.under.pages w.under.channels g.back_seen shown given (does_step shown (back_lines w.back.told given ++ halt_lines w.back.halted w.back.halted) (rw (p.untold, h.unhalted) refl) s) p
+    goes_moved config w g d (s.step ∷ []) stage.Loop (stage.Fetch 1) (record w.back { entry = word ∷ [] }) w.under.pages w.under.channels g.back_seen shown given (does_step shown (back_lines w.back.told given ++ halt_lines w.back.halted w.back.halted) (rw (p.untold, h.unhalted) refl) s) p
     (quiet_with config w g d stage.Loop (stage.Fetch 1) w.back.asleep w.back.seen (word ∷ []) w.under.channels g.back_seen h i (between (stage.Fetch 1) w.back refl refl refl) s.now x
     (omega arith, many_words g.shape.abi, more, (n.r, n.known, one_more g.shape.abi n.r 0 word [] (some_words g.shape.abi) refl (read ∙ n.words 0 (some_words g.shape.abi))))
     (front_sleep_at g.start g.taken g.replied w.under.pages w.front.asleep w.under.channels.front_pending w.front.stage stage.Loop (stage.Fetch 1) (λ t s. absurd s) h.front_sleep)

@@ -1,7 +1,7 @@
 -- The last word of an entry is read: its job is begun.
 use Rattle.std.proofs.Common.{◌≡◌, ◌≢◌, ℕ, ◌+◌, ◌%◌, ◌^◌, ◌<◌, ◌==◌, Bool, true, false, if◌then◌else◌, List, [], ◌∷◌, ◌++◌, length, take, refl, ap, sym, subst, ◌∙◌, arith, length-append}
 use Rattle.std.specs.Prelude.{Some, None, slice_get, slice_index, count_by}
-use Rattle.std.proofs.lemmas.Option.{none-some, same_Some}
+use Rattle.std.proofs.lemmas.Option.{same_Some}
 use Rattle.std.proofs.lemmas.Bool.{false≢true}
 use Rattle.std.proofs.lemmas.Bool.Decides.{nat_tests}
 use Rattle.blk_base.specs.Options.{Options}
@@ -15,8 +15,7 @@ use Rattle.event_channel.specs.Channels.{taken}
 use Rattle.back_jobs.specs.Task.{Work}
 use Rattle.blk_front.specs.declared.request.Request.{Request}
 use Rattle.blk_front.specs.declared.stage.Stage.{Stage as FrontStage}
-use Rattle.blk_front.specs.Step.{entry_of}
-use Rattle.blk_front.specs.Request.{is_write}
+use Rattle.blk_front.specs.Entry.{entry_of}
 use Rattle.blk_front.specs.Submit.{ending_of, is_ready}
 use Rattle.blk_back.specs.declared.stage.Reply.{Reply}
 use Rattle.blk_back.specs.declared.stage.Stage.TheVariants as stage
@@ -24,8 +23,7 @@ use Rattle.blk_back.specs.Step.{fetched}
 use Rattle.split_model.specs.World.{World}
 use Rattle.split_model.specs.Shown.{back_lines, halt_lines}
 use Rattle.machine_pipeline.specs.Step.{IsSame}
-use Rattle.machine_pipeline.proofs.Flow.{Flow, own_segments, worked, is_issuing, ending_at, telling_at}
-use Rattle.machine_pipeline.proofs.ReadBack.{ReadAt}
+use Rattle.machine_pipeline.proofs.Flow.{Flow, is_issuing, ending_at, telling_at}
 use Rattle.machine_pipeline.proofs.Stations.{AreStations}
 use Rattle.machine_pipeline.proofs.StationsBack.{fetches}
 use Rattle.machine_pipeline.proofs.Holds.{Holds, AreIndices, IsSubmitted, IsWork, AreReplies, AreSlots}
@@ -38,14 +36,13 @@ use Rattle.blk_base.specs.declared.operation.Abi.{Abi}
 use Rattle.blk_layout.specs.Entry.{request_of}
 use Rattle.segment_list.specs.declared.verdict.DiskInfo.{DiskInfo}
 use Rattle.segment_list.specs.Verdict.{verdict_of}
-use Rattle.back_jobs.specs.Task.{begun, moving}
+use Rattle.back_jobs.specs.Task.{begun}
 use Rattle.back_jobs.proofs.Hands.{started_hands}
-use Rattle.blk_front.specs.Step.{entry_request}
 use Rattle.blk_back.specs.Step.{next_number}
 use Rattle.machine_pipeline.proofs.BackWrites.{next_wrapped}
 use Rattle.machine_pipeline.proofs.BackLooks.{LooksAs}
 use Rattle.machine_pipeline.proofs.BackFetch.{IsNext, entry_word, next_pushed, one_more, length_entry}
-use Rattle.machine_pipeline.proofs.BackBegins.{entry_job, is_work, works_with}
+use Rattle.machine_pipeline.proofs.BackBegins.{job_as, entry_job, IsJobOf, is_job, is_work, works_with}
 
 -- one request more was fetched
 indices_with : (g : Flow) (front_ring back_ring : Ring) (front_seen back_seen number last waiting unfinished ending : ℕ) → g.fetched < g.back_seen → AreIndices g front_ring back_ring front_seen back_seen number last waiting unfinished ending → AreIndices (record g { fetched = g.fetched + 1 }) front_ring (record back_ring { cons = next_of back_ring.cons }) front_seen back_seen ((number + 1) % 2 ^ 64) last waiting unfinished ending
@@ -93,7 +90,7 @@ goes_fetched : (config : Options) (w : World) (g : Flow) (d : Pipeline) (k : ℕ
     → LooksAs config w d shown given (fetched w.back words)
 goes_fetched config w g d k shown given r words p known e = subst (λ (ws : List ℕ). LooksAs config w d shown given (fetched w.back ws)) (sym e) (record {
   flow = record g { fetched = g.fetched + 1 };
-  step = Some s.step;
+  steps = s.step ∷ [];
   does = does_step shown (back_lines w.back.told given ++ halt_lines w.back.halted w.back.halted) (rw (p.untold, h.unhalted) refl) s;
   holds = record {
     started = h.started;
@@ -104,12 +101,12 @@ goes_fetched config w g d k shown given r words p known e = subst (λ (ws : List
     submitted = h.submitted;
     pool = h.pool;
     stations = s.now;
-    works = works_with g.submitted g.fetched w.back.jobs.works t h.works is (ap (λ (u : Work). u.number) made ∙ number);
+    works = works_with g.submitted g.fetched w.back.jobs.works t h.works is (it.numbered ∙ number) it.unhindered;
     counted = omega (arith, length-append w.back.jobs.works (t ∷ []), h.counted);
     info = h.info;
     replies = replies_with g.fetched g.taken g.replied g.replies h.replies;
     front_at = h.front_at;
-    unused = h.unused;
+    offered = h.offered;
     back_at = tt;
     unhalted = h.unhalted;
     memory = h.memory;
@@ -144,19 +141,17 @@ goes_fetched config w g d k shown given r words p known e = subst (λ (ws : List
     sub : IsSubmitted config.sectors g.fetched r
     sub = subst (λ (sectors : ℕ). IsSubmitted sectors g.fetched r) h.sized.sectors (h.submitted.each g.fetched r known)
 
-    made : t ≡ moving (next_number w.back) (entry_request r) w.back.jobs.info.sectors (is_write r.transfer) r.sector (own_segments r)
-    made = ap (λ (i : DiskInfo). begun (next_number w.back) (request_of w.back.shape.abi (entry_of w.back.shape.abi r)) w.back.jobs.info.sectors (verdict_of (request_of w.back.shape.abi (entry_of w.back.shape.abi r)) i)) h.info ∙ entry_job w.back.shape.abi config (next_number w.back) w.back.jobs.info.sectors g.fetched r p.plain (omega (arith, x.few, x.all, x.fetched_pushed)) sub (h.sized.writable g.fetched r known)
+    made : t ≡ job_as r.transfer (next_number w.back) w.back.jobs.info.sectors r
+    made = ap (λ (i : DiskInfo). begun (next_number w.back) (request_of w.back.shape.abi (entry_of w.back.shape.abi r)) w.back.jobs.info.sectors (verdict_of (request_of w.back.shape.abi (entry_of w.back.shape.abi r)) i)) h.info ∙ entry_job w.back.shape.abi config (next_number w.back) w.back.jobs.info.sectors g.fetched r p.plain (omega (arith, x.few, x.all, x.fetched_pushed)) sub (h.sized.writable g.fetched r known) (h.sized.served g.fetched r known)
+
+    it : IsJobOf r.transfer (next_number w.back) r t
+    it = subst (IsJobOf r.transfer (next_number w.back) r) (sym made) (is_job r.transfer (next_number w.back) w.back.jobs.info.sectors r refl)
 
     is : IsWork g.submitted (g.fetched + 1) t
     is = subst (λ (u : Work). IsWork g.submitted (g.fetched + 1) u) (sym made) (is_work g.submitted g.fetched w.back.jobs.info.sectors config.sectors (next_number w.back) r number known sub)
 
-    -- it has read nothing
-    unread : (y : Request) → ReadAt w.under.pages y t.moved t.words [] t.stage
-    unread y = subst (λ (u : Work). ReadAt w.under.pages y u.moved u.words [] u.stage) (sym made)
-        (record { counted = refl; few = omega arith; sectors = λ i ws none. absurd (none-some ws none) })
-
     s : Stepped None IsSame d [] (λ p. AreStations config (record g { fetched = g.fetched + 1 }) p (is_ready w.front.stage) (is_issuing w.front.stage) false (ending_at w.front.stage w.front.ending) (telling_at w.front.stage) None w.front.requests (w.back.jobs.works ++ t ∷ []) w.under.pages)
-    s = fetches config g d (is_ready w.front.stage) (is_issuing w.front.stage) (ending_at w.front.stage w.front.ending) (telling_at w.front.stage) None w.front.requests w.back.jobs.works w.under.pages t (omega (arith, x.back_to, h.back_at.2)) (ap (λ (u : Work). u.number) made ∙ number) (ap (λ (u : Work). worked u.stage u.moved) made) unread h.stations
+    s = fetches config g d (is_ready w.front.stage) (is_issuing w.front.stage) (ending_at w.front.stage w.front.ending) (telling_at w.front.stage) None w.front.requests w.back.jobs.works w.under.pages t (omega (arith, x.back_to, h.back_at.2)) (it.numbered ∙ number) it.unmoved (it.unread w.under.pages) h.stations
 
 goes_further : (config : Options) (w : World) (g : Flow) (d : Pipeline) (k word : ℕ) (shown : Shown) (given : BackAnswer) (last : Bool)
     → (k + 1 == entry_words_of w.back.shape.abi) ≡ last

@@ -59,7 +59,7 @@ ActGoes config w d step act = Goes config (says_by w step act) (next_by w step a
 
 -- no event is there to be taken
 pub stays : (config : Options) (w : World) (g : Flow) (d : Pipeline) (b : BackStage) → BackStands config w g d b → Goes config [] w d
-stays config w g d b p = record { flow = g; step = None; does = no_move IsSame d (λ a b same. same); holds = subst (λ (s : BackStage). Holds config w g d w.front.stage s) (sym p.at) p.holds }
+stays config w g d b p = record { flow = g; steps = []; does = no_move IsSame d (λ a b same. same); holds = subst (λ (s : BackStage). Holds config w g d w.front.stage s) (sym p.at) p.holds }
 
 -- an event wakes the back
 goes_woken : (config : Options) (w : World) (g : Flow) (d : Pipeline) (shown : Shown) (given : BackAnswer) (c : ChannelState)

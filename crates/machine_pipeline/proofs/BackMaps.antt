@@ -151,7 +151,7 @@ maps : (config : Options) (w : World) (g : Flow) (d : Pipeline) (verdict : Resul
 maps config w g d verdict b' p e named stepped i mapped = subst (λ (x : Result ℕ MapRefusal). ActGoes config w d (step_at stage.MapRing w.back) (Some (map_act w.under back_mover.Back (next_gref w.back) ReadWrite x))) (sym e)
     (subst (λ (s : BackStage). Goes config (Move (moves.Map back_mover.Back gref ReadWrite (w.under.grants.made + 1) (2 + length w.back.pages)) ∷ back_lines w.back.told (answer.Mapped mapping) ++ halt_lines w.back.halted w.back.halted) (record { front = w.front; back = record w.back { pages = w.back.pages ++ mapping ∷ []; stage = s; told = None }; under = under }) d) (sym stepped) (record {
       flow = g;
-      step = None;
+      steps = [];
       does = silent (moves.Map back_mover.Back gref ReadWrite (w.under.grants.made + 1) (2 + length w.back.pages)) w.back.told w.back.halted (answer.Mapped mapping) d p.untold h.unhalted;
       holds = record {
         started = h.started;
@@ -167,7 +167,7 @@ maps config w g d verdict b' p e named stepped i mapped = subst (λ (x : Result 
         info = h.info;
         replies = h.replies;
         front_at = h.front_at;
-        unused = h.unused;
+        offered = h.offered;
         back_at = back_at_setting b' g.shape g.start g.fetched g.back_seen g.replied g.submitted w.back.jobs.works w.back.entry i h.back_at;
         unhalted = h.unhalted;
         memory = length-set w.under.pages (gref / 512 * 1024 + 2 * (gref % 512)) value ∙ h.memory;

@@ -1,5 +1,5 @@
 -- A move of the back from one stage to another over the same memory.
-use Rattle.std.proofs.Common.{◌≡◌, ℕ, ◌+◌, ◌^◌, ◌<◌, Bool, true, false, List, ◌∷◌, ◌++◌, length, refl, ap, sym, subst, ◌∙◌, inl, inr}
+use Rattle.std.proofs.Common.{◌≡◌, ℕ, ◌+◌, ◌^◌, ◌<◌, Bool, true, false, List, [], ◌∷◌, ◌++◌, length, refl, ap, sym, subst, ◌∙◌, inl, inr}
 use Rattle.std.specs.Prelude.{Option, Some, None, ◌⊎◌}
 use Rattle.std.proofs.lemmas.Option.{none-some}
 use Rattle.std.proofs.lemmas.Bool.{false≢true}
@@ -25,8 +25,8 @@ use Rattle.split_model.specs.Shown.{back_lines, halt_lines}
 use Rattle.machine_pipeline.proofs.Flow.{Flow, wrapped, is_back_arming, may_back_sleep, is_bound_back, has_terms, reply_at, reply_count, responded, ending_at, is_issuing, is_fetching, telling_at}
 use Rattle.machine_pipeline.proofs.Stations.{AreStations}
 use Rattle.machine_pipeline.proofs.Holds.{Holds, AreIndices, AreSlots, PagesAt, ArePaged, slot_of, IsFrontSleep, IsBackSleep, BackSends, BackAt, PortsAt}
-use Rattle.pipeline_laws.specs.Pipeline.{Pipeline, Step}
-use Rattle.machine_pipeline.specs.Step.{Does, IsSame, after_step}
+use Rattle.pipeline_laws.specs.Pipeline.{Pipeline, Step, after_steps}
+use Rattle.machine_pipeline.specs.Step.{Does, IsSame}
 use Rattle.machine_pipeline.proofs.Turns.{Goes, silent}
 use Rattle.machine_pipeline.proofs.BackStill.{BackStands, Moves, still}
 
@@ -89,16 +89,16 @@ back_sleep_at start fetched pushed pages asleep pending s b b' arming may h = re
 }
 
 -- a move that is a step of the pipeline or nothing to it, in short
-pub goes_moved : (config : Options) (w : World) (g : Flow) (d : Pipeline) (step : Option Step) (b b' : BackStage) (v : View) (pages : List ℕ) (channels : ChannelState) (seen : ℕ) (shown : Shown) (answer : BackAnswer)
-    → Does None IsSame (Move shown ∷ back_lines w.back.told answer ++ halt_lines w.back.halted w.back.halted) d step
+pub goes_moved : (config : Options) (w : World) (g : Flow) (d : Pipeline) (steps : List Step) (b b' : BackStage) (v : View) (pages : List ℕ) (channels : ChannelState) (seen : ℕ) (shown : Shown) (answer : BackAnswer)
+    → Does None IsSame (Move shown ∷ back_lines w.back.told answer ++ halt_lines w.back.halted w.back.halted) d steps
     → BackStands config w g d b
-    → Moves config w g (after_step d step) w.front.stage b b' (record v { stage = b'; told = None }) pages channels seen
+    → Moves config w g (after_steps steps d) w.front.stage b b' (record v { stage = b'; told = None }) pages channels seen
     → Goes config (Move shown ∷ back_lines w.back.told answer ++ halt_lines w.back.halted w.back.halted) (record { front = w.front; back = record v { stage = b'; told = None }; under = record w.under { pages = pages; channels = channels } }) d
-goes_moved config w g d step b b' v pages channels seen shown answer does p m = record {
+goes_moved config w g d steps b b' v pages channels seen shown answer does p m = record {
   flow = record g { back_seen = seen };
-  step = step;
+  steps = steps;
   does = does;
-  holds = still config w g d (after_step d step) w.front.stage b b' (record v { stage = b'; told = None }) pages channels seen p.holds m;
+  holds = still config w g d (after_steps steps d) w.front.stage b b' (record v { stage = b'; told = None }) pages channels seen p.holds m;
 }
 
 -- a move that tells nothing
@@ -107,7 +107,7 @@ pub goes_still : (config : Options) (w : World) (g : Flow) (d : Pipeline) (b b' 
     → Moves config w g d w.front.stage b b' (record v { stage = b'; told = None }) pages channels seen
     → Goes config (Move shown ∷ back_lines w.back.told answer ++ halt_lines w.back.halted w.back.halted) (record { front = w.front; back = record v { stage = b'; told = None }; under = record w.under { pages = pages; channels = channels } }) d
 goes_still config w g d b b' v pages channels seen shown answer p m =
-    goes_moved config w g d None b b' v pages channels seen shown answer (let h : Holds config w g d w.front.stage b = p.holds in silent shown w.back.told w.back.halted answer d p.untold h.unhalted) p m
+    goes_moved config w g d [] b b' v pages channels seen shown answer (let h : Holds config w g d w.front.stage b = p.holds in silent shown w.back.told w.back.halted answer d p.untold h.unhalted) p m
 
 -- a stage with all pages in hand where no response is being written
 pub record IsBetween (b : BackStage) (v : View) : Type 0 where

@@ -4,7 +4,7 @@ use Rattle.std.specs.Prelude.{Option, Some, None, slice_get, ◌⊎◌}
 use Rattle.std.proofs.lemmas.Option.{none-some, same_Some, slice_get-get_or}
 use Rattle.blk_base.specs.Options.{Options}
 use Rattle.schedule_text.specs.declared.line.Line.TheVariants.{Move}
-use Rattle.pipeline_laws.specs.Pipeline.{Pipeline}
+use Rattle.pipeline_laws.specs.Pipeline.{Pipeline, after_steps}
 use Rattle.ring_words.specs.Ring.{Ring, next_of}
 use Rattle.xen_pages.specs.Pages.{with_word}
 use Rattle.grant_table.specs.Table.{frame_of}
@@ -37,7 +37,7 @@ use Rattle.std.proofs.lemmas.List.Quantifiers.{all_pairs_push}
 use Rattle.blk_front.specs.declared.stage.Ending.{Ending}
 use Rattle.machine_pipeline.proofs.Lists.{get_append}
 use Rattle.pipeline_laws.specs.Station.{Replying, Replied}
-use Rattle.machine_pipeline.specs.Step.{IsSame, after_step}
+use Rattle.machine_pipeline.specs.Step.{IsSame}
 use Rattle.machine_pipeline.proofs.Stations.{AreStations, apart, finishing, finishing_kind}
 use Rattle.machine_pipeline.proofs.StationsBack.{replies}
 
@@ -140,7 +140,7 @@ front_still shape start pushed taken seen submitted before next entry ending s r
 pub goes_producer : (config : Options) (w : World) (g : Flow) (d : Pipeline) (rep : Reply) → BackStands config w g d (stage.Producer rep) → BackGoes config w d (stage.Producer rep)
 goes_producer config w g d rep p = record {
   flow = flow;
-  step = Some s.step;
+  steps = s.step ∷ [];
   does = does_step _ (lines.Reply rep.id rep.status ∷ halt_lines w.back.halted w.back.halted) (rw h.unhalted refl) s;
   holds = record {
     started = h.started;
@@ -150,13 +150,13 @@ goes_producer config w g d rep p = record {
     queue = h.queue;
     submitted = h.submitted;
     pool = h.pool;
-    stations = stations_elsewhere config flow (after_step d (Some s.step)) (is_ready w.front.stage) (is_issuing w.front.stage) false (ending_at w.front.stage w.front.ending) (telling_at w.front.stage) None w.front.requests w.back.jobs.works w.under.pages new w.front.sectors w.front.last h.submitted (λ f low high. wrote.others f (inr low)) s.now;
+    stations = stations_elsewhere config flow (after_steps (s.step ∷ []) d) (is_ready w.front.stage) (is_issuing w.front.stage) false (ending_at w.front.stage w.front.ending) (telling_at w.front.stage) None w.front.requests w.back.jobs.works w.under.pages new w.front.sectors w.front.last h.submitted (λ f low high. wrote.others f (inr low)) s.now;
     works = h.works;
     counted = omega (arith, h.counted);
     info = h.info;
     replies = replies_more g.fetched g.taken g.replied g.replies rep a.positive a.reached a.op others h.replies;
     front_at = front_still g.shape g.start g.pushed g.taken g.front_seen g.submitted g.replies (next_request w.front) w.front.entry w.front.ending w.front.stage rep ending_other h.front_at;
-    unused = h.unused;
+    offered = h.offered;
     back_at = (omega arith, x.replied ∙ ap (λ (i : ℕ). wrapped g.start i) (omega arith));
     unhalted = h.unhalted;
     memory = wrote.memory;

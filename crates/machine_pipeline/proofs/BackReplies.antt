@@ -1,5 +1,5 @@
 -- The back writes the words of a response.
-use Rattle.std.proofs.Common.{◌≡◌, ◌≢◌, ℕ, ◌+◌, ◌*◌, ◌<◌, ◌≤◌, Bool, true, false, List, ◌∷◌, ◌++◌, length, refl, ap, sym, subst, ◌∙◌, inl, inr, arith}
+use Rattle.std.proofs.Common.{◌≡◌, ◌≢◌, ℕ, ◌+◌, ◌*◌, ◌<◌, ◌≤◌, Bool, true, false, List, [], ◌∷◌, ◌++◌, length, refl, ap, sym, subst, ◌∙◌, inl, inr, arith}
 use Rattle.std.specs.Prelude.{Option, Some, None}
 use Rattle.std.proofs.lemmas.Option.{same_Some, slice_get_within}
 use Rattle.std.proofs.lemmas.Bool.{false≢true, cases_eq}
@@ -7,7 +7,7 @@ use Rattle.blk_base.specs.Options.{Options}
 use Rattle.blk_base.specs.declared.ask.BackAnswer.{BackAnswer}
 use Rattle.blk_base.specs.declared.moves.Move.{Move as Shown}
 use Rattle.schedule_text.specs.declared.line.Line.TheVariants.{Move}
-use Rattle.pipeline_laws.specs.Pipeline.{Pipeline, Step}
+use Rattle.pipeline_laws.specs.Pipeline.{Pipeline, Step, after_steps}
 use Rattle.xen_pages.specs.Pages.{with_word}
 use Rattle.grant_table.specs.Table.{frame_of}
 use Rattle.event_channel.specs.Channels.{taken}
@@ -35,7 +35,7 @@ use Rattle.machine_pipeline.proofs.Kept.{front_sleep_kept, back_sleep_kept}
 use Rattle.machine_pipeline.proofs.BackStill.{BackStands}
 use Rattle.machine_pipeline.proofs.BackQuiet.{goes_moved, bound_terms, all_mapped, paged_at, front_sleep_at, back_sleep_at}
 use Rattle.machine_pipeline.proofs.BackWrites.{RingWritten, ring_written, ring_beside, slot_is}
-use Rattle.machine_pipeline.specs.Step.{Does, IsSame, after_step}
+use Rattle.machine_pipeline.specs.Step.{Does, IsSame}
 use Rattle.machine_pipeline.proofs.Stations.{AreStations}
 
 -- word i of the response at hand
@@ -93,22 +93,22 @@ pub record IsAnswering (b b' : BackStage) (rep : Reply) (i : ℕ) : Type 0 where
   pub unarmed : is_back_arming b' ≡ false
   pub sleeps : may_back_sleep b' ≡ true
 
-pub goes_word : (config : Options) (w : World) (g : Flow) (d : Pipeline) (step : Option Step) (b b' : BackStage) (rep : Reply) (i : ℕ) (jobs : Jobs) (frame : ℕ) (shown : Shown) (given : BackAnswer)
-    → Does None IsSame (Move shown ∷ back_lines w.back.told given ++ halt_lines w.back.halted w.back.halted) d step
+pub goes_word : (config : Options) (w : World) (g : Flow) (d : Pipeline) (steps : List Step) (b b' : BackStage) (rep : Reply) (i : ℕ) (jobs : Jobs) (frame : ℕ) (shown : Shown) (given : BackAnswer)
+    → Does None IsSame (Move shown ∷ back_lines w.back.told given ++ halt_lines w.back.halted w.back.halted) d steps
     → BackStands config w g d b
     → IsAnswering b b' rep i
     → frame ≡ slot_frame g.shape w.back.ring.prod i
     → (BackSends b g.replied g.taken → ⊥)
     → ((j : ℕ) → j < i → slot_of w.under.pages g.shape (wrapped g.start g.replied) j ≡ response_word rep j)
-    → AreStations config g (after_step d step) (is_ready w.front.stage) (is_issuing w.front.stage) (is_fetching b') (ending_at w.front.stage w.front.ending) (telling_at w.front.stage) (reply_at b') w.front.requests jobs.works w.under.pages
+    → AreStations config g (after_steps steps d) (is_ready w.front.stage) (is_issuing w.front.stage) (is_fetching b') (ending_at w.front.stage w.front.ending) (telling_at w.front.stage) (reply_at b') w.front.requests jobs.works w.under.pages
     → AreWorks g.submitted g.fetched jobs.works
     → length jobs.works + 1 + g.replied ≡ g.fetched
     → jobs.info ≡ w.back.jobs.info
     → BackAt g.shape g.start g.fetched g.back_seen g.replied g.submitted jobs.works w.back.entry b'
     → hands_at b' (with_jobs w.back jobs) ≡ hands_at b w.back
     → Goes config (Move shown ∷ back_lines w.back.told given ++ halt_lines w.back.halted w.back.halted) (record { front = w.front; back = record w.back { jobs = jobs; stage = b'; told = None }; under = with_pages w.under (with_word w.under.pages frame (slot_word w.back.shape w.back.ring.prod i) (response_word rep i)) }) d
-goes_word config w g d step b b' rep i jobs frame shown given does p a placed unsent before stations works counted info at hands =
-    goes_moved config w g d step b b' (with_jobs w.back jobs) new w.under.channels g.back_seen shown given does p (record {
+goes_word config w g d steps b b' rep i jobs frame shown given does p a placed unsent before stations works counted info at hands =
+    goes_moved config w g d steps b b' (with_jobs w.back jobs) new w.under.channels g.back_seen shown given does p (record {
       indices = h.indices;
       stations = stations;
       works = works;
@@ -156,13 +156,13 @@ goes_word config w g d step b b' rep i jobs frame shown given does p a placed un
 pub goes_reply_high : (config : Options) (w : World) (g : Flow) (d : Pipeline) (rep : Reply) → BackStands config w g d (stage.ReplyHigh rep) → BackGoes config w d (stage.ReplyHigh rep)
 goes_reply_high config w g d rep p =
     let h : Holds config w g d w.front.stage (stage.ReplyHigh rep) = p.holds in
-    goes_word config w g d None (stage.ReplyHigh rep) (stage.ReplyLast rep) rep 1 w.back.jobs (frame_of w.under.grants (slot_page w.back w.back.ring.prod 1)) _ _ (silent _ w.back.told w.back.halted _ d p.untold h.unhalted) p
+    goes_word config w g d [] (stage.ReplyHigh rep) (stage.ReplyLast rep) rep 1 w.back.jobs (frame_of w.under.grants (slot_page w.back w.back.ring.prod 1)) _ _ (silent _ w.back.told w.back.halted _ d p.untold h.unhalted) p
     (record { few = omega arith; here = refl; upto = refl; bound = refl; bound_still = refl; unarmed = refl; sleeps = refl })
     (slot_is config w g d (stage.ReplyHigh rep) w.back.ring.prod 1 p refl refl (response_fits g.shape.abi 1 (omega arith))) (λ s. s) (λ j lt. h.slots.response rep refl j lt) h.stations h.works h.counted refl h.back_at refl
 
 pub goes_reply_last : (config : Options) (w : World) (g : Flow) (d : Pipeline) (rep : Reply) → BackStands config w g d (stage.ReplyLast rep) → BackGoes config w d (stage.ReplyLast rep)
 goes_reply_last config w g d rep p =
     let h : Holds config w g d w.front.stage (stage.ReplyLast rep) = p.holds in
-    goes_word config w g d None (stage.ReplyLast rep) (stage.Producer rep) rep 2 w.back.jobs (frame_of w.under.grants (slot_page w.back w.back.ring.prod 2)) _ _ (silent _ w.back.told w.back.halted _ d p.untold h.unhalted) p
+    goes_word config w g d [] (stage.ReplyLast rep) (stage.Producer rep) rep 2 w.back.jobs (frame_of w.under.grants (slot_page w.back w.back.ring.prod 2)) _ _ (silent _ w.back.told w.back.halted _ d p.untold h.unhalted) p
     (record { few = omega arith; here = refl; upto = refl; bound = refl; bound_still = refl; unarmed = refl; sleeps = refl })
     (slot_is config w g d (stage.ReplyLast rep) w.back.ring.prod 2 p refl refl (response_fits g.shape.abi 2 (omega arith))) (λ s. s) (λ j lt. h.slots.response rep refl j lt) h.stations h.works h.counted refl h.back_at refl

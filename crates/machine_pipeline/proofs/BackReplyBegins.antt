@@ -23,7 +23,7 @@ use Rattle.blk_back.specs.Step.{fetched}
 use Rattle.split_model.specs.World.{World}
 use Rattle.split_model.specs.Shown.{back_lines, halt_lines}
 use Rattle.machine_pipeline.proofs.Flow.{Flow, is_issuing, ending_at, worked, telling_at}
-use Rattle.machine_pipeline.proofs.Holds.{Holds, AreWorks, IsWork, IsReplying}
+use Rattle.machine_pipeline.proofs.Holds.{Holds, IsUnhindered, AreWorks, IsWork, IsReplying}
 use Rattle.blk_front.specs.Submit.{is_ready}
 use Rattle.machine_pipeline.specs.Step.{IsSame}
 use Rattle.machine_pipeline.proofs.Turns.{Goes, Stepped, does_step}
@@ -115,11 +115,11 @@ pub goes_reply : (config : Options) (w : World) (g : Flow) (d : Pipeline) (rep :
     → next_reply w.back ≡ Some rep
     → Goes config (Move shown ∷ back_lines w.back.told given ++ halt_lines w.back.halted w.back.halted) (record { front = w.front; back = record w.back { jobs = without_done w.back.jobs; stage = stage.ReplyHigh rep; told = None }; under = with_pages w.under (with_word w.under.pages frame (slot_word w.back.shape w.back.ring.prod 0) (response_word rep 0)) }) d
 goes_reply config w g d rep frame shown given p placed e =
-    goes_word config w g d (Some s.step) stage.Loop (stage.ReplyHigh rep) rep 0 (without_done w.back.jobs) frame shown given (does_step shown (back_lines w.back.told given ++ halt_lines w.back.halted w.back.halted) (rw (p.untold, h.unhalted) refl) s) p
+    goes_word config w g d (s.step ∷ []) stage.Loop (stage.ReplyHigh rep) rep 0 (without_done w.back.jobs) frame shown given (does_step shown (back_lines w.back.told given ++ halt_lines w.back.halted w.back.halted) (rw (p.untold, h.unhalted) refl) s) p
     (record { few = omega arith; here = refl; upto = refl; bound = refl; bound_still = refl; unarmed = refl; sleeps = refl })
     placed (λ s. s) (λ j lt. absurd (omega arith))
     (rw gone s.now)
-    (rw gone (record { each = all_remove (IsWork g.submitted g.fetched) works l.place within h.works.each; ascending = all_pairs_remove (λ (a b : Work). a.number < b.number) works l.place within h.works.ascending }))
+    (rw gone (record { each = all_remove (IsWork g.submitted g.fetched) works l.place within h.works.each; ascending = all_pairs_remove (λ (a b : Work). a.number < b.number) works l.place within h.works.ascending; clear = all_pairs_remove IsUnhindered works l.place within h.works.clear }))
     (rw gone (omega (arith, length-remove works l.place within, h.counted)))
     refl
     (rw gone (replying g.submitted g.fetched works rep l h.works))

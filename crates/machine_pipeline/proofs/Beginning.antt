@@ -1,24 +1,35 @@
--- The front begins to issue a request: a write with its data, a read with its grants.
-use Rattle.std.proofs.Common.{◌≡◌, ℕ, ◌+◌, ◌*◌, ◌%◌, ◌<◌, true, false, List, refl, ap, sym, ◌∙◌, subst, arith, true≢false, []}
-use Rattle.std.specs.Prelude.{All, Option, Some, None}
+-- The front begins to issue a request: a write or a barrier with its data, a read with its grants, one without frames with its entry.
+use Rattle.std.proofs.Common.{◌≡◌, ℕ, ◌+◌, ◌*◌, ◌%◌, ◌<◌, true, false, List, ◌∷◌, get_or, refl, ap, sym, ◌∙◌, subst, arith, true≢false, [], ◌∷◌}
+use Rattle.std.specs.Prelude.{All, Option, Some, None, slice_index}
 use Rattle.blk_base.specs.Options.{Options}
 use Rattle.pipeline_laws.specs.Pipeline.{Pipeline, next}
 use Rattle.blk_front.specs.declared.request.Request.{Request}
 use Rattle.blk_front.specs.declared.request.Transfer.{Transfer}
 use Rattle.blk_front.specs.declared.request.Transfer.TheVariants as transfer
-use Rattle.blk_front.specs.Request.{is_write, frame_at}
+use Rattle.blk_front.specs.Request.{is_write, is_moving, frame_at, filling_at}
+use Rattle.blk_front.specs.Entry.{entry_of}
 use Rattle.blk_front.specs.declared.stage.Stage.{Stage as FrontStage}
 use Rattle.blk_front.specs.declared.stage.Stage.TheVariants as front
-use Rattle.blk_front.specs.View.{next_request}
+use Rattle.blk_front.specs.declared.stage.Ending.{Ending}
+use Rattle.blk_front.specs.View.{next_request, slot_frame, slot_word}
 use Rattle.blk_front.specs.Ask.{loop_ask}
 use Rattle.split_model.specs.World.{World}
 use Rattle.split_model.specs.Safe.{IsSafe}
 use Rattle.split_model.specs.Shown.{front_lines}
 use Rattle.machine_pipeline.specs.Step.{IsSame}
-use Rattle.machine_pipeline.proofs.Flow.{Flow, frames_of, is_fetching, reply_at}
-use Rattle.machine_pipeline.proofs.Holds.{IsFilled, Holds}
+use Rattle.machine_pipeline.proofs.Flow.{Flow, wrapped, frames_of, may_front_sleep, is_fetching, reply_at}
+use Rattle.machine_pipeline.proofs.Holds.{IsFilled, AreEntries, Holds}
+use Rattle.machine_pipeline.proofs.Kept.{SameGrants}
+use Rattle.machine_pipeline.proofs.Issuing.{issuing, with_front}
+use Rattle.machine_pipeline.proofs.Entering.{word_entered, slot_same}
+use Rattle.machine_pipeline.proofs.Slots.{with_slot, some_words, more_words}
+use Rattle.xen_pages.specs.Pages.{with_word}
+use Rattle.ring_words.specs.Shape.{Shape}
+use Rattle.grant_table.specs.declared.held.Held.{Held}
+use Rattle.blk_base.specs.declared.moves.Move.TheVariants as moves
+use Rattle.schedule_text.specs.declared.line.Line.TheVariants as lines
 use Rattle.machine_pipeline.proofs.Data.{SameData, pooled_at}
-use Rattle.machine_pipeline.proofs.Turns.{FrontGoes, Stepped, does_step}
+use Rattle.machine_pipeline.proofs.Turns.{Goes, FrontGoes, Stepped, does_step}
 use Rattle.machine_pipeline.proofs.Resuming.{LoopGoes}
 use Rattle.machine_pipeline.proofs.Next.{IsNext, next_is}
 use Rattle.machine_pipeline.proofs.Filling.{filled_on}
@@ -42,6 +53,31 @@ frames_unfilled submitted requests pushed waiting old new s s' r next reads same
       begun = λ way e n l m. absurd (true≢false (sym way ∙ (ap (λ (q : Request). is_write q.transfer) (only e) ∙ reads)));
     }
 
+-- one without frames has no grant
+entries_bare : (submitted requests : List Request) (pushed waiting : ℕ) (old new : List ℕ) (live : List Held) (s s' : FrontStage) (ending : Option Ending) (r : Request)
+    → may_front_sleep s' ≡ true
+    → IsNext submitted requests pushed waiting r
+    → frames_of r ≡ 0
+    → All (SameGrants old new) requests
+    → AreEntries pushed old live s ending requests
+    → AreEntries pushed new live s' ending requests
+entries_bare submitted requests pushed waiting old new live s s' ending r i' next bare same h = record {
+  each = λ k d lt.
+      let here = same k d lt in
+      let was = h.each k d lt in
+      let only = next.only k d lt in
+      record {
+        named = λ le place in_it. let entry = here place in_it in entry.frame ∙ was.named le place in_it;
+        named_next = λ e place t in_it. absurd (none (get_or requests k d) (only e) place in_it);
+        flags = λ le place in_it. let entry = here place in_it in entry.flags ∙ was.flags le place in_it;
+        flags_next = λ e place t in_it. absurd (none (get_or requests k d) (only e) place in_it);
+      };
+  ending = λ e t. let i = issuing s' i' in absurd (i.unrevoked ending e t);
+}
+  where
+    none : (q : Request) → q ≡ r → (place : ℕ) → place < frames_of q → ⊥
+    none q is place in_it = let same_number : ◌≡◌ {A = ℕ} (frames_of q) (frames_of r) = ap frames_of is in omega arith
+
 -- the pipeline begins its entry
 begun : (config : Options) (w : World) (g : Flow) (d : Pipeline) (r : Request)
     → Holds config w g d front.Loop w.back.stage
@@ -51,6 +87,49 @@ begun config w g d r h following =
     begins_entry config g d true (is_fetching w.back.stage) None None (reply_at w.back.stage) w.front.requests w.back.jobs.works w.under.pages
     (omega (arith, following.waits, h.indices.all, h.submitted.counted, h.stations.known.as_many)) h.stations
 
+-- a request without frames is begun by the first word of its entry
+bare_goes : (config : Options) (w : World) (g : Flow) (d : Pipeline) (r : Request) → IsSafe w → next_request w.front ≡ Some r → is_moving r.transfer ≡ false → is_write r.transfer ≡ false
+    → Holds config w g d front.Loop w.back.stage
+    → Goes config (lines.Move (moves.FrontWrite (slot_frame w.front.shape w.front.ring.prod 0) (slot_word w.front.shape w.front.ring.prod 0) (slice_index (entry_of w.front.shape.abi r) 0)) ∷ front_lines w.front.told)
+    (with_front w (front.Slot 1) (entry_of w.front.shape.abi r) (with_slot w.under.pages w.front.shape w.front.ring.prod 0 (slice_index (entry_of w.front.shape.abi r) 0))) d
+bare_goes config w g d r safe e still unwritten h = record {
+  flow = g;
+  steps = s.step ∷ [];
+  does = does_step _ (front_lines w.front.told) (rw safe.front_told refl) s;
+  holds = rw same (word_entered config w g d (next d s.step) 0 front.Loop (front.Slot 1) r (entry_of w.front.shape.abi r) refl refl refl h s.now e (some_words g.shape.abi) (λ i lt in_it. omega arith)
+      (λ new kept. frames_unfilled g.submitted w.front.requests g.pushed w.front.waiting w.under.pages new front.Loop (front.Slot 1) r following unwritten kept h.frames)
+      (λ new kept. entries_bare g.submitted w.front.requests g.pushed w.front.waiting w.under.pages new w.under.grants.live front.Loop (front.Slot 1) w.front.ending r refl following bare kept h.entries)
+      (more_words g.shape.abi, (r, e, ap (λ (x : Shape). entry_of x.abi r) h.shaped.known)) (λ sends. sends));
+}
+  where
+    following : IsNext g.submitted w.front.requests g.pushed w.front.waiting r
+    following = next_is w.front g.submitted w.front.sectors w.front.last g.pushed None r h.queue h.submitted h.pool e
+
+    bare : frames_of r ≡ 0
+    bare = let none = following.shape.counted.none still in let sized = following.shape.frames in omega arith
+
+    s : Stepped None IsSame d [] (λ p. AreStations config g p true true (is_fetching w.back.stage) None None (reply_at w.back.stage) w.front.requests w.back.jobs.works w.under.pages)
+    s = begun config w g d r h following
+
+    same : with_slot w.under.pages w.front.shape w.front.ring.prod 0 (slice_index (entry_of w.front.shape.abi r) 0) ≡ with_slot w.under.pages g.shape (wrapped g.start g.pushed) 0 (slice_index (entry_of g.shape.abi r) 0)
+    same = let x = h.indices in slot_same w.under.pages (entry_of w.front.shape.abi r) (entry_of g.shape.abi r) w.front.shape g.shape w.front.ring.prod (wrapped g.start g.pushed) 0 h.shaped.known x.pushed (ap (λ (x : Shape). entry_of x.abi r) h.shaped.known)
+
+-- a request that fills sectors is begun by the first word of its data
+data_goes : (config : Options) (w : World) (g : Flow) (d : Pipeline) (r : Request) → IsSafe w → next_request w.front ≡ Some r → is_moving r.transfer ≡ true → is_write r.transfer ≡ true
+    → Holds config w g d front.Loop w.back.stage
+    → Goes config (lines.Move (moves.FrontWrite (frame_at r 0) 0 (filling_at r.transfer 0)) ∷ front_lines w.front.told)
+    (with_front w (front.Data 1) w.front.entry (with_word w.under.pages (frame_at r 0) 0 (filling_at r.transfer 0))) d
+data_goes config w g d r safe e moves writes h =
+    let following = next_is w.front g.submitted w.front.sectors w.front.last g.pushed None r h.queue h.submitted h.pool e in
+    let s = begun config w g d r h following in
+    let some = following.shape.counted.some moves in
+    record {
+      flow = g;
+      steps = s.step ∷ [];
+      does = does_step _ (front_lines w.front.told) (rw safe.front_told refl) s;
+      holds = filled_on config w g d (next d s.step) front.Loop (front.Data 1) r 0 refl refl h s.now e refl (omega arith) refl (λ m in_it upto. omega arith) refl refl refl (r, e, (omega arith, omega arith, writes)) (λ sends. sends);
+    }
+
 begins : (config : Options) (w : World) (g : Flow) (d : Pipeline) (number sector count : ℕ) (frames : List ℕ) (way : Transfer) → IsSafe w
     → (let r : Request = record { number = number; sector = sector; count = count; transfer = way; frames = record { items = frames } } in
     next_request w.front ≡ Some r)
@@ -58,27 +137,20 @@ begins : (config : Options) (w : World) (g : Flow) (d : Pipeline) (number sector
     → (let r : Request = record { number = number; sector = sector; count = count; transfer = way; frames = record { items = frames } } in
     LoopGoes config w d (Some r) (loop_ask w.front (Some r)))
 begins config w g d number sector count frames (transfer.Write tag) safe e h =
-    let r : Request = record { number = number; sector = sector; count = count; transfer = transfer.Write tag; frames = record { items = frames } } in
-    let following = next_is w.front g.submitted w.front.sectors w.front.last g.pushed None r h.queue h.submitted h.pool e in
-    let s = begun config w g d r h following in
-    let some = following.shape.some in
-    record {
-      flow = g;
-      step = Some s.step;
-      does = does_step _ (front_lines w.front.told) (rw safe.front_told refl) s;
-      holds = filled_on config w g d (next d s.step) front.Loop (front.Data 1) r 0 refl refl h s.now e refl (omega arith) refl (λ m in_it upto. omega arith) refl refl refl (r, e, (omega arith, omega arith, refl)) (λ sends. sends);
-    }
+    data_goes config w g d (record { number = number; sector = sector; count = count; transfer = transfer.Write tag; frames = record { items = frames } }) safe e refl refl h
+begins config w g d number sector count frames (transfer.Barrier tag) safe e h =
+    data_goes config w g d (record { number = number; sector = sector; count = count; transfer = transfer.Barrier tag; frames = record { items = frames } }) safe e refl refl h
 begins config w g d number sector count frames transfer.Read safe e h =
     let r : Request = record { number = number; sector = sector; count = count; transfer = transfer.Read; frames = record { items = frames } } in
     let following = next_is w.front g.submitted w.front.sectors w.front.last g.pushed None r h.queue h.submitted h.pool e in
     let s = begun config w g d r h following in
     let pooled = pooled_at r following.frames 0 in
-    let some = following.shape.some in
+    let some = following.shape.counted.some refl in
     let sized = following.shape.frames in
     let in_it : 0 < frames_of r = omega arith in
     record {
       flow = g;
-      step = Some s.step;
+      steps = s.step ∷ [];
       does = does_step _ (front_lines w.front.told) (rw safe.front_told refl) s;
       holds = entry_moved config w g d (next d s.step) front.Loop (front.GrantFence 0) r 0 w.front.entry (2 * ((frame_at r 0 + 6) % 512) + 1) (frame_at r 0) refl refl h s.now following in_it (omega arith)
           (λ other lt apart. other_named w.under.pages (frame_at r 0 + 6) other (frame_at r 0) (omega (arith, pooled.1)) lt apart)
@@ -87,6 +159,10 @@ begins config w g d number sector count frames transfer.Read safe e h =
           (named_now w.under.pages r 0 h.memory following.frames following.own in_it (λ a upto. absurd (omega arith)))
           (λ a upto. absurd (omega arith)) (λ sends. sends);
     }
+begins config w g d number sector count frames transfer.Flush safe e h =
+    bare_goes config w g d (record { number = number; sector = sector; count = count; transfer = transfer.Flush; frames = record { items = frames } }) safe e refl refl h
+begins config w g d number sector count frames (transfer.Discard sectors) safe e h =
+    bare_goes config w g d (record { number = number; sector = sector; count = count; transfer = transfer.Discard sectors; frames = record { items = frames } }) safe e refl refl h
 
 -- the loop where a request waits
 pub loop_issues : (config : Options) (w : World) (g : Flow) (d : Pipeline) (r : Request) → IsSafe w → next_request w.front ≡ Some r → Holds config w g d front.Loop w.back.stage → FrontGoes config w d front.Loop

@@ -1,8 +1,7 @@
 -- The first lines of what happens last: with those of what happened before they are the lines of a run of the pipeline too.
-use Rattle.std.proofs.Common.{◌≡◌, ℕ, inl, inr, ◌⊎◌, ◌&&◌, Bool, true, false, List, [], ◌∷◌, ◌++◌, refl, ap, sym, ◌∙◌, subst, append_assoc}
+use Rattle.std.proofs.Common.{◌≡◌, ℕ, inl, inr, ◌⊎◌, List, [], ◌∷◌, ◌++◌, refl, ap, sym, ◌∙◌, subst, append_assoc}
 use Rattle.std.specs.Prelude.{Option, Some, None}
 use Rattle.std.specs.Option.{option_to_list}
-use Rattle.std.specs.List.{list_all}
 use Rattle.std.proofs.lemmas.List.{append-nil}
 use Rattle.std.proofs.lemmas.List.Elements.{filter_map-append}
 use Rattle.blk_base.specs.Options.{Options}
@@ -11,8 +10,8 @@ use Rattle.blk_io.specs.Disk.{DiskSeen, HasLength}
 use Rattle.schedule_text.specs.declared.line.Line.{Line}
 use Rattle.split_model.specs.World.{World, start_of}
 use Rattle.split_model.specs.Happening.{Happening, happens, after, lines_at, lines_of as shown_by, DiskRuns as MachineRuns}
-use Rattle.pipeline_laws.specs.Pipeline.{Pipeline, Step, Submits, Refuses, Moves, Connects, StartsToClose, Closes, Leaves, Resumes, Rests, Shows, step_lines, after_steps, lines_of, pipeline_of}
-use Rattle.pipeline_laws.specs.Allowed.{is_aside, AreAllowed as StepsAllowed}
+use Rattle.pipeline_laws.specs.Pipeline.{Pipeline, Step, Submits, Refuses, Moves, Connects, StartsToClose, Closes, Leaves, Resumes, Rests, Shows, next, step_lines, after_steps, lines_of, pipeline_of}
+use Rattle.pipeline_laws.specs.Allowed.{AreAllowed as StepsAllowed}
 use Rattle.pipeline_laws.specs.Disk.{DiskRuns, AreConsistent}
 use Rattle.pipeline_laws.specs.Effects.{IsOfADisk}
 use Rattle.pipeline_laws.specs.Submissions.{submitted_of as steps_submit}
@@ -21,7 +20,7 @@ use Rattle.pipeline_laws.proofs.Running.{move_shows}
 use Rattle.machine_pipeline.specs.Plain.{IsPlain}
 use Rattle.machine_pipeline.specs.Allowed.{AreServed}
 use Rattle.machine_pipeline.specs.Submissions.{submitted_at, submitted_of}
-use Rattle.machine_pipeline.specs.Step.{shown_of, IsAllowedStep, StepGoes, CallAt, submitted_by, Does}
+use Rattle.machine_pipeline.specs.Step.{CallAt, Does}
 use Rattle.machine_pipeline.proofs.Sectors.{SectorsGo, SectorsRun, sectors_run}
 use Rattle.machine_pipeline.proofs.Together.{always_steps}
 use Rattle.machine_pipeline.proofs.Runs.{steps_of, allowed_of, lines_shown, submits_of, disk_of, IsRunFrom, goes_none, called, submitted_first, IsRunUpTo, run_up_to, shown_calls}
@@ -45,40 +44,42 @@ step_short p Resumes = inr (_, refl)
 step_short p Rests = inr (_, refl)
 step_short p (Shows line) = inr (_, refl)
 
-shown_short : (p : Pipeline) (step : Option Step) → IsShort (shown_of p step)
-shown_short p None = inl refl
-shown_short p (Some s) = step_short p s
+-- the first of these steps, whose lines these are
+record HasFirst (steps : List Step) (p : Pipeline) (part : List Line) : Type 0 where
+  first : List Step
+  later : List Step
+  whole : first ++ later ≡ steps
+  shows : part ≡ lines_of first p
 
--- so what begins the lines of a happening are asides, or all of them
-first_of_one : (x : Line) (part rest shown : List Line) → IsShort shown → x ∷ (part ++ rest) ≡ shown → x ∷ part ≡ shown
-first_of_one x [] rest shown (inl none) e = absurd (cc)
-first_of_one x (y ∷ part) rest shown (inl none) e = absurd (cc)
-first_of_one x [] rest shown (inr one) e = let head : x ≡ one.0 = cc in ap (λ (y : Line). y ∷ []) head ∙ sym one.1
-first_of_one x (y ∷ part) rest shown (inr one) e = absurd (cc)
+-- so what begins the lines of some steps are the lines of the first of them
+first_of : (steps : List Step) (p : Pipeline) (part rest : List Line) → part ++ rest ≡ lines_of steps p → HasFirst steps p part
+first_of steps p [] rest e = record { first = []; later = steps; whole = refl; shows = refl }
+first_of [] p (x ∷ part) rest e = absurd (cc)
+first_of (s ∷ steps) p (x ∷ part) rest e = elim (step_short p s) [
+  | inl none ↦
+      let its = first_of steps (next p s) (x ∷ part) rest (e ∙ ap (λ (ls : List Line). ls ++ lines_of steps (next p s)) none) in
+      record { first = s ∷ its.first; later = its.later; whole = ap (λ (more : List Step). s ∷ more) its.whole; shows = its.shows ∙ sym (ap (λ (ls : List Line). ls ++ lines_of its.first (next p s)) none) }
+  | inr one ↦
+      let all : x ∷ (part ++ rest) ≡ one.0 ∷ lines_of steps (next p s) = e ∙ ap (λ (ls : List Line). ls ++ lines_of steps (next p s)) one.1 in
+      let head : x ≡ one.0 = cc in
+      let tail : part ++ rest ≡ lines_of steps (next p s) = cc in
+      let its = first_of steps (next p s) part rest tail in
+      record {
+        first = s ∷ its.first;
+        later = its.later;
+        whole = ap (λ (more : List Step). s ∷ more) its.whole;
+        shows = ap (λ (y : Line). y ∷ part) head ∙ (ap (λ (ls : List Line). one.0 ∷ ls) its.shows ∙ sym (ap (λ (ls : List Line). ls ++ lines_of its.first (next p s)) one.1));
+      }
+]
 
-both_asides : (line : Line) (part : List Line) → is_aside line ≡ true → list_all is_aside part ≡ true → list_all is_aside (line ∷ part) ≡ true
-both_asides line part one others = rw one others
+-- what holds of steps holds of the first of them
+allowed_first : (first later : List Step) (p : Pipeline) → StepsAllowed (first ++ later) p → StepsAllowed first p
+allowed_first [] later p may = tt
+allowed_first (s ∷ first) later p may = (may.0, allowed_first first later (next p s) may.1)
 
-aside_first : (line : Line) (asides : List Line) → list_all is_aside (line ∷ asides) ≡ true → is_aside line ≡ true
-aside_first line asides all = by_test (is_aside line) refl
-  where
-    by_test : (b : Bool) → is_aside line ≡ b → is_aside line ≡ true
-    by_test true e = e
-    by_test false e = absurd (cc)
-
-aside_others : (line : Line) (asides : List Line) → list_all is_aside (line ∷ asides) ≡ true → list_all is_aside asides ≡ true
-aside_others line asides all = subst (λ (b : Bool). (b && list_all is_aside asides) ≡ true) (aside_first line asides all) all
-
-part_of : (asides shown part rest : List Line) → IsShort shown → list_all is_aside asides ≡ true → part ++ rest ≡ asides ++ shown → (list_all is_aside part ≡ true) ⊎ (part ≡ asides ++ shown)
-part_of asides shown [] rest short all e = inl refl
-part_of [] shown (x ∷ part) rest short all e = inr (first_of_one x part rest shown short e)
-part_of (line ∷ asides) shown (x ∷ part) rest short all e =
-    let heads : x ≡ line = cc in
-    let tails : part ++ rest ≡ asides ++ shown = cc in
-    elim (part_of asides shown part rest short (aside_others line asides all) tails) [
-      | inl are ↦ inl (both_asides x part (ap is_aside heads ∙ aside_first line asides all) are)
-      | inr whole ↦ inr (ap (λ (y : Line). y ∷ part) heads ∙ ap (λ (ls : List Line). line ∷ ls) whole)
-    ]
+runs_first : (first later : List Step) (a b : List (List ℕ)) → DiskRuns (first ++ later) a b → (c : List (List ℕ)) × DiskRuns first a c
+runs_first [] later a b runs = (a, refl)
+runs_first (s ∷ first) later a b runs = let its = runs_first first later runs.0 b runs.2 in (its.0, (runs.0, runs.1, its.1))
 
 -- steps that show what happened, and these lines of what happens last
 record HasPart (hs : List Happening) (last : Happening) (w : World) (p : Pipeline) (part : List Line) : Type 0 where
@@ -106,44 +107,45 @@ first_runs (h ∷ hs) last w a now runs = by_between runs.0 runs.1 (λ d rest. f
     by_between None goes later rest = absurd (goes_none w h a goes)
     by_between (Some d) goes later rest = let its = later d rest in (its.0, (Some d, goes, its.1), its.2)
 
--- asides, and maybe the step
-has_part : (hs : List Happening) (last : Happening) (w : World) (p : Pipeline) (part asides : List Line) (step : Option Step) (more : List Job) (r : IsRunFrom hs w p)
-    → list_all is_aside asides ≡ true
-    → IsAllowedStep (after_steps r.steps p) step
-    → part ≡ asides ++ shown_of (after_steps r.steps p) step
-    → option_to_list (submitted_by step) ++ more ≡ option_to_list (submitted_at last)
-    → ((b c : List (List ℕ)) → CallAt (after hs w) last b c → (d : List (List ℕ)) × StepGoes step b d)
+-- the first of the steps that the last happening is
+has_part : (hs : List Happening) (last : Happening) (w : World) (p : Pipeline) (part : List Line) (steps : List Step) (r : IsRunFrom hs w p)
+    → HasFirst steps (after_steps r.steps p) part
+    → StepsAllowed steps (after_steps r.steps p)
+    → steps_submit steps ≡ option_to_list (submitted_at last)
+    → ((b c : List (List ℕ)) → CallAt (after hs w) last b c → DiskRuns steps b c)
     → HasPart hs last w p part
-has_part hs last w p part asides step more r aside allowed is asks goes = record {
-  steps = r.steps ++ steps_of asides step;
-  allowed = allowed_append r.steps (steps_of asides step) p r.allowed (allowed_of asides step (after_steps r.steps p) aside allowed);
+has_part hs last w p part steps r f allowed asks goes = record {
+  steps = r.steps ++ f.first;
+  allowed = allowed_append r.steps f.first p r.allowed (allowed_first f.first f.later (after_steps r.steps p) (subst (λ (all : List Step). StepsAllowed all (after_steps r.steps p)) (sym f.whole) allowed));
   shows =
-      lines_append r.steps (steps_of asides step) p
-      ∙ (ap (λ (ls : List Line). ls ++ lines_of (steps_of asides step) (after_steps r.steps p)) r.shows
-      ∙ ap (λ (ls : List Line). shown_by hs w ++ ls) (lines_shown asides step (after_steps r.steps p) ∙ sym is));
-  more = more;
+      lines_append r.steps f.first p
+      ∙ (ap (λ (ls : List Line). ls ++ lines_of f.first (after_steps r.steps p)) r.shows
+      ∙ ap (λ (ls : List Line). shown_by hs w ++ ls) (sym f.shows));
+  more = steps_submit f.later;
   submits =
-      ap (λ (js : List Job). js ++ more) (submitted_append r.steps (steps_of asides step) ∙ (ap (λ (js : List Job). js ++ steps_submit (steps_of asides step)) r.submits ∙ ap (λ (js : List Job). submitted_of hs ++ js) (submits_of asides step)))
-      ∙ (append_assoc (submitted_of hs) (option_to_list (submitted_by step)) more
-      ∙ (ap (λ (js : List Job). submitted_of hs ++ js) (asks ∙ (sym (append-nil (option_to_list (submitted_at last))) ∙ sym (submitted_first last [])))
+      ap (λ (js : List Job). js ++ steps_submit f.later) (submitted_append r.steps f.first ∙ ap (λ (js : List Job). js ++ steps_submit f.first) r.submits)
+      ∙ (append_assoc (submitted_of hs) (steps_submit f.first) (steps_submit f.later)
+      ∙ (ap (λ (js : List Job). submitted_of hs ++ js) (sym (submitted_append f.first f.later) ∙ (ap steps_submit f.whole ∙ (asks ∙ (sym (append-nil (option_to_list (submitted_at last))) ∙ sym (submitted_first last [])))))
       ∙ sym (filter_map-append submitted_at hs (last ∷ []))));
   disk = λ a now runs.
       let its = first_runs hs last w a now runs in
-      let one = goes its.0 its.2.0 (called (after hs w) last its.0 its.2.0 its.2.1) in
-      (one.0, runs_append r.steps (steps_of asides step) a its.0 one.0 (r.disk a its.0 its.1) (disk_of asides step its.0 one.0 one.1));
+      let one = runs_first f.first f.later its.0 its.2.0 (subst (λ (all : List Step). DiskRuns all its.0 its.2.0) (sym f.whole) (goes its.0 its.2.0 (called (after hs w) last its.0 its.2.0 its.2.1))) in
+      (one.0, runs_append r.steps f.first a its.0 one.0 (r.disk a its.0 its.1) one.1);
 }
 
 part_shown : (hs : List Happening) (last : Happening) (w : World) (p : Pipeline) (part rest : List Line) → IsRunUpTo hs last w p → part ++ rest ≡ lines_at (after hs w) last → HasPart hs last w p part
-part_shown hs last w p part rest u e = elim (part_of does.asides (shown_of d u.step) part rest (shown_short d u.step) does.aside (e ∙ does.shows)) [
-  | inl are ↦ has_part hs last w p part part None (option_to_list (submitted_at last)) u.run are tt (sym (append-nil part)) refl (λ b c call. (b, refl))
-  | inr whole ↦ has_part hs last w p part does.asides u.step [] u.run does.aside does.allowed whole (append-nil (option_to_list (submitted_by u.step)) ∙ ap option_to_list does.asks) (λ b c call. (c, does.disk b c call))
-]
+part_shown hs last w p part rest u e =
+    has_part hs last w p part all u.run (first_of all d part rest (e ∙ (does.shows ∙ sym (lines_shown does.asides u.steps d))))
+    (allowed_of does.asides u.steps d does.aside does.allowed) (submits_of does.asides u.steps ∙ does.asks) (λ b c call. disk_of does.asides u.steps b c (does.disk b c call))
   where
     d : Pipeline
     d = (let r = u.run in after_steps r.steps p)
 
-    does : Does (submitted_at last) (CallAt (after hs w) last) (lines_at (after hs w) last) d u.step
+    does : Does (submitted_at last) (CallAt (after hs w) last) (lines_at (after hs w) last) d u.steps
     does = u.does
+
+    all : List Step
+    all = steps_of does.asides u.steps
 
 -- over what the disk exposes, or the disk that the lines are of
 part_consistent : (config : Options) (hs : List Happening) (last : Happening) (part : List Line) (before now : Option (List (List ℕ))) (h : HasPart hs last (start_of config) (pipeline_of config) part) → HasLength before config.sectors → SectorsRun (hs ++ last ∷ []) (start_of config) before now

@@ -18,7 +18,8 @@ use Rattle.blk_front.specs.declared.stage.Ending.{Ending}
 use Rattle.blk_front.specs.declared.told.Told.TheVariants as told
 use Rattle.blk_front.specs.Request.{has_data, words_in}
 use Rattle.blk_front.specs.View.{View, next_request}
-use Rattle.blk_front.specs.Step.{at, broken, looked, issue_stage, data_stage, granted, entry_of, loop_step, issued, response_at, is_mapped, finished, ended, revoked, sector_told, data_step, ring_left, step_at}
+use Rattle.blk_front.specs.Entry.{entry_of}
+use Rattle.blk_front.specs.Step.{at, broken, looked, begun, data_stage, granted, loop_step, issued, response_at, is_mapped, finished, ended, revoked, sector_told, data_step, ring_left, step_at}
 use Rattle.blk_front.specs.Submit.{is_connected}
 use Rattle.blk_front.specs.declared.state.FrontState.{FrontState}
 use Rattle.blk_front.specs.declared.state.FrontState.TheVariants as state
@@ -46,12 +47,15 @@ looked_on v word otherwise p =
     either (nat_lt (distance_of v.ring.cons v.ring.prod) (distance_of v.ring.cons word)) (broken word v) (if word == v.ring.cons then otherwise else record v { seen = word; stage = front.Loop }) refl
     (either (word == v.ring.cons) otherwise (record v { seen = word; stage = front.Loop }) p refl)
 
-issue_on : (v : View) (way : Transfer) → IsOn (at (issue_stage way) v)
-issue_on v transfer.Read = refl
-issue_on v (transfer.Write tag) = refl
+begun_on : (v : View) (r : Request) (way : Transfer) → IsOn (begun v r way)
+begun_on v r transfer.Read = refl
+begun_on v r (transfer.Write tag) = refl
+begun_on v r (transfer.Barrier tag) = refl
+begun_on v r transfer.Flush = refl
+begun_on v r (transfer.Discard sectors) = refl
 
 loop_on : (v : View) (r : Option Request) (x : FrontAnswer) → IsOn v → IsOn (loop_step v r x)
-loop_on v (Some r) x p = issue_on v r.transfer
+loop_on v (Some r) x p = begun_on v r r.transfer
 loop_on v None (answer.Word word) p =
     either (responses_of v.ring v.seen == 0) (looked v word (record v { seen = word; stage = front.StoreEvent })) (at (front.ResponseHigh word) v)
     (looked_on v word (record v { seen = word; stage = front.StoreEvent }) refl) refl
@@ -61,7 +65,7 @@ loop_on v None x p = p
 response_on : (v : View) (response : Result Response ℕ) (low : ℕ) (found : Option (ℕ × Request)) → IsOn (response_at v response low found)
 response_on v response low None = refl
 response_on v (Err word) low (Some found) = refl
-response_on v (Ok response) low (Some found) = refl
+response_on v (Ok response) low (Some found) = either (length found.1.frames.items == 0) _ _ refl refl
 
 data_stage_on : (next : Option Request) (n : ℕ) → is_connected (data_stage next n) ≡ true
 data_stage_on None n = refl

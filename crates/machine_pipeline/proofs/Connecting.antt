@@ -15,6 +15,8 @@ use Rattle.ring_words.specs.Ring.{Ring}
 use Rattle.ring_words.specs.Shape.{Shape, entries_of}
 use Rattle.blk_front.specs.declared.state.FrontState.{FrontState}
 use Rattle.blk_front.specs.declared.state.FrontState.TheVariants as states
+use Rattle.blk_front.specs.declared.state.Offers.{Offers}
+use Rattle.segment_list.specs.declared.verdict.DiskInfo.{DiskInfo}
 use Rattle.blk_front.specs.State.{is_open, is_unmade, may_enter, in_state}
 use Rattle.blk_front.specs.Submit.{is_initialised, is_ready, ending_of}
 use Rattle.split_model.specs.World.{World}
@@ -24,10 +26,10 @@ use Rattle.split_model.proofs.SafeActs.{front_event}
 use Rattle.split_model.proofs.States.{enters_cases}
 use Rattle.line_text.proofs.Both.{both_true}
 use Rattle.machine_pipeline.specs.Plain.{IsPlain}
-use Rattle.machine_pipeline.specs.Allowed.{MayEnter}
+use Rattle.machine_pipeline.specs.Allowed.{ArePublished, MayEnter}
 use Rattle.machine_pipeline.specs.Step.{IsSame}
 use Rattle.machine_pipeline.proofs.Flow.{Flow, wrapped, is_issuing, is_fetching, ending_at, telling_at, reply_at}
-use Rattle.machine_pipeline.proofs.Holds.{AreIndices, IsUnused, BackAt, Holds}
+use Rattle.machine_pipeline.proofs.Holds.{AreIndices, IsOffered, BackAt, Holds}
 use Rattle.machine_pipeline.proofs.Turns.{Goes, FrontGoes, front_says, front_next, said_nothing, Stepped, does_alone}
 use Rattle.machine_pipeline.proofs.Keyed.{untold, watched_goes}
 use Rattle.machine_pipeline.proofs.Notified.{marked}
@@ -59,7 +61,7 @@ waits_goes config w g d told e h = by_pending w.under.channels.front_pending (wa
     by_pending false (Some path) = watched_goes config w g d path told here
     by_pending true next = record {
       flow = g;
-      step = None;
+      steps = [];
       does = said_nothing d (moves.Event mover.Front) w.front.told told;
       holds = subst (λ (x : World). Holds config x g d x.front.stage x.back.stage) (untold unmarked told)
           (marked config w g d w.front.stage w.back.stage false w.under.channels.back_pending
@@ -67,12 +69,12 @@ waits_goes config w g d told e h = by_pending w.under.channels.front_pending (wa
           here.back_sleep here);
     }
 
--- it is connected
-becomes_ready : (config : Options) (w : World) (g : Flow) (d : Pipeline) → Holds config w g d front.Initialised w.back.stage
-    → Goes config (lines.Ready ∷ []) (record { front = (let v : View = w.front in record v { stage = front.Loop }); back = w.back; under = w.under }) d
-becomes_ready config w g d h = record {
+-- it is connected, and knows what its back published
+becomes_ready : (config : Options) (w : World) (g : Flow) (d : Pipeline) (offers : Offers) → ArePublished w offers → Holds config w g d front.Initialised w.back.stage
+    → Goes config (lines.Ready ∷ []) (record { front = (let v : View = w.front in record v { offers = offers; stage = front.Loop }); back = w.back; under = w.under }) d
+becomes_ready config w g d offers published h = record {
   flow = g;
-  step = Some s.step;
+  steps = s.step ∷ [];
   does = does_alone s;
   holds = record {
     started = h.started;
@@ -88,7 +90,11 @@ becomes_ready config w g d h = record {
     info = h.info;
     replies = h.replies;
     front_at = tt;
-    unused = tt;
+    offered = record {
+      barrier = published.barrier ∙ ap (λ (i : DiskInfo). i.barrier) h.info;
+      flush = published.flush ∙ ap (λ (i : DiskInfo). i.flush) h.info;
+      discard = published.discard ∙ ap (λ (i : DiskInfo). i.discard) h.info;
+    };
     back_at = h.back_at;
     unhalted = h.unhalted;
     memory = h.memory;
@@ -143,7 +149,7 @@ begins_to_close : (config : Options) (w : World) (g : Flow) (d : Pipeline) → w
     → Goes config (lines.Closing ∷ []) (record { front = (let v : View = w.front in record v { closing = true }); back = w.back; under = w.under }) d
 begins_to_close config w g d stays_open h = record {
   flow = record g { closing = true };
-  step = Some s.step;
+  steps = s.step ∷ [];
   does = does_alone s;
   holds = record {
     started = (let was = h.started in record { whole = was.whole; known = was.known; closing = refl });
@@ -159,7 +165,7 @@ begins_to_close config w g d stays_open h = record {
     info = h.info;
     replies = h.replies;
     front_at = h.front_at;
-    unused = h.unused;
+    offered = h.offered;
     back_at = h.back_at;
     unhalted = h.unhalted;
     memory = h.memory;
@@ -213,7 +219,7 @@ agrees config w g d order plain wished unmade h =
     x = h.indices
 
     none : g.pushed ≡ 0
-    none = (subst (λ (b : Bool). IsUnused b g.pushed w.front.last) (unmade_unready w.front.stage unmade) h.unused).0
+    none = (subst (λ (b : Bool). IsOffered b config.read_only w.front.offers g.pushed w.front.last) (unmade_unready w.front.stage unmade) h.offered).0
 
     pushed : (g.taken ≤ g.pushed) × (g.front_seen ≤ g.pushed)
     pushed = (omega (arith, x.taken_replied, x.replied_fetched, x.fetched_pushed), omega (arith, x.front_to, x.replied_fetched, x.fetched_pushed))
@@ -231,7 +237,7 @@ enters_goes config w g d state plain may h = enters_cases (λ v shown. Goes conf
 
     entered : (s : FrontState) → MayEnter w s → may_enter s w.front ≡ true → Goes config (state_lines s) (record { front = in_state s w.front; back = w.back; under = w.under }) d
     entered (states.Agreed order) may can = agrees config w g d order plain may (both_true (is_unmade w.front.stage) (nat_le order w.front.shape.order) can).0 h
-    entered states.Connected may can = becomes_ready config w g d (subst (λ (s : FrontStage). Holds config w g d s w.back.stage) (initialised_is w.front.stage can) h)
+    entered (states.Connected offers) may can = becomes_ready config w g d offers may (subst (λ (s : FrontStage). Holds config w g d s w.back.stage) (initialised_is w.front.stage can) h)
     entered states.Closing may can = begins_to_close config w g d (yet_open w.front.closing (is_open w.front.stage) can) h
     entered states.Leaving may can = absurd (subst (BackAt g.shape g.start g.fetched g.back_seen g.replied g.submitted w.back.jobs.works w.back.entry) may h.back_at)
     entered states.Closed may can = absurd (unhalted may)

@@ -20,7 +20,7 @@ pooled_at r all place = by_place (nat_lt place (frames_of r)) refl
 
 -- a word of its data lies in one of its frames
 pub place_in : (r : Request) (n : ℕ) → IsShaped r → n < words_in r → n / 1024 < frames_of r
-place_in r n shaped lt = let few = shaped.few in let frames = shaped.frames in omega arith
+place_in r n shaped lt = let frames = shaped.frames in omega arith
 
 -- each word of its data is as it was
 abbrev pub SameData : (old new : List ℕ) → Request → Type 0

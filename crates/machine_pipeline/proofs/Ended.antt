@@ -29,7 +29,7 @@ use Rattle.blk_front.specs.Step.{at as at_stage, broken, is_mapped, end_step, fi
 use Rattle.split_model.specs.World.{World}
 use Rattle.split_model.specs.Shown.{front_lines}
 use Rattle.machine_pipeline.proofs.Flow.{Flow, frames_of, is_fetching, reply_at, ending_at, telling_at, is_issuing, is_bound_back, may_front_sleep, is_front_arming}
-use Rattle.machine_pipeline.proofs.Holds.{Holds, FrontAt, FrontSends, IsUnused, PortsAt, IsPooled, ArePooled, IsSubmitted, IsEnding, IsEndingAt, AreEntries, AreRevoked, AreDataWords}
+use Rattle.machine_pipeline.proofs.Holds.{Holds, FrontAt, FrontSends, IsOffered, PortsAt, IsPooled, ArePooled, IsSubmitted, IsEnding, IsEndingAt, AreEntries, AreRevoked, AreDataWords}
 use Rattle.machine_pipeline.proofs.Turns.{Goes, FrontGoes, front_says, front_next, said_nothing, does_step}
 use Rattle.machine_pipeline.proofs.Lists.{all_from}
 use Rattle.machine_pipeline.proofs.Data.{SameData, pooled_at}
@@ -80,7 +80,7 @@ ends_on config w g d d' s s' ending pool words pages i i' restless unarmed fewer
   info = h.info;
   replies = h.replies;
   front_at = at;
-  unused = subst (λ (b : Bool). IsUnused b g.pushed w.front.last) (i.ready ∙ sym i'.ready) h.unused;
+  offered = subst (λ (b : Bool). IsOffered b config.read_only w.front.offers g.pushed w.front.last) (i.ready ∙ sym i'.ready) h.offered;
   back_at = h.back_at;
   unhalted = h.unhalted;
   memory = sized;
@@ -115,8 +115,9 @@ ends_on config w g d d' s s' ending pool words pages i i' restless unarmed fewer
 
 -- a granted frame isn't mapped
 unmapped_flags : (way : Transfer) → is_mapped (grant_flags way) ≡ false
-unmapped_flags transfer.Read = refl
 unmapped_flags (transfer.Write tag) = refl
+unmapped_flags (transfer.Barrier tag) = refl
+unmapped_flags way = refl
 
 -- the moves at these stages, by the request that is ending
 abbrev pub ActGoes : Options → World → Pipeline → FrontStage → FrontAsk → Type 0
@@ -132,7 +133,7 @@ grant_read_goes config w g d place told h =
     (subst (λ (x : View). Goes config (lines.Move (moves.FrontRead (entry_frame frame) (entry_word frame) word) ∷ front_lines x.told) (record { front = record x { told = None }; back = w.back; under = w.under }) d) (sym stepped)
     (record {
       flow = g;
-      step = None;
+      steps = [];
       does = said_nothing d (moves.FrontRead (entry_frame frame) (entry_word frame) word) w.front.told told;
       holds = ends_on config w g d d (front.GrantRead place) (front.GrantEnd place flags) w.front.ending w.front.pool w.front.words w.under.pages (at_read place) (at_end place flags) refl refl (omega arith) h
           h.stations h.pool (e, here, at.2, (at.3, refl)) (data_rests w.under.pages w.under.pages w.front.words w.front.ending w.front.ending
@@ -167,15 +168,15 @@ grant_read_goes config w g d place told h =
     stepped = ap (end_step w.front place) (entries.ending e here place (omega arith) at.3)
         ∙ ap (λ (b : Bool). if b then broken flags w.front else at_stage (front.GrantEnd place flags) w.front) (unmapped_flags e.request.transfer)
 
--- a request has a word of data
-some_word : (r : Request) → IsShaped r → 0 < words_in r
-some_word r shaped = let some = shaped.some in omega arith
+-- a request that has a frame has a word of data
+some_word : (r : Request) (place : ℕ) → IsShaped r → place < frames_of r → 0 < words_in r
+some_word r place shaped within = let frames = shaped.frames in omega arith
 
 -- a read that went well has data, and nothing else has
 data_are : (way : Transfer) (status : Status) → has_data way status ≡ true → (way ≡ transfer.Read) × (status ≡ Okay)
 data_are transfer.Read Okay t = (refl, refl)
 data_are transfer.Read status t = absurd (true≢false (sym t))
-data_are (transfer.Write tag) status t = absurd (true≢false (sym t))
+data_are way status t = absurd (true≢false (sym t))
 
 -- the entry is exchanged for none: the next grant is ended, or the answer told, and the data of a read that went well are told next
 pub grant_end_goes : (config : Options) (w : World) (g : Flow) (d : Pipeline) (place before : ℕ)
@@ -297,7 +298,7 @@ grant_end_goes config w g d place before untold h =
         (reply_at w.back.stage) w.front.requests w.back.jobs.works w.under.pages e is.known is.positive t stations in
         record {
           flow = g;
-          step = Some s.step;
+          steps = s.step ∷ [];
           does = does_step (moves.FrontCas (entry_frame frame) (entry_word frame) before 0 word) (lines.Answer e.request.number e.status ∷ []) refl s;
           holds = ends_on config w g d (next d s.step) (front.GrantEnd place before) front.Loop None (with_all_free w.front.pool e.request.frames.items) w.front.words pages (at_end place before) at_loop refl refl (omega arith) h
               (elsewhere (next d s.step) None None s.now) (pooled_free w.front.pool w.front.requests e its.frames owned) tt
@@ -309,12 +310,12 @@ grant_end_goes config w g d place before untold h =
         let s = answers_read config g d true false (is_fetching w.back.stage) (reply_at w.back.stage) w.front.requests w.back.jobs.works w.under.pages e is.known is.positive read.0 read.1 stations in
         record {
           flow = g;
-          step = Some s.step;
+          steps = s.step ∷ [];
           does = does_step (moves.FrontCas (entry_frame frame) (entry_word frame) before 0 word) (lines.Answer e.request.number e.status ∷ []) refl s;
           holds = ends_on config w g d (next d s.step) (front.GrantEnd place before) (front.ReadData 0) w.front.ending w.front.pool w.front.words pages (at_end place before) (at_data 0) refl refl (omega arith) h
               (subst (λ (x : Option Ending). AreStations config g (next d s.step) true false (is_fetching w.back.stage) x (Some 0)
               (reply_at w.back.stage) w.front.requests w.back.jobs.works pages) (sym here) (elsewhere (next d s.step) (Some e) (Some 0) s.now))
-              h.pool (e, here, is, (some_word e.request its.shaped, read.0, read.1))
+              h.pool (e, here, is, (some_word e.request place its.shaped within, read.0, read.1))
               (let was = h.telling in record { size = was.size; so_far = λ x same k lt. absurd (omega arith) })
               (entries_end (front.ReadData 0) w.front.ending (at_data 0) (λ x same. absurd (none-some x same))) sized words ring_kept;
         }
@@ -323,7 +324,7 @@ grant_end_goes config w g d place before untold h =
         → Becomes (if b then at_stage (front.GrantRead (place + 1)) w.front else ended e w.front) pages
     by_more true t = record {
       flow = g;
-      step = None;
+      steps = [];
       does = said_nothing d (moves.FrontCas (entry_frame frame) (entry_word frame) before 0 word) w.front.told untold;
       holds = ends_on config w g d d (front.GrantEnd place before) (front.GrantRead (place + 1)) w.front.ending w.front.pool w.front.words pages
           (at_end place before) (at_read (place + 1)) refl refl (omega arith) h

@@ -1,6 +1,6 @@
 -- The front writes the entry of the request that it issues.
-use Rattle.std.proofs.Common.{◌≡◌, ◌≢◌, ℕ, ◌+◌, ◌<◌, ◌≤◌, ◌==◌, Bool, true, false, List, length, refl, ap, sym, ◌∙◌, arith, length-set, None, ◌⊎◌, inl, inr}
-use Rattle.std.specs.Prelude.{Some, slice_get, slice_index, if◌then◌else◌}
+use Rattle.std.proofs.Common.{◌≡◌, ◌≢◌, ℕ, ◌+◌, ◌<◌, ◌≤◌, ◌==◌, Bool, true, false, List, [], length, refl, ap, sym, ◌∙◌, arith, length-set, subst, ◌⊎◌, inl, inr}
+use Rattle.std.specs.Prelude.{All, None, Some, slice_get, slice_index, if◌then◌else◌}
 use Rattle.std.proofs.lemmas.Bool.Decides.{nat_tests}
 use Rattle.std.proofs.lemmas.Option.{same_Some, slice_get_within}
 use Rattle.blk_base.specs.Options.{Options}
@@ -9,32 +9,36 @@ use Rattle.blk_front.specs.declared.request.Request.{Request}
 use Rattle.blk_front.specs.declared.stage.Stage.{Stage as FrontStage}
 use Rattle.blk_front.specs.declared.stage.Stage.TheVariants as front
 use Rattle.blk_front.specs.View.{next_request}
-use Rattle.blk_front.specs.Step.{entry_of}
+use Rattle.blk_front.specs.Entry.{entry_of}
+use Rattle.blk_front.specs.Submit.{is_ready}
 use Rattle.blk_back.specs.declared.stage.Reply.{Reply}
 use Rattle.blk_back.specs.declared.stage.Stage.{Stage as BackStage}
 use Rattle.split_model.specs.World.{World}
 use Rattle.split_model.specs.Safe.{IsSafe}
-use Rattle.machine_pipeline.proofs.Flow.{Flow, wrapped, filled, entered, named_frames, granted_frames, reply_at, reply_count, may_front_sleep, is_issuing}
-use Rattle.machine_pipeline.proofs.Holds.{FrontAt, AreSlots, Holds, slot_of}
+use Rattle.machine_pipeline.proofs.Flow.{Flow, wrapped, filled, entered, named_frames, granted_frames, ending_at, telling_at, reply_at, reply_count, may_front_sleep, is_issuing, is_fetching}
+use Rattle.machine_pipeline.proofs.Holds.{FrontAt, FrontSends, AreSlots, IsFilled, AreEntries, Holds, slot_of}
 use Rattle.ring_words.specs.Shape.{Shape, entry_words_of, entries_of}
-use Rattle.machine_pipeline.proofs.Kept.{SameFrame, same_entry, responded_few, SameEntry}
+use Rattle.machine_pipeline.proofs.Kept.{SameFrame, same_entry, responded_few, SameEntry, SameGrants}
 use Rattle.std.proofs.lemmas.Bool.{cases_eq}
 use Rattle.machine_pipeline.proofs.Next.{IsNext, next_is}
 use Rattle.machine_pipeline.proofs.Turns.{FrontGoes, said_nothing}
-use Rattle.machine_pipeline.proofs.Issuing.{frames_elsewhere, entries_elsewhere, frames_turned, entries_turned, with_front, issue_kept}
+use Rattle.machine_pipeline.proofs.Issuing.{issuing, frames_elsewhere, entries_elsewhere, frames_turned, entries_turned, with_front, issue_moved}
+use Rattle.machine_pipeline.proofs.Data.{SameData}
+use Rattle.machine_pipeline.proofs.Stations.{AreStations, turned}
+use Rattle.machine_pipeline.proofs.ReadsKept.{stations_elsewhere}
 use Rattle.machine_pipeline.proofs.Slots.{with_slot, response_fits, slots_apart, other_slot, slot_written, same_slot, frames_beside, indices_beside}
 
 -- one word more of the entry that is being written, less than a ring after the first response that wasn't taken
-slots_entered : (shape : Shape) (start fetched pushed taken replied : ℕ) (submitted : List Request) (replies : List Reply) (old : List ℕ) (k : ℕ) (s' : FrontStage) (b : BackStage) (r : Request)
-    → shape.order ≤ 4
+slots_entered : (shape : Shape) (start fetched pushed taken replied : ℕ) (submitted : List Request) (replies : List Reply) (old : List ℕ) (k : ℕ) (s s' : FrontStage) (b : BackStage) (r : Request)
+    → shape.order ≤ 4 → entered s ≡ k
     → length old ≡ 1114112 → k < entry_words_of shape.abi → ((i : ℕ) → i < entry_words_of shape.abi → i < entered s' → i ≤ k) → slice_get submitted pushed ≡ Some r
     → taken ≤ fetched → pushed < taken + entries_of shape.order → length replies + taken ≤ pushed → taken ≤ replied
     → ((rep : Reply) → reply_at b ≡ Some rep → replied < pushed)
-    → AreSlots shape start fetched pushed taken replied submitted replies old (front.Slot k) b
+    → AreSlots shape start fetched pushed taken replied submitted replies old s b
     → AreSlots shape start fetched pushed taken replied submitted replies (with_slot old shape (wrapped start pushed) k (slice_index (entry_of shape.abi r) k)) s' b
-slots_entered shape start fetched pushed taken replied submitted replies old k s' b r narrow sized within more known few room counted order behind h = record {
+slots_entered shape start fetched pushed taken replied submitted replies old k s s' b r narrow so_far sized within more known few room counted order behind h = record {
   entries = λ m q from to e i lt. earlier m i to (omega arith) lt ∙ h.entries m q from to e i lt;
-  entry = λ q e i lt in_it. by_place i lt (more i lt in_it) (same_Some r q (sym known ∙ e)) (λ less. h.entry q e i lt less);
+  entry = λ q e i lt in_it. by_place i lt (more i lt in_it) (same_Some r q (sym known ∙ e)) (λ less. h.entry q e i lt (omega (arith, so_far, less)));
   responses = λ m rep e i lt. let in_replies = slice_get_within replies m rep e in earlier (taken + m) i (omega arith) (omega arith) (response_fits shape.abi i lt) ∙ h.responses m rep e i lt;
   response = λ rep e i lt. let three = responded_few b in let before = behind rep e in earlier replied i before (omega arith) (response_fits shape.abi i (omega arith)) ∙ h.response rep e i lt;
 }
@@ -54,39 +58,40 @@ slots_entered shape start fetched pushed taken replied submitted replies old k s
       | inr other ↦ other_slot old shape (wrapped start pushed) k value (wrapped start pushed) i (same_slot shape (wrapped start pushed) k i (λ same. other (sym same))) ∙ begun (omega arith)
     ]
 
--- what holds goes on holding
-entered_on : (config : Options) (w : World) (g : Flow) (d : Pipeline) (k : ℕ) (s' : FrontStage) (r : Request)
-    → may_front_sleep s' ≡ true → is_issuing s' ≡ true
-    → Holds config w g d (front.Slot k) w.back.stage
-    → next_request w.front ≡ Some r → k < entry_words_of g.shape.abi → ((i : ℕ) → i < entry_words_of g.shape.abi → i < entered s' → i ≤ k) → filled s' ≡ 11264 → named_frames s' ≤ 11 → granted_frames s' ≤ 11
-    → FrontAt g.shape g.start g.pushed g.taken g.front_seen g.submitted g.replies (next_request w.front) w.front.entry w.front.ending s'
-    → Holds config (with_front w s' w.front.entry (with_slot w.under.pages g.shape (wrapped g.start g.pushed) k (slice_index (entry_of g.shape.abi r) k))) g d s' w.back.stage
-entered_on config w g d k s' r i' same h e within more full named granted at =
+-- what holds goes on holding as a word of the next request's entry is written
+pub word_entered : (config : Options) (w : World) (g : Flow) (d d' : Pipeline) (k : ℕ) (s s' : FrontStage) (r : Request) (entry : List ℕ)
+    → may_front_sleep s ≡ true → may_front_sleep s' ≡ true → entered s ≡ k
+    → Holds config w g d s w.back.stage
+    → AreStations config g d' (is_ready s') (is_issuing s') (is_fetching w.back.stage) (ending_at s' w.front.ending) (telling_at s') (reply_at w.back.stage) w.front.requests w.back.jobs.works w.under.pages
+    → next_request w.front ≡ Some r → k < entry_words_of g.shape.abi → ((i : ℕ) → i < entry_words_of g.shape.abi → i < entered s' → i ≤ k)
+    → ((new : List ℕ) → All (SameData w.under.pages new) w.front.requests → All (IsFilled g.pushed new s') w.front.requests)
+    → ((new : List ℕ) → All (SameGrants w.under.pages new) w.front.requests → AreEntries g.pushed new w.under.grants.live s' w.front.ending w.front.requests)
+    → FrontAt g.shape g.start g.pushed g.taken g.front_seen g.submitted g.replies (next_request w.front) entry w.front.ending s'
+    → (FrontSends s g.pushed g.fetched → ⊥)
+    → Holds config (with_front w s' entry (with_slot w.under.pages g.shape (wrapped g.start g.pushed) k (slice_index (entry_of g.shape.abi r) k))) g d' s' w.back.stage
+word_entered config w g d d' k s s' r entry i i' so_far h stations e within more filled_so granted_so at unsent =
     let next : IsNext g.submitted w.front.requests g.pushed w.front.waiting r = next_is w.front g.submitted w.front.sectors w.front.last g.pushed _ r h.queue h.submitted h.pool e in
     let x = h.indices in
     let y = h.replies in
-    let waits = next.waits in
-    let few = x.room in
-    let held = x.held in
-    let all = x.all in
+    let unended = issuing s i in
+    let few = subst (λ (n : ℕ). length w.front.requests + n ≤ entries_of g.shape.order) unended.ended x.room in
     let value : ℕ = slice_index (entry_of g.shape.abi r) k in
     let new : List ℕ = with_slot w.under.pages g.shape (wrapped g.start g.pushed) k value in
     let elsewhere : (f : ℕ) → (f < 2) ⊎ (18 ≤ f) → SameFrame w.under.pages new f = λ f other. frames_beside w.under.pages g.shape (wrapped g.start g.pushed) k value f h.shaped.narrow within other in
     let entries : (gref : ℕ) → gref < 1024 → SameEntry w.under.pages new gref = λ gref lt. same_entry w.under.pages new gref lt (elsewhere 0 (inl (omega arith))) (elsewhere 1 (inl (omega arith))) in
-    issue_kept config w g d (front.Slot k) s' w.front.entry new refl i' same h at
+    issue_moved config w g d d' s s' entry new i i' h
+    (stations_elsewhere config g d' (is_ready s') (is_issuing s') (is_fetching w.back.stage) (ending_at s' w.front.ending) (telling_at s') (reply_at w.back.stage) w.front.requests w.back.jobs.works w.under.pages new w.front.sectors w.front.last h.submitted (λ f low high. elsewhere f (inr low)) stations)
+    at
     (length-set w.under.pages _ value ∙ h.memory)
-    (λ f low high. elsewhere f (inr low))
     (λ z lt. indices_beside w.under.pages g.shape (wrapped g.start g.pushed) k value z lt)
     (λ page lt. entries (8 + page) (omega arith))
-    (slots_entered g.shape g.start g.fetched g.pushed g.taken g.replied g.submitted g.replies w.under.pages k s' w.back.stage r h.shaped.narrow h.memory within more next.known
-    (order x.taken_replied x.replied_fetched) (room (entries_of g.shape.order) g.pushed w.front.waiting (length w.front.requests) g.taken w.front.last all held few waits)
+    (slots_entered g.shape g.start g.fetched g.pushed g.taken g.replied g.submitted g.replies w.under.pages k s s' w.back.stage r h.shaped.narrow so_far h.memory within more next.known
+    (order x.taken_replied x.replied_fetched) (room (entries_of g.shape.order) g.pushed w.front.waiting (length w.front.requests) g.taken w.front.last x.all x.held few next.waits)
     (counted y.counted x.replied_fetched x.fetched_pushed) x.taken_replied
     (λ rep at_reply. behind _ (ap reply_count at_reply) h.counted x.fetched_pushed) h.slots)
-    (frames_turned g.pushed w.under.pages new (front.Slot k) s' w.front.requests (omega arith)
-    (frames_elsewhere config w g d (front.Slot k) w.back.stage h new (λ f from. elsewhere f (inr from))) h.frames)
-    (entries_turned g.pushed w.under.pages new w.under.grants.live (front.Slot k) s' w.front.ending w.front.requests i' named granted
-    (entries_elsewhere config w g d (front.Slot k) w.back.stage h new entries) h.entries)
-    (λ t sends. absurd sends)
+    (filled_so new (frames_elsewhere config w g d s w.back.stage h new (λ f from. elsewhere f (inr from))))
+    (granted_so new (entries_elsewhere config w g d s w.back.stage h new entries))
+    (λ t sends. absurd (unsent sends))
   where
     order : {taken replied fetched : ℕ} → taken ≤ replied → replied ≤ fetched → taken ≤ fetched
     order p q = omega arith
@@ -100,13 +105,29 @@ entered_on config w g d k s' r i' same h e within more full named granted at =
     behind : (works : ℕ) {count replied fetched pushed : ℕ} → count ≡ 1 → works + count + replied ≡ fetched → fetched ≤ pushed → replied < pushed
     behind works one e p = omega arith
 
-slot_same : (pages entry entry' : List ℕ) (shape shape' : Shape) (prod prod' k : ℕ) → shape ≡ shape' → prod ≡ prod' → entry ≡ entry' → with_slot pages shape prod k (slice_index entry k) ≡ with_slot pages shape' prod' k (slice_index entry' k)
+-- where another word of it was written before
+entered_on : (config : Options) (w : World) (g : Flow) (d : Pipeline) (k : ℕ) (s' : FrontStage) (r : Request)
+    → may_front_sleep s' ≡ true → is_issuing s' ≡ true
+    → Holds config w g d (front.Slot k) w.back.stage
+    → next_request w.front ≡ Some r → k < entry_words_of g.shape.abi → ((i : ℕ) → i < entry_words_of g.shape.abi → i < entered s' → i ≤ k) → filled s' ≡ 11264 → named_frames s' ≤ 11 → granted_frames s' ≤ 11
+    → FrontAt g.shape g.start g.pushed g.taken g.front_seen g.submitted g.replies (next_request w.front) w.front.entry w.front.ending s'
+    → Holds config (with_front w s' w.front.entry (with_slot w.under.pages g.shape (wrapped g.start g.pushed) k (slice_index (entry_of g.shape.abi r) k))) g d s' w.back.stage
+entered_on config w g d k s' r i' same h e within more full named granted at =
+    let x = issuing s' i' in
+    word_entered config w g d d k (front.Slot k) s' r w.front.entry refl i' refl h
+    (turned config g d true (is_ready s') true (is_issuing s') (is_fetching w.back.stage) None (ending_at s' w.front.ending) None (telling_at s') (reply_at w.back.stage) w.front.requests w.back.jobs.works w.under.pages x.ready same (x.ending w.front.ending) x.untelling h.stations)
+    e within more
+    (λ new kept. frames_turned g.pushed w.under.pages new (front.Slot k) s' w.front.requests (omega arith) kept h.frames)
+    (λ new kept. entries_turned g.pushed w.under.pages new w.under.grants.live (front.Slot k) s' w.front.ending w.front.requests i' named granted kept h.entries)
+    at (λ sends. sends)
+
+pub slot_same : (pages entry entry' : List ℕ) (shape shape' : Shape) (prod prod' k : ℕ) → shape ≡ shape' → prod ≡ prod' → entry ≡ entry' → with_slot pages shape prod k (slice_index entry k) ≡ with_slot pages shape' prod' k (slice_index entry' k)
 slot_same pages entry entry' shape shape' prod prod' k known e f = rw (known, e, f) refl
 
 pub slot_goes : (config : Options) (w : World) (g : Flow) (d : Pipeline) (k : ℕ) → IsSafe w → Holds config w g d (front.Slot k) w.back.stage → FrontGoes config w d (front.Slot k)
 slot_goes config w g d k safe h = record {
   flow = g;
-  step = None;
+  steps = [];
   does = said_nothing d _ w.front.told safe.front_told;
   holds = by_test (k + 1 == entry_words_of w.front.shape.abi) refl;
 }

@@ -111,7 +111,7 @@ DataGoes config w d n next = Goes config (data_says w (front_act w.under (data_a
 pub data_goes : (config : Options) (w : World) (g : Flow) (d : Pipeline) (n : ℕ) → IsSafe w → Holds config w g d (front.Data n) w.back.stage → FrontGoes config w d (front.Data n)
 data_goes config w g d n safe h = subst (λ (next : Option Request). DataGoes config w d n next) (sym h.front_at.1) (record {
   flow = g;
-  step = None;
+  steps = [];
   does = said_nothing d _ w.front.told safe.front_told;
   holds = by_test (nat_lt (n + 1) (words_in r)) refl;
 })
@@ -135,6 +135,5 @@ data_goes config w g d n safe h = subst (λ (next : Option Request). DataGoes co
         has_frame : 0 < frames_of r
         has_frame =
             let next : IsNext g.submitted w.front.requests g.pushed w.front.waiting r = next_is w.front g.submitted w.front.sectors w.front.last g.pushed _ r h.queue h.submitted h.pool h.front_at.1 in
-            let some = next.shape.some in
             let frames = next.shape.frames in
-            omega arith
+            omega (arith, h.front_at.2.1)

@@ -221,6 +221,9 @@ is_bound_back s = true
 abbrev pub job_of : Transfer → (sector count : ℕ) → Job
 job_of transfer.Read sector count = jobs.Read sector count
 job_of (transfer.Write tag) sector count = jobs.Write sector count tag
+job_of (transfer.Barrier tag) sector count = jobs.Barrier sector count tag
+job_of transfer.Flush sector count = jobs.Flush
+job_of (transfer.Discard sectors) sector count = jobs.Discard sector sectors
 
 -- its own segments
 abbrev pub own_segments : Request → List Segment

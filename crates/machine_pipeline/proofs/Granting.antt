@@ -20,7 +20,8 @@ use Rattle.blk_front.specs.declared.stage.Ending.{Ending}
 use Rattle.blk_front.specs.declared.stage.Stage.{Stage as FrontStage}
 use Rattle.blk_front.specs.declared.stage.Stage.TheVariants as front
 use Rattle.blk_front.specs.View.{View, next_request}
-use Rattle.blk_front.specs.Step.{at, granted, entry_of}
+use Rattle.blk_front.specs.Entry.{entry_of}
+use Rattle.blk_front.specs.Step.{at, granted}
 use Rattle.split_model.specs.World.{World}
 use Rattle.split_model.specs.Safe.{IsSafe}
 use Rattle.machine_pipeline.proofs.Flow.{Flow, frames_of, filled, named_frames, granted_frames, entered, may_front_sleep, is_issuing, is_fetching, ending_at, telling_at, reply_at}
@@ -232,7 +233,7 @@ frame_goes config w g d place safe h = subst (λ (q : Option Request). NameGoes 
     let was : IsGranted g.pushed w.under.pages w.under.grants.live (front.GrantFrame place) r = all_at (IsGranted g.pushed w.under.pages w.under.grants.live (front.GrantFrame place)) w.front.requests (length w.front.requests - w.front.waiting) r h.entries.each next.place in
     record {
       flow = g;
-      step = None;
+      steps = [];
       does = said_nothing d _ w.front.told safe.front_told;
       holds = entry_on config w g d (front.GrantFrame place) (front.GrantFence place) r place w.front.entry (2 * ((frame_at r place + 6) % 512) + 1) (frame_at r place) refl refl refl h next h.front_at.2 (omega arith)
           (λ other lt apart. other_named w.under.pages (frame_at r place + 6) other (frame_at r place) (omega (arith, pooled.1)) lt apart)
@@ -245,7 +246,7 @@ frame_goes config w g d place safe h = subst (λ (q : Option Request). NameGoes 
 pub fence_goes : (config : Options) (w : World) (g : Flow) (d : Pipeline) (place : ℕ) → IsSafe w → Holds config w g d (front.GrantFence place) w.back.stage → FrontGoes config w d (front.GrantFence place)
 fence_goes config w g d place safe h = record {
   flow = g;
-  step = None;
+  steps = [];
   does = said_nothing d _ w.front.told safe.front_told;
   holds = issue_kept config w g d (front.GrantFence place) (front.GrantFlags place) w.front.entry w.under.pages refl refl refl h h.front_at h.memory (λ f low high x lt. refl) (λ x lt. refl) (λ page lt. record { flags = refl; frame = refl })
       (slots_turned g.shape g.start g.fetched g.pushed g.taken g.replied g.submitted g.replies w.under.pages w.under.pages (front.GrantFence place) (front.GrantFlags place) w.back.stage h.shaped.narrow (λ f x from to in_it behind. refl) refl h.slots)
@@ -306,7 +307,7 @@ flags_goes config w g d place safe h = subst (λ (q : Option Request). GrantGoes
         (record { front = record x { told = None }; back = w.back; under = (let u : Hypervisor = w.under in record u { pages = new }) }) d)
     by_test true t = record {
       flow = g;
-      step = None;
+      steps = [];
       does = said_nothing d _ w.front.told safe.front_told;
       holds = on (front.GrantFrame (place + 1)) w.front.entry refl refl (omega arith) refl (r, h.front_at.1, further (place + 1) (frames_of r) t)
           (λ a upto in_it. upto) (λ a upto in_it. upto);
@@ -316,7 +317,7 @@ flags_goes config w g d place safe h = subst (λ (q : Option Request). GrantGoes
         further n size t = grind (arith, nat_tests)
     by_test false t = record {
       flow = g;
-      step = None;
+      steps = [];
       does = said_nothing d _ w.front.told safe.front_told;
       holds = on (front.Slot 0) (entry_of w.front.shape.abi r) refl refl (omega arith) refl (some_words g.shape.abi, (r, h.front_at.1, ap (λ (x : Shape). entry_of x.abi r) h.shaped.known))
           (λ a upto in_it. last place (frames_of r) t a in_it) (λ a upto in_it. last place (frames_of r) t a in_it);

@@ -1,5 +1,5 @@
 -- What one request more makes of the front's queue and pool, and of what the pipeline knows.
-use Rattle.std.proofs.Common.{◌≡◌, ◌≢◌, ℕ, zero, suc, ◌+◌, ◌-◌, ◌^◌, ◌<◌, ◌≤◌, ◌==◌, ◌⊎◌, ◌||◌, ◌&&◌, Bool, true, false, true≢false, not, cond, List, [], ◌∷◌, ◌++◌, length, get_or, refl, ap, sym, ◌∙◌, subst, inl, inr, arith, length-append, length-set, get_or-set_other}
+use Rattle.std.proofs.Common.{◌≡◌, ◌≢◌, ℕ, zero, suc, ◌+◌, ◌-◌, ◌<◌, ◌≤◌, ◌==◌, ◌⊎◌, ◌||◌, ◌&&◌, Bool, true, false, true≢false, not, cond, List, [], ◌∷◌, ◌++◌, length, get_or, refl, ap, sym, ◌∙◌, subst, inl, inr, arith, length-append, length-set, get_or-set_other}
 use Rattle.std.specs.Prelude.{All, Option, Some, None, option_and_then, option_map, position, slice_get, slice_index_or, count_by, sum_by}
 use Rattle.std.specs.List.{list_any}
 use Rattle.std.proofs.lemmas.Bool.Decides.{nat_tests}
@@ -13,11 +13,11 @@ use Rattle.std.proofs.lemmas.List.Folds.{list_any-append}
 use Rattle.blk_base.specs.Options.{Options}
 use Rattle.pipeline_laws.specs.Station.{Request as Asked, is_finished}
 use Rattle.blk_front.specs.declared.request.Request.{Request}
-use Rattle.blk_front.specs.Request.{is_write, tag_of, IsShaped}
+use Rattle.blk_front.specs.Request.{is_write, is_moving, named_of, IsShaped}
 use Rattle.blk_front.specs.declared.stage.Ending.{Ending}
 use Rattle.blk_front.specs.Pool.{with_taken, taking}
 use Rattle.machine_pipeline.proofs.Flow.{frames_of, uses, ending_frames, ending_uses, job_of}
-use Rattle.machine_pipeline.proofs.Holds.{IsPooled, AreQueued, IsSubmitted, AreSubmitted, ArePooled, IsOfTheDisk}
+use Rattle.machine_pipeline.proofs.Holds.{IsPooled, AreNumbers, AreQueued, IsSubmitted, AreSubmitted, ArePooled, IsOfTheDisk}
 use Rattle.machine_pipeline.proofs.Stations.{AreKnown, AreOpen}
 use Rattle.machine_pipeline.proofs.Lists.{found_at, get_append, get_last, get_within, count_set}
 
@@ -34,30 +34,34 @@ push_was (z ∷ xs) y (suc k) x e = elim (push_was xs y k x e) [ inl was ↦ inl
 pub same_before : {X : Type 0} (xs : List X) (y : X) (k : ℕ) → k < length xs → slice_get (xs ++ y ∷ []) k ≡ slice_get xs k
 same_before xs y k lt = let was = get_within xs k lt in get_append xs (y ∷ []) k was.0 was.1 ∙ sym was.1
 
-pub submitted_more : (submitted : List Request) (sectors last : ℕ) (x : Request) → x.number ≡ last + 1 → x.sector + x.count ≤ sectors
-    → tag_of x.transfer < 2 ^ 32 → IsShaped x → All IsPooled x.frames.items
+pub submitted_more : (submitted : List Request) (sectors last : ℕ) (x : Request) → x.number ≡ last + 1 → x.sector + named_of x.transfer x.count ≤ sectors
+    → AreNumbers x.transfer x.sector → IsShaped x → All IsPooled x.frames.items
     → AreSubmitted submitted sectors last → AreSubmitted (submitted ++ x ∷ []) sectors (last + 1)
-submitted_more submitted sectors last x number on_disk small shaped pooled h = record {
+submitted_more submitted sectors last x number on_disk numbers shaped pooled h = record {
   counted = longer submitted x ∙ ap (λ (n : ℕ). n + 1) h.counted;
   each = λ k r e. elim (push_was submitted x k r e) [
     | inl was ↦ h.each k r was
     | inr new ↦
         let counted = h.counted in
         subst (IsSubmitted sectors k) (sym new.1)
-        (record { number = (let at = new.0 in omega arith); sector = on_disk; tag = small; shaped = shaped; frames = pooled })
+        (record { number = (let at = new.0 in omega arith); sector = on_disk; numbers = numbers; shaped = shaped; frames = pooled })
   ];
   sized = h.sized;
 }
 
--- a write is submitted to a disk that may be written alone
-pub disk_more : (config : Options) (sectors : ℕ) (read_only : Bool) (submitted : List Request) (x : Request) → (is_write x.transfer && read_only) ≡ false
+-- only a read is submitted to a disk that is read-only
+pub disk_more : (config : Options) (sectors : ℕ) (read_only : Bool) (submitted : List Request) (x : Request) → (is_write x.transfer && read_only) ≡ false → (is_moving x.transfer ≡ false → config.read_only ≡ false)
     → IsOfTheDisk config sectors read_only submitted → IsOfTheDisk config sectors read_only (submitted ++ x ∷ [])
-disk_more config sectors read_only submitted x may h = record {
+disk_more config sectors read_only submitted x may serves h = record {
   sectors = h.sectors;
   read_only = h.read_only;
   writable = λ k r e is. elim (push_was submitted x k r e) [
     | inl was ↦ h.writable k r was is
     | inr new ↦ sym h.read_only ∙ not_both (is_write x.transfer) read_only may (ap (λ (y : Request). is_write y.transfer) (sym new.1) ∙ is)
+  ];
+  served = λ k r e is. elim (push_was submitted x k r e) [
+    | inl was ↦ h.served k r was is
+    | inr new ↦ serves (ap (λ (y : Request). is_moving y.transfer) (sym new.1) ∙ is)
   ];
 }
   where

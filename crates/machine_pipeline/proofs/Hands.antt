@@ -146,6 +146,8 @@ hand_at r t (job.DiskRead n) m h e = hand_of n m r h.0.place (same_Some n m e) h
 hand_at r t (job.WriteWord n j) m h e = hand_of n m r h.0.place (same_Some n m e) h.0.here h.1
 hand_at r t (job.Unmap n) m h e = hand_of n m r h.0.place (same_Some n m e) h.0.here h.1
 hand_at r t (job.GiveUp n) m h e = hand_of n m r h.0 (same_Some n m e) h.1 h.2
+hand_at r t job.Flush m h e = absurd (none-some m e)
+hand_at r t (job.Trim count) m h e = absurd (none-some m e)
 hand_at r t (job.Done status) m h e = absurd (none-some m e)
 
 pub work_hand : (submitted : List Request) (fetched : ℕ) (t : Work) (m : Mapping) → (h : IsWork submitted fetched t) → mapping_at t.stage ≡ Some m → IsHandOf m h.r

@@ -1,5 +1,5 @@
 -- What holds between both ends, memory, and the pipeline that they stand for, one subject a record.
-use Rattle.std.specs.Prelude.{◌≡◌, ◌≢◌, ℕ, ◌+◌, ◌-◌, ◌*◌, ◌/◌, ◌%◌, ◌^◌, ◌<◌, ◌≤◌, ◌==◌, ◌⊎◌, min, Bool, true, false, cond, List, [], ◌∷◌, length, take, drop, count_by, sum_by, replicate, slice_get, slice_index, slice_index_or, Option, Some, None, All, AllPairs, if◌then◌else◌}
+use Rattle.std.specs.Prelude.{◌≡◌, ◌≢◌, ℕ, ◌+◌, ◌-◌, ◌*◌, ◌/◌, ◌%◌, ◌^◌, ◌<◌, ◌≤◌, ◌==◌, ◌⊎◌, min, Bool, true, false, not, cond, List, [], ◌∷◌, length, take, drop, count_by, sum_by, replicate, slice_get, slice_index, slice_index_or, Option, Some, None, All, AllPairs, if◌then◌else◌}
 use Rattle.blk_base.specs.declared.parts.Mapping.{Mapping}
 use Rattle.blk_base.specs.declared.parts.Mode.TheVariants.{ReadWrite}
 use Rattle.blk_base.specs.declared.operation.Status.TheVariants.{Okay}
@@ -15,16 +15,18 @@ use Rattle.pipeline_laws.specs.Pipeline.{Pipeline}
 use Rattle.blk_front.specs.declared.request.Request.{Request}
 use Rattle.blk_front.specs.declared.request.Transfer.{Transfer}
 use Rattle.blk_front.specs.declared.request.Transfer.TheVariants as transfer
-use Rattle.blk_front.specs.Request.{is_write, tag_of, operation_of, grant_flags, words_in, frame_at, filling_at, IsShaped}
+use Rattle.blk_front.specs.Entry.{entry_of}
+use Rattle.blk_front.specs.Request.{is_write, is_moving, named_of, tag_of, operation_of, grant_flags, words_in, frame_at, filling_at, IsShaped}
 use Rattle.blk_front.specs.declared.stage.Ending.{Ending}
+use Rattle.blk_front.specs.declared.state.Offers.{Offers}
 use Rattle.blk_front.specs.declared.stage.Stage.{Stage as FrontStage}
 use Rattle.blk_front.specs.declared.stage.Stage.TheVariants as front
 use Rattle.blk_front.specs.View.{fresh_word, slot_frame, slot_word, next_request}
-use Rattle.blk_front.specs.Step.{entry_of}
 use Rattle.blk_front.specs.Submit.{is_ready, is_connected, ending_of}
 use Rattle.back_jobs.specs.declared.stage.Stage.{Stage as JobStage}
 use Rattle.back_jobs.specs.declared.stage.Stage.TheVariants as job
 use Rattle.back_jobs.specs.Task.{Work, mode_of}
+use Rattle.back_jobs.specs.Jobs.{is_done, is_fresh_at, is_held, holds_barriers, holds_all}
 use Rattle.blk_back.specs.declared.stage.Reply.{Reply}
 use Rattle.blk_back.specs.declared.stage.Stage.{Stage as BackStage}
 use Rattle.blk_back.specs.declared.stage.Stage.TheVariants as back
@@ -70,11 +72,17 @@ pub record AreQueued (submitted : List Request) (pushed : ℕ) (requests : List 
 abbrev pub IsPooled : ℕ → Type 0
 IsPooled frame = (18 ≤ frame) × (frame < 1018)
 
+-- the numbers of a request: a tag of 32 bits; a flush names no sector, and a discard some, by a number of 32 bits
+abbrev pub AreNumbers : Transfer → (sector : ℕ) → Type 0
+AreNumbers transfer.Flush sector = sector ≡ 0
+AreNumbers (transfer.Discard sectors) sector = (1 ≤ sectors) × (sectors < 2 ^ 32)
+AreNumbers way sector = tag_of way < 2 ^ 32
+
 -- a submitted request: number k + 1, of sectors of the disk, in frames of the pool
 pub record IsSubmitted (sectors k : ℕ) (r : Request) : Type 0 where
   pub number : r.number ≡ k + 1
-  pub sector : r.sector + r.count ≤ sectors
-  pub tag : tag_of r.transfer < 2 ^ 32
+  pub sector : r.sector + named_of r.transfer r.count ≤ sectors
+  pub numbers : AreNumbers r.transfer r.sector
   pub shaped : IsShaped r
   pub frames : All IsPooled r.frames.items
 
@@ -120,6 +128,7 @@ pub record IsHand (m : Mapping) (r : Request) (place : ℕ) : Type 0 where
 abbrev pub sector_word : Request → Work → ℕ
 sector_word r t = (tag_of r.transfer + t.moved) % 2 ^ 32
 
+-- a job that flushes or trims has moved nothing
 abbrev pub AtWork : Request → Work → JobStage → Type 0
 AtWork r t job.Map = (x : IsMoving t r) × (t.within ≡ 0)
 AtWork r t (job.ReadWord m j) = (x : IsMoving t r) × IsHand m r x.place × (j < 128) × (is_write r.transfer ≡ true) × ((i : ℕ) → i < j → slice_index t.words i ≡ sector_word r t)
@@ -128,7 +137,13 @@ AtWork r t (job.DiskRead m) = (x : IsMoving t r) × IsHand m r x.place × (is_wr
 AtWork r t (job.WriteWord m j) = (x : IsReturning t r) × IsHand m r x.place × (j < 128) × (is_write r.transfer ≡ false)
 AtWork r t (job.Unmap m) = (x : IsReturning t r) × IsHand m r x.place × (t.within ≡ last_in r x.place)
 AtWork r t (job.GiveUp m) = (place : ℕ) × (place < frames_of r) × IsHand m r place
+AtWork r t job.Flush = (r.transfer ≡ transfer.Flush) × (t.moved ≡ 0)
+AtWork r t (job.Trim count) = (r.transfer ≡ transfer.Discard count) × (t.moved ≡ 0) × (t.disk ≡ r.sector)
 AtWork r t (job.Done status) = Unit {0}
+
+-- a job that has begun its work waits for none that was fetched before it
+abbrev pub IsUnhindered : (before t : Work) → Type 0
+IsUnhindered before t = is_done t ≡ false → is_fresh_at t.stage t.moved ≡ false → is_held t (holds_barriers before) (holds_all before) ≡ false
 
 -- the job of a fetched request, as far as its stage says
 pub record IsWork (submitted : List Request) (fetched : ℕ) (t : Work) : Type 0 where
@@ -143,6 +158,7 @@ pub record IsWork (submitted : List Request) (fetched : ℕ) (t : Work) : Type 0
 pub record AreWorks (submitted : List Request) (fetched : ℕ) (works : List Work) : Type 0 where
   pub each : All (IsWork submitted fetched) works
   pub ascending : AllPairs (λ (t u : Work). t.number < u.number) works
+  pub clear : AllPairs IsUnhindered works
 
 -- a response that the front hasn't taken
 pub record IsReply (fetched : ℕ) (rep : Reply) : Type 0 where
@@ -201,10 +217,16 @@ FrontAt shape start pushed taken front_seen submitted replies next entry ending 
 FrontAt shape start pushed taken front_seen submitted replies next entry ending (front.Broken word) = ⊥
 FrontAt shape start pushed taken front_seen submitted replies next entry ending s = Unit {0}
 
--- before it is connected nothing was submitted
-abbrev pub IsUnused : Bool → (pushed last : ℕ) → Type 0
-IsUnused false pushed last = (pushed ≡ 0) × (last ≡ 0)
-IsUnused true pushed last = Unit {0}
+-- the back serves barriers, flushes and discards where the disk isn't read-only, and the front knows it
+pub record AreOffered (fixed : Bool) (offers : Offers) : Type 0 where
+  pub barrier : offers.barrier ≡ not fixed
+  pub flush : offers.flush ≡ not fixed
+  pub discard : offers.discard ≡ not fixed
+
+-- before it is connected nothing was submitted; from then on the front knows what its back serves
+abbrev pub IsOffered : Bool → (fixed : Bool) → Offers → (pushed last : ℕ) → Type 0
+IsOffered false fixed offers pushed last = (pushed ≡ 0) × (last ≡ 0)
+IsOffered true fixed offers pushed last = AreOffered fixed offers
 
 -- a job's result was taken, and its response is being written
 pub record IsReplying (fetched : ℕ) (works : List Work) (rep : Reply) : Type 0 where
@@ -260,8 +282,9 @@ pub record IsFilled (pushed : ℕ) (pages : List ℕ) (stage : FrontStage) (r : 
 
 -- the flags of a mapped frame's entry: with GTF_reading (8), and of a read's with GTF_writing (16) too
 abbrev pub mapped_flags : Transfer → ℕ
-mapped_flags transfer.Read = 25
 mapped_flags (transfer.Write tag) = 13
+mapped_flags (transfer.Barrier tag) = 13
+mapped_flags way = 25
 
 -- the flags of a granted frame's entry, with so many mappings of it
 abbrev pub flags_with : Transfer → ℕ → ℕ
@@ -356,11 +379,12 @@ pub record IsStarted (option start front_start : ℕ) (began front_closes : Bool
   pub known : front_start ≡ option
   pub closing : began ≡ front_closes
 
--- the front knows the option's disk, and submits no write to a read-only one
+-- the front knows the option's disk, and only reads are submitted to a read-only one
 pub record IsOfTheDisk (config : Options) (size : ℕ) (fixed : Bool) (submitted : List Request) : Type 0 where
   pub sectors : size ≡ config.sectors
   pub read_only : fixed ≡ config.read_only
   pub writable : (k : ℕ) (r : Request) → slice_get submitted k ≡ Some r → is_write r.transfer ≡ true → config.read_only ≡ false
+  pub served : (k : ℕ) (r : Request) → slice_get submitted k ≡ Some r → is_moving r.transfer ≡ false → config.read_only ≡ false
 
 -- the machine with the front at stage s and the back at stage b, the flow of its words, and the pipeline that it stands for
 pub record Holds (config : Options) (w : World) (g : Flow) (d : Pipeline) (s : FrontStage) (b : BackStage) : Type 0 where
@@ -377,7 +401,7 @@ pub record Holds (config : Options) (w : World) (g : Flow) (d : Pipeline) (s : F
   pub info : w.back.jobs.info ≡ info_of config
   pub replies : AreReplies g.fetched g.taken g.replied g.replies
   pub front_at : FrontAt g.shape g.start g.pushed g.taken g.front_seen g.submitted g.replies (next_request w.front) w.front.entry w.front.ending s
-  pub unused : IsUnused (is_ready s) g.pushed w.front.last
+  pub offered : IsOffered (is_ready s) config.read_only w.front.offers g.pushed w.front.last
   pub back_at : BackAt g.shape g.start g.fetched g.back_seen g.replied g.submitted w.back.jobs.works w.back.entry b
   pub unhalted : w.back.halted ≡ None
   pub memory : length w.under.pages ≡ 1114112

@@ -215,7 +215,7 @@ issue_moved config w g d d' s s' entry pages m m' h stations at sized words name
       info = h.info;
       replies = h.replies;
       front_at = at;
-      unused = rw ready h.unused;
+      offered = rw ready h.offered;
       back_at = h.back_at;
       unhalted = h.unhalted;
       memory = sized;

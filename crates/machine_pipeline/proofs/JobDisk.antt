@@ -1,6 +1,6 @@
 -- A job writes its next sector to the disk, or reads it, or the disk fails at it.
 use Rattle.std.proofs.Common.{◌≡◌, ℕ, ◌+◌, ◌-◌, ◌%◌, ◌^◌, ◌≤◌, ◌==◌, Bool, ap, List, [], ◌∷◌, length, refl, sym, ◌∙◌, subst, arith}
-use Rattle.std.specs.Prelude.{Some, None, slice_set}
+use Rattle.std.specs.Prelude.{None, slice_set}
 use Rattle.blk_base.specs.Options.{Options}
 use Rattle.blk_base.specs.declared.ask.BackAnswer.TheVariants as answer
 use Rattle.blk_base.specs.declared.moves.Move.TheVariants as moves
@@ -33,10 +33,10 @@ took_goes : (config : Options) (w : World) (g : Flow) (d : Pipeline) (number p :
     → JobGoesAt config w d number p t (job.DiskWrite m) Took
 took_goes config w g d number p t r m h is e at = record {
   flow = g;
-  step = Some s.step;
+  steps = s.step ∷ [];
   does = does_step (moves.DiskWrite number t.disk) (lines.Effect t.id t.moved ∷ []) refl s;
   holds = subst (λ (x : Work). let v : World = record { front = w.front; back = record w.back { jobs = record w.back.jobs { works = slice_set w.back.jobs.works p x }; told = None }; under = w.under } in Holds config v g (next d s.step) v.front.stage v.back.stage) (sym stepped)
-      (job_holds config w g d (next d s.step) p t then w.under.pages w.under.grants h is.place refl s.now
+      (job_holds config w g d (next d s.step) p t then w.under.pages w.under.grants h is.free refl s.now
       (work_of w g d (next d s.step) p t then r is refl refl refl (at_further (counted t) r m last moved at.1 refl))
       h.memory (λ f low high v lt. refl) (λ page lt. record { flags = refl; frame = refl }) (λ f low high v lt. refl) h.entries
       (subst (λ (x : Work). AreMapped w.under.grants.live (hands_at w.back.stage (record w.back { jobs = record w.back.jobs { works = slice_set w.back.jobs.works p x } }))) stepped
@@ -90,9 +90,9 @@ failed_goes : (config : Options) (w : World) (g : Flow) (d : Pipeline) (number p
     → JobGoesAt config w d number p t (job.DiskWrite m) Failed
 failed_goes config w g d number p t r m h is e at = record {
   flow = g;
-  step = Some s.step;
+  steps = s.step ∷ [];
   does = does_step (moves.DiskWrite number t.disk) (lines.Fault t.id t.moved ∷ []) refl s;
-  holds = job_holds config w g d (next d s.step) p t then w.under.pages w.under.grants h is.place refl s.now
+  holds = job_holds config w g d (next d s.step) p t then w.under.pages w.under.grants h is.free refl s.now
       (work_of w g d (next d s.step) p t then r is refl refl refl (at.0.place, at.0.here, at.1))
       h.memory (λ f low high v lt. refl) (λ page lt. record { flags = refl; frame = refl }) (λ f low high v lt. refl) h.entries
       (subst (AreMapped w.under.grants.live) (sym (hands_step w p t (job.DiskWrite m) answer.DiskFailed is.place e tt)) h.mapped);
@@ -124,9 +124,9 @@ gave_goes : (config : Options) (w : World) (g : Flow) (d : Pipeline) (number p :
     → JobGoesAt config w d number p t (job.DiskRead m) (Gave words)
 gave_goes config w g d number p t r m words h is e at sized = record {
   flow = g;
-  step = Some s.step;
+  steps = s.step ∷ [];
   does = does_step (moves.DiskRead number t.disk) (lines.EffectRead t.id t.moved words ∷ []) refl s;
-  holds = job_holds config w g d (next d s.step) p t then w.under.pages w.under.grants h is.place refl s.now
+  holds = job_holds config w g d (next d s.step) p t then w.under.pages w.under.grants h is.free refl s.now
       (work_of w g d (next d s.step) p t then r is refl refl refl (given, at.1, omega arith, at.2))
       h.memory (λ f low high v lt. refl) (λ page lt. record { flags = refl; frame = refl }) (λ f low high v lt. refl) h.entries
       (subst (AreMapped w.under.grants.live) (sym (hands_step w p t (job.DiskRead m) (answer.Sector words) is.place e tt)) h.mapped);
@@ -166,9 +166,9 @@ gave_nothing : (config : Options) (w : World) (g : Flow) (d : Pipeline) (number 
     → JobGoesAt config w d number p t (job.DiskRead m) Failed
 gave_nothing config w g d number p t r m h is e at = record {
   flow = g;
-  step = Some s.step;
+  steps = s.step ∷ [];
   does = does_step (moves.DiskRead number t.disk) (lines.Fault t.id t.moved ∷ []) refl s;
-  holds = job_holds config w g d (next d s.step) p t then w.under.pages w.under.grants h is.place refl s.now
+  holds = job_holds config w g d (next d s.step) p t then w.under.pages w.under.grants h is.free refl s.now
       (work_of w g d (next d s.step) p t then r is refl refl refl (at.0.place, at.0.here, at.1))
       h.memory (λ f low high v lt. refl) (λ page lt. record { flags = refl; frame = refl }) (λ f low high v lt. refl) h.entries
       (subst (AreMapped w.under.grants.live) (sym (hands_step w p t (job.DiskRead m) answer.DiskFailed is.place e tt)) h.mapped);

@@ -19,13 +19,17 @@ use Rattle.machine_pipeline.proofs.Lists.{all_at, all_from}
 use Rattle.machine_pipeline.proofs.Kept.{SameEntry, written, other_word, other_entry}
 
 -- the entry of a granted frame lets it be mapped
-pub may_map : (way : Transfer) (frame : ℕ) → 2 ≤ frame → frame < 1018 → verdict_of (frame + 6) (grant_flags way) frame (mode_of (is_write way)) ≡ Ok frame
-may_map transfer.Read frame low high =
+may_read : (frame : ℕ) → 2 ≤ frame → frame < 1018 → verdict_of (frame + 6) 5 frame (mode_of true) ≡ Ok frame
+may_read frame low high =
     let known : nat_lt 1023 (frame + 6) ≡ false = grind (arith, nat_tests) in
     let from : nat_lt frame 2 ≡ false = grind (arith, nat_tests) in
     let to : nat_lt 1023 frame ≡ false = grind (arith, nat_tests) in
     rw (known, from, to) refl
-may_map (transfer.Write tag) frame low high =
+
+pub may_map : (way : Transfer) (frame : ℕ) → 2 ≤ frame → frame < 1018 → verdict_of (frame + 6) (grant_flags way) frame (mode_of (is_write way)) ≡ Ok frame
+may_map (transfer.Write tag) frame low high = may_read frame low high
+may_map (transfer.Barrier tag) frame low high = may_read frame low high
+may_map way frame low high =
     let known : nat_lt 1023 (frame + 6) ≡ false = grind (arith, nat_tests) in
     let from : nat_lt frame 2 ≡ false = grind (arith, nat_tests) in
     let to : nat_lt 1023 frame ≡ false = grind (arith, nat_tests) in
@@ -33,12 +37,14 @@ may_map (transfer.Write tag) frame low high =
 
 -- the flags once it is mapped, and once no mapping is left
 pub set_flags : (way : Transfer) → mapped_entry (grant_flags way) (mode_of (is_write way)) ≡ mapped_flags way
-set_flags transfer.Read = refl
 set_flags (transfer.Write tag) = refl
+set_flags (transfer.Barrier tag) = refl
+set_flags way = refl
 
 pub cleared_flags : (way : Transfer) → unmapped_entry (mapped_flags way) 0 0 ≡ grant_flags way
-cleared_flags transfer.Read = refl
 cleared_flags (transfer.Write tag) = refl
+cleared_flags (transfer.Barrier tag) = refl
+cleared_flags way = refl
 
 -- the grant entries once the flags of one frame of a request were made those of its mappings
 pub entries_marked : (pushed : ℕ) (pages : List ℕ) (live live' : List Held) (s : FrontStage) (ending : Option Ending) (requests : List Request) (i : ℕ)

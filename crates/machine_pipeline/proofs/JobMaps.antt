@@ -105,10 +105,10 @@ pub map_goes : (config : Options) (w : World) (g : Flow) (d : Pipeline) (number 
     → JobGoesAt config w d number p t job.Map o
 map_goes config w g d number p t r o h is e at = subst (λ (x : Option BackAct). GoesBy None (CallOf (ask_at job.Map t) o) config (job_says t job.Map x) (job_next w p t job.Map x) d) (sym acted) (record {
   flow = g;
-  step = None;
+  steps = [];
   does = nothing (CallOf (ask_at job.Map t) o) _ d (λ a b call. same_Some b a (subst (λ (x : BackAsk). CallOf x o a b) asked call).1);
   holds = subst (λ (x : Work). let v : World = record { front = w.front; back = record w.back { jobs = record w.back.jobs { works = slice_set w.back.jobs.works p x }; told = None }; under = under } in Holds config v g d v.front.stage v.back.stage) (sym stepped)
-      (job_holds config w g d d p t later pages grants h is.place refl
+      (job_holds config w g d d p t later pages grants h is.free refl
       (stations_stay config w g d p t later r w.under.pages h.stations is.place is.known refl
       (worked_begun (is_write r.transfer) m t.moved ∙ sym (ap (λ (j : JobStage). worked j t.moved) e))
       (λ q was reads. subst (λ (b : Bool). ReadAt w.under.pages r t.moved t.words q.words (sector_stage b m)) (sym reads) (read_was config w g d p t r h is e q was reads)))
@@ -270,7 +270,7 @@ pub unmap_holds : (config : Options) (w : World) (g : Flow) (d d' : Pipeline) (p
     → (let v : World = record { front = w.front; back = record w.back { jobs = record w.back.jobs { works = slice_set w.back.jobs.works p t' }; told = None }; under = record w.under { pages = unmap_pages w.under.grants w.under.pages m; grants = unmap_table w.under.grants m } } in Holds config v g d' v.front.stage v.back.stage)
 unmap_holds config w g d d' p t t' r m h held is work has a in_r hand none number stations now more =
     subst (λ (pages : List ℕ). let v : World = record { front = w.front; back = record w.back { jobs = record w.back.jobs { works = slice_set w.back.jobs.works p t' }; told = None }; under = record w.under { pages = pages; grants = unmap_table w.under.grants m } } in Holds config v g d' v.front.stage v.back.stage) (sym written_so)
-    (job_holds config w g d d' p t t' pages (unmap_table w.under.grants m) h is.place number stations now
+    (job_holds config w g d d' p t t' pages (unmap_table w.under.grants m) h is.free number stations now
     sized (ring_frame_same w (frame + 6) value (omega (arith, pooled.1)))
     (ring_entry_same w (frame + 6) value (omega (arith, pooled.1)) (omega (arith, pooled.0))) (pool_same w (frame + 6) value (omega (arith, pooled.1)))
     (marked config w g d t r a left value h own in_r (sym (ap (λ (n : ℕ). flags_with r.transfer n) gone)) others) fewer)

@@ -41,7 +41,7 @@ use Rattle.machine_pipeline.proofs.Turns.{GoesBy, nothing, no_move}
 use Rattle.machine_pipeline.proofs.Lists.{all_at, all_same}
 use Rattle.machine_pipeline.proofs.Mapped.{frame_live}
 use Rattle.machine_pipeline.proofs.Frames.{work_queued}
-use Rattle.machine_pipeline.proofs.Jobs.{stations_stay, job_holds}
+use Rattle.machine_pipeline.proofs.Jobs.{MayMove, stations_stay, job_holds}
 use Rattle.machine_pipeline.specs.Step.{CallOf}
 
 -- the act of the job at a place, and what it makes of the machine
@@ -61,11 +61,12 @@ JobGoesAt config w d number p t j o = GoesBy None (CallOf (ask_at j t) o) config
 
 -- nothing happens
 pub stays : (call : (before after : List (List ℕ)) → Type 0) (config : Options) (w : World) (g : Flow) (d : Pipeline) → ((a b : List (List ℕ)) → call a b → b ≡ a) → Holds config w g d w.front.stage w.back.stage → GoesBy None call config [] w d
-stays call config w g d same h = record { flow = g; step = None; does = no_move call d same; holds = h }
+stays call config w g d same h = record { flow = g; steps = []; does = no_move call d same; holds = h }
 
 -- what is known of the job at a place
 pub record IsAt (w : World) (g : Flow) (d : Pipeline) (p : ℕ) (t : Work) (r : Request) : Type 0 where
   pub place : slice_get w.back.jobs.works p ≡ Some t
+  pub free : MayMove w.back.jobs.works p t
   pub known : slice_get g.submitted (t.number - 1) ≡ Some r
   pub positive : 1 ≤ t.number
   pub reached : t.number ≤ g.fetched
@@ -94,7 +95,7 @@ live_hand w p t m place e held =
 pub hands_step : (w : World) (p : ℕ) (t : Work) (j : JobStage) (x : BackAnswer) → slice_get w.back.jobs.works p ≡ Some t → t.stage ≡ j → IsAnswer (ask_at j t) x → HandsAfter (ask_at j t) x (hands_of w.back) (hands_at w.back.stage (record w.back { jobs = record w.back.jobs { works = slice_set w.back.jobs.works p (step_at j t x) } }))
 hands_step w p t j x place e =
     subst (λ (s : JobStage). IsAnswer (ask_at s t) x → HandsAfter (ask_at s t) x (hands_of w.back) (hands_at w.back.stage (record w.back { jobs = record w.back.jobs { works = slice_set w.back.jobs.works p (step_at s t x) } }))) e
-    (λ own. between (ask_at t.stage t) x (given_up w.back.stage) w.back.pages (hands_in w.back.jobs.works) (hands_in (slice_set w.back.jobs.works p (step_at t.stage t x))) (told_hands w.back.jobs.works (Some p) (Some t) x place own))
+    (λ own. between (ask_at t.stage t) x (given_up w.back.stage) w.back.pages (hands_in w.back.jobs.works) (hands_in (slice_set w.back.jobs.works p (step_at t.stage t x))) (told_hands w.back.jobs.works (Some p) false (Some t) x place own))
 
 pub at_work : (w : World) (g : Flow) (d : Pipeline) (p : ℕ) (t : Work) (r : Request) {j : JobStage} → IsAt w g d p t r → t.stage ≡ j → AtWork r t j → IsWork g.submitted g.fetched t
 at_work w g d p t r is e at = work_of w g d d p t t r is refl refl refl (subst (AtWork r t) (sym e) at)
@@ -139,9 +140,9 @@ filled_at config w g d p t r h is work writes =
 -- the sector that a job is at is one of its request's
 pub sectors_left : (t : Work) (r : Request) (ahead : ℕ) → IsShaped r → IsInSegment t r ahead → (t.moved + ahead ≤ r.count) × (t.within ≤ 7) × (r.count ≤ 88)
 sectors_left t r ahead shaped x = (
-  within_last r.count (frames_of r) x.place t.within t.moved ahead shaped.frames x.here x.within x.moved shaped.some,
+  within_last r.count (frames_of r) x.place t.within t.moved ahead shaped.frames x.here x.within x.moved,
   (let within = x.within in omega arith),
-  shaped.few,
+  shaped.counted.few,
 )
 
 -- a sector was moved: the job is at the next one of its segment, or gives the frame up where that was the last one
@@ -211,9 +212,9 @@ pub read_goes : (config : Options) (w : World) (g : Flow) (d : Pipeline) (number
     → JobGoesAt config w d number p t (job.ReadWord m k) o
 read_goes config w g d number p t r m k o h held is e at = record {
   flow = g;
-  step = None;
+  steps = [];
   does = nothing (CallOf (ask_at (job.ReadWord m k) t) o) _ d (λ a b same. same_Some b a same.1);
-  holds = job_holds config w g d d p t (step_at (job.ReadWord m k) t (answer.Word value)) w.under.pages w.under.grants h is.place refl (stations_stay config w g d p t (step_at (job.ReadWord m k) t (answer.Word value)) r w.under.pages h.stations is.place is.known refl (read_station (k == 127)) (λ q was reads. absurd (false≢true (sym reads ∙ at.3))))
+  holds = job_holds config w g d d p t (step_at (job.ReadWord m k) t (answer.Word value)) w.under.pages w.under.grants h is.free refl (stations_stay config w g d p t (step_at (job.ReadWord m k) t (answer.Word value)) r w.under.pages h.stations is.place is.known refl (read_station (k == 127)) (λ q was reads. absurd (false≢true (sym reads ∙ at.3))))
       (work_of w g d d p t (step_at (job.ReadWord m k) t (answer.Word value)) r is refl refl refl (by_test (k == 127) refl))
       h.memory (λ f low high v lt. refl) (λ page lt. record { flags = refl; frame = refl }) (λ f low high v lt. refl) h.entries
       (subst (AreMapped w.under.grants.live) (sym (hands_step w p t (job.ReadWord m k) (answer.Word value) is.place e tt)) h.mapped);

@@ -1,25 +1,26 @@
 -- The steps of the pipeline that a job makes: its next sector is filled or read, or the disk fails at it, and the job ends.
-use Rattle.std.proofs.Common.{◌≡◌, ℕ, ◌+◌, ◌-◌, ◌%◌, ◌^◌, ◌<◌, ◌≤◌, ◌&&◌, Bool, true, false, List, [], ◌∷◌, length, refl, ap, sym, ◌∙◌, subst, arith, None}
-use Rattle.std.specs.Prelude.{Some, slice_get, slice_set}
-use Rattle.std.proofs.lemmas.Option.{same_Some, slice_get_within}
-use Rattle.std.proofs.lemmas.Bool.{false≢true, true≢false}
+use Rattle.std.proofs.Common.{◌≡◌, ℕ, ◌+◌, ◌-◌, ◌%◌, ◌^◌, ◌<◌, ◌≤◌, ◌==◌, ◌&&◌, ◌||◌, inl, inr, not, Bool, true, false, List, [], ◌∷◌, length, refl, ap, sym, ◌∙◌, subst, arith, None}
+use Rattle.std.specs.Prelude.{AllPairs, Some, slice_get, slice_set, replicate}
+use Rattle.std.proofs.lemmas.Option.{same_Some}
+use Rattle.std.proofs.lemmas.Bool.{false≢true, true≢false, cases_eq, cases_lt}
 use Rattle.blk_base.specs.Options.{Options}
 use Rattle.blk_base.specs.declared.config.Job.{Job}
-use Rattle.blk_base.specs.declared.config.Job.TheVariants.{Read, Write}
+use Rattle.blk_base.specs.declared.config.Job.TheVariants.{Read}
 use Rattle.blk_base.specs.declared.operation.Status.TheVariants.{Okay, Error}
 use Rattle.blk_io.specs.Disk.{SameBut}
 use Rattle.schedule_text.specs.declared.line.Line.{Line}
 use Rattle.schedule_text.specs.declared.line.Line.TheVariants as lines
-use Rattle.plain_disk.specs.Request.{places_of, is_barrier, is_ordered}
+use Rattle.plain_disk.specs.Request.{places_of, is_write as fills_sectors, is_barrier, is_ordered, sector_of, filling}
 use Rattle.hypervisor.specs.Act.{Outcome, Gave, Took, Failed as DiskFailed}
 use Rattle.blk_layout.specs.declared.segment.Segment.{Segment}
 use Rattle.blk_front.specs.declared.request.Request.{Request}
 use Rattle.blk_front.specs.declared.request.Transfer.{Transfer}
 use Rattle.blk_front.specs.declared.request.Transfer.TheVariants as transfer
-use Rattle.blk_front.specs.Request.{is_write, tag_of}
+use Rattle.blk_front.specs.Request.{is_write, is_moving, tag_of, operation_of}
 use Rattle.back_jobs.specs.declared.stage.Stage.{Stage as JobStage}
 use Rattle.back_jobs.specs.declared.stage.Stage.TheVariants as job
 use Rattle.back_jobs.specs.Task.{Work, ask_at, counted}
+use Rattle.back_jobs.specs.Jobs.{is_done, is_done_at, is_ordered as orders, is_barrier as bars, is_held, holds_barriers, holds_all}
 use Rattle.blk_base.specs.declared.parts.Mapping.{Mapping}
 use Rattle.blk_front.specs.Submit.{is_ready}
 use Rattle.split_model.specs.World.{World}
@@ -32,51 +33,136 @@ use Rattle.pipeline_laws.specs.Disk.{DiskDoes}
 use Rattle.machine_pipeline.proofs.Flow.{Flow, worked, ending_at, reply_at, is_issuing, is_fetching, telling_at, job_of}
 use Rattle.machine_pipeline.proofs.ReadBack.{IsReadBack, ReadAt, has_data_at}
 use Rattle.machine_pipeline.proofs.Holds.{Holds, IsWork, IsMoving, AtWork}
-use Rattle.machine_pipeline.proofs.Lists.{all_at, get_within}
-use Rattle.machine_pipeline.proofs.Stations.{StandsAt}
+use Rattle.machine_pipeline.proofs.Segments.{moves_sectors}
+use Rattle.machine_pipeline.proofs.Lists.{all_at, pair_at}
+use Rattle.machine_pipeline.proofs.Stations.{StandsAt, kind_of}
 use Rattle.machine_pipeline.proofs.StationsBack.{job_steps}
 use Rattle.machine_pipeline.proofs.Turns.{Stepped}
 use Rattle.machine_pipeline.proofs.Jobs.{StationsWith}
 use Rattle.machine_pipeline.proofs.JobMoves.{IsAt, read_was, sectors_left}
 use Rattle.machine_pipeline.specs.Step.{CallOf}
 
--- a request as the pipeline has it, and no barrier
-write_job : (way : Transfer) (sector count : ℕ) → is_write way ≡ true → job_of way sector count ≡ Write sector count (tag_of way)
-write_job transfer.Read sector count writes = absurd (false≢true writes)
-write_job (transfer.Write tag) sector count writes = refl
+-- a write or a barrier, as the pipeline has it
+record IsFilling (x : Job) (sector count tag : ℕ) : Type 0 where
+  pub writes : fills_sectors x ≡ true
+  pub places : places_of x ≡ count
+  pub first : sector_of x ≡ sector
+  pub words : (i : ℕ) → filling x i ≡ replicate 128 ((tag + i) % 2 ^ 32)
 
-read_job : (way : Transfer) (sector count : ℕ) → is_write way ≡ false → job_of way sector count ≡ Read sector count
-read_job transfer.Read sector count reads = refl
-read_job (transfer.Write tag) sector count reads = absurd (true≢false reads)
+filling_job : (way : Transfer) (sector count : ℕ) → is_write way ≡ true → IsFilling (job_of way sector count) sector count (tag_of way)
+filling_job (transfer.Write tag) sector count writes = record { writes = refl; places = refl; first = refl; words = λ i. refl }
+filling_job (transfer.Barrier tag) sector count writes = record { writes = refl; places = refl; first = refl; words = λ i. refl }
+filling_job way sector count writes = absurd (false≢true writes)
 
-all_places : (way : Transfer) (sector count : ℕ) → places_of (job_of way sector count) ≡ count
-all_places transfer.Read sector count = refl
-all_places (transfer.Write tag) sector count = refl
+filled_job : (x : Job) (r : Request) → x ≡ job_of r.transfer r.sector r.count → is_write r.transfer ≡ true → IsFilling x r.sector r.count (tag_of r.transfer)
+filled_job x r asked writes = subst (λ (y : Job). IsFilling y r.sector r.count (tag_of r.transfer)) (sym asked) (filling_job r.transfer r.sector r.count writes)
 
-no_barrier : (way : Transfer) (sector count : ℕ) → is_barrier (job_of way sector count) ≡ false
-no_barrier transfer.Read sector count = refl
-no_barrier (transfer.Write tag) sector count = refl
+read_job : (way : Transfer) (sector count : ℕ) → is_moving way ≡ true → is_write way ≡ false → job_of way sector count ≡ Read sector count
+read_job transfer.Read sector count moves reads = refl
+read_job (transfer.Write tag) sector count moves reads = absurd (true≢false reads)
+read_job (transfer.Barrier tag) sector count moves reads = absurd (true≢false reads)
+read_job way sector count moves reads = absurd (false≢true moves)
 
-never_in_way : (job : Job) (y : Asked) → is_barrier job ≡ false → is_barrier y.job ≡ false → is_in_way (is_barrier job) y ≡ false
-never_in_way job y this that = rw (this, that) (by_order (is_ordered y.job))
+all_places : (way : Transfer) (sector count : ℕ) → is_moving way ≡ true → places_of (job_of way sector count) ≡ count
+all_places transfer.Read sector count moves = refl
+all_places (transfer.Write tag) sector count moves = refl
+all_places (transfer.Barrier tag) sector count moves = refl
+all_places way sector count moves = absurd (false≢true moves)
+
+-- what a barrier orders is what the operation of the job says
+same_order : (op : ℕ) (x : Job) (way : Transfer) (sector count : ℕ) → op ≡ operation_of way → x ≡ job_of way sector count → ((op == 1 || op == 2 || op == 5) ≡ is_ordered x) × ((op == 2) ≡ is_barrier x)
+same_order op x transfer.Read sector count this that = rw (this, that) (refl, refl)
+same_order op x (transfer.Write tag) sector count this that = rw (this, that) (refl, refl)
+same_order op x (transfer.Barrier tag) sector count this that = rw (this, that) (refl, refl)
+same_order op x transfer.Flush sector count this that = rw (this, that) (refl, refl)
+same_order op x (transfer.Discard sectors) sector count this that = rw (this, that) (refl, refl)
+
+-- a job that doesn't hold up an ordered one isn't in its way
+not_in_way : (t u : Work) (x : Job) (y : Asked) → (orders t ≡ is_ordered x) × (bars t ≡ is_barrier x) → (orders u ≡ is_ordered y.job) × (bars u ≡ is_barrier y.job)
+    → is_done u ≡ false
+    → is_ordered x ≡ true
+    → is_held t (holds_barriers u) (holds_all u) ≡ false
+    → is_in_way (is_barrier x) y ≡ false
+not_in_way t u x y this that undone ordered none =
+    rw (sym this.1, sym that.0, sym that.1) (by_order (bars t) (orders u) (bars u) (is_working y.job y.station)
+    (sym (same (bars t) (orders t) (orders u) (bars u) (is_done u) (this.0 ∙ ordered) undone) ∙ none))
   where
-    by_order : (b : Bool) → (b && false && is_working y.job y.station) ≡ false
-    by_order true = refl
-    by_order false = refl
+    same : (b o c e f : Bool) → o ≡ true → f ≡ false → ((b && (c && not f)) || (o && (e && not f))) ≡ ((b && (c && true)) || (true && (e && true)))
+    same b o c e f first second = rw (first, second) refl
+
+    by_order : (b c e w : Bool) → ((b && (c && true)) || (true && (e && true))) ≡ false → (c && (b || e) && w) ≡ false
+    by_order b false e w none = refl
+    by_order true true e w none = absurd (true≢false none)
+    by_order false true true w none = absurd (true≢false none)
+    by_order false true false w none = refl
+
+-- a request at work: its job isn't done
+working_kind : (x : Job) (s : Station) → is_working x s ≡ true → kind_of s ≡ 4
+working_kind x (Working moved) t = refl
+working_kind x s t = absurd (false≢true t)
+
+working_undone : (x : Job) (s : JobStage) (moved : ℕ) → is_working x (worked s moved) ≡ true → is_done_at s ≡ false
+working_undone x (job.Done status) moved t = absurd (false≢true t)
+working_undone x s moved t = refl
 
 -- a move of a job's request from one station to the next, with its call of the disk
-record IsJobMove (call : (before after : List (List ℕ)) → Type 0) (d : Pipeline) (k : ℕ) (q : Asked) (from to : Station) (move : Move) : Type 0 where
-  before : station_before q.job move ≡ from
-  after : station_after q.job move ≡ to
-  may : May d k q move
-  disk : (a b : List (List ℕ)) → call a b → DiskDoes q.job move a b
+pub record IsJobMove (call : (before after : List (List ℕ)) → Type 0) (d : Pipeline) (k : ℕ) (q : Asked) (from to : Station) (move : Move) : Type 0 where
+  pub before : station_before q.job move ≡ from
+  pub after : station_after q.job move ≡ to
+  pub may : May d k q move
+  pub disk : (a b : List (List ℕ)) → call a b → DiskDoes q.job move a b
 
 -- what a read has once its job made the move
-abbrev HasRead : World → Pipeline → Work → Work → Request → Move → Type 0
+abbrev pub HasRead : World → Pipeline → Work → Work → Request → Move → Type 0
 HasRead w d t t' r move = (q : Asked) → slice_get d.requests (t.number - 1) ≡ Some q → is_write r.transfer ≡ false → ReadAt w.under.pages r t'.moved t'.words (words_after move q.words) t'.stage × (has_data_at (worked t'.stage t'.moved) ≡ true → IsReadBack w.under.pages r r.count (words_after move q.words))
 
+-- jobs that stand in order, one of them at this place
+pub record AreOrdered (g : Flow) (works : List Work) (p : ℕ) (t : Work) (r : Request) : Type 0 where
+  pub here : slice_get works p ≡ Some t
+  pub known : slice_get g.submitted (t.number - 1) ≡ Some r
+  pub ascending : AllPairs (λ (x y : Work). x.number < y.number) works
+  pub positive : (i : ℕ) (u : Work) → slice_get works i ≡ Some u → 1 ≤ u.number
+
+pub jobs_ordered : (config : Options) (w : World) (g : Flow) (d : Pipeline) (p : ℕ) (t : Work) (r : Request) → Holds config w g d w.front.stage w.back.stage → IsAt w g d p t r → AreOrdered g w.back.jobs.works p t r
+jobs_ordered config w g d p t r h is = record {
+  here = is.place;
+  known = is.known;
+  ascending = h.works.ascending;
+  positive = λ i u at. let work = all_at (IsWork g.submitted g.fetched) w.back.jobs.works i u h.works.each at in work.positive;
+}
+
 -- the job at this place makes it
-job_stepped : (call : (before after : List (List ℕ)) → Type 0) (config : Options) (w : World) (g : Flow) (d : Pipeline) (p : ℕ) (t t' : Work) (r : Request) (move : Move) (said : List Line)
+pub job_moves : (call : (before after : List (List ℕ)) → Type 0) (config : Options) (w : World) (g : Flow) (d : Pipeline) (works : List Work) (p : ℕ) (t t' : Work) (r : Request) (move : Move) (said : List Line)
+    → StationsWith config w g d works w.under.pages
+    → AreOrdered g works p t r
+    → t'.number ≡ t.number
+    → ring_after d.ring (t.number - 1) move ≡ d.ring
+    → move_lines (t.number - 1) move ≡ said
+    → HasRead w d t t' r move
+    → ((q : Asked) → q.job ≡ job_of r.transfer r.sector r.count → IsJobMove call d (t.number - 1) q (worked t.stage t.moved) (worked t'.stage t'.moved) move)
+    → Stepped None call d said (λ x. StationsWith config w g x (slice_set works p t') w.under.pages)
+job_moves call config w g d works p t t' r move said stations are number still shows now makes = record {
+  step = Moves (t.number - 1) x.q move;
+  allowed = (record { here = x.at; there = x.there ∙ sym it.before }, it.may);
+  shows = shows;
+  asks = refl;
+  disk = it.disk;
+  now = job_steps config g d (is_ready w.front.stage) (is_issuing w.front.stage) (is_fetching w.back.stage) (ending_at w.front.stage w.front.ending) (telling_at w.front.stage) (reply_at w.back.stage) w.front.requests works w.under.pages p t t' x move are.here are.ascending are.positive number it.after still has stations;
+}
+  where
+    x : StandsAt d.requests (t.number - 1) (worked t.stage t.moved)
+    x = stations.works p t are.here
+
+    it : IsJobMove call d (t.number - 1) x.q (worked t.stage t.moved) (worked t'.stage t'.moved) move
+    it = makes x.q (stations.known.each (t.number - 1) r x.q are.known x.at)
+
+    has : (y : Request) → slice_get g.submitted (t.number - 1) ≡ Some y → is_write y.transfer ≡ false → (let q : Asked = x.q in ReadAt w.under.pages y t'.moved t'.words (words_after move q.words) t'.stage × (has_data_at (worked t'.stage t'.moved) ≡ true → IsReadBack w.under.pages y y.count (words_after move q.words)))
+    has y its reads =
+        let one : y ≡ r = same_Some y r (sym its ∙ are.known) in
+        subst (λ (z : Request). let q : Asked = x.q in ReadAt w.under.pages z t'.moved t'.words (words_after move q.words) t'.stage × (has_data_at (worked t'.stage t'.moved) ≡ true → IsReadBack w.under.pages z z.count (words_after move q.words))) (sym one)
+        (now x.q x.at (ap (λ (z : Request). is_write z.transfer) (sym one) ∙ reads))
+
+pub job_stepped : (call : (before after : List (List ℕ)) → Type 0) (config : Options) (w : World) (g : Flow) (d : Pipeline) (p : ℕ) (t t' : Work) (r : Request) (move : Move) (said : List Line)
     → Holds config w g d w.front.stage w.back.stage
     → IsAt w g d p t r
     → t'.number ≡ t.number
@@ -85,47 +171,68 @@ job_stepped : (call : (before after : List (List ℕ)) → Type 0) (config : Opt
     → HasRead w d t t' r move
     → ((q : Asked) → q.job ≡ job_of r.transfer r.sector r.count → IsJobMove call d (t.number - 1) q (worked t.stage t.moved) (worked t'.stage t'.moved) move)
     → Stepped None call d said (λ x. StationsWith config w g x (slice_set w.back.jobs.works p t') w.under.pages)
-job_stepped call config w g d p t t' r move said h is number still shows now makes = record {
-  step = Moves (t.number - 1) x.q move;
-  allowed = (record { here = x.at; there = x.there ∙ sym it.before }, it.may);
-  shows = shows;
-  asks = refl;
-  disk = it.disk;
-  now = job_steps config g d (is_ready w.front.stage) (is_issuing w.front.stage) (is_fetching w.back.stage) (ending_at w.front.stage w.front.ending) (telling_at w.front.stage) (reply_at w.back.stage) w.front.requests w.back.jobs.works w.under.pages p t t' x move is.place h.works.ascending positive number it.after still has h.stations;
-}
-  where
-    x : StandsAt d.requests (t.number - 1) (worked t.stage t.moved)
-    x = h.stations.works p t is.place
+job_stepped call config w g d p t t' r move said h is number still shows now makes =
+    job_moves call config w g d w.back.jobs.works p t t' r move said h.stations (jobs_ordered config w g d p t r h is) number still shows now makes
 
-    it : IsJobMove call d (t.number - 1) x.q (worked t.stage t.moved) (worked t'.stage t'.moved) move
-    it = makes x.q (h.stations.known.each (t.number - 1) r x.q is.known x.at)
+-- of jobs whose numbers ascend one of a lower number stands before another
+stands_before : (works : List Work) (p i : ℕ) (t u : Work) → AllPairs (λ (x y : Work). x.number < y.number) works → slice_get works p ≡ Some t → slice_get works i ≡ Some u → u.number < t.number → i < p
+stands_before works p i t u up here at lower = elim (cases_lt i p) [
+  | inl before ↦ before
+  | inr behind ↦ elim (cases_eq i p) [
+    | inl same ↦
+        let one : u ≡ t = same_Some u t (sym at ∙ (ap (slice_get works) same ∙ here)) in
+        let number : u.number ≡ t.number = ap (λ (x : Work). x.number) one in
+        absurd (omega (arith, number, lower))
+    | inr apart ↦ (let above = pair_at (λ (x y : Work). x.number < y.number) works p i t u up (omega arith) here at in absurd (omega (arith, above, lower)))
+  ]
+]
 
-    positive : (i : ℕ) (u : Work) → slice_get w.back.jobs.works i ≡ Some u → 1 ≤ u.number
-    positive i u at = let work = all_at (IsWork g.submitted g.fetched) w.back.jobs.works i u h.works.each at in work.positive
-
-    has : (y : Request) → slice_get g.submitted (t.number - 1) ≡ Some y → is_write y.transfer ≡ false → (let q : Asked = x.q in ReadAt w.under.pages y t'.moved t'.words (words_after move q.words) t'.stage × (has_data_at (worked t'.stage t'.moved) ≡ true → IsReadBack w.under.pages y y.count (words_after move q.words)))
-    has y its reads =
-        let one : y ≡ r = same_Some y r (sym its ∙ is.known) in
-        subst (λ (z : Request). let q : Asked = x.q in ReadAt w.under.pages z t'.moved t'.words (words_after move q.words) t'.stage × (has_data_at (worked t'.stage t'.moved) ≡ true → IsReadBack w.under.pages z z.count (words_after move q.words))) (sym one)
-        (now x.q x.at (ap (λ (z : Request). is_write z.transfer) (sym one) ∙ reads))
-
--- no write waits for another
-clear : (config : Options) (w : World) (g : Flow) (d : Pipeline) (p : ℕ) (t : Work) (r : Request) (q : Asked)
+-- no request that was fetched before this one is in its way
+clears : (config : Options) (w : World) (g : Flow) (d : Pipeline) (p : ℕ) (t : Work) (r : Request) (q : Asked)
     → Holds config w g d w.front.stage w.back.stage
     → IsAt w g d p t r
     → q.job ≡ job_of r.transfer r.sector r.count
+    → is_ordered q.job ≡ true
+    → (i : ℕ) (y : Asked) → i < t.number - 1 → slice_get d.requests i ≡ Some y → is_in_way (is_barrier q.job) y ≡ false
+clears config w g d p t r q h is asked ordered i y before here = by_working (is_working y.job y.station) refl
+  where
+    idle : (b c : Bool) → (b && c && false) ≡ false
+    idle true true = refl
+    idle true false = refl
+    idle false c = refl
+
+    by_working : (b : Bool) → is_working y.job y.station ≡ b → is_in_way (is_barrier q.job) y ≡ false
+    by_working false none = rw none (idle (is_ordered y.job) (is_barrier q.job || is_barrier y.job))
+    by_working true working =
+        let its = h.stations.held i y here (working_kind y.job y.station working) in
+        let u : Work = its.1 in
+        let work = all_at (IsWork g.submitted g.fetched) w.back.jobs.works its.0 u h.works.each its.2 in
+        let place : u.number - 1 ≡ i = omega (arith, its.3) in
+        let x = h.stations.works its.0 u its.2 in
+        let one : x.q ≡ y = same_Some x.q y (sym x.at ∙ (ap (slice_get d.requests) place ∙ here)) in
+        let stands : y.station ≡ worked u.stage u.moved = ap (λ (z : Asked). z.station) (sym one) ∙ x.there in
+        let known = h.stations.known.each i work.r y (ap (slice_get g.submitted) (sym place) ∙ work.known) here in
+        not_in_way t u q.job y (same_order t.op q.job r.transfer r.sector r.count is.op asked)
+        (let z : Request = work.r in same_order u.op y.job z.transfer z.sector z.count work.op known)
+        (working_undone y.job u.stage u.moved (ap (is_working y.job) (sym stands) ∙ working)) ordered
+        (is.free.clear its.0 u (stands_before w.back.jobs.works p its.0 t u h.works.ascending is.place its.2 (omega (arith, its.3, before))) its.2)
+
+pub clear : (config : Options) (w : World) (g : Flow) (d : Pipeline) (p : ℕ) (t : Work) (r : Request) (q : Asked)
+    → Holds config w g d w.front.stage w.back.stage
+    → IsAt w g d p t r
+    → q.job ≡ job_of r.transfer r.sector r.count
+    → is_ordered q.job ≡ true
     → IsClear d (t.number - 1) q
-clear config w g d p t r q h is asked = record {
+clear config w g d p t r q h is asked ordered = record {
   index = t.number - 1;
   entry = h.stations.ring.entries (t.number - 1) (omega (arith, is.positive, is.reached, h.indices.fetched_pushed));
   clear = λ i j y before at here.
-      let within = slice_get_within d.requests j y here in
-      let other = get_within g.submitted j (omega (arith, h.stations.known.as_many)) in
-      never_in_way q.job y (ap is_barrier asked ∙ no_barrier r.transfer r.sector r.count) (ap is_barrier (h.stations.known.each j other.0 y other.1 here) ∙ (let z : Request = other.0 in no_barrier z.transfer z.sector z.count));
+      let same : i ≡ j = same_Some i j (sym (h.stations.ring.entries i (omega (arith, before, is.reached, h.indices.fetched_pushed))) ∙ at) in
+      clears config w g d p t r q h is asked ordered i y before (ap (slice_get d.requests) same ∙ here);
 }
 
 -- the lines of a move at its next sector
-lines_of : (w : World) (g : Flow) (d : Pipeline) (p : ℕ) (t : Work) (r : Request) (line : ℕ → ℕ → Line) → IsAt w g d p t r → line (t.number - 1 + 1) t.moved ∷ [] ≡ line t.id t.moved ∷ []
+pub lines_of : (w : World) (g : Flow) (d : Pipeline) (p : ℕ) (t : Work) (r : Request) (line : ℕ → ℕ → Line) → IsAt w g d p t r → line (t.number - 1 + 1) t.moved ∷ [] ≡ line t.id t.moved ∷ []
 lines_of w g d p t r line is = ap (λ (n : ℕ). line n t.moved ∷ []) (omega (arith, is.id, is.positive))
 
 -- a write reads nothing
@@ -143,6 +250,13 @@ sector_left config w g d p t r h is moving =
     let left = sectors_left t r 1 its.shaped moving in
     (omega (arith, left.0), left.2)
 
+moves_at : (config : Options) (w : World) (g : Flow) (d : Pipeline) (p : ℕ) (t : Work) (r : Request)
+    → Holds config w g d w.front.stage w.back.stage
+    → IsAt w g d p t r
+    → IsMoving t r
+    → is_moving r.transfer ≡ true
+moves_at config w g d p t r h is moving = let its = h.submitted.each (t.number - 1) r is.known in moves_sectors r moving.place its.shaped moving.here
+
 -- the disk takes the sector
 pub fills : (config : Options) (w : World) (g : Flow) (d : Pipeline) (p : ℕ) (t t' : Work) (r : Request) (m : Mapping)
     → Holds config w g d w.front.stage w.back.stage
@@ -154,13 +268,13 @@ pub fills : (config : Options) (w : World) (g : Flow) (d : Pipeline) (p : ℕ) (
     → Stepped None (CallOf (ask_at (job.DiskWrite m) t) Took) d (lines.Effect t.id t.moved ∷ []) (λ x. StationsWith config w g x (slice_set w.back.jobs.works p t') w.under.pages)
 fills config w g d p t t' r m h is e at number next =
     job_stepped (CallOf (ask_at (job.DiskWrite m) t) Took) config w g d p t t' r (Fills t.moved) (lines.Effect t.id t.moved ∷ []) h is number refl (lines_of w g d p t r lines.Effect is) (reads_none w d t t' r (Fills t.moved) at.2) (λ q asked.
-    let so : q.job ≡ Write r.sector r.count (tag_of r.transfer) = asked ∙ write_job r.transfer r.sector r.count at.2 in
+    let so = filled_job q.job r asked at.2 in
     let left = sector_left config w g d p t r h is at.0 in
     record {
       before = rw e refl;
       after = sym next;
-      may = (rw so refl, rw so left.0, clear config w g d p t r q h is asked);
-      disk = λ a b call. rw so (same_Some b (slice_set a t.disk t.words) call
+      may = (so.writes, omega (arith, so.places, left.0), clear config w g d p t r q h is asked (rw so.writes refl));
+      disk = λ a b call. rw (so.first, so.words t.moved) (same_Some b (slice_set a t.disk t.words) call
           ∙ (ap (λ (s : ℕ). slice_set a s t.words) at.0.disk ∙ ap (slice_set a (r.sector + t.moved)) at.3));
     })
 
@@ -175,13 +289,13 @@ pub fails : (config : Options) (w : World) (g : Flow) (d : Pipeline) (p : ℕ) (
     → Stepped None (CallOf (ask_at (job.DiskWrite m) t) DiskFailed) d (lines.Fault t.id t.moved ∷ []) (λ x. StationsWith config w g x (slice_set w.back.jobs.works p t') w.under.pages)
 fails config w g d p t t' r m h is e at number next =
     job_stepped (CallOf (ask_at (job.DiskWrite m) t) DiskFailed) config w g d p t t' r (Fails t.moved) (lines.Fault t.id t.moved ∷ []) h is number refl (lines_of w g d p t r lines.Fault is) (reads_none w d t t' r (Fails t.moved) at.2) (λ q asked.
-    let so : q.job ≡ Write r.sector r.count (tag_of r.transfer) = asked ∙ write_job r.transfer r.sector r.count at.2 in
+    let so = filled_job q.job r asked at.2 in
     let left = sector_left config w g d p t r h is at.0 in
     record {
       before = rw e refl;
       after = sym next;
-      may = (rw so left.0, λ ordered. clear config w g d p t r q h is asked);
-      disk = λ a b call. rw so (subst (λ (s : ℕ). SameBut s 1 (Some a) (Some b)) at.0.disk call);
+      may = (omega (arith, so.places, left.0), clear config w g d p t r q h is asked);
+      disk = λ a b call. rw (so.writes, so.first) (subst (λ (s : ℕ). SameBut s 1 (Some a) (Some b)) at.0.disk call);
     })
 
 -- the disk gives the sector
@@ -194,7 +308,7 @@ pub gives : (config : Options) (w : World) (g : Flow) (d : Pipeline) (p : ℕ) (
     → Stepped None (CallOf (ask_at (job.DiskRead m) t) (Gave words)) d (lines.EffectRead t.id t.moved words ∷ []) (λ x. StationsWith config w g x (slice_set w.back.jobs.works p (record (counted t) { words = words; stage = job.WriteWord m 0 })) w.under.pages)
 gives config w g d p t r m words h is e at sized =
     job_stepped (CallOf (ask_at (job.DiskRead m) t) (Gave words)) config w g d p t then r (Reads t.moved words) (lines.EffectRead t.id t.moved words ∷ []) h is refl refl (lines_of w g d p t r (λ n i. lines.EffectRead n i words) is) has (λ q asked.
-    let so : q.job ≡ Read r.sector r.count = asked ∙ read_job r.transfer r.sector r.count at.2 in
+    let so : q.job ≡ Read r.sector r.count = asked ∙ read_job r.transfer r.sector r.count (moves_at config w g d p t r h is at.0) at.2 in
     record {
       before = rw e refl;
       after = ap (λ (n : ℕ). Working n) (sym one_more);
@@ -236,12 +350,12 @@ pub fails_to_give : (config : Options) (w : World) (g : Flow) (d : Pipeline) (p 
     → Stepped None (CallOf (ask_at (job.DiskRead m) t) DiskFailed) d (lines.Fault t.id t.moved ∷ []) (λ x. StationsWith config w g x (slice_set w.back.jobs.works p (record t { stage = job.GiveUp m })) w.under.pages)
 fails_to_give config w g d p t r m h is e at =
     job_stepped (CallOf (ask_at (job.DiskRead m) t) DiskFailed) config w g d p t (record t { stage = job.GiveUp m }) r (Fails t.moved) (lines.Fault t.id t.moved ∷ []) h is refl refl (lines_of w g d p t r lines.Fault is) (λ q was reads. (tt, λ t. absurd (false≢true t))) (λ q asked.
-    let so : q.job ≡ Read r.sector r.count = asked ∙ read_job r.transfer r.sector r.count at.2 in
+    let so : q.job ≡ Read r.sector r.count = asked ∙ read_job r.transfer r.sector r.count (moves_at config w g d p t r h is at.0) at.2 in
     let left = sector_left config w g d p t r h is at.0 in
     record {
       before = rw e refl;
       after = refl;
-      may = (rw so left.0, λ ordered. clear config w g d p t r q h is asked);
+      may = (rw so left.0, clear config w g d p t r q h is asked);
       disk = λ a b call. rw so (subst (λ (x : List (List ℕ)). SameBut r.sector 0 (Some a) (Some x)) (sym (same_Some b a call.1)) (refl, λ i out. refl));
     })
 
@@ -250,13 +364,14 @@ pub ends_well : (o : Outcome) (config : Options) (w : World) (g : Flow) (d : Pip
     → Holds config w g d w.front.stage w.back.stage
     → IsAt w g d p t r
     → t.stage ≡ job.Unmap m
+    → is_moving r.transfer ≡ true
     → t.moved ≡ r.count
     → Stepped None (CallOf (ask_at (job.Unmap m) t) o) d [] (λ x. StationsWith config w g x (slice_set w.back.jobs.works p (record t { rest = rest; stage = job.Done Okay })) w.under.pages)
-ends_well o config w g d p t r m rest h is e all =
+ends_well o config w g d p t r m rest h is e moves all =
     job_stepped (CallOf (ask_at (job.Unmap m) t) o) config w g d p t (record t { rest = rest; stage = job.Done Okay }) r (Ends Okay) [] h is refl refl refl
     (λ q was reads. (tt, λ ok. subst (λ (n : ℕ). IsReadBack w.under.pages r n q.words) all (read_was config w g d p t r h is e q was reads)))
     (λ q asked. record {
-      before = ap (λ (n : ℕ). Working n) (ap places_of asked ∙ (all_places r.transfer r.sector r.count ∙ sym all))
+      before = ap (λ (n : ℕ). Working n) (ap places_of asked ∙ (all_places r.transfer r.sector r.count moves ∙ sym all))
           ∙ sym (ap (λ (j : JobStage). worked j t.moved) e);
       after = refl;
       may = tt;

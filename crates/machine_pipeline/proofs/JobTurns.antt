@@ -1,6 +1,7 @@
 -- Whatever move a job makes, all that holds goes on holding.
-use Rattle.std.proofs.Common.{◌≡◌, ℕ, ◌+◌, ◌-◌, ◌<◌, ◌==◌, Bool, true, false, List, [], ◌∷◌, drop, refl, ap, sym, ◌∙◌, subst, arith}
+use Rattle.std.proofs.Common.{◌≡◌, ℕ, ◌+◌, ◌-◌, ◌<◌, ◌==◌, ◌&&◌, Bool, true, false, List, [], ◌∷◌, take, drop, refl, ap, sym, ◌∙◌, subst, arith}
 use Rattle.std.proofs.lemmas.Bool.Decides.{nat_tests}
+use Rattle.std.specs.List.{list_any}
 use Rattle.std.specs.Prelude.{Option, Some, None, slice_get, slice_set, nat_lt}
 use Rattle.std.proofs.lemmas.Option.{same_Some}
 use Rattle.blk_base.specs.Options.{Options}
@@ -20,7 +21,7 @@ use Rattle.blk_front.specs.Request.{IsShaped}
 use Rattle.back_jobs.specs.declared.stage.Stage.{Stage as JobStage}
 use Rattle.back_jobs.specs.declared.stage.Stage.TheVariants as job
 use Rattle.back_jobs.specs.Task.{Work, ask_at, step_at, rest_of, next_segment}
-use Rattle.back_jobs.specs.Jobs.{place_of}
+use Rattle.back_jobs.specs.Jobs.{place_of, is_done, is_done_at, is_fresh_at, is_held, is_behind, holds_barriers, holds_all}
 use Rattle.blk_back.specs.Hands.{hands_of, hands_at}
 use Rattle.blk_back.specs.Step.{job_ask_of}
 use Rattle.split_model.specs.World.{World}
@@ -28,14 +29,16 @@ use Rattle.split_model.specs.Safe.{AreHeld}
 use Rattle.hypervisor.specs.Act.{IsGiven}
 use Rattle.split_model.specs.Happening.{job_after, job_shows}
 use Rattle.machine_pipeline.proofs.Flow.{Flow, frames_of, own_segments, worked}
-use Rattle.machine_pipeline.proofs.Segments.{frame_segment, own_here, own_end, all_moved, frame_moved}
-use Rattle.machine_pipeline.proofs.Holds.{Holds, IsMoving, AtWork, IsWork}
+use Rattle.machine_pipeline.proofs.Segments.{frame_segment, own_here, own_end, moves_sectors, all_moved, frame_moved}
+use Rattle.machine_pipeline.proofs.Holds.{Holds, IsMoving, AtWork, IsWork, IsUnhindered, AreWorks}
+use Rattle.machine_pipeline.proofs.Removals.{taken_has}
 use Rattle.machine_pipeline.proofs.Turns.{GoesBy, Stepped, nothing, does_step, JobGoes}
-use Rattle.machine_pipeline.proofs.Lists.{all_at, found_at}
+use Rattle.machine_pipeline.proofs.Lists.{all_at, pair_at, found_at, any_at}
 use Rattle.machine_pipeline.proofs.JobMoves.{IsAt, JobGoesAt, act_at, job_says, job_next, stays, work_of, at_work, hands_step, read_was, read_goes}
-use Rattle.machine_pipeline.proofs.Jobs.{StationsWith, stations_stay}
+use Rattle.machine_pipeline.proofs.Jobs.{MayMove, held_less, StationsWith, stations_stay}
 use Rattle.machine_pipeline.proofs.JobSteps.{ends_well, ends_badly}
 use Rattle.machine_pipeline.proofs.JobDisk.{disk_goes, disk_gives}
+use Rattle.machine_pipeline.proofs.JobCalls.{flush_goes, trim_goes}
 use Rattle.machine_pipeline.proofs.JobWrites.{write_goes}
 use Rattle.machine_pipeline.proofs.JobMaps.{map_goes, unmap_holds}
 use Rattle.machine_pipeline.specs.Step.{CallOf}
@@ -51,7 +54,7 @@ unmap_ends : (config : Options) (w : World) (g : Flow) (d : Pipeline) (number p 
     → JobGoesAt config w d number p t (job.Unmap m) o
 unmap_ends config w g d number p t r m o h held is e at over = subst (λ (x : Work). GoesBy None (CallOf (ask_at (job.Unmap m) t) o) config (job_says t (job.Unmap m) (act_at w number t (job.Unmap m) o)) (record { front = w.front; back = record w.back { jobs = record w.back.jobs { works = slice_set w.back.jobs.works p x }; told = None }; under = record w.under { pages = unmap_pages w.under.grants w.under.pages m; grants = unmap_table w.under.grants m } }) d) (sym stepped) (record {
   flow = g;
-  step = Some s.step;
+  steps = s.step ∷ [];
   does = does_step _ [] refl s;
   holds = unmap_holds config w g d (next d s.step) p t later r m h held is (at_work w g d p t r is e at) (rw e refl) at.0.place at.0.here at.1 refl refl s.now
       (work_of w g d (next d s.step) p t later r is refl refl refl tt)
@@ -71,7 +74,7 @@ unmap_ends config w g d number p t r m o h held is e at over = subst (λ (x : Wo
     stepped = ap (next_segment t) rest
 
     s : Stepped None (CallOf (ask_at (job.Unmap m) t) o) d [] (λ x. StationsWith config w g x (slice_set w.back.jobs.works p later) w.under.pages)
-    s = ends_well o config w g d p t r m [] h is e (all_moved r.count (frames_of r) at.0.place t.within t.moved shaped.frames over at.2 at.0.moved shaped.some)
+    s = ends_well o config w g d p t r m [] h is e (moves_sectors r at.0.place shaped at.0.here) (all_moved r.count (frames_of r) at.0.place t.within t.moved shaped.frames over at.2 at.0.moved)
 
 -- another segment comes: its frame is mapped next
 unmap_next : (config : Options) (w : World) (g : Flow) (d : Pipeline) (number p : ℕ) (t : Work) (r : Request) (m : Mapping) (o : Outcome)
@@ -84,7 +87,7 @@ unmap_next : (config : Options) (w : World) (g : Flow) (d : Pipeline) (number p 
     → JobGoesAt config w d number p t (job.Unmap m) o
 unmap_next config w g d number p t r m o h held is e at more = subst (λ (x : Work). GoesBy None (CallOf (ask_at (job.Unmap m) t) o) config (job_says t (job.Unmap m) (act_at w number t (job.Unmap m) o)) (record { front = w.front; back = record w.back { jobs = record w.back.jobs { works = slice_set w.back.jobs.works p x }; told = None }; under = record w.under { pages = unmap_pages w.under.grants w.under.pages m; grants = unmap_table w.under.grants m } }) d) (sym stepped) (record {
   flow = g;
-  step = None;
+  steps = [];
   does = nothing (CallOf (ask_at (job.Unmap m) t) o) _ d (λ a b call. same_Some b a call.1);
   holds = unmap_holds config w g d d p t later r m h held is (at_work w g d p t r is e at) (rw e refl) at.0.place at.0.here at.1 refl refl
       (stations_stay config w g d p t later r w.under.pages h.stations is.place is.known refl (sym (ap (λ (j : JobStage). worked j t.moved) e))
@@ -145,7 +148,7 @@ give_up_goes : (config : Options) (w : World) (g : Flow) (d : Pipeline) (number 
     → JobGoesAt config w d number p t (job.GiveUp m) o
 give_up_goes config w g d number p t r m o h held is e at = record {
   flow = g;
-  step = Some s.step;
+  steps = s.step ∷ [];
   does = does_step _ [] refl s;
   holds = unmap_holds config w g d (next d s.step) p t later r m h held is (at_work w g d p t r is e at) (rw e refl) at.0 at.1 at.2 refl refl s.now
       (work_of w g d (next d s.step) p t later r is refl refl refl tt)
@@ -161,32 +164,35 @@ give_up_goes config w g d number p t r m o h held is e at = record {
 by_stage : (config : Options) (w : World) (g : Flow) (d : Pipeline) (number p : ℕ) (t : Work) (r : Request) (o : Outcome) (j : JobStage)
     → Holds config w g d w.front.stage w.back.stage
     → AreHeld w.under.grants (hands_of w.back)
-    → IsAt w g d p t r
+    → (is_done_at j ≡ false → IsAt w g d p t r)
     → t.stage ≡ j
     → AtWork r t j
     → IsGiven o
     → JobGoesAt config w d number p t j o
-by_stage config w g d number p t r o job.Map h held is e at given = map_goes config w g d number p t r o h is e at
-by_stage config w g d number p t r o (job.ReadWord m k) h held is e at given = read_goes config w g d number p t r m k o h held is e at
-by_stage config w g d number p t r o (job.DiskWrite m) h held is e at given = disk_goes config w g d number p t r m o h is e at
-by_stage config w g d number p t r o (job.DiskRead m) h held is e at given = disk_gives config w g d number p t r m o h is e at given
-by_stage config w g d number p t r o (job.WriteWord m k) h held is e at given = write_goes config w g d number p t r m k o h held is e at
-by_stage config w g d number p t r o (job.Unmap m) h held is e at given = unmap_goes config w g d number p t r m o h held is e at
-by_stage config w g d number p t r o (job.GiveUp m) h held is e at given = give_up_goes config w g d number p t r m o h held is e at
+by_stage config w g d number p t r o job.Map h held is e at given = map_goes config w g d number p t r o h (is refl) e at
+by_stage config w g d number p t r o (job.ReadWord m k) h held is e at given = read_goes config w g d number p t r m k o h held (is refl) e at
+by_stage config w g d number p t r o (job.DiskWrite m) h held is e at given = disk_goes config w g d number p t r m o h (is refl) e at
+by_stage config w g d number p t r o (job.DiskRead m) h held is e at given = disk_gives config w g d number p t r m o h (is refl) e at given
+by_stage config w g d number p t r o (job.WriteWord m k) h held is e at given = write_goes config w g d number p t r m k o h held (is refl) e at
+by_stage config w g d number p t r o (job.Unmap m) h held is e at given = unmap_goes config w g d number p t r m o h held (is refl) e at
+by_stage config w g d number p t r o (job.GiveUp m) h held is e at given = give_up_goes config w g d number p t r m o h held (is refl) e at
 by_stage config w g d number p t r o (job.Done status) h held is e at given = stays (CallOf (ask_at (job.Done status) t) o) config w g d (λ a b call. same_Some b a call.1) h
+by_stage config w g d number p t r o job.Flush h held is e at given = flush_goes config w g d number p t r o h (is refl) e at
+by_stage config w g d number p t r o (job.Trim count) h held is e at given = trim_goes config w g d number p t r count o h (is refl) e at
 
 -- the move of the job at a place is that of its number
 at_place : (config : Options) (w : World) (d : Pipeline) (number p : ℕ) (t : Work) (o : Outcome)
     → w.back.halted ≡ None
     → place_of w.back.jobs.works number ≡ Some p
     → slice_get w.back.jobs.works p ≡ Some t
+    → (is_fresh_at t.stage t.moved && is_behind (take p w.back.jobs.works) t) ≡ false
     → JobGoesAt config w d number p t t.stage o
     → JobGoes config w d number o
-at_place config w d number p t o unhalted place here goes =
+at_place config w d number p t o unhalted place here free goes =
     subst (λ (a : BackAsk). GoesBy None (CallOf a o) config (job_shows w number (back_act w.under (back_mover.Job number) a o)) (job_after w number (back_act w.under (back_mover.Job number) a o)) d) (sym asked) (by_act (act_at w number t t.stage o) goes)
   where
     asked : job_ask_of w.back number ≡ ask_at t.stage t
-    asked = rw (unhalted, place, here) refl
+    asked = rw (unhalted, place, here, free) refl
 
     by_act : (x : Option BackAct) → GoesBy None (CallOf (ask_at t.stage t) o) config (job_says t t.stage x) (job_next w p t t.stage x) d → GoesBy None (CallOf (ask_at t.stage t) o) config (job_shows w number x) (job_after w number x) d
     by_act None goes = goes
@@ -195,12 +201,29 @@ at_place config w d number p t o unhalted place here goes =
         let further : job_after w number (Some a) ≡ job_next w p t t.stage (Some a) = rw (place, here) refl in
         subst (λ (ls : List Line). GoesBy None (CallOf (ask_at t.stage t) o) config ls (job_after w number (Some a)) d) (sym says) (subst (λ (v : World). GoesBy None (CallOf (ask_at t.stage t) o) config (job_says t t.stage (Some a)) v d) (sym further) goes)
 
-no_place : (config : Options) (w : World) (g : Flow) (d : Pipeline) (number : ℕ) (o : Outcome) → Holds config w g d w.front.stage w.back.stage → place_of w.back.jobs.works number ≡ None → JobGoes config w d number o
-no_place config w g d number o h place =
+-- a job that asks nothing stays
+waits_goes : (config : Options) (w : World) (g : Flow) (d : Pipeline) (number : ℕ) (o : Outcome) → Holds config w g d w.front.stage w.back.stage → job_ask_of w.back number ≡ ask.Wait → JobGoes config w d number o
+waits_goes config w g d number o h asked =
     subst (λ (a : BackAsk). GoesBy None (CallOf a o) config (job_shows w number (back_act w.under (back_mover.Job number) a o)) (job_after w number (back_act w.under (back_mover.Job number) a o)) d) (sym asked) (stays (CallOf ask.Wait o) config w g d (λ a b call. same_Some b a call.1) h)
+
+-- one that asks something waits for none: neither at its beginning, nor once it has begun
+may_move : (submitted : List Request) (fetched : ℕ) (works : List Work) (p : ℕ) (t : Work) → AreWorks submitted fetched works → slice_get works p ≡ Some t
+    → (is_fresh_at t.stage t.moved && is_behind (take p works) t) ≡ false
+    → is_done t ≡ false
+    → MayMove works p t
+may_move submitted fetched works p t h here free undone = record {
+  here = here;
+  undone = undone;
+  clear = λ i u before at. by_stage (is_fresh_at t.stage t.moved) refl i u before at;
+}
   where
-    asked : job_ask_of w.back number ≡ ask.Wait
-    asked = rw (h.unhalted, place) refl
+    by_stage : (b : Bool) → is_fresh_at t.stage t.moved ≡ b → (i : ℕ) (u : Work) → i < p → slice_get works i ≡ Some u → is_held t (holds_barriers u) (holds_all u) ≡ false
+    by_stage false begun i u before at = pair_at IsUnhindered works i p u t h.clear before at here undone begun
+    by_stage true fresh i u before at =
+        let earlier = taken_has p works i u at before in
+        let none : is_behind (take p works) t ≡ false = sym (ap (λ (b : Bool). b && is_behind (take p works) t) fresh) ∙ free in
+        held_less t (holds_barriers u) (holds_all u) (list_any holds_barriers (take p works)) (list_any holds_all (take p works))
+        (any_at holds_barriers (take p works) i u earlier) (any_at holds_all (take p works) i u earlier) none
 
 pub job_kept : (config : Options) (w : World) (g : Flow) (d : Pipeline) (number : ℕ) (o : Outcome)
     → Holds config w g d w.front.stage w.back.stage
@@ -209,10 +232,16 @@ pub job_kept : (config : Options) (w : World) (g : Flow) (d : Pipeline) (number 
     → JobGoes config w d number o
 job_kept config w g d number o h held given = by_place (place_of w.back.jobs.works number) refl
   where
+    by_wait : (p : ℕ) (t : Work) → place_of w.back.jobs.works number ≡ Some p → slice_get w.back.jobs.works p ≡ Some t → (b : Bool) → (is_fresh_at t.stage t.moved && is_behind (take p w.back.jobs.works) t) ≡ b → JobGoes config w d number o
+    by_wait p t e here true waits = waits_goes config w g d number o h (rw (h.unhalted, e, here, waits) refl)
+    by_wait p t e here false free =
+        let work = all_at (IsWork g.submitted g.fetched) w.back.jobs.works p t h.works.each here in
+        at_place config w d number p t o h.unhalted e here free
+        (by_stage config w g d number p t work.r o t.stage h held
+        (λ undone. record { place = here; free = may_move g.submitted g.fetched w.back.jobs.works p t h.works here free undone; known = work.known; positive = work.positive; reached = work.reached; id = work.id; op = work.op }) refl work.at given)
+
     by_place : (place : Option ℕ) → place_of w.back.jobs.works number ≡ place → JobGoes config w d number o
-    by_place None e = no_place config w g d number o h e
+    by_place None e = waits_goes config w g d number o h (rw (h.unhalted, e) refl)
     by_place (Some p) e =
         let found = found_at (λ (t : Work). t.number == number) w.back.jobs.works p e in
-        let work = all_at (IsWork g.submitted g.fetched) w.back.jobs.works p found.0 h.works.each found.1 in
-        at_place config w d number p found.0 o h.unhalted e found.1
-        (by_stage config w g d number p found.0 work.r o (let t : Work = found.0 in t.stage) h held (record { place = found.1; known = work.known; positive = work.positive; reached = work.reached; id = work.id; op = work.op }) refl work.at given)
+        by_wait p found.0 e found.1 (let t : Work = found.0 in is_fresh_at t.stage t.moved && is_behind (take p w.back.jobs.works) t) refl

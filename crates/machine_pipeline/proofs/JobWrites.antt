@@ -264,6 +264,7 @@ stations_returned config w g d p t r m j wrote last h x tested =
       waiting = h.stations.waiting;
       pushed = h.stations.pushed;
       works = h.stations.works;
+      held = h.stations.held;
       replying = h.stations.replying;
       replied = h.stations.replied;
       taking = h.stations.taking;
@@ -345,11 +346,11 @@ pub write_goes : (config : Options) (w : World) (g : Flow) (d : Pipeline) (numbe
     → JobGoesAt config w d number p t (job.WriteWord m j) o
 write_goes config w g d number p t r m j o h held is e at = record {
   flow = g;
-  step = None;
+  steps = [];
   does = nothing (CallOf (ask_at (job.WriteWord m j) t) o) _ d (λ a b same. same_Some b a same.1);
   holds = subst (λ (pages : List ℕ). let v : World = record { front = w.front; back = record w.back { jobs = record w.back.jobs { works = slice_set w.back.jobs.works p (step_at (job.WriteWord m j) t answer.Done) }; told = None }; under = record w.under { pages = pages } } in Holds config v g d v.front.stage v.back.stage) (sym written_so)
       (subst (λ (u : Work). let v : World = record { front = w.front; back = record w.back { jobs = record w.back.jobs { works = slice_set w.back.jobs.works p u }; told = None }; under = record w.under { pages = with_data w t r j } } in Holds config v g d v.front.stage v.back.stage) (sym stepped)
-      (job_makes config w g d d p t later (with_data w t r j) w.under.grants h is.place refl (stations_returned config w g d p t r m j (j == 127) last h x refl)
+      (job_makes config w g d d p t later (with_data w t r j) w.under.grants h is.free refl (stations_returned config w g d p t r m j (j == 127) last h x refl)
       (work_of w g d d p t later r is refl refl refl (at_next (j == 127) refl))
       (length-set w.under.pages (frame_at r (word_now t j / 1024) * 1024 + word_now t j % 1024) (slice_index t.words j) ∙ h.memory)
       (λ f low high. frame_returned w g d p t r m j x f high)

@@ -1,16 +1,18 @@
 -- What a move of a job leaves of all that holds, by what it changes.
-use Rattle.std.proofs.Common.{◌≡◌, ◌≢◌, ℕ, ◌+◌, ◌-◌, ◌<◌, ◌≤◌, ◌⊎◌, inl, inr, Bool, true, false, List, length, refl, ap, sym, ◌∙◌, subst, arith, length-set}
+use Rattle.std.proofs.Common.{◌≡◌, ◌≢◌, ℕ, ◌+◌, ◌-◌, ◌<◌, ◌≤◌, ◌==◌, ◌&&◌, ◌||◌, ◌⊎◌, inl, inr, not, Bool, true, false, List, length, refl, ap, sym, ◌∙◌, subst, arith, length-set}
 use Rattle.std.specs.Prelude.{All, AllPairs, Some, None, slice_get, slice_set, nat_lt}
 use Rattle.std.proofs.lemmas.Option.{same_Some}
+use Rattle.std.proofs.lemmas.Bool.{true≢false, or_parts}
 use Rattle.std.proofs.lemmas.Bool.Decides.{nat_tests}
 use Rattle.blk_base.specs.Options.{Options}
 use Rattle.ring_words.specs.Shape.{Shape}
 use Rattle.grant_table.specs.Table.{GrantTable}
 use Rattle.pipeline_laws.specs.Station.{Request as Asked}
 use Rattle.pipeline_laws.specs.Pipeline.{Pipeline}
-use Rattle.blk_front.specs.Request.{is_write}
+use Rattle.blk_front.specs.Request.{is_write, operation_of}
 use Rattle.blk_front.specs.declared.request.Request.{Request}
 use Rattle.back_jobs.specs.Task.{Work}
+use Rattle.back_jobs.specs.Jobs.{is_done, is_ordered, is_barrier, is_fresh_at, is_held, holds_barriers, holds_all}
 use Rattle.blk_back.specs.declared.stage.Reply.{Reply}
 use Rattle.blk_back.specs.declared.stage.Stage.{Stage as BackStage}
 use Rattle.blk_back.specs.declared.stage.Stage.TheVariants as back
@@ -20,7 +22,7 @@ use Rattle.blk_front.specs.Submit.{is_ready}
 use Rattle.machine_pipeline.proofs.Flow.{Flow, ending_at, reply_at, is_issuing, is_fetching, worked, telling_at}
 use Rattle.machine_pipeline.proofs.Stations.{AreStations}
 use Rattle.machine_pipeline.proofs.StationsBack.{job_stays}
-use Rattle.machine_pipeline.proofs.Holds.{Holds, BackAt, IsWork, AreWorks, IsFilled, AreDataWords, AreEntries, AreMapped}
+use Rattle.machine_pipeline.proofs.Holds.{Holds, BackAt, IsUnhindered, IsWork, AreWorks, IsFilled, AreDataWords, AreEntries, AreMapped}
 use Rattle.machine_pipeline.proofs.Lists.{all_at, all_from, pair_at, pairs_from, set_was}
 use Rattle.machine_pipeline.proofs.Frames.{few_words, named_at}
 use Rattle.machine_pipeline.proofs.Slots.{same_slots}
@@ -37,7 +39,7 @@ number_was works p i t t' x here same e = by_place (set_was works p i t t' x her
     by_place (inl at) = (t, ap (slice_get works) at.0 ∙ here, ap (λ (z : Work). z.number) at.1 ∙ same)
     by_place (inr other) = (x, other.1, refl)
 
-ascending_after : (works : List Work) (p : ℕ) (t t' : Work) → slice_get works p ≡ Some t → t'.number ≡ t.number → AllPairs (λ (x y : Work). x.number < y.number) works → AllPairs (λ (x y : Work). x.number < y.number) (slice_set works p t')
+pub ascending_after : (works : List Work) (p : ℕ) (t t' : Work) → slice_get works p ≡ Some t → t'.number ≡ t.number → AllPairs (λ (x y : Work). x.number < y.number) works → AllPairs (λ (x y : Work). x.number < y.number) (slice_set works p t')
 ascending_after works p t t' here same pairs = pairs_from (λ (x y : Work). x.number < y.number) (slice_set works p t') (λ i j x y lt first second.
     let one = number_was works p i t t' x here same first in
     let two = number_was works p j t t' y here same second in
@@ -54,19 +56,70 @@ other_number works p i t u pairs apart here there = by_order (nat_lt i p) refl
     by_order true e = let lt : i < p = grind (arith, nat_tests) in let up = pair_at (λ (a b : Work). a.number < b.number) works i p u t pairs lt there here in omega arith
     by_order false e = let lt : p < i = grind (arith, nat_tests) in let up = pair_at (λ (a b : Work). a.number < b.number) works p i t u pairs lt here there in omega arith
 
+-- the job at a place isn't done, and waits for none before it
+pub record MayMove (works : List Work) (p : ℕ) (t : Work) : Type 0 where
+  pub here : slice_get works p ≡ Some t
+  pub undone : is_done t ≡ false
+  pub clear : (i : ℕ) (u : Work) → i < p → slice_get works i ≡ Some u → is_held t (holds_barriers u) (holds_all u) ≡ false
+
+-- a job is held up by no more than it was, where fewer hold it up
+pub held_less : (t : Work) (a b c d : Bool) → (a ≡ true → c ≡ true) → (b ≡ true → d ≡ true) → is_held t c d ≡ false → is_held t a b ≡ false
+held_less t a b c d one two none =
+    let parts = or_parts (is_barrier t && c) (is_ordered t && d) none in
+    rw (both_less (is_barrier t) a c one parts.0, both_less (is_ordered t) b d two parts.1) refl
+  where
+    both_less : (p a c : Bool) → (a ≡ true → c ≡ true) → (p && c) ≡ false → (p && a) ≡ false
+    both_less false a c more none = refl
+    both_less true false c more none = refl
+    both_less true true c more none = absurd (true≢false (sym (more refl) ∙ none))
+
+-- an answer to a job lets others go on: it may be done now, and is of the operation that it was
+after_holds : (t t' y : Work) → is_done t ≡ false → t'.op ≡ t.op → is_held y (holds_barriers t) (holds_all t) ≡ false → is_held y (holds_barriers t') (holds_all t') ≡ false
+after_holds t t' y undone same none =
+    held_less y (holds_barriers t') (holds_all t') (holds_barriers t) (holds_all t)
+    (still (is_ordered t') (is_ordered t) (is_done t') (is_done t) (ap (λ (op : ℕ). op == 1 || op == 2 || op == 5) same) undone)
+    (still (is_barrier t') (is_barrier t) (is_done t') (is_done t) (ap (λ (op : ℕ). op == 2) same) undone) none
+  where
+    still : (a b c d : Bool) → a ≡ b → d ≡ false → (a && not c) ≡ true → (b && not d) ≡ true
+    still true b c d same undone holds = rw (sym same, undone) refl
+    still false b c d same undone holds = absurd (true≢false (sym holds))
+
+clear_after : (works : List Work) (p : ℕ) (t t' : Work) → MayMove works p t → t'.op ≡ t.op → AllPairs IsUnhindered works → AllPairs IsUnhindered (slice_set works p t')
+clear_after works p t t' free same pairs = pairs_from IsUnhindered (slice_set works p t') (λ i j x y lt first second undone begun.
+    by_places i j x y lt undone begun (set_was works p i t t' x free.here first) (set_was works p j t t' y free.here second))
+  where
+    by_places : (i j : ℕ) (x y : Work) → i < j → is_done y ≡ false → is_fresh_at y.stage y.moved ≡ false
+        → ((i ≡ p) × (x ≡ t')) ⊎ ((i ≢ p) × (slice_get works i ≡ Some x)) → ((j ≡ p) × (y ≡ t')) ⊎ ((j ≢ p) × (slice_get works j ≡ Some y)) → is_held y (holds_barriers x) (holds_all x) ≡ false
+    by_places i j x y lt undone begun (inl one) (inl two) = absurd (omega (arith, one.0, two.0))
+    by_places i j x y lt undone begun (inl one) (inr two) =
+        let was = pair_at IsUnhindered works i j t y pairs lt (ap (slice_get works) one.0 ∙ free.here) two.1 undone begun in
+        subst (λ (u : Work). is_held y (holds_barriers u) (holds_all u) ≡ false) (sym one.1) (after_holds t t' y free.undone same was)
+    by_places i j x y lt undone begun (inr one) (inl two) =
+        let clear : is_held t (holds_barriers x) (holds_all x) ≡ false = free.clear i x (omega (arith, two.0)) one.1 in
+        let op : y.op ≡ t.op = ap (λ (u : Work). u.op) two.1 ∙ same in
+        ap (λ (n : ℕ). (n == 2 && holds_barriers x) || ((n == 1 || n == 2 || n == 5) && holds_all x)) op ∙ clear
+    by_places i j x y lt undone begun (inr one) (inr two) = pair_at IsUnhindered works i j x y pairs lt one.1 two.1 undone begun
+
 works_after : (submitted : List Request) (fetched : ℕ) (works : List Work) (p : ℕ) (t t' : Work)
-    → slice_get works p ≡ Some t
+    → MayMove works p t
     → t'.number ≡ t.number
     → IsWork submitted fetched t'
     → AreWorks submitted fetched works
     → AreWorks submitted fetched (slice_set works p t')
-works_after submitted fetched works p t t' here same now h = record {
-  each = all_from (IsWork submitted fetched) (slice_set works p t') (λ i x e. elim (set_was works p i t t' x here e) [
+works_after submitted fetched works p t t' free same now h = record {
+  each = all_from (IsWork submitted fetched) (slice_set works p t') (λ i x e. elim (set_was works p i t t' x free.here e) [
     | inl at ↦ subst (IsWork submitted fetched) (sym at.1) now
     | inr other ↦ all_at (IsWork submitted fetched) works i x h.each other.1
   ]);
-  ascending = ascending_after works p t t' here same h.ascending;
+  ascending = ascending_after works p t t' free.here same h.ascending;
+  clear = clear_after works p t t' free (now.op ∙ (ap (λ (r : Request). operation_of r.transfer) one ∙ sym was.op)) h.clear;
 }
+  where
+    was : IsWork submitted fetched t
+    was = all_at (IsWork submitted fetched) works p t h.each free.here
+
+    one : now.r ≡ was.r
+    one = same_Some now.r was.r (sym now.known ∙ (ap (λ (n : ℕ). slice_get submitted (n - 1)) same ∙ was.known))
 
 -- the response that is being written is no job's
 back_works : (shape : Shape) (start fetched back_seen replied : ℕ) (submitted : List Request) (works works' : List Work) (entry : List ℕ) (b : BackStage)
@@ -108,7 +161,7 @@ stations_stay config w g d p t t' r pages h here known number same now =
 -- all of it: the job at place p is this now, the pipeline and memory are these
 pub job_makes : (config : Options) (w : World) (g : Flow) (d d' : Pipeline) (p : ℕ) (t t' : Work) (pages' : List ℕ) (grants' : GrantTable)
     → Holds config w g d w.front.stage w.back.stage
-    → slice_get w.back.jobs.works p ≡ Some t
+    → MayMove w.back.jobs.works p t
     → t'.number ≡ t.number
     → StationsWith config w g d' (slice_set w.back.jobs.works p t') pages'
     → IsWork g.submitted g.fetched t'
@@ -120,7 +173,7 @@ pub job_makes : (config : Options) (w : World) (g : Flow) (d d' : Pipeline) (p :
     → AreEntries g.pushed pages' grants'.live w.front.stage w.front.ending w.front.requests
     → AreMapped grants'.live (hands_at w.back.stage (record w.back { jobs = record w.back.jobs { works = slice_set w.back.jobs.works p t' } }))
     → (let v : World = record { front = w.front; back = record w.back { jobs = record w.back.jobs { works = slice_set w.back.jobs.works p t' }; told = None }; under = record w.under { pages = pages'; grants = grants' } } in Holds config v g d' v.front.stage v.back.stage)
-job_makes config w g d d' p t t' pages' grants' h here number stations now sized ring entry frames told entries mapped = record {
+job_makes config w g d d' p t t' pages' grants' h free number stations now sized ring entry frames told entries mapped = record {
   started = h.started;
   shaped = h.shaped;
   sized = h.sized;
@@ -129,13 +182,13 @@ job_makes config w g d d' p t t' pages' grants' h here number stations now sized
   submitted = h.submitted;
   pool = h.pool;
   stations = stations;
-  works = works_after g.submitted g.fetched w.back.jobs.works p t t' here number now h.works;
+  works = works_after g.submitted g.fetched w.back.jobs.works p t t' free number now h.works;
   counted = let long = length-set w.back.jobs.works p t' in let was = h.counted in omega arith;
   info = h.info;
   replies = h.replies;
   front_at = h.front_at;
-  unused = h.unused;
-  back_at = back_works g.shape g.start g.fetched g.back_seen g.replied g.submitted w.back.jobs.works (slice_set w.back.jobs.works p t') w.back.entry w.back.stage (λ rep alone. alone_after w.back.jobs.works p t t' rep.id here number alone) h.back_at;
+  offered = h.offered;
+  back_at = back_works g.shape g.start g.fetched g.back_seen g.replied g.submitted w.back.jobs.works (slice_set w.back.jobs.works p t') w.back.entry w.back.stage (λ rep alone. alone_after w.back.jobs.works p t t' rep.id free.here number alone) h.back_at;
   unhalted = h.unhalted;
   memory = sized;
   ring = ring_kept g.shape.order g.start g.pushed g.replied w.under.pages pages' w.front.stage (length w.back.pages) (λ v lt. ring 2 (omega arith) (omega arith) v (omega arith)) (few_words g.shape _ _ _ _ _ _ _ _ _ w.front.stage h.front_at) (λ page lt. entry page (let few = named_at g.shape _ _ _ _ _ _ _ _ _ w.front.stage h.shaped.narrow h.front_at in omega arith)) h.ring;
@@ -153,7 +206,7 @@ job_makes config w g d d' p t t' pages' grants' h here number stations now sized
 -- where memory changes in no frame of the pool
 pub job_holds : (config : Options) (w : World) (g : Flow) (d d' : Pipeline) (p : ℕ) (t t' : Work) (pages' : List ℕ) (grants' : GrantTable)
     → Holds config w g d w.front.stage w.back.stage
-    → slice_get w.back.jobs.works p ≡ Some t
+    → MayMove w.back.jobs.works p t
     → t'.number ≡ t.number
     → StationsWith config w g d' (slice_set w.back.jobs.works p t') w.under.pages
     → IsWork g.submitted g.fetched t'
@@ -164,8 +217,8 @@ pub job_holds : (config : Options) (w : World) (g : Flow) (d d' : Pipeline) (p :
     → AreEntries g.pushed pages' grants'.live w.front.stage w.front.ending w.front.requests
     → AreMapped grants'.live (hands_at w.back.stage (record w.back { jobs = record w.back.jobs { works = slice_set w.back.jobs.works p t' } }))
     → (let v : World = record { front = w.front; back = record w.back { jobs = record w.back.jobs { works = slice_set w.back.jobs.works p t' }; told = None }; under = record w.under { pages = pages'; grants = grants' } } in Holds config v g d' v.front.stage v.back.stage)
-job_holds config w g d d' p t t' pages' grants' h here number stations now sized ring entry frames entries mapped =
-    job_makes config w g d d' p t t' pages' grants' h here number
+job_holds config w g d d' p t t' pages' grants' h free number stations now sized ring entry frames entries mapped =
+    job_makes config w g d d' p t t' pages' grants' h free number
     (stations_elsewhere config g d' (is_ready w.front.stage) (is_issuing w.front.stage) (is_fetching w.back.stage) (ending_at w.front.stage w.front.ending) (telling_at w.front.stage) (reply_at w.back.stage) w.front.requests (slice_set w.back.jobs.works p t') w.under.pages pages' w.front.sectors w.front.last h.submitted frames stations)
     now sized ring entry
     (frames_elsewhere config w g d w.front.stage w.back.stage pages' h frames)

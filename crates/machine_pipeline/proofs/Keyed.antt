@@ -14,7 +14,7 @@ use Rattle.key_directory.specs.Directory.{Directory}
 use Rattle.hypervisor.specs.Hypervisor.{Hypervisor}
 use Rattle.hypervisor.specs.Act.{with_keys, watch_taken}
 use Rattle.pipeline_laws.specs.Allowed.{is_aside}
-use Rattle.pipeline_laws.specs.Pipeline.{Pipeline}
+use Rattle.pipeline_laws.specs.Pipeline.{Pipeline, after_steps}
 use Rattle.blk_front.specs.declared.stage.Stage.{Stage as FrontStage}
 use Rattle.blk_back.specs.declared.stage.Stage.{Stage as BackStage}
 use Rattle.blk_front.specs.View.{View}
@@ -26,7 +26,7 @@ use Rattle.split_model.proofs.Keys.{negotiated_lines_are}
 use Rattle.machine_pipeline.proofs.Flow.{Flow}
 use Rattle.machine_pipeline.proofs.Holds.{Holds}
 use Rattle.machine_pipeline.proofs.Turns.{Goes, said_nothing}
-use Rattle.machine_pipeline.specs.Step.{Does, IsSame, after_step}
+use Rattle.machine_pipeline.specs.Step.{Does, IsSame}
 
 -- the machine with those keys
 abbrev pub keyed : World → Directory → World
@@ -47,7 +47,7 @@ holds_keyed config w g d s b keys h = record {
   info = h.info;
   replies = h.replies;
   front_at = h.front_at;
-  unused = h.unused;
+  offered = h.offered;
   back_at = h.back_at;
   unhalted = h.unhalted;
   memory = h.memory;
@@ -64,7 +64,7 @@ holds_keyed config w g d s b keys h = record {
 }
 
 pub goes_keyed : (config : Options) (said : List Line) (w : World) (d : Pipeline) (keys : Directory) → Goes config said w d → Goes config said (keyed w keys) d
-goes_keyed config said w d keys p = record { flow = p.flow; step = p.step; does = p.does; holds = holds_keyed config w p.flow (after_step d p.step) w.front.stage w.back.stage keys p.holds }
+goes_keyed config said w d keys p = record { flow = p.flow; steps = p.steps; does = p.does; holds = holds_keyed config w p.flow (after_steps p.steps d) w.front.stage w.back.stage keys p.holds }
 
 -- an end that told nothing tells nothing
 pub untold : (w : World) → w.front.told ≡ None → w ≡ record { front = (let v : View = w.front in record v { told = None }); back = w.back; under = w.under }
@@ -79,7 +79,7 @@ watched_goes config w g d path told h =
     let left : Hypervisor = watch_taken w.under end.Front in
     goes_keyed config _ _ d left.keys (record {
       flow = g;
-      step = None;
+      steps = [];
       does = said_nothing d (moves.Watched mover.Front path) w.front.told told;
       holds = subst (λ (x : World). Holds config x g d x.front.stage x.back.stage) (untold w told) h;
     })
@@ -89,13 +89,13 @@ words_aside : (ls : List Line) → AllByRecursion (λ (line : Line). is_aside li
 words_aside [] all = refl
 words_aside (line ∷ ls) all = rw all.0 (words_aside ls all.1)
 
-pub asides_do : (d : Pipeline) (ls : List Line) → AllByRecursion (λ (line : Line). is_aside line ≡ true) ls → Does None IsSame ls d None
+pub asides_do : (d : Pipeline) (ls : List Line) → AllByRecursion (λ (line : Line). is_aside line ≡ true) ls → Does None IsSame ls d []
 asides_do d ls all = record { asides = ls; aside = words_aside ls all; shows = sym (append-nil ls); asks = refl; allowed = tt; disk = λ a b e. e }
 
 pub asides_go : (config : Options) (w : World) (g : Flow) (d : Pipeline) (ls : List Line) → AllByRecursion (λ (line : Line). is_aside line ≡ true) ls → Holds config w g d w.front.stage w.back.stage → Goes config ls w d
 asides_go config w g d ls all h = record {
   flow = g;
-  step = None;
+  steps = [];
   does = asides_do d ls all;
   holds = h;
 }

@@ -143,8 +143,8 @@ Leaving config w d v = HasGone None IsSame config (halt_lines w.back.halted v.ha
 
 leaves : (config : Options) (w : World) (g : Flow) (d : Pipeline) (why : Halt) (v : View) → Holds config w g d w.front.stage w.back.stage → IsFarewell w why → v.halted ≡ Some why → Over config (backed w v) d w.front.stage v.stage → Leaving config w d v
 leaves config w g d why v h farewell halted over = record {
-  step = Some (Leaves (halt_line why));
-  does = record { asides = []; aside = refl; shows = rw (h.unhalted, halted) refl; asks = refl; allowed = (over.closing, farewell.gone, over.finished); disk = λ a b e. e };
+  steps = Leaves (halt_line why) ∷ [];
+  does = record { asides = []; aside = refl; shows = rw (h.unhalted, halted) refl; asks = refl; allowed = ((over.closing, farewell.gone, over.finished), tt); disk = λ a b e. (b, e, refl) };
   kept = inr over;
 }
 
@@ -164,7 +164,7 @@ halts_goes config w g d why h farewell = halts_cases (Leaving config w d) why w.
     (λ e. subst (λ (works : List Work). Leaving config w d (given_up_jobs works)) (sym no_job)
     (leaves config w g d why (given_up_jobs []) h farewell refl (over_begins config w g d why (given_up_jobs []) h farewell refl refl refl refl
     (some_held w.back.pages (let looping : Holds config w g d w.front.stage back.Loop = at e in let all : length w.back.pages ≡ 2 ^ g.shape.order = looping.paged.mapped in let some = some_pages g.shape.order in omega arith)))))
-    (record { step = None; does = rw h.unhalted (no_move IsSame d (λ a b same. same)); kept = inl (g, h) })
+    (record { steps = []; does = rw h.unhalted (no_move IsSame d (λ a b same. same)); kept = inl (g, h) })
   where
     at : {b : BackStage} → w.back.stage ≡ b → Holds config w g d w.front.stage b
     at e = subst (Holds config w g d w.front.stage) e h

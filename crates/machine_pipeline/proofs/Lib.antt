@@ -42,6 +42,7 @@ pub mod Jobs
 pub mod JobMoves
 pub mod JobSteps
 pub mod JobDisk
+pub mod JobCalls
 pub mod JobWrites
 pub mod JobGrants
 pub mod JobMaps

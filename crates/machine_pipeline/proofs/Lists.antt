@@ -5,7 +5,7 @@ use Rattle.std.specs.List.{list_any}
 use Rattle.std.proofs.lemmas.Option.{none-some, same_Some, slice_get_within, get_or_from_slice_get, slice_get-get_or, slice_get_read}
 use Rattle.std.proofs.lemmas.List.Quantifiers.{position-Some}
 use Rattle.std.proofs.lemmas.List.Sums.{sum_by-cons}
-use Rattle.std.proofs.lemmas.List.Folds.{Any-from_list_any}
+use Rattle.std.proofs.lemmas.List.Folds.{Any-from_list_any, list_any_at}
 use Rattle.std.proofs.lemmas.Bool.Decides.{nat_tests}
 
 -- what holds of all holds at each place
@@ -33,6 +33,10 @@ pub place_of_any : {X : Type 0} (p : X → Bool) (xs : List X) → list_any p xs
 place_of_any p xs e =
     let any = Any-from_list_any p xs e in
     (any.0, any.1, slice_get_read xs (length xs) any.0 any.1 refl any.2 (sym any.3), any.4)
+
+-- a test that some element passes
+pub any_at : {X : Type 0} (p : X → Bool) (xs : List X) (i : ℕ) (x : X) → slice_get xs i ≡ Some x → p x ≡ true → list_any p xs ≡ true
+any_at p xs i x e t = list_any_at p xs i x (slice_get_within xs i x e) (ap p (get_or_from_slice_get xs i x x e) ∙ t)
 
 -- two places that pass are counted twice
 pub count_one : {X : Type 0} (p : X → Bool) (xs : List X) (i : ℕ) (x : X) → slice_get xs i ≡ Some x → p x ≡ true → 1 ≤ count_by p xs
@@ -99,6 +103,12 @@ pub get_set_here : {X : Type 0} (xs : List X) (i : ℕ) (x y : X) → slice_get 
 get_set_here [] i x y e = absurd (none-some x e)
 get_set_here (z ∷ xs) zero x y e = refl
 get_set_here (z ∷ xs) (suc i) x y e = get_set_here xs i x y e
+
+-- a place that is set twice has the last value
+pub set_again : {X : Type 0} (xs : List X) (i : ℕ) (x y : X) → slice_set (slice_set xs i x) i y ≡ slice_set xs i y
+set_again [] i x y = refl
+set_again (z ∷ xs) zero x y = refl
+set_again {X = X} (z ∷ xs) (suc i) x y = ap (λ (rest : List X). z ∷ rest) (set_again xs i x y)
 
 pub get_set_other : {X : Type 0} (xs : List X) (i j : ℕ) (y : X) → i ≢ j → slice_get (slice_set xs i y) j ≡ slice_get xs j
 get_set_other [] i j y other = refl

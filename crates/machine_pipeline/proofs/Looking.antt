@@ -1,5 +1,5 @@
 -- The front looks for responses: at the producer, and again before it sleeps.
-use Rattle.std.proofs.Common.{◌≡◌, ◌≢◌, ℕ, ◌+◌, ◌*◌, ◌<◌, ◌≤◌, ◌==◌, inl, if◌then◌else◌, Bool, true, false, List, ◌∷◌, length, refl, sym, ◌∙◌, subst, arith, true≢false, length-set}
+use Rattle.std.proofs.Common.{◌≡◌, ◌≢◌, ℕ, ◌+◌, ◌*◌, ◌<◌, ◌≤◌, ◌==◌, inl, if◌then◌else◌, Bool, true, false, List, [], ◌∷◌, length, refl, sym, ◌∙◌, subst, arith, true≢false, length-set}
 use Rattle.std.specs.Prelude.{None, nat_lt}
 use Rattle.std.proofs.lemmas.Bool.Decides.{nat_tests}
 use Rattle.blk_base.specs.Options.{Options}
@@ -31,7 +31,7 @@ pub becomes : (config : Options) (w : World) (g : Flow) (d : Pipeline) (m : Move
     → x.told ≡ None
     → Holds config (record { front = record x { told = None }; back = w.back; under = under }) g d x.stage w.back.stage
     → Goes config (lines.Move m ∷ front_lines x.told) (record { front = record x { told = None }; back = w.back; under = under }) d
-becomes config w g d m x under told h = record { flow = g; step = None; does = said_nothing d m x.told told; holds = h }
+becomes config w g d m x under told h = record { flow = g; steps = []; does = said_nothing d m x.told told; holds = h }
 
 too_far : (far near : ℕ) → near ≤ far → nat_lt far near ≡ true → ⊥
 too_far far near le t = grind (arith, nat_tests)
@@ -57,7 +57,7 @@ looked_goes config w g d s m word otherwise i zero h told awake read nothing = b
         subst (λ (a : Bool). Goes config (lines.Move m ∷ front_lines found.told) (record { front = record v { seen = word; stage = front.Loop; asleep = a; told = None }; back = w.back; under = w.under }) d) (sym awake)
         (record {
           flow = record g { front_seen = g.replied };
-          step = None;
+          steps = [];
           does = said_nothing d m found.told told;
           holds = rest_kept config w g d s front.Loop word g.replied false w.under.pages w.under.channels i at_loop zero refl h tt read indices.taken_replied (omega arith) h.memory (λ f apart x lt. refl) (λ x apart lt. refl) refl refl refl
               (record { arming = λ t. absurd (true≢false (sym t)); armed = λ t. absurd (true≢false (sym t)); may = λ t. refl; woken = λ t. absurd (true≢false (sym t)) });
@@ -86,7 +86,7 @@ pub look_again_goes : (config : Options) (w : World) (g : Flow) (d : Pipeline)
 look_again_goes config w g d told h =
     looked_goes config w g d front.LookAgain (moves.FrontRead 2 2 word) word asleep at_look refl h told awake read (λ same. record {
       flow = record g { front_seen = g.replied };
-      step = None;
+      steps = [];
       does = said_nothing d (moves.FrontRead 2 2 word) asleep.told told;
       holds = (let indices = h.indices in rest_kept config w g d front.LookAgain front.Loop word g.replied true w.under.pages w.under.channels at_look at_loop refl refl h tt read indices.taken_replied (omega arith) h.memory (λ f apart x lt. refl) (λ x apart lt. refl) refl refl refl
           (let sleep = h.front_sleep in record { arming = λ t. absurd (true≢false (sym t)); armed = λ t. sleep.arming refl; may = λ t. absurd (true≢false t); woken = λ t. inl same }));
@@ -120,7 +120,7 @@ at_stage_goes config w g d s s' m pages i i' zero zero' told h place sized frame
     let indices = h.indices in
     record {
       flow = g;
-      step = None;
+      steps = [];
       does = said_nothing d m w.front.told told;
       holds = rest_kept config w g d s s' w.front.seen g.front_seen w.front.asleep pages w.under.channels i i' zero zero' h place indices.front_saw indices.front_from indices.front_to sized frames words refl refl refl sleep;
     }

@@ -13,7 +13,6 @@ use Rattle.machine_pipeline.proofs.Flow.{Flow}
 use Rattle.machine_pipeline.proofs.Holds.{Holds, Stands, IsFrontSleep, IsBackSleep}
 use Rattle.machine_pipeline.proofs.Turns.{Goes, no_move}
 use Rattle.machine_pipeline.specs.Step.{IsSame}
-use Rattle.std.specs.Prelude.{None}
 
 -- a further mark wakes no less
 marked_front : (start taken replied : ℕ) (pages : List ℕ) (asleep pending more : Bool) (s : FrontStage) (b : BackStage) → (pending ≡ true → more ≡ true) → IsFrontSleep start taken replied pages asleep pending s b → IsFrontSleep start taken replied pages asleep more s b
@@ -62,7 +61,7 @@ marked config w g d s b front_pending back_pending front_sleep back_sleep h = re
   info = h.info;
   replies = h.replies;
   front_at = h.front_at;
-  unused = h.unused;
+  offered = h.offered;
   back_at = h.back_at;
   unhalted = h.unhalted;
   memory = h.memory;
@@ -81,7 +80,7 @@ marked config w g d s b front_pending back_pending front_sleep back_sleep h = re
 pub notified_goes : (config : Options) (w : World) (g : Flow) (d : Pipeline) (at : End) → Stands config w g d → Goes config [] (happens w (Notifies at)) d
 notified_goes config w g d at stands = record {
   flow = g;
-  step = None;
+  steps = [];
   does = no_move IsSame d (λ a b same. same);
   holds = by_end at;
 }

@@ -8,7 +8,7 @@ use Rattle.blk_base.specs.Options.{Options}
 use Rattle.blk_base.specs.declared.config.Job.{Job}
 use Rattle.blk_base.specs.declared.parts.Mapping.{Mapping}
 use Rattle.schedule_text.specs.declared.line.Line.{Line}
-use Rattle.pipeline_laws.specs.Pipeline.{Pipeline, Step}
+use Rattle.pipeline_laws.specs.Pipeline.{Pipeline, Step, after_steps}
 use Rattle.pipeline_laws.specs.Allowed.{AreFinished}
 use Rattle.blk_front.specs.declared.request.Request.{Request}
 use Rattle.blk_front.specs.declared.stage.Stage.{Stage as FrontStage}
@@ -19,7 +19,7 @@ use Rattle.blk_back.specs.declared.stage.Stage.{Stage as BackStage}
 use Rattle.blk_back.specs.declared.stage.Stage.TheVariants as back
 use Rattle.blk_back.specs.declared.told.Halt.{Halt}
 use Rattle.split_model.specs.World.{World}
-use Rattle.machine_pipeline.specs.Step.{after_step, Does}
+use Rattle.machine_pipeline.specs.Step.{Does}
 use Rattle.machine_pipeline.proofs.Flow.{Flow}
 use Rattle.machine_pipeline.proofs.Holds.{AreMapped, Holds}
 use Rattle.machine_pipeline.proofs.Turns.{GoesBy}
@@ -124,12 +124,12 @@ unclosed test none s t = refl
 abbrev pub IsKept : Options → World → Pipeline → Type 0
 IsKept config w d = ((g : Flow) × Holds config w g d w.front.stage w.back.stage) ⊎ Over config w d w.front.stage w.back.stage
 
--- the next machine, and the pipeline that it stands for: after one step, or as it was
+-- the next machine, and the pipeline that it stands for: after the steps that were made
 pub record HasGone (asked : Option Job) (call : (before after : List (List ℕ)) → Type 0) (config : Options) (said : List Line) (w : World) (d : Pipeline) : Type 0 where
-  pub step : Option Step
-  pub does : Does asked call said d step
-  pub kept : IsKept config w (after_step d step)
+  pub steps : List Step
+  pub does : Does asked call said d steps
+  pub kept : IsKept config w (after_steps steps d)
 
 -- so it is where the ends go on serving
 pub goes_on : {asked : Option Job} {call : (before after : List (List ℕ)) → Type 0} (config : Options) (said : List Line) (w : World) (d : Pipeline) → GoesBy asked call config said w d → HasGone asked call config said w d
-goes_on config said w d gone = record { step = gone.step; does = gone.does; kept = inl (gone.flow, gone.holds) }
+goes_on config said w d gone = record { steps = gone.steps; does = gone.does; kept = inl (gone.flow, gone.holds) }

@@ -81,9 +81,9 @@ waits : (config : Options) (w : World) (d : Pipeline) (x : FrontAnswer → front
 waits config w d x here event watch = by_pending w.under.channels.front_pending (watch_next w.under end.Front)
   where
     by_pending : (b : Bool) (next : Option (List ℕ)) → (let act : Option FrontAct = (if b then Some (front_event w.under) else front_watched w.under next) in HasGone None IsSame config (says_by x w act) (next_by x w act) d)
-    by_pending false None = record { step = None; does = no_move IsSame d (λ a b same. same); kept = inr here }
-    by_pending false (Some path) = record { step = None; does = said_nothing d (moves.Watched mover.Front path) _ (watch path).0; kept = inr (watch path).1 }
-    by_pending true next = record { step = None; does = said_nothing d (moves.Event mover.Front) _ event.0; kept = inr event.1 }
+    by_pending false None = record { steps = []; does = no_move IsSame d (λ a b same. same); kept = inr here }
+    by_pending false (Some path) = record { steps = []; does = said_nothing d (moves.Watched mover.Front path) _ (watch path).0; kept = inr (watch path).1 }
+    by_pending true next = record { steps = []; does = said_nothing d (moves.Event mover.Front) _ event.0; kept = inr event.1 }
 
 -- with no request left none is next
 none_next : (waiting : ℕ) (requests : List Request) → requests ≡ [] → (if waiting == 0 then None else slice_get requests (length requests - waiting)) ≡ None
@@ -137,7 +137,7 @@ reads_grant config w d page told o =
     subst (λ (b : Bool). let x : front_view.View = (if b then broken word w.front else at (front.RingEnd page word) w.front) in
     HasGone None IsSame config (lines.Move (moves.FrontRead frame place word) ∷ front_lines x.told) (record { front = record x { told = None }; back = w.back; under = w.under }) d) (sym unmapped)
     (record {
-      step = None;
+      steps = [];
       does = said_nothing d (moves.FrontRead frame place word) w.front.told told;
       kept = inr (over_at o (refl, refl, refl) o.closed o.memory o.back_at o.own o.mapped (o.front_at.0, o.front_at.1, o.front_at.2, sym (ring_flags w.under.pages page)) o.ring);
     })
@@ -203,12 +203,12 @@ ends_grant config w d page seen told o =
         → (let x : front_view.View = at (if b then front.RingRead (page + 1) else front.ClosePort) w.front in HasGone None IsSame config (lines.Move (moves.FrontCas frame place seen 0 word) ∷ front_lines x.told)
         (record { front = record x { told = None }; back = w.back; under = (let h = w.under in record h { pages = pages }) }) d)
     by_more true more = record {
-      step = None;
+      steps = [];
       does = said_nothing d (moves.FrontCas frame place seen 0 word) w.front.told told;
       kept = inr (over_at o (refl, refl, refl) o.closed sized o.back_at o.own o.mapped (o.front_at.0, (let lt : page + 1 < 2 ^ w.front.shape.order = grind (arith, nat_tests) in lt), unmapped) drained);
     }
     by_more false last = record {
-      step = None;
+      steps = [];
       does = said_nothing d (moves.FrontCas frame place seen 0 word) w.front.told told;
       kept = inr (over_at o (refl, refl, refl) o.closed sized o.back_at o.own o.mapped tt drained);
     }
@@ -217,7 +217,7 @@ ends_grant config w d page seen told o =
 closes_port : (config : Options) (w : World) (d : Pipeline) → w.front.told ≡ None → Over config w d front.ClosePort w.back.stage
     → HasGone None IsSame config (front_says front.ClosePort w (front_turn_at front.ClosePort w)) (front_next front.ClosePort w (front_turn_at front.ClosePort w)) d
 closes_port config w d told o = record {
-  step = None;
+  steps = [];
   does = said_nothing d (moves.ClosePort mover.Front) w.front.told told;
   kept = inr (over_at o (refl, refl, refl) o.closed o.memory o.back_at o.own o.mapped tt o.ring);
 }
@@ -245,7 +245,7 @@ pub no_halt : (halt : Option Halt) → halt_lines halt halt ≡ []
 no_halt None = refl
 no_halt (Some why) = refl
 
-said_back : (d : Pipeline) (shown : Shown) (told : Option BackTold) (halt : Option Halt) (answer : BackAnswer) → told ≡ None → Does None IsSame (lines.Move shown ∷ back_lines told answer ++ halt_lines halt halt) d None
+said_back : (d : Pipeline) (shown : Shown) (told : Option BackTold) (halt : Option Halt) (answer : BackAnswer) → told ≡ None → Does None IsSame (lines.Move shown ∷ back_lines told answer ++ halt_lines halt halt) d []
 said_back d shown told halt answer untold = rw (untold, no_halt halt) (nothing IsSame shown d (λ a b same. same))
 
 -- the flags of an entry without a mapping
@@ -359,7 +359,7 @@ unmaps : (config : Options) (w : World) (d : Pipeline) (b : BackStage) (next : L
     → (let act : Option BackAct = back_act w.under back_mover.Back (unmap_ask ms) Took in HasGone None IsSame config (unmap_says w act) (unmap_next w (record w.back { pages = other_pages ms; stage = next (other_pages ms) }) act) d)
 unmaps config w d b next [] e told some serves gives held o = absurd (some refl)
 unmaps config w d b next (m ∷ rest) e told some serves gives held o = record {
-  step = None;
+  steps = [];
   does = said_back d (moves.Unmap back_mover.Back m.number) w.back.told w.back.halted back_answer.Done told;
   kept = inr (unmaps_first config w d b next m rest e serves gives held o);
 }
@@ -388,7 +388,7 @@ closed_port connected made order pages held s p = absurd p
 closes_back : (config : Options) (w : World) (d : Pipeline) → w.back.told ≡ None → Over config w d w.front.stage back.ClosePort
     → HasGone None IsSame config (back_says back.ClosePort w (back_turn_at back.ClosePort w)) (back_next back.ClosePort w (back_turn_at back.ClosePort w)) d
 closes_back config w d told o = record {
-  step = None;
+  steps = [];
   does = said_back d (moves.ClosePort mover.Back) w.back.told w.back.halted back_answer.Done told;
   kept = inr (over_at o (refl, refl, refl) o.closed o.memory o.back_at o.own o.mapped (closed_port d.front.connected w.under.channels.made w.front.shape.order w.under.pages w.back.pages w.front.stage o.front_at) o.ring);
 }
@@ -399,9 +399,9 @@ back_waits : (config : Options) (w : World) (d : Pipeline) → w.back.told ≡ N
 back_waits config w d told o = by_pending w.under.channels.back_pending (watch_next w.under end.Back)
   where
     by_pending : (b : Bool) (next : Option (List ℕ)) → (let act : Option BackAct = (if b then Some (back_event w.under) else back_watched w.under next) in HasGone None IsSame config (back_says back.Halted w act) (back_next back.Halted w act) d)
-    by_pending false None = record { step = None; does = no_move IsSame d (λ a b same. same); kept = inr o }
-    by_pending false (Some path) = record { step = None; does = said_back d (moves.Watched mover.Back path) w.back.told w.back.halted (back_answer.Watched path) told; kept = inr o }
-    by_pending true next = record { step = None; does = said_back d (moves.Event mover.Back) w.back.told w.back.halted back_answer.Event told; kept = inr o }
+    by_pending false None = record { steps = []; does = no_move IsSame d (λ a b same. same); kept = inr o }
+    by_pending false (Some path) = record { steps = []; does = said_back d (moves.Watched mover.Back path) w.back.told w.back.halted (back_answer.Watched path) told; kept = inr o }
+    by_pending true next = record { steps = []; does = said_back d (moves.Event mover.Back) w.back.told w.back.halted back_answer.Event told; kept = inr o }
 
 pub back_ends : (config : Options) (w : World) (d : Pipeline) (b : BackStage) → IsSafe w → w.back.stage ≡ b → Over config w d w.front.stage b
     → HasGone None IsSame config (back_says b w (back_turn_at b w)) (back_next b w (back_turn_at b w)) d
@@ -428,7 +428,7 @@ pub job_ends : (config : Options) (w : World) (d : Pipeline) (number : ℕ) (out
     → HasGone None (CallOf (job_ask_of w.back number) outcome) config (job_shows w number (job_turn w number outcome)) (job_after w number (job_turn w number outcome)) d
 job_ends config w d number outcome o =
     subst (λ (a : BackAsk). let act : Option BackAct = back_act w.under (back_mover.Job number) a outcome in HasGone None (CallOf a outcome) config (job_shows w number act) (job_after w number act) d) (sym asked)
-    (record { step = None; does = no_move (CallOf back_ask.Wait outcome) d (λ a b call. same_Some b a call.1); kept = inr o })
+    (record { steps = []; does = no_move (CallOf back_ask.Wait outcome) d (λ a b call. same_Some b a call.1); kept = inr o })
   where
     asked : job_ask_of w.back number ≡ back_ask.Wait
     asked = rw o.halted refl

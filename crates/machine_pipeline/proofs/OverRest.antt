@@ -16,6 +16,7 @@ use Rattle.pipeline_laws.specs.Allowed.{is_aside, refusal_now}
 use Rattle.blk_front.specs.declared.stage.Stage.{Stage as FrontStage}
 use Rattle.blk_front.specs.declared.stage.Stage.TheVariants as front
 use Rattle.blk_front.specs.declared.state.FrontState.{FrontState}
+use Rattle.blk_front.specs.declared.state.Offers.{Offers}
 use Rattle.blk_front.specs.declared.state.FrontState.TheVariants as states
 use Rattle.blk_front.specs.declared.told.Refusal.{Refusal}
 use Rattle.blk_front.specs.declared.told.Refusal.TheVariants as refusal
@@ -47,15 +48,15 @@ use Rattle.machine_pipeline.proofs.Over.{IsGivingUp, AreUnmapped, IsLeaving, Ove
 -- what an end does with the keys
 pub keys_end : (config : Options) (w : World) (d : Pipeline) (at : End) (move : KeyMove) → Over config w d w.front.stage w.back.stage → HasGone None IsSame config (lines_at w (Negotiates at move)) (happens w (Negotiates at move)) d
 keys_end config w d at move o = record {
-  step = None;
+  steps = [];
   does = asides_do d _ (negotiated_lines_are (λ (line : Line). is_aside line ≡ true) w.back.stage at move w.under.keys (λ path. refl) (λ path text. refl) (λ path. refl) (λ path. refl));
   kept = inr o;
 }
 
 -- a spurious event
 pub notified_ends : (config : Options) (w : World) (d : Pipeline) (at : End) → Over config w d w.front.stage w.back.stage → HasGone None IsSame config [] (happens w (Notifies at)) d
-notified_ends config w d end.Front o = record { step = None; does = no_move IsSame d (λ a b same. same); kept = inr o }
-notified_ends config w d end.Back o = record { step = None; does = no_move IsSame d (λ a b same. same); kept = inr o }
+notified_ends config w d end.Front o = record { steps = []; does = no_move IsSame d (λ a b same. same); kept = inr o }
+notified_ends config w d end.Back o = record { steps = []; does = no_move IsSame d (λ a b same. same); kept = inr o }
 
 -- a submission is refused
 pub submit_ends : (config : Options) (w : World) (d : Pipeline) (job : Job) → Over config w d w.front.stage w.back.stage → HasGone (Some job) IsSame config (lines_at w (Submits job)) (happens w (Submits job)) d
@@ -65,10 +66,10 @@ submit_ends config w d job o = by_test (w.front.last == 4294967295) refl
     spent_at = ap (λ (n : ℕ). n == 4294967295) (length-map d.requests asked ∙ o.counted)
 
     refused : (r : Refusal) → refusal_now d job ≡ Some (refusal_word r) → HasGone (Some job) IsSame config (lines.Refuse (refusal_word r) ∷ []) w d
-    refused r same = record { step = Some (Refuses job (refusal_word r)); does = record { asides = []; aside = refl; shows = refl; asks = refl; allowed = same; disk = λ a b e. e }; kept = inr o }
+    refused r same = record { steps = Refuses job (refusal_word r) ∷ []; does = record { asides = []; aside = refl; shows = refl; asks = refl; allowed = (same, tt); disk = λ a b e. (b, e, refl) }; kept = inr o }
 
     otherwise : Result ℕ Refusal × View
-    otherwise = if not (is_ready w.front.stage) then (Err refusal.NotReady, w.front) else submit_one w.front (wish_of job)
+    otherwise = if not (is_ready w.front.stage) then (Err refusal.NotReady, w.front) else submit_one w.front (wish_of w.front.offers job)
 
     by_test : (b : Bool) → (w.front.last == 4294967295) ≡ b
         → (let y : Result ℕ Refusal × View = (if b then (Err refusal.Spent, w.front) else (if w.front.closing then (Err refusal.Closing, w.front) else otherwise)) in
@@ -84,17 +85,18 @@ abbrev staged : World → FrontStage → World
 staged w s = record { front = (let v : View = w.front in record v { stage = s }); back = w.back; under = w.under }
 
 -- it is connected, but serves nothing
-connects_late : (config : Options) (w : World) (d : Pipeline) → Over config w d front.Initialised w.back.stage → HasGone None IsSame config (lines.Ready ∷ []) (staged w front.Loop) d
-connects_late config w d o = record {
-  step = Some Connects;
-  does = record { asides = []; aside = refl; shows = refl; asks = refl; allowed = (o.front_at.0, o.closed); disk = λ a b e. e };
+connects_late : (config : Options) (w : World) (d : Pipeline) (offers : Offers) → Over config w d front.Initialised w.back.stage
+    → HasGone None IsSame config (lines.Ready ∷ []) (record { front = (let v : View = w.front in record v { offers = offers; stage = front.Loop }); back = w.back; under = w.under }) d
+connects_late config w d offers o = record {
+  steps = Connects ∷ [];
+  does = record { asides = []; aside = refl; shows = refl; asks = refl; allowed = ((o.front_at.0, o.closed), tt); disk = λ a b e. (b, e, refl) };
   kept = inr (over_at o (refl, refl, refl) o.closed o.memory o.back_at o.own o.mapped o.front_at.2 o.ring);
 }
 
 -- the back has left: the grants of the ring's frames are ended next
 leaves_ring : (config : Options) (w : World) (d : Pipeline) (s : FrontStage) → is_made s ≡ true → w.back.stage ≡ back.Halted → Over config w d s w.back.stage → HasGone None IsSame config [] (staged w (front.RingRead 0)) d
 leaves_ring config w d s made halted o = record {
-  step = None;
+  steps = [];
   does = no_move IsSame d (λ a b same. same);
   kept = inr (over_at o (refl, refl, refl) (o.closed ∙ unclosed is_made refl s made) o.memory o.back_at o.own o.mapped (halted, some_pages w.front.shape.order, by_stage s made (subst (λ (b : BackStage). IsLeaving d.front.connected w.under.channels.made w.front.shape.order w.under.pages w.back.pages b s) halted o.front_at)) o.ring);
 }
@@ -107,8 +109,8 @@ leaves_ring config w d s made halted o = record {
 -- it is closed
 is_closed_now : (config : Options) (w : World) (d : Pipeline) (s : FrontStage) → is_bare s ≡ true → Over config w d s w.back.stage → HasGone None IsSame config (lines.Closed ∷ []) (staged w front.Closed) d
 is_closed_now config w d s bare o = record {
-  step = Some Closes;
-  does = record { asides = []; aside = refl; shows = refl; asks = refl; allowed = (o.closing, o.closed ∙ unclosed is_bare refl s bare, o.finished); disk = λ a b e. e };
+  steps = Closes ∷ [];
+  does = record { asides = []; aside = refl; shows = refl; asks = refl; allowed = ((o.closing, o.closed ∙ unclosed is_bare refl s bare, o.finished), tt); disk = λ a b e. (b, e, refl) };
   kept = inr (over_at o (refl, refl, refl) refl o.memory o.back_at o.own o.mapped tt o.ring);
 }
 
@@ -118,7 +120,7 @@ agrees_late : (config : Options) (w : World) (d : Pipeline) (order : ℕ) → or
 agrees_late config w d order wished unmade o =
     subst (λ (n : ℕ). HasGone None IsSame config [] (record { front = in_state (states.Agreed n) w.front; back = w.back; under = w.under }) d) (sym wished)
     (record {
-      step = None;
+      steps = [];
       does = no_move IsSame d (λ a b same. same);
       kept = inr (record {
         options = o.options;
@@ -147,11 +149,11 @@ agrees_late config w d order wished unmade o =
 -- a state that the front enters; where it may not nothing changes
 pub enters_ends : (config : Options) (w : World) (d : Pipeline) (state : FrontState) → MayEnter w state → Over config w d w.front.stage w.back.stage → HasGone None IsSame config (lines_at w (FrontEnters state)) (happens w (FrontEnters state)) d
 enters_ends config w d state may o = enters_cases (λ v shown. HasGone None IsSame config shown (record { front = v; back = w.back; under = w.under }) d) state w.front (entered state may)
-    (record { step = None; does = no_move IsSame d (λ a b same. same); kept = inr o })
+    (record { steps = []; does = no_move IsSame d (λ a b same. same); kept = inr o })
   where
     entered : (s : FrontState) → MayEnter w s → may_enter s w.front ≡ true → HasGone None IsSame config (state_lines s) (record { front = in_state s w.front; back = w.back; under = w.under }) d
     entered (states.Agreed order) may can = agrees_late config w d order may (both_true (is_unmade w.front.stage) (nat_le order w.front.shape.order) can).0 o
-    entered states.Connected may can = connects_late config w d (subst (λ (s : FrontStage). Over config w d s w.back.stage) (initialised_is w.front.stage can) o)
+    entered (states.Connected offers) may can = connects_late config w d offers (subst (λ (s : FrontStage). Over config w d s w.back.stage) (initialised_is w.front.stage can) o)
     entered states.Closing may can = absurd (true≢false (sym o.closes ∙ yet_open w.front.closing (is_open w.front.stage) can))
     entered states.Leaving may can = leaves_ring config w d w.front.stage (both_true (is_through w.front) (is_made w.front.stage) can).1 may o
     entered states.Closed may can = is_closed_now config w d w.front.stage (both_true (is_through w.front) (is_bare w.front.stage) can).1 o
@@ -165,12 +167,12 @@ not_unbound held b t p = true≢false (sym t)
 -- nor does it take terms
 pub attaches_late : (config : Options) (w : World) (d : Pipeline) (shape : Shape) (grefs : List ℕ) (port : ℕ) → Over config w d w.front.stage w.back.stage → HasGone None IsSame config (lines_at w (BackAttaches shape grefs port)) (happens w (BackAttaches shape grefs port)) d
 attaches_late config w d shape grefs port o = attach_cases (λ v shown. HasGone None IsSame config shown (record { front = w.front; back = v; under = w.under }) d) w shape grefs port
-    (λ may layout. absurd (subst (IsGivingUp w.back.pages) (attaches_waiting shape grefs w.back may) o.back_at))
-    (record { step = None; does = no_move IsSame d (λ a b same. same); kept = inr o })
+    (λ may layout says. absurd (subst (IsGivingUp w.back.pages) (attaches_waiting shape grefs w.back may) o.back_at))
+    (record { steps = []; does = no_move IsSame d (λ a b same. same); kept = inr o })
 
 -- a back that has halted halts no more
 pub halts_no_more : (config : Options) (w : World) (d : Pipeline) (why : Halt) → Over config w d w.front.stage w.back.stage → HasGone None IsSame config (lines_at w (BackHalts why)) (happens w (BackHalts why)) d
 halts_no_more config w d why o = halts_cases (λ v. HasGone None IsSame config (halt_lines w.back.halted v.halted) (record { front = w.front; back = v; under = w.under }) d) why w.back
     (λ e. absurd (not_unbound w.back.pages w.back.stage e o.back_at))
     (λ e. absurd (subst (IsGivingUp w.back.pages) e o.back_at))
-    (record { step = None; does = rw (no_halt w.back.halted) (no_move IsSame d (λ a b same. same)); kept = inr o })
+    (record { steps = []; does = rw (no_halt w.back.halted) (no_move IsSame d (λ a b same. same)); kept = inr o })

@@ -1,5 +1,5 @@
 -- What holds goes on holding when the front writes its producer.
-use Rattle.std.proofs.Common.{◌≡◌, ◌≢◌, ℕ, ◌+◌, ◌-◌, ◌*◌, ◌<◌, ◌≤◌, ◌==◌, List, length, ap, ◌∙◌, inl, inr, arith, length-set, [], true, refl, false}
+use Rattle.std.proofs.Common.{◌≡◌, ◌≢◌, ℕ, ◌+◌, ◌-◌, ◌*◌, ◌<◌, ◌≤◌, ◌==◌, List, length, ap, ◌∙◌, inl, inr, arith, length-set, [], ◌∷◌, true, refl, false}
 use Rattle.std.specs.Prelude.{Some, None, slice_get}
 use Rattle.std.proofs.lemmas.Bool.Decides.{nat_tests}
 use Rattle.blk_base.specs.Options.{Options}
@@ -42,7 +42,7 @@ producer_goes config w g d safe h =
     let u = h.back_sleep in
     record {
       flow = pushed_flow g;
-      step = Some s.step;
+      steps = s.step ∷ [];
       does = does_step _ (front_lines w.front.told) (rw safe.front_told refl) s;
       holds = record {
         started = h.started;
@@ -58,7 +58,7 @@ producer_goes config w g d safe h =
         info = h.info;
         replies = h.replies;
         front_at = (omega arith, x.pushed ∙ ap (λ (n : ℕ). wrapped g.start n) (one_less g.pushed));
-        unused = tt;
+        offered = h.offered;
         back_at = h.back_at;
         unhalted = h.unhalted;
         memory = length-set w.under.pages (2 * 1024 + 0) (next_of w.front.ring.prod) ∙ h.memory;

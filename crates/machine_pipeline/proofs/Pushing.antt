@@ -11,7 +11,7 @@ use Rattle.blk_front.specs.declared.request.Request.{Request}
 use Rattle.blk_front.specs.Request.{frame_at, grant_flags, IsShaped}
 use Rattle.blk_front.specs.declared.stage.Ending.{Ending}
 use Rattle.blk_front.specs.declared.stage.Stage.TheVariants as front
-use Rattle.blk_front.specs.Step.{entry_of}
+use Rattle.blk_front.specs.Entry.{entry_of}
 use Rattle.blk_back.specs.declared.stage.Reply.{Reply}
 use Rattle.blk_back.specs.declared.stage.Stage.{Stage as BackStage}
 use Rattle.machine_pipeline.proofs.Flow.{Flow, wrapped, frames_of}
@@ -103,7 +103,7 @@ frames_pushed pushed old_word old new requests shaped same h k d lt =
     let here = same k d lt in
     let was = h k d lt in
     let shape = shaped k d lt in
-    let few = shape.few in
+    let few = shape.counted.few in
     record {
       whole = λ way le n l. here n l ∙ (elim (cases_lt pushed (let q = get_or requests k d in q.number)) [
         | inl above ↦ was.begun way (omega arith) n (omega arith) l
@@ -125,7 +125,7 @@ entries_pushed submitted requests pushed waiting old_word old new live ending r 
       let was = h.each k d lt in
       let only = next.only k d lt in
       let shape = next.shaped k d lt in
-      let few = shape.few in
+      let few = shape.counted.few in
       let sized = shape.frames in
       record {
         named = λ le place in_it. let entry = here place in_it in entry.frame ∙ (elim (cases_lt pushed (let q = get_or requests k d in q.number)) [

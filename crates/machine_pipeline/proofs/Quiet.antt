@@ -56,9 +56,12 @@ front_acts : (b : Bool) (x y : FrontAsk) → front_submit.is_wait x ≡ false �
 front_acts true x y e f t = true≢false (sym t ∙ e)
 front_acts false x y e f t = true≢false (sym t ∙ f)
 
-issue_acts : (r : Request) (way : Transfer) → front_submit.is_wait (front_ask.issue_ask r way) ≡ true → ⊥
-issue_acts r transfer.Read t = true≢false (sym t)
-issue_acts r (transfer.Write tag) t = true≢false (sym t)
+issue_acts : (v : front_view.View) (r : Request) (way : Transfer) → front_submit.is_wait (front_ask.issue_ask v r way) ≡ true → ⊥
+issue_acts v r transfer.Read t = true≢false (sym t)
+issue_acts v r (transfer.Write tag) t = true≢false (sym t)
+issue_acts v r (transfer.Barrier tag) t = true≢false (sym t)
+issue_acts v r transfer.Flush t = true≢false (sym t)
+issue_acts v r (transfer.Discard sectors) t = true≢false (sym t)
 
 front_sleeps : (shape : Shape) (start pushed taken seen : ℕ) (submitted : List Request) (replies : List Reply) (entry : List ℕ) (v : front_view.View) (s : FrontStage)
     → not (front_submit.is_led s) ≡ true
@@ -68,7 +71,7 @@ front_sleeps : (shape : Shape) (start pushed taken seen : ℕ) (submitted : List
 front_sleeps shape start pushed taken seen submitted replies entry v front.Loop ready waits at = in_loop (next_request v) v.asleep waits
   where
     in_loop : (next : Option Request) (asleep : Bool) → front_submit.is_wait (front_ask.loop_ask (record v { asleep = asleep }) next) ≡ true → FrontSleeps front.Loop asleep next (length v.requests)
-    in_loop (Some r) asleep t = absurd (issue_acts r r.transfer t)
+    in_loop (Some r) asleep t = absurd (issue_acts (record v { asleep = asleep }) r r.transfer t)
     in_loop None true t = record { looping = refl; sleeps = inl refl; none_next = refl; sends_none = λ p f x. x }
     in_loop None false t = by_through (front_ask.is_through v) refl t
       where
@@ -235,11 +238,11 @@ quiet_finished config w d safe (inr over) quiet = over.finished
 look_goes : (config : Options) (w : World) (d : Pipeline) (quiet : Bool) (otherwise : Line) → is_aside otherwise ≡ true → (quiet ≡ true → is_quiet w ≡ true) → IsSafe w → IsKept config w d
     → HasGone None IsSame config ((if quiet then lines.Quiet else otherwise) ∷ []) w d
 look_goes config w d true otherwise passes found safe kept = record {
-  step = Some Rests;
-  does = record { asides = []; aside = refl; shows = refl; asks = refl; allowed = quiet_finished config w d safe kept (found refl); disk = λ a b e. e };
+  steps = Rests ∷ [];
+  does = record { asides = []; aside = refl; shows = refl; asks = refl; allowed = (quiet_finished config w d safe kept (found refl), tt); disk = λ a b e. (b, e, refl) };
   kept = kept;
 }
-look_goes config w d false otherwise passes found safe kept = record { step = None; does = asides_do d (otherwise ∷ []) (passes, tt); kept = kept }
+look_goes config w d false otherwise passes found safe kept = record { steps = []; does = asides_do d (otherwise ∷ []) (passes, tt); kept = kept }
 
 pub looks_goes : (config : Options) (w : World) (d : Pipeline) (quiet : Bool) → (quiet ≡ true → is_quiet w ≡ true) → IsSafe w → IsKept config w d → HasGone None IsSame config (lines_at w (Looks quiet)) w d
 looks_goes config w d quiet found safe kept = look_goes config w d quiet lines.Busy refl found safe kept
@@ -249,4 +252,4 @@ settles_goes config w d quiet found safe kept = look_goes config w d quiet lines
 
 -- a dump shows words of the ring, which are nothing to the pipeline
 pub dumps_goes : (config : Options) (w : World) (d : Pipeline) → IsKept config w d → HasGone None IsSame config (lines_at w Dumps) w d
-dumps_goes config w d kept = record { step = None; does = asides_do d (lines_at w Dumps) (dump_lines_are (λ (line : Line). is_aside line ≡ true) w.under.pages 0 (1024 * 2 ^ w.front.shape.order) (λ frame word value. refl)); kept = kept }
+dumps_goes config w d kept = record { steps = []; does = asides_do d (lines_at w Dumps) (dump_lines_are (λ (line : Line). is_aside line ≡ true) w.under.pages 0 (1024 * 2 ^ w.front.shape.order) (λ frame word value. refl)); kept = kept }

@@ -30,12 +30,14 @@ pub record IsReturned (pages : List ℕ) (r : Request) (moved : ℕ) (hand : Lis
   pub size : length hand ≡ 128
   pub so_far : (k : ℕ) → k < j → k < 128 → data_word pages r (128 * length earlier + k) ≡ slice_index hand k
 
--- what a read's job has in hand, by its stage and how many sectors it moved
+-- what a read's job has in hand, by its stage and how many sectors it moved; one that flushes or trims has read nothing
 abbrev pub ReadAt : (pages : List ℕ) (r : Request) (moved : ℕ) (hand : List ℕ) (noted : List (List ℕ)) → JobStage → Type 0
 ReadAt pages r moved hand noted job.Map = IsReadBack pages r moved noted
 ReadAt pages r moved hand noted (job.DiskRead m) = IsReadBack pages r moved noted
 ReadAt pages r moved hand noted (job.WriteWord m j) = IsReturned pages r moved hand noted j
 ReadAt pages r moved hand noted (job.Unmap m) = IsReadBack pages r moved noted
+ReadAt pages r moved hand noted job.Flush = IsReadBack pages r 0 noted
+ReadAt pages r moved hand noted (job.Trim count) = IsReadBack pages r 0 noted
 ReadAt pages r moved hand noted s = Unit {0}
 
 -- the stations at which a read that went well has its data in its frame

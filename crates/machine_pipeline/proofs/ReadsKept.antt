@@ -181,10 +181,9 @@ read_at_kept old new r moved hand noted job.Map same h = back_kept old new r mov
 read_at_kept old new r moved hand noted (job.DiskRead m) same h = back_kept old new r moved noted same h
 read_at_kept old new r moved hand noted (job.WriteWord m j) same h = returned_kept old new r moved hand noted j same h
 read_at_kept old new r moved hand noted (job.Unmap m) same h = back_kept old new r moved noted same h
-read_at_kept old new r moved hand noted (job.ReadWord m j) same h = tt
-read_at_kept old new r moved hand noted (job.DiskWrite m) same h = tt
-read_at_kept old new r moved hand noted (job.GiveUp m) same h = tt
-read_at_kept old new r moved hand noted (job.Done status) same h = tt
+read_at_kept old new r moved hand noted job.Flush same h = back_kept old new r 0 noted same h
+read_at_kept old new r moved hand noted (job.Trim count) same h = back_kept old new r 0 noted same h
+read_at_kept old new r moved hand noted s same h = tt
 
 data_kind : (s : Station) → has_data_at s ≡ true → (4 ≤ kind_of s) × (kind_of s ≤ 7)
 data_kind (Ended status) t = (omega arith, omega arith)
@@ -226,6 +225,7 @@ stations_kept config g d connected issuing fetching ending telling replying requ
   waiting = h.waiting;
   pushed = h.pushed;
   works = h.works;
+  held = h.held;
   replying = h.replying;
   replied = h.replied;
   taking = h.taking;

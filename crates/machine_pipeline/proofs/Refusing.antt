@@ -1,5 +1,5 @@
 -- The front refuses a submission exactly where the pipeline does, by the rule of the plain disk.
-use Rattle.std.proofs.Common.{◌≡◌, ℕ, zero, suc, ◌+◌, ◌-◌, ◌/◌, ◌<◌, ◌≤◌, Bool, true, false, not, cond, List, [], ◌∷◌, ◌++◌, length, refl, ap, sym, ◌∙◌, arith, length-set, ◌⊎◌, inl, inr}
+use Rattle.std.proofs.Common.{◌≡◌, ℕ, zero, suc, ◌+◌, ◌-◌, ◌/◌, ◌<◌, ◌≤◌, Bool, true, false, true≢false, not, cond, List, [], ◌∷◌, ◌++◌, length, refl, ap, sym, ◌∙◌, arith, length-set, ◌⊎◌, inl, inr}
 use Rattle.std.specs.Prelude.{◌&&◌, ◌||◌, slice_get, Option, Some, None, Result, Ok, Err, count_by, nat_lt, nat_le, if◌then◌else◌, map}
 use Rattle.std.specs.List.{sum_by, position_or_len}
 use Rattle.std.proofs.lemmas.Bool.Decides.{nat_tests}
@@ -16,25 +16,25 @@ use Rattle.pipeline_laws.specs.Allowed.{refusal_now}
 use Rattle.plain_disk.specs.Refusal.{frames_held, refusal_by}
 use Rattle.pipeline_laws.specs.Pipeline.{Pipeline}
 use Rattle.blk_front.specs.declared.request.Request.{Request}
-use Rattle.blk_front.specs.declared.request.Transfer.{Transfer}
 use Rattle.blk_front.specs.declared.request.Transfer.TheVariants as transfer
 use Rattle.blk_front.specs.declared.request.Wish.{Wish}
 use Rattle.blk_front.specs.Request.{frames_for}
 use Rattle.blk_front.specs.declared.stage.Ending.{Ending}
 use Rattle.blk_front.specs.declared.stage.Stage.{Stage as FrontStage}
 use Rattle.blk_front.specs.declared.stage.Stage.TheVariants as front
+use Rattle.blk_front.specs.declared.state.Offers.{Offers}
 use Rattle.blk_front.specs.declared.told.Refusal.{Refusal}
 use Rattle.blk_front.specs.declared.told.Refusal.TheVariants as refusal
 use Rattle.blk_front.specs.Pool.{lowest_of, with_taken, taking}
 use Rattle.blk_front.specs.View.{View, next_request}
-use Rattle.blk_front.specs.Submit.{is_ready, ending_of, unfinished, submit_with, submit_of}
+use Rattle.blk_front.specs.Submit.{is_ready, ending_of, unfinished, wished, submit_with, submit_one, submit_of}
 use Rattle.blk_back.specs.declared.stage.Reply.{Reply}
 use Rattle.split_model.specs.World.{World}
 use Rattle.split_model.specs.Shown.{refusal_word}
-use Rattle.machine_pipeline.specs.Allowed.{IsTransfer}
+use Rattle.machine_pipeline.specs.Allowed.{IsServable}
 use Rattle.machine_pipeline.specs.Plain.{IsPlain}
-use Rattle.machine_pipeline.proofs.Flow.{Flow, ending_at, count_of, job_of}
-use Rattle.machine_pipeline.proofs.Holds.{FrontAt, Holds}
+use Rattle.machine_pipeline.proofs.Flow.{Flow, ending_at, count_of}
+use Rattle.machine_pipeline.proofs.Holds.{FrontAt, AreOffered, IsOffered, Holds}
 use Rattle.ring_words.specs.Shape.{Shape, entries_of}
 use Rattle.std.proofs.lemmas.Bool.{cases_lt}
 use Rattle.machine_pipeline.proofs.Lists.{count_set}
@@ -46,6 +46,11 @@ use Rattle.machine_pipeline.proofs.Holding.{frames_alike, same_stage}
 abbrev pub answer_of : Result ℕ Refusal → Option RefusalWord
 answer_of (Ok number) = None
 answer_of (Err r) = Some (refusal_word r)
+
+-- what a ready front knows of its back
+pub offered_is : (ready fixed : Bool) (offers : Offers) (pushed last : ℕ) → ready ≡ true → IsOffered ready fixed offers pushed last → AreOffered fixed offers
+offered_is true fixed offers pushed last is h = h
+offered_is false fixed offers pushed last is h = absurd (true≢false (sym is))
 
 -- as many requests end as the front's stage says
 pub same_ending : (shape : Shape) (start pushed taken front_seen : ℕ) (submitted : List Request) (replies : List Reply) (next : Option Request) (entry : List ℕ)
@@ -149,24 +154,48 @@ frames_taken n pool size = by_test (nat_lt 1000 (count_by (λ (b : Bool). b) poo
     by_test false t = inl (refl, taking_fits n pool [] (let few : count_by (λ (b : Bool). b) pool + n ≤ 1000 = grind (arith, nat_tests) in omega arith))
     by_test true t = inr (refl, taking_lacks n pool [] (let many : 1000 < count_by (λ (b : Bool). b) pool + n = grind (arith, nat_tests) in omega arith))
 
--- one answer by both, as the same tests come out
-same_answer : (v : View) (wish : Wish) (spent closing connected refuses past long full lacks : Bool) (taken : Option (List ℕ × List Bool))
-    → (long ≡ false → full ≡ false → ((lacks ≡ false) × ((t : List ℕ × List Bool) × (taken ≡ Some t))) ⊎ ((lacks ≡ true) × (taken ≡ None)))
-    → (if spent then Some words.Spent else (if not closing && (not connected || false) then Some words.NotReady else (if closing then Some words.Closing else (if refuses then Some words.ReadOnly else (if past then Some words.Range else (if long then Some words.Long else (if full then Some words.Full else (if lacks then Some words.Buffers else None))))))))
-    ≡ answer_of (if spent then (Err refusal.Spent, v) else (if closing then (Err refusal.Closing, v) else (if not connected then (Err refusal.NotReady, v) else (if refuses then (Err refusal.ReadOnly, v) else (if past then (Err refusal.Range, v) else (if long then (Err refusal.Long, v) else (if full then (Err refusal.Full, v) else submit_with v wish taken))))))).0
-same_answer v wish true closing connected refuses past long full lacks taken fits = refl
-same_answer v wish false true connected refuses past long full lacks taken fits = refl
-same_answer v wish false false false refuses past long full lacks taken fits = refl
-same_answer v wish false false true true past long full lacks taken fits = refl
-same_answer v wish false false true false true long full lacks taken fits = refl
-same_answer v wish false false true false false true full lacks taken fits = refl
-same_answer v wish false false true false false false true lacks taken fits = refl
-same_answer v wish false false true false false false false lacks taken fits = elim (fits refl refl) [ inl fit ↦ rw (fit.0, fit.1.1) refl | inr lack ↦ rw (lack.0, lack.1) refl ]
+-- the last tests of a submission, by the rule and by the front
+abbrev ruled_last : (refuses past long full lacks : Bool) → Option RefusalWord
+ruled_last refuses past long full lacks = if refuses then Some words.ReadOnly else (if past then Some words.Range else (if long then Some words.Long else (if full then Some words.Full else (if lacks then Some words.Buffers else None))))
 
-refused_transfer : (config : Options) (w : World) (g : Flow) (d : Pipeline) (sector count : ℕ) (way : Transfer) → IsPlain config
-    → Holds config w g d w.front.stage w.back.stage
-    → refusal_by (record { config = Some config; connected = is_ready w.front.stage; closing = w.front.closing; broken = false }) config (map asked d.requests) (job_of way sector count) ≡ answer_of (submit_of w.front (job_of way sector count)).0
-refused_transfer config w g d sector count way plain h = by_way way
+abbrev tested_last : View → Wish → (refuses past long full : Bool) → Option (List ℕ × List Bool) → Result ℕ Refusal × View
+tested_last v wish refuses past long full taken = if refuses then (Err refusal.ReadOnly, v) else (if past then (Err refusal.Range, v) else (if long then (Err refusal.Long, v) else (if full then (Err refusal.Full, v) else submit_with v wish taken)))
+
+-- so many frames are free, or too few are
+abbrev IsLacking : (lacks : Bool) → Option (List ℕ × List Bool) → Type 0
+IsLacking lacks taken = ((lacks ≡ false) × ((t : List ℕ × List Bool) × (taken ≡ Some t))) ⊎ ((lacks ≡ true) × (taken ≡ None))
+
+-- one answer by both, as the same tests come out
+same_last : (v : View) (wish : Wish) (refuses past long full lacks : Bool) (taken : Option (List ℕ × List Bool))
+    → (long ≡ false → full ≡ false → IsLacking lacks taken)
+    → ruled_last refuses past long full lacks ≡ answer_of (tested_last v wish refuses past long full taken).0
+same_last v wish true past long full lacks taken fits = refl
+same_last v wish false true long full lacks taken fits = refl
+same_last v wish false false true full lacks taken fits = refl
+same_last v wish false false false true lacks taken fits = refl
+same_last v wish false false false false lacks taken fits = elim (fits refl refl) [ inl fit ↦ rw (fit.0, fit.1.1) refl | inr lack ↦ rw (lack.0, lack.1) refl ]
+
+same_answer : (v : View) (wish : Wish) (one : Option Wish → Result ℕ Refusal × View) (spent closing connected unsupported offered refuses past long full lacks : Bool) (taken : Option (List ℕ × List Bool))
+    → one None ≡ (Err refusal.Unsupported, v)
+    → (unsupported ≡ false → one (Some wish) ≡ tested_last v wish refuses past long full taken)
+    → (connected ≡ true → offered ≡ not unsupported)
+    → (long ≡ false → full ≡ false → IsLacking lacks taken)
+    → (if spent then Some words.Spent else (if not closing && (not connected || false) then Some words.NotReady else (if closing then Some words.Closing else (if unsupported then Some words.Unsupported else ruled_last refuses past long full lacks))))
+    ≡ answer_of (if spent then (Err refusal.Spent, v) else (if closing then (Err refusal.Closing, v) else (if not connected then (Err refusal.NotReady, v) else one (wished offered wish)))).0
+same_answer v wish one true closing connected unsupported offered refuses past long full lacks taken none some serves fits = refl
+same_answer v wish one false true connected unsupported offered refuses past long full lacks taken none some serves fits = refl
+same_answer v wish one false false false unsupported offered refuses past long full lacks taken none some serves fits = refl
+same_answer v wish one false false true unsupported offered refuses past long full lacks taken none some serves fits = by_offer unsupported offered some (serves refl)
+  where
+    by_offer : (u o : Bool) → (u ≡ false → one (Some wish) ≡ tested_last v wish refuses past long full taken) → o ≡ not u → (if u then Some words.Unsupported else ruled_last refuses past long full lacks) ≡ answer_of (one (wished o wish)).0
+    by_offer false true some e = same_last v wish refuses past long full lacks taken fits ∙ sym (ap (λ (y : Result ℕ Refusal × View). answer_of y.0) (some refl))
+    by_offer true false some e = sym (ap (λ (y : Result ℕ Refusal × View). answer_of y.0) none)
+    by_offer false false some e = absurd (true≢false (sym e))
+    by_offer true true some e = absurd (true≢false e)
+
+-- the rule's answer is the front's
+ruled : (config : Options) (w : World) (g : Flow) (d : Pipeline) (job : Job) → IsPlain config → Holds config w g d w.front.stage w.back.stage → IsServable job → refusal_by (record { config = Some config; connected = is_ready w.front.stage; closing = w.front.closing; broken = false }) config (map asked d.requests) job ≡ answer_of (submit_of w.front job).0
+ruled config w g d job plain h one = by_job job one
   where
     known : AreKnown g.submitted d.requests
     known = h.stations.known
@@ -178,30 +207,35 @@ refused_transfer config w g d sector count way plain h = by_way way
     open_ones = as_unfinished d.requests ∙ h.stations.opened.unfinished ∙ ap (λ (n : ℕ). length w.front.requests + n)
         (same_ending g.shape g.start g.pushed g.taken g.front_seen g.submitted g.replies (next_request w.front) w.front.entry w.front.ending w.front.stage h.front_at)
 
-    past : nat_lt config.sectors (sector + count) ≡ nat_lt w.front.sectors (sector + count)
-    past = ap (λ (n : ℕ). nat_lt n (sector + count)) (sym h.sized.sectors)
+    past : (n : ℕ) → nat_lt config.sectors n ≡ nat_lt w.front.sectors n
+    past n = ap (λ (m : ℕ). nat_lt m n) (sym h.sized.sectors)
 
     order : config.order ≡ w.front.shape.order
     order = sym (ap (λ (x : Shape). x.order) (h.shaped.known ∙ h.shaped.whole))
 
-    fits : nat_lt 11 (frames_for count) ≡ false → nat_le (entries_of w.front.shape.order) (unfinished w.front) ≡ false
+    offers : is_ready w.front.stage ≡ true → AreOffered config.read_only w.front.offers
+    offers ready = offered_is (is_ready w.front.stage) config.read_only w.front.offers g.pushed w.front.last ready h.offered
+
+    free : (count : ℕ) → AreTaken (frames_for count) w.front.pool (nat_lt 1000 (sum_by frames_held (map asked d.requests) + (count + 7) / 8))
+    free count = rw (frames_alike config w g d h) (frames_taken (frames_for count) w.front.pool h.pool.size)
+
+    fits : (count : ℕ) → nat_lt 11 (frames_for count) ≡ false → nat_le (entries_of w.front.shape.order) (unfinished w.front) ≡ false
         → AreTaken (frames_for count) w.front.pool (nat_lt 1000 (sum_by frames_held (map asked d.requests) +
         (if nat_lt 11 ((count + 7) / 8) then (count + 7) / 8 + ((count + 7) / 8 + 511) / 512 else (count + 7) / 8)))
-    fits short full = rw (short, frames_alike config w g d h) (frames_taken (frames_for count) w.front.pool h.pool.size)
+    fits count short full = rw short (free count)
 
-    by_way : (x : Transfer) → refusal_by (record { config = Some config; connected = is_ready w.front.stage; closing = w.front.closing; broken = false }) config (map asked d.requests) (job_of x sector count) ≡ answer_of (submit_of w.front (job_of x sector count)).0
-    by_way transfer.Read = rw (spent, order, plain.indirect, past, open_ones)
-        (same_answer w.front (record { sector = sector; count = count; transfer = transfer.Read }) _ _ _ false _ _ _ _ _ fits)
-    by_way (transfer.Write tag) = rw (spent, sym h.sized.read_only, order, plain.indirect, past, open_ones) (same_answer w.front (record { sector = sector; count = count; transfer = transfer.Write tag }) _ _ _ _ _ _ _ _ _ fits)
-
--- the rule's answer is the front's
-ruled : (config : Options) (w : World) (g : Flow) (d : Pipeline) (job : Job) → IsPlain config → Holds config w g d w.front.stage w.back.stage → IsTransfer job → refusal_by (record { config = Some config; connected = is_ready w.front.stage; closing = w.front.closing; broken = false }) config (map asked d.requests) job ≡ answer_of (submit_of w.front job).0
-ruled config w g d (Read sector count) plain h one = refused_transfer config w g d sector count transfer.Read plain h
-ruled config w g d (Write sector count tag) plain h one = refused_transfer config w g d sector count (transfer.Write tag) plain h
-ruled config w g d (Barrier sector count tag) plain h one = absurd one
-ruled config w g d Flush plain h one = absurd one
-ruled config w g d (Discard sector count) plain h one = absurd one
+    by_job : (x : Job) → IsServable x → refusal_by (record { config = Some config; connected = is_ready w.front.stage; closing = w.front.closing; broken = false }) config (map asked d.requests) x ≡ answer_of (submit_of w.front x).0
+    by_job (Read sector count) some = rw (spent, order, plain.indirect, past (sector + count), open_ones)
+        (same_answer w.front (record { sector = sector; count = count; transfer = transfer.Read }) (submit_one w.front) _ _ _ false true false _ _ _ _ _ refl (λ served. refl) (λ ready. refl) (fits count))
+    by_job (Write sector count tag) some = rw (spent, sym h.sized.read_only, order, plain.indirect, past (sector + count), open_ones)
+        (same_answer w.front (record { sector = sector; count = count; transfer = transfer.Write tag }) (submit_one w.front) _ _ _ false true _ _ _ _ _ _ refl (λ served. refl) (λ ready. refl) (fits count))
+    by_job (Barrier sector count tag) some = rw (spent, order, past (sector + count), open_ones)
+        (same_answer w.front (record { sector = sector; count = count; transfer = transfer.Barrier tag }) (submit_one w.front) _ _ _ config.read_only w.front.offers.barrier false _ _ _ _ _ refl (λ served. rw (h.sized.read_only ∙ served) refl) (λ ready. (offers ready).barrier) (λ short full. free count))
+    by_job Flush some = rw (spent, order, past 0, open_ones)
+        (same_answer w.front (record { sector = 0; count = 0; transfer = transfer.Flush }) (submit_one w.front) _ _ _ config.read_only w.front.offers.flush false _ false _ _ _ refl (λ served. refl) (λ ready. (offers ready).flush) (fits 0))
+    by_job (Discard sector count) some = rw (spent, order, past (sector + count), open_ones)
+        (same_answer w.front (record { sector = sector; count = 0; transfer = transfer.Discard count }) (submit_one w.front) _ _ _ config.read_only w.front.offers.discard false _ false _ _ _ refl (λ served. refl) (λ ready. (offers ready).discard) (fits 0))
 
 -- so is the pipeline's
-pub refused_rightly : (config : Options) (w : World) (g : Flow) (d : Pipeline) (job : Job) → IsPlain config → Holds config w g d w.front.stage w.back.stage → IsTransfer job → refusal_now d job ≡ answer_of (submit_of w.front job).0
+pub refused_rightly : (config : Options) (w : World) (g : Flow) (d : Pipeline) (job : Job) → IsPlain config → Holds config w g d w.front.stage w.back.stage → IsServable job → refusal_now d job ≡ answer_of (submit_of w.front job).0
 refused_rightly config w g d job plain h one = rw (h.stations.options, h.stations.front, h.started.closing) (ruled config w g d job plain h one)

@@ -20,7 +20,7 @@ use Rattle.blk_front.specs.Submit.{is_ready, is_connected, ending_of}
 use Rattle.blk_back.specs.declared.stage.Stage.{Stage as BackStage}
 use Rattle.split_model.specs.World.{World}
 use Rattle.machine_pipeline.proofs.Flow.{Flow, wrapped, has_ring, named_pages, granted_pages, filled, named_frames, granted_frames, entered, ending_at, revoking_at, telling_at, is_bound_back, is_issuing, is_fetching, reply_at}
-use Rattle.machine_pipeline.proofs.Holds.{FrontAt, RingBegun, AreRingWords, AreSlots, IsFilled, IsGranted, AreEntries, ArePooled, IsUnused, IsFrontSleep, FrontSends, PortsAt, IsReadSoFar, AreDataWords, AreRevoked, Holds}
+use Rattle.machine_pipeline.proofs.Holds.{FrontAt, RingBegun, AreRingWords, AreSlots, IsFilled, IsGranted, AreEntries, ArePooled, IsOffered, IsFrontSleep, FrontSends, PortsAt, IsReadSoFar, AreDataWords, AreRevoked, Holds}
 use Rattle.machine_pipeline.proofs.Data.{SameData, pooled_at}
 use Rattle.machine_pipeline.proofs.Kept.{as_connected, SameFrame, SameGrants, data_same, same_entry, slots_kept, frames_kept, entries_kept, SameRing}
 use Rattle.machine_pipeline.proofs.Lists.{all_from}
@@ -175,7 +175,7 @@ rest_kept config w g d s s' seen whole asleep pages channels i i' zero zero' h a
   info = h.info;
   replies = h.replies;
   front_at = at;
-  unused = subst (λ (b : Bool). IsUnused b g.pushed w.front.last) (i.ready ∙ sym i'.ready) h.unused;
+  offered = subst (λ (b : Bool). IsOffered b config.read_only w.front.offers g.pushed w.front.last) (i.ready ∙ sym i'.ready) h.offered;
   back_at = h.back_at;
   unhalted = h.unhalted;
   memory = sized;

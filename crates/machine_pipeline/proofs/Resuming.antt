@@ -69,7 +69,7 @@ wait_goes config w g d told e h = by_pending w.under.channels.front_pending (wat
     by_pending false (Some path) t = watched_goes config w g d path told here
     by_pending true next t = record {
       flow = g;
-      step = None;
+      steps = [];
       does = said_nothing d (moves.Event mover.Front) w.front.told told;
       holds = subst (λ (s : FrontStage). Holds config (rested w s w.front.seen false w.under.pages channels) g d s w.back.stage) (sym e)
           (let indices = h.indices in rest_kept config w g d front.Loop front.Loop w.front.seen g.front_seen false w.under.pages channels at_loop at_loop refl refl h tt indices.front_saw indices.front_from indices.front_to h.memory (λ f apart x lt. refl) (λ x apart lt. refl) refl refl refl
@@ -100,7 +100,7 @@ look_goes config w g d told awake none h = by_new
         let sleep = h.front_sleep in
         record {
           flow = record g { front_seen = g.replied };
-          step = None;
+          steps = [];
           does = said_nothing d (moves.FrontRead 2 2 word) w.front.told told;
           holds = rest_kept config w g d front.Loop front.StoreEvent word g.replied w.front.asleep w.under.pages w.under.channels at_loop at_store refl refl h tt read indices.taken_replied (omega arith) h.memory (λ f apart x lt. refl) (λ x apart lt. refl) refl refl refl
               (record { arming = λ t. absurd (true≢false (sym t)); armed = sleep.armed; may = λ t. awake; woken = sleep.woken });

@@ -4,7 +4,6 @@ use Rattle.std.specs.Prelude.{Option, Some, None}
 use Rattle.std.specs.Option.{option_to_list}
 use Rattle.std.specs.List.{list_all}
 use Rattle.std.proofs.lemmas.Option.{none-some, same_Some}
-use Rattle.std.proofs.lemmas.List.{append-nil}
 use Rattle.blk_base.specs.Options.{Options}
 use Rattle.blk_base.specs.declared.config.Job.{Job}
 use Rattle.blk_base.specs.declared.ask.BackAsk.{BackAsk}
@@ -15,56 +14,47 @@ use Rattle.hypervisor.specs.Act.{Outcome, Gave, Took, Failed}
 use Rattle.blk_back.specs.Step.{job_ask_of}
 use Rattle.split_model.specs.World.{World, start_of}
 use Rattle.split_model.specs.Happening.{Happening, JobMoves, Submits, happens, after, lines_at, lines_of as shown_by, DiskRuns as MachineRuns}
-use Rattle.pipeline_laws.specs.Pipeline.{Pipeline, Step, Shows, step_lines, after_steps, lines_of, pipeline_of}
+use Rattle.pipeline_laws.specs.Pipeline.{Pipeline, Step, Shows, after_steps, lines_of, pipeline_of}
 use Rattle.pipeline_laws.specs.Allowed.{is_aside, AreAllowed as StepsAllowed}
 use Rattle.pipeline_laws.specs.Disk.{DiskRuns, AreConsistent}
 use Rattle.pipeline_laws.specs.Effects.{LinesDo, AreOfADisk, IsOfADisk}
-use Rattle.pipeline_laws.specs.Submissions.{submitted_at as step_submits, submitted_of as steps_submit}
+use Rattle.pipeline_laws.specs.Submissions.{submitted_of as steps_submit}
 use Rattle.pipeline_laws.proofs.Joining.{after_append, allowed_append, lines_append, runs_append, submitted_append}
 use Rattle.pipeline_laws.proofs.Effects.{calls_of_effects}
 use Rattle.machine_pipeline.specs.Plain.{IsPlain}
 use Rattle.machine_pipeline.specs.Allowed.{AreServed}
 use Rattle.machine_pipeline.specs.Submissions.{submitted_at, submitted_of}
 use Rattle.machine_pipeline.specs.Sectors.{SectorsDo}
-use Rattle.machine_pipeline.specs.Step.{after_step, shown_of, IsAllowedStep, StepGoes, CallAt, submitted_by, Does, GoesStepwise}
+use Rattle.machine_pipeline.specs.Step.{CallAt, Does, GoesStepwise}
 use Rattle.machine_pipeline.specs.Run.{IsPipelineRun}
 use Rattle.machine_pipeline.proofs.Sectors.{SectorsGo, SectorsRun, sectors_run}
 use Rattle.machine_pipeline.proofs.Together.{always_steps}
 use Rattle.line_text.proofs.Both.{both_true}
 
--- the steps of asides, and of what they stand before
-abbrev pub steps_of : List Line → Option Step → List Step
-steps_of [] step = option_to_list step
-steps_of (line ∷ asides) step = Shows line ∷ steps_of asides step
+-- the steps of asides, and those that they stand before
+abbrev pub steps_of : List Line → List Step → List Step
+steps_of [] steps = steps
+steps_of (line ∷ asides) steps = Shows line ∷ steps_of asides steps
 
-pub after_of : (asides : List Line) (step : Option Step) (p : Pipeline) → after_steps (steps_of asides step) p ≡ after_step p step
-after_of [] None p = refl
-after_of [] (Some s) p = refl
-after_of (line ∷ asides) step p = after_of asides step p
+pub after_of : (asides : List Line) (steps : List Step) (p : Pipeline) → after_steps (steps_of asides steps) p ≡ after_steps steps p
+after_of [] steps p = refl
+after_of (line ∷ asides) steps p = after_of asides steps p
 
-pub allowed_of : (asides : List Line) (step : Option Step) (p : Pipeline) → list_all is_aside asides ≡ true → IsAllowedStep p step → StepsAllowed (steps_of asides step) p
-allowed_of [] None p aside may = tt
-allowed_of [] (Some s) p aside may = (may, tt)
-allowed_of (line ∷ asides) step p aside may = let e = both_true (is_aside line) (list_all is_aside asides) aside in (e.0, allowed_of asides step p e.1 may)
+pub allowed_of : (asides : List Line) (steps : List Step) (p : Pipeline) → list_all is_aside asides ≡ true → StepsAllowed steps p → StepsAllowed (steps_of asides steps) p
+allowed_of [] steps p aside may = may
+allowed_of (line ∷ asides) steps p aside may = let e = both_true (is_aside line) (list_all is_aside asides) aside in (e.0, allowed_of asides steps p e.1 may)
 
-pub lines_shown : (asides : List Line) (step : Option Step) (p : Pipeline) → lines_of (steps_of asides step) p ≡ asides ++ shown_of p step
-lines_shown [] None p = refl
-lines_shown [] (Some s) p = append-nil (step_lines p s)
-lines_shown (line ∷ asides) step p = ap (λ (ls : List Line). line ∷ ls) (lines_shown asides step p)
+pub lines_shown : (asides : List Line) (steps : List Step) (p : Pipeline) → lines_of (steps_of asides steps) p ≡ asides ++ lines_of steps p
+lines_shown [] steps p = refl
+lines_shown (line ∷ asides) steps p = ap (λ (ls : List Line). line ∷ ls) (lines_shown asides steps p)
 
-pub submits_of : (asides : List Line) (step : Option Step) → steps_submit (steps_of asides step) ≡ option_to_list (submitted_by step)
-submits_of [] None = refl
-submits_of [] (Some s) = by_step (step_submits s) refl
-  where
-    by_step : (x : Option Job) → step_submits s ≡ x → steps_submit (s ∷ []) ≡ option_to_list (step_submits s)
-    by_step None e = rw e refl
-    by_step (Some job) e = rw e refl
-submits_of (line ∷ asides) step = submits_of asides step
+pub submits_of : (asides : List Line) (steps : List Step) → steps_submit (steps_of asides steps) ≡ steps_submit steps
+submits_of [] steps = refl
+submits_of (line ∷ asides) steps = submits_of asides steps
 
-pub disk_of : (asides : List Line) (step : Option Step) (a b : List (List ℕ)) → StepGoes step a b → DiskRuns (steps_of asides step) a b
-disk_of [] None a b goes = goes
-disk_of [] (Some s) a b goes = (b, goes, refl)
-disk_of (line ∷ asides) step a b goes = (a, refl, disk_of asides step a b goes)
+pub disk_of : (asides : List Line) (steps : List Step) (a b : List (List ℕ)) → DiskRuns steps a b → DiskRuns (steps_of asides steps) a b
+disk_of [] steps a b goes = goes
+disk_of (line ∷ asides) steps a b goes = (a, refl, disk_of asides steps a b goes)
 
 -- what happens, as steps from where the pipeline stands
 pub record IsRunFrom (hs : List Happening) (w : World) (p : Pipeline) : Type 0 where
@@ -117,59 +107,59 @@ submitted_first (Submits job) hs = refl
 submitted_first h hs = refl
 
 -- the first happening, and those after it
-pub one_more : (h : Happening) (hs : List Happening) (w : World) (p : Pipeline) (step : Option Step) → Does (submitted_at h) (CallAt w h) (lines_at w h) p step → IsRunFrom hs (happens w h) (after_step p step) → IsRunFrom (h ∷ hs) w p
-one_more h hs w p step does rest = record {
+pub one_more : (h : Happening) (hs : List Happening) (w : World) (p : Pipeline) (steps : List Step) → Does (submitted_at h) (CallAt w h) (lines_at w h) p steps → IsRunFrom hs (happens w h) (after_steps steps p) → IsRunFrom (h ∷ hs) w p
+one_more h hs w p steps does rest = record {
   steps = first ++ rest.steps;
-  allowed = allowed_append first rest.steps p (allowed_of does.asides step p does.aside does.allowed) (subst (StepsAllowed rest.steps) (sym further) rest.allowed);
+  allowed = allowed_append first rest.steps p (allowed_of does.asides steps p does.aside does.allowed) (subst (StepsAllowed rest.steps) (sym further) rest.allowed);
   shows =
       lines_append first rest.steps p
-      ∙ (ap (λ (ls : List Line). ls ++ lines_of rest.steps (after_steps first p)) (lines_shown does.asides step p ∙ sym does.shows)
+      ∙ (ap (λ (ls : List Line). ls ++ lines_of rest.steps (after_steps first p)) (lines_shown does.asides steps p ∙ sym does.shows)
       ∙ ap (λ (ls : List Line). lines_at w h ++ ls) (ap (lines_of rest.steps) further ∙ rest.shows));
   submits =
       submitted_append first rest.steps
-      ∙ (ap (λ (js : List Job). js ++ steps_submit rest.steps) (submits_of does.asides step ∙ ap option_to_list does.asks)
+      ∙ (ap (λ (js : List Job). js ++ steps_submit rest.steps) (submits_of does.asides steps ∙ does.asks)
       ∙ (ap (λ (js : List Job). option_to_list (submitted_at h) ++ js) rest.submits ∙ sym (submitted_first h hs)));
   disk = λ a b runs. by_between a b runs.0 runs.1 runs.2;
 }
   where
     first : List Step
-    first = steps_of does.asides step
+    first = steps_of does.asides steps
 
-    further : after_steps first p ≡ after_step p step
-    further = after_of does.asides step p
+    further : after_steps first p ≡ after_steps steps p
+    further = after_of does.asides steps p
 
     by_between : (a b : List (List ℕ)) (x : Option (List (List ℕ))) → SectorsGo w h (Some a) x → SectorsRun hs (happens w h) x (Some b) → DiskRuns (first ++ rest.steps) a b
     by_between a b None goes runs = absurd (goes_none w h a goes)
-    by_between a b (Some c) goes runs = runs_append first rest.steps a c b (disk_of does.asides step a c (does.disk a c (called w h a c goes))) (rest.disk c b runs)
+    by_between a b (Some c) goes runs = runs_append first rest.steps a c b (disk_of does.asides steps a c (does.disk a c (called w h a c goes))) (rest.disk c b runs)
 
 pub run_from : (hs : List Happening) (w : World) (p : Pipeline) → GoesStepwise hs w p → IsRunFrom hs w p
 run_from [] w p goes = record { steps = []; allowed = tt; shows = refl; submits = refl; disk = λ a b same. same_Some b a same }
-run_from (h ∷ hs) w p goes = one_more h hs w p goes.0 goes.1 (run_from hs (happens w h) (after_step p goes.0) goes.2)
+run_from (h ∷ hs) w p goes = one_more h hs w p goes.0 goes.1 (run_from hs (happens w h) (after_steps goes.0 p) goes.2)
 
 -- the steps of all but the last happening, and what that is to the pipeline
 pub record IsRunUpTo (hs : List Happening) (last : Happening) (w : World) (p : Pipeline) : Type 0 where
   pub run : IsRunFrom hs w p
-  pub step : Option Step
-  pub does : Does (submitted_at last) (CallAt (after hs w) last) (lines_at (after hs w) last) (after_steps run.steps p) step
+  pub steps : List Step
+  pub does : Does (submitted_at last) (CallAt (after hs w) last) (lines_at (after hs w) last) (after_steps run.steps p) steps
 
-up_to_more : (h : Happening) (hs : List Happening) (last : Happening) (w : World) (p : Pipeline) (step : Option Step) → Does (submitted_at h) (CallAt w h) (lines_at w h) p step → IsRunUpTo hs last (happens w h) (after_step p step) → IsRunUpTo (h ∷ hs) last w p
+up_to_more : (h : Happening) (hs : List Happening) (last : Happening) (w : World) (p : Pipeline) (steps : List Step) → Does (submitted_at h) (CallAt w h) (lines_at w h) p steps → IsRunUpTo hs last (happens w h) (after_steps steps p) → IsRunUpTo (h ∷ hs) last w p
 unfolding one_more
-up_to_more h hs last w p step does rest = record {
-  run = one_more h hs w p step does rest.run;
-  step = rest.step;
-  does = subst (λ (x : Pipeline). Does (submitted_at last) (CallAt (after hs (happens w h)) last) (lines_at (after hs (happens w h)) last) x rest.step) (sym same) rest.does;
+up_to_more h hs last w p steps does rest = record {
+  run = one_more h hs w p steps does rest.run;
+  steps = rest.steps;
+  does = subst (λ (x : Pipeline). Does (submitted_at last) (CallAt (after hs (happens w h)) last) (lines_at (after hs (happens w h)) last) x rest.steps) (sym same) rest.does;
 }
   where
     further : List Step
     further = (let r = rest.run in r.steps)
 
-    same : after_steps (steps_of does.asides step ++ further) p ≡ after_steps further (after_step p step)
-    same = after_append (steps_of does.asides step) further p ∙ ap (after_steps further) (after_of does.asides step p)
+    same : after_steps (steps_of does.asides steps ++ further) p ≡ after_steps further (after_steps steps p)
+    same = after_append (steps_of does.asides steps) further p ∙ ap (after_steps further) (after_of does.asides steps p)
 
 pub run_up_to : (hs : List Happening) (last : Happening) (w : World) (p : Pipeline) → GoesStepwise (hs ++ last ∷ []) w p → IsRunUpTo hs last w p
 unfolding run_from
-run_up_to [] last w p goes = record { run = run_from [] w p tt; step = goes.0; does = goes.1 }
-run_up_to (h ∷ hs) last w p goes = up_to_more h hs last w p goes.0 goes.1 (run_up_to hs last (happens w h) (after_step p goes.0) goes.2)
+run_up_to [] last w p goes = record { run = run_from [] w p tt; steps = goes.0; does = goes.1 }
+run_up_to (h ∷ hs) last w p goes = up_to_more h hs last w p goes.0 goes.1 (run_up_to hs last (happens w h) (after_steps goes.0 p) goes.2)
 
 never_none : (hs : List Happening) (w : World) (a : List (List ℕ)) → SectorsRun hs w (Some a) None → ⊥
 never_none [] w a p = none-some a p

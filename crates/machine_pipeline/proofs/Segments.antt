@@ -1,5 +1,5 @@
 -- The segments of a request's entry: one for each of its frames, and no sector more than it has.
-use Rattle.std.proofs.Common.{◌≡◌, ℕ, zero, suc, ◌+◌, ◌-◌, ◌*◌, ◌/◌, ◌%◌, ◌^◌, ◌<◌, ◌≤◌, Bool, false, List, [], ◌∷◌, length, drop, refl, ap, sym, ◌∙◌, arith}
+use Rattle.std.proofs.Common.{◌≡◌, ℕ, zero, suc, ◌+◌, ◌-◌, ◌*◌, ◌/◌, ◌%◌, ◌^◌, ◌<◌, ◌≤◌, Bool, true, false, List, [], ◌∷◌, length, drop, refl, ap, sym, ◌∙◌, arith}
 use Rattle.std.specs.Prelude.{All, Option, Some, None, map, min, sum_by, slice_get, nat_lt}
 use Rattle.std.specs.List.{range_with_len, list_any}
 use Rattle.std.proofs.lemmas.Bool.Decides.{nat_tests}
@@ -9,7 +9,7 @@ use Rattle.blk_layout.specs.declared.segment.Segment.{Segment}
 use Rattle.blk_layout.specs.Range.{AreSegments}
 use Rattle.segment_list.specs.Segments.{fails_test, length_of, sectors_of}
 use Rattle.blk_front.specs.declared.request.Request.{Request}
-use Rattle.blk_front.specs.Request.{frame_at, frames_for, segment_in, segment_at, segments_of, IsShaped}
+use Rattle.blk_front.specs.Request.{is_moving, frame_at, frames_for, segment_in, segment_at, segments_of, IsShaped}
 use Rattle.xen_pages.specs.Pages.{word_of}
 use Rattle.machine_pipeline.proofs.Flow.{frames_of, own_segments, data_word}
 use Rattle.machine_pipeline.proofs.Holds.{IsPooled, last_in}
@@ -46,15 +46,23 @@ frame_segment r place = record { gref = frame_at r place + 6; first = 0; last = 
 pub segment_is : (r : Request) (place : ℕ) → place < frames_of r → segment_at r place ≡ frame_segment r place
 segment_is r place lt = ap (segment_in r.count place) (slice_get-get_or r.frames.items place 18 lt)
 
+-- a request that has a frame moves sectors
+pub moves_sectors : (r : Request) (place : ℕ) → IsShaped r → place < frames_of r → is_moving r.transfer ≡ true
+moves_sectors r place shaped within = by_test (is_moving r.transfer) refl
+  where
+    by_test : (b : Bool) → is_moving r.transfer ≡ b → is_moving r.transfer ≡ true
+    by_test true e = e
+    by_test false e = let none = shaped.counted.none e in let frames = shaped.frames in absurd (omega arith)
+
 -- it has no more frames than an entry can name
-pub few_frames : (r : Request) → IsShaped r → (1 ≤ frames_of r) × (frames_of r ≤ 11)
-few_frames r shaped = let some = shaped.some in let few = shaped.few in let frames = shaped.frames in (omega arith, omega arith)
+pub few_frames : (r : Request) → IsShaped r → frames_of r ≤ 11
+few_frames r shaped = let few = shaped.counted.few in let frames = shaped.frames in omega arith
 
 own_made : (r : Request) → IsShaped r → own_segments r ≡ map (segment_at r) (range_with_len 0 (frames_of r))
 own_made r shaped =
     let few = few_frames r shaped in
     let frames = shaped.frames in
-    take-map-range_with_len (segment_at r) 0 11 (frames_for r.count) (omega (arith, few.1))
+    take-map-range_with_len (segment_at r) 0 11 (frames_for r.count) (omega (arith, few))
     ∙ ap (λ (n : ℕ). map (segment_at r) (range_with_len 0 n)) (sym frames)
 
 -- its segments from this place on
@@ -103,7 +111,6 @@ first_sectors r (suc n) shaped le =
     sum_by-map-range_with_len_more length_of (segment_at r) 0 n n (omega arith) in
     let last : length_of (segment_at r n) ≡ last_in r n - 0 + 1 = ap length_of (segment_is r n (omega arith)) in
     let frames = shaped.frames in
-    let some = shaped.some in
     let next : suc n ≡ n + 1 = omega arith in
     ap (λ (k : ℕ). sum_by length_of (map (segment_at r) (range_with_len 0 k))) next ∙ (more ∙ omega arith)
 
@@ -132,18 +139,16 @@ pub within_last : (count frames place within moved ahead : ℕ)
     → place < frames
     → within ≤ min 7 (count - 1 - 8 * place)
     → moved + ahead ≡ 8 * place + within + 1
-    → 1 ≤ count
     → moved + ahead ≤ count
-within_last count frames place within moved ahead whole lt few at some = omega arith
+within_last count frames place within moved ahead whole lt few at = omega arith
 
 pub all_moved : (count frames place within moved : ℕ)
     → frames ≡ (count + 7) / 8
     → place + 1 ≡ frames
     → within ≡ min 7 (count - 1 - 8 * place)
     → moved + 0 ≡ 8 * place + within + 1
-    → 1 ≤ count
     → moved ≡ count
-all_moved count frames place within moved whole last few at some = omega arith
+all_moved count frames place within moved whole last few at = omega arith
 
 pub frame_moved : (count frames place within moved : ℕ)
     → frames ≡ (count + 7) / 8

@@ -34,6 +34,10 @@ pub some_words : (abi : Abi) → 0 < entry_words_of abi
 some_words X64 = omega arith
 some_words X32 = omega arith
 
+pub more_words : (abi : Abi) → 1 < entry_words_of abi
+more_words X64 = omega arith
+more_words X32 = omega arith
+
 pub response_fits : (abi : Abi) (i : ℕ) → i < 3 → i < entry_words_of abi
 response_fits X64 i few = omega arith
 response_fits X32 i few = omega arith

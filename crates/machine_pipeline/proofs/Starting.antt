@@ -9,12 +9,13 @@ use Rattle.blk_front.specs.declared.request.Request.{Request}
 use Rattle.blk_front.specs.declared.stage.Stage.{Stage as FrontStage}
 use Rattle.blk_front.specs.declared.stage.Stage.TheVariants as front
 use Rattle.blk_front.specs.View.{next_request}
+use Rattle.blk_front.specs.declared.state.Offers.{Offers}
 use Rattle.blk_front.specs.Submit.{is_ready, is_connected, ending_of}
 use Rattle.blk_back.specs.declared.stage.Stage.{Stage as BackStage}
 use Rattle.blk_back.specs.declared.stage.Stage.TheVariants as back
 use Rattle.split_model.specs.World.{World}
 use Rattle.machine_pipeline.proofs.Flow.{Flow, filled, entered, ending_at, is_front_arming, may_front_sleep, is_back_arming, may_back_sleep, is_bound_back, telling_at, is_issuing, is_fetching, reply_at}
-use Rattle.machine_pipeline.proofs.Holds.{FrontAt, AreRingWords, AreSlots, IsFilled, IsGranted, ArePooled, IsUnused, PortsAt, Holds}
+use Rattle.machine_pipeline.proofs.Holds.{FrontAt, AreRingWords, AreSlots, IsFilled, IsGranted, ArePooled, IsOffered, PortsAt, Holds}
 use Rattle.machine_pipeline.proofs.Kept.{slots_kept}
 use Rattle.machine_pipeline.proofs.Lists.{all_from}
 use Rattle.machine_pipeline.proofs.Resting.{rested, unending, untelling, unrevoked, data_rests}
@@ -55,13 +56,9 @@ pub record AreNone (pushed last : ℕ) : Type 0 where
   pub unpushed : pushed ≡ 0
   pub unsubmitted : last ≡ 0
 
-none_of : (ready : Bool) (pushed last : ℕ) → ready ≡ false → IsUnused ready pushed last → AreNone pushed last
-none_of false pushed last e h = record { unpushed = h.0; unsubmitted = h.1 }
-none_of true pushed last e h = absurd (true≢false e)
-
-unused_of : (ready : Bool) (pushed last : ℕ) → AreNone pushed last → IsUnused ready pushed last
-unused_of false pushed last h = (h.unpushed, h.unsubmitted)
-unused_of true pushed last h = tt
+none_of : (ready fixed : Bool) (offers : Offers) (pushed last : ℕ) → ready ≡ false → IsOffered ready fixed offers pushed last → AreNone pushed last
+none_of false fixed offers pushed last e h = record { unpushed = h.0; unsubmitted = h.1 }
+none_of true fixed offers pushed last e h = absurd (true≢false e)
 
 pub unbound_of : (connected bound : Bool) (made : ℕ) (ports : _) → connected ≡ false → PortsAt connected bound made ports → (made ≡ 0) × (ports ≡ List.[]) × (bound ≡ false)
 unbound_of false bound made ports e h = h
@@ -75,7 +72,7 @@ back_awake back.Bind e = (refl, refl)
 back_awake b e = absurd (true≢false e)
 
 pub none_yet : (config : Options) (w : World) (g : Flow) (d : Pipeline) (s : FrontStage) → is_ready s ≡ false → Holds config w g d s w.back.stage → AreNone g.pushed w.front.last
-none_yet config w g d s unready h = none_of (is_ready s) g.pushed w.front.last unready h.unused
+none_yet config w g d s unready h = none_of (is_ready s) config.read_only w.front.offers g.pushed w.front.last unready h.offered
 
 pub starts_on : (config : Options) (w : World) (g : Flow) (d : Pipeline) (s s' : FrontStage) (pages : List ℕ) (channels : ChannelState)
     → is_connected s ≡ false → may_front_sleep s ≡ false → IsBare s → IsBare s'
@@ -100,7 +97,7 @@ starts_on config w g d s s' pages channels starting restless i i' h at sized wor
   info = h.info;
   replies = h.replies;
   front_at = at;
-  unused = unused_of (is_ready s') g.pushed w.front.last none;
+  offered = subst (λ (b : Bool). IsOffered b config.read_only w.front.offers g.pushed w.front.last) (i.unready ∙ sym i'.unready) h.offered;
   back_at = h.back_at;
   unhalted = h.unhalted;
   memory = sized;

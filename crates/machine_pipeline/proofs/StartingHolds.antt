@@ -50,6 +50,7 @@ start_stations config = record {
   waiting = record { issued = λ t. absurd (true≢false (sym t)); rest = λ k le lt other. absurd (omega arith) };
   pushed = record { copied = λ t. absurd (true≢false (sym t)); rest = λ k le lt other. absurd (omega arith) };
   works = λ i t e. absurd (none-some t e);
+  held = λ k q e. absurd (none-some q e);
   replying = λ rep e. absurd (none-some rep e);
   replied = λ i rep e. absurd (none-some rep e);
   taking = λ e same. absurd (none-some e same);
@@ -62,7 +63,7 @@ start_holds config plain = record {
   holds = record {
     started = record { whole = refl; known = refl; closing = refl };
     shaped = record { whole = refl; narrow = plain.order; known = refl };
-    sized = record { sectors = refl; read_only = refl; writable = λ k r e. absurd (none-some r e) };
+    sized = record { sectors = refl; read_only = refl; writable = λ k r e. absurd (none-some r e); served = λ k r e. absurd (none-some r e) };
     indices = indices_first config plain;
     queue = record {
       known = λ k d lt. absurd (omega arith);
@@ -73,12 +74,12 @@ start_holds config plain = record {
     submitted = record { counted = refl; each = λ k r e. absurd (none-some r e); sized = plain.sectors };
     pool = empty_pooled;
     stations = start_stations config;
-    works = record { each = λ k d lt. absurd (omega arith); ascending = λ i j d lt within. absurd (omega arith) };
+    works = record { each = λ k d lt. absurd (omega arith); ascending = λ i j d lt within. absurd (omega arith); clear = λ i j d lt within. absurd (omega arith) };
     counted = refl;
     info = refl;
     replies = record { counted = refl; each = λ k d lt. absurd (omega arith); distinct = λ i j d lt within. absurd (omega arith) };
     front_at = omega arith;
-    unused = (refl, refl);
+    offered = (refl, refl);
     back_at = refl;
     unhalted = refl;
     memory = length-zero_words 1114112;

@@ -43,7 +43,7 @@ makes : (config : Options) (w : World) (g : Flow) (d : Pipeline) (s s' : FrontSt
     → (let x : View = at s' w.front in Goes config (lines.Move m ∷ front_lines x.told) (record { front = record x { told = None }; back = w.back; under = record w.under { pages = pages } }) d)
 makes config w g d s s' m pages told starting going restless i i' h place sized words ring = record {
   flow = g;
-  step = None;
+  steps = [];
   does = said_nothing d m w.front.told told;
   holds = starts_on config w g d s s' pages w.under.channels starting restless i i' h place sized words ring
       (subst (λ (c : Bool). PortsAt c (is_bound_back w.back.stage) w.under.channels.made w.under.channels.ports) (starting ∙ sym going) h.ports);
@@ -244,7 +244,7 @@ port_goes config w g d told h =
     let none = unbound_of false (is_bound_back w.back.stage) w.under.channels.made w.under.channels.ports refl h.ports in
     record {
       flow = g;
-      step = None;
+      steps = [];
       does = said_nothing d (moves.FrontPort (w.under.channels.made + 1)) w.front.told told;
       holds = starts_on config w g d front.NewPort front.Initialised w.under.pages (with_port w.under.channels) refl refl bare_port bare_initialised h tt h.memory (λ f x from to within behind. refl)
           (record {

@@ -61,6 +61,25 @@ AreIssued pushed asked = (k : ℕ) (q : Asked) → k < pushed → slice_get aske
 abbrev pub AreWorking : List Work → List Asked → Type 0
 AreWorking works asked = (i : ℕ) (t : Work) → slice_get works i ≡ Some t → StandsAt asked (t.number - 1) (worked t.stage t.moved)
 
+-- stations of one kind have one number
+abbrev pub kind_of : Station → ℕ
+kind_of Waiting = 0
+kind_of Issuing = 1
+kind_of Pushed = 2
+kind_of Fetching = 3
+kind_of (Working moved) = 4
+kind_of Failed = 4
+kind_of (Ended status) = 4
+kind_of (Replying status) = 5
+kind_of (Replied status) = 6
+kind_of (Taking status) = 7
+kind_of (Telling next) = 7
+kind_of (Finished status) = 9
+
+-- and each request at work has its job among these
+abbrev pub HaveJobs : List Work → List Asked → Type 0
+HaveJobs works asked = (k : ℕ) (q : Asked) → slice_get asked k ≡ Some q → kind_of q.station ≡ 4 → (i : ℕ) × (t : Work) × (slice_get works i ≡ Some t) × (t.number ≡ k + 1)
+
 abbrev pub IsResponding : Option Reply → List Asked → Type 0
 IsResponding replying asked = (rep : Reply) → replying ≡ Some rep → StandsAt asked (rep.id - 1) (Replying rep.status)
 
@@ -90,25 +109,11 @@ pub record AreStations (config : Options) (g : Flow) (d : Pipeline) (connected i
   pub waiting : AreWaiting g.pushed issuing d.requests
   pub pushed : ArePushed g.fetched g.pushed fetching d.requests
   pub works : AreWorking jobs d.requests
+  pub held : HaveJobs jobs d.requests
   pub replying : IsResponding response d.requests
   pub replied : AreReplied g.replies d.requests
   pub taking : IsTaking ending telling d.requests
   pub reads : AreReadBack g.submitted d.requests jobs pages
-
--- stations of one kind have one number
-abbrev pub kind_of : Station → ℕ
-kind_of Waiting = 0
-kind_of Issuing = 1
-kind_of Pushed = 2
-kind_of Fetching = 3
-kind_of (Working moved) = 4
-kind_of Failed = 4
-kind_of (Ended status) = 4
-kind_of (Replying status) = 5
-kind_of (Replied status) = 6
-kind_of (Taking status) = 7
-kind_of (Telling next) = 7
-kind_of (Finished status) = 9
 
 -- a job's request
 pub worked_kind : (s : JobStage) (moved : ℕ) → kind_of (worked s moved) ≡ 4
@@ -205,6 +210,18 @@ pushed_moved fetched pushed fetching asked moved k from to m one two h = record 
 pub works_moved : (works : List Work) (asked moved : List Asked) (k : ℕ) (from to : Station) → IsMoved asked moved k from to → kind_of from ≢ 4 → AreWorking works asked → AreWorking works moved
 works_moved works asked moved k from to m other h i t e = kind_stays asked moved (t.number - 1) k (worked t.stage t.moved) from to m (omega (arith, worked_kind t.stage t.moved, other)) (h i t e)
 
+-- a request at work, once another came to a station of another kind
+pub moved_was : (asked moved : List Asked) (j k : ℕ) (from to : Station) (q : Asked) → IsMoved asked moved k from to → kind_of to ≢ 4 → slice_get moved j ≡ Some q → kind_of q.station ≡ 4 → (j ≢ k) × (slice_get asked j ≡ Some q)
+moved_was asked moved j k from to q m other at kind = elim (cases_eq j k) [
+  | inl same ↦
+      let one : m.now ≡ q = same_Some m.now q (sym m.here ∙ (ap (slice_get moved) (sym same) ∙ at)) in
+      absurd (other (sym (ap kind_of m.there) ∙ (ap (λ (x : Asked). kind_of x.station) one ∙ kind)))
+  | inr apart ↦ (apart, sym (m.others j apart) ∙ at)
+]
+
+pub held_moved : (works : List Work) (asked moved : List Asked) (k : ℕ) (from to : Station) → IsMoved asked moved k from to → kind_of to ≢ 4 → HaveJobs works asked → HaveJobs works moved
+held_moved works asked moved k from to m other h j q at kind = let was = moved_was asked moved j k from to q m other at kind in h j q was.1 kind
+
 pub replying_moved : (replying : Option Reply) (asked moved : List Asked) (k : ℕ) (from to : Station) → IsMoved asked moved k from to → kind_of from ≢ 5 → IsResponding replying asked → IsResponding replying moved
 replying_moved replying asked moved k from to m other h rep e = kind_stays asked moved (rep.id - 1) k (Replying rep.status) from to m (omega (arith, other)) (h rep e)
 
@@ -248,6 +265,7 @@ saw_more config g front_seen back_seen d connected issuing fetching ending telli
   waiting = h.waiting;
   pushed = h.pushed;
   works = h.works;
+  held = h.held;
   replying = h.replying;
   replied = h.replied;
   taking = h.taking;

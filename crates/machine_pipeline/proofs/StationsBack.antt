@@ -3,7 +3,7 @@ use Rattle.std.proofs.Common.{◌≡◌, ◌≢◌, ℕ, ◌+◌, ◌-◌, ◌<�
 use Rattle.std.specs.Prelude.{AllPairs, Option, Some, None, slice_get, slice_set}
 use Rattle.std.specs.List.{remove}
 use Rattle.std.proofs.lemmas.Option.{none-some, same_Some}
-use Rattle.std.proofs.lemmas.Bool.{false≢true, cases_lt}
+use Rattle.std.proofs.lemmas.Bool.{false≢true, cases_eq, cases_lt}
 use Rattle.blk_base.specs.Options.{Options}
 use Rattle.schedule_text.specs.declared.line.Line.TheVariants as lines
 use Rattle.blk_front.specs.declared.request.Request.{Request}
@@ -19,11 +19,11 @@ use Rattle.machine_pipeline.specs.Step.{IsSame}
 use Rattle.machine_pipeline.proofs.Flow.{Flow, worked}
 use Rattle.machine_pipeline.proofs.ReadBack.{IsReadBack, ReadAt, has_data_at}
 use Rattle.machine_pipeline.proofs.ReadsKept.{reads_moved, reads_fetched, reads_set, reads_step, reads_fewer}
-use Rattle.machine_pipeline.proofs.Lists.{pair_at, set_was, get_append, get_last}
+use Rattle.machine_pipeline.proofs.Lists.{pair_at, set_was, get_set_here, get_set_other, get_append, get_last}
 use Rattle.machine_pipeline.proofs.Growing.{push_was}
-use Rattle.machine_pipeline.proofs.Removals.{removed_was}
+use Rattle.machine_pipeline.proofs.Removals.{removed_was, removed_has}
 use Rattle.machine_pipeline.proofs.Turns.{Stepped}
-use Rattle.machine_pipeline.proofs.Stations.{StandsAt, apart as stands_apart, AreStations, AreWorking, IsRing, IsMoved, is_moved, stands_now, other_stays, kind_of, worked_kind, worked_open, worked_issued, known_moved, open_moved, issued_moved, waiting_moved, pushed_moved, works_moved, replying_moved, replied_moved, taking_moved}
+use Rattle.machine_pipeline.proofs.Stations.{StandsAt, apart as stands_apart, AreStations, AreWorking, HaveJobs, IsRing, IsMoved, is_moved, stands_now, other_stays, kind_of, worked_kind, worked_open, worked_issued, known_moved, open_moved, issued_moved, waiting_moved, pushed_moved, works_moved, moved_was, held_moved, replying_moved, replied_moved, taking_moved}
 
 -- the next entry is begun to be copied
 pub begins_fetch : (config : Options) (g : Flow) (d : Pipeline) (connected issuing : Bool) (ending : Option Ending) (telling : Option ℕ) (replying : Option Reply) (requests : List Request) (works : List Work) (pages : List ℕ)
@@ -49,6 +49,7 @@ begins_fetch config g d connected issuing ending telling replying requests works
       rest = λ j le lt other. other_stays d.requests new j g.fetched Pushed Pushed Fetching m (other refl) (h.pushed.rest j le lt (λ t. absurd (false≢true t)));
     };
     works = works_moved works d.requests new g.fetched Pushed Fetching m (omega arith) h.works;
+    held = held_moved works d.requests new g.fetched Pushed Fetching m (omega arith) h.held;
     replying = replying_moved replying d.requests new g.fetched Pushed Fetching m (omega arith) h.replying;
     replied = replied_moved g.replies d.requests new g.fetched Pushed Fetching m (omega arith) h.replied;
     taking = taking_moved ending telling d.requests new g.fetched Pushed Fetching m (omega arith) h.taking;
@@ -92,6 +93,7 @@ fetches config g d connected issuing ending telling replying requests works page
       rest = λ j le lt other. other_stays d.requests new j g.fetched Pushed Fetching (Working 0) m (omega arith) (h.pushed.rest j (omega arith) lt (λ u. omega arith));
     };
     works = working;
+    held = held;
     replying = replying_moved replying d.requests new g.fetched Fetching (Working 0) m (omega arith) h.replying;
     replied = replied_moved g.replies d.requests new g.fetched Fetching (Working 0) m (omega arith) h.replied;
     taking = taking_moved ending telling d.requests new g.fetched Fetching (Working 0) m (omega arith) h.taking;
@@ -119,6 +121,14 @@ fetches config g d connected issuing ending telling replying requests works page
           (subst (λ (s : Station). StandsAt new (t.number - 1) s) (sym begun) (subst (λ (k : ℕ). StandsAt new k (Working 0)) (sym at) (stands_now d.requests new g.fetched Fetching (Working 0) m)))
     ]
 
+    held : HaveJobs (works ++ t ∷ []) new
+    held j q at kind = elim (cases_eq j g.fetched) [
+      | inl same ↦ (length works, t, get_last works t, omega (arith, number, same))
+      | inr other ↦
+          let was = h.held j q (sym (m.others j other) ∙ at) kind in
+          (was.0, was.1, get_append works (t ∷ []) was.0 was.1 was.2, was.3)
+    ]
+
 -- a job whose stage is another, of the same station
 pub works_at : (asked : List Asked) (works : List Work) (place : ℕ) (t t' : Work) → slice_get works place ≡ Some t → t'.number ≡ t.number → worked t'.stage t'.moved ≡ worked t.stage t.moved → AreWorking works asked → AreWorking (slice_set works place t') asked
 works_at asked works place t t' here number same h i u e = elim (set_was works place i t t' u here e) [
@@ -126,6 +136,16 @@ works_at asked works place t t' here number same h i u e = elim (set_was works p
       subst (λ (v : Work). StandsAt asked (v.number - 1) (worked v.stage v.moved)) (sym it.1)
       (subst (λ (s : Station). StandsAt asked (t'.number - 1) s) (sym same) (subst (λ (n : ℕ). StandsAt asked (n - 1) (worked t.stage t.moved)) (sym number) (h place t here)))
   | inr other ↦ h i u other.1
+]
+
+-- it is among the jobs as before
+set_has : (works : List Work) (place n : ℕ) (t t' : Work) → slice_get works place ≡ Some t → t'.number ≡ t.number → (i : ℕ) × (u : Work) × (slice_get works i ≡ Some u) × (u.number ≡ n)
+    → (i : ℕ) × (u : Work) × (slice_get (slice_set works place t') i ≡ Some u) × (u.number ≡ n)
+set_has works place n t t' here number was = elim (cases_eq was.0 place) [
+  | inl same ↦
+      let one : was.1 ≡ t = same_Some was.1 t (sym was.2 ∙ (ap (slice_get works) same ∙ here)) in
+      (place, t', get_set_here works place t t' here, number ∙ (ap (λ (v : Work). v.number) (sym one) ∙ was.3))
+  | inr other ↦ (was.0, was.1, get_set_other works place was.0 t' (λ e. other (sym e)) ∙ was.2, was.3)
 ]
 
 pub job_stays : (config : Options) (g : Flow) (d : Pipeline) (connected issuing fetching : Bool) (ending : Option Ending) (telling : Option ℕ) (replying : Option Reply) (requests : List Request) (works : List Work) (pages : List ℕ) (place : ℕ) (t t' : Work)
@@ -143,6 +163,7 @@ job_stays config g d connected issuing fetching ending telling replying requests
   waiting = h.waiting;
   pushed = h.pushed;
   works = works_at d.requests works place t t' here number same h.works;
+  held = λ k q at kind. set_has works place (k + 1) t t' here number (h.held k q at kind);
   replying = h.replying;
   replied = h.replied;
   taking = h.taking;
@@ -184,6 +205,10 @@ job_steps config g d connected issuing fetching ending telling replying requests
         subst (λ (v : Work). StandsAt new (v.number - 1) (worked v.stage v.moved)) (sym it.1)
         (subst (λ (n : ℕ). StandsAt new (n - 1) to) (sym number) (stands_now d.requests new k from to m))
     | inr other ↦ other_stays d.requests new (u.number - 1) k (worked u.stage u.moved) from to m (apart i u other.0 other.1) (h.works i u other.1)
+  ];
+  held = λ j q at at_work. elim (cases_eq j k) [
+    | inl same ↦ (place, t', get_set_here works place t t' here, let first = positive place t here in omega (arith, number, same))
+    | inr other ↦ set_has works place (j + 1) t t' here number (h.held j q (sym (m.others j other) ∙ at) at_work)
   ];
   replying = replying_moved replying d.requests new k from to m (omega (arith, kind)) h.replying;
   replied = replied_moved g.replies d.requests new k from to m (omega (arith, kind)) h.replied;
@@ -239,6 +264,14 @@ begins_response config g d connected issuing fetching ending telling requests wo
     works = λ i u e.
         let was = removed_was works place i u e in
         other_stays d.requests new (u.number - 1) k (worked u.stage u.moved) from to m (apart was.0 u was.1 was.2) (h.works was.0 u was.2);
+    held = λ j q at kind.
+        let was = moved_was d.requests new j k from to q m (omega arith) at kind in
+        let its = h.held j q was.1 kind in
+        let left = removed_has works place its.0 its.1 its.2 (λ same.
+        let one : its.1 ≡ t = same_Some its.1 t (sym its.2 ∙ (ap (slice_get works) same ∙ here)) in
+        let numbered : (let u : Work = its.1 in u.number) ≡ t.number = ap (λ (u : Work). u.number) one in
+        was.0 (omega (arith, numbered, its.3))) in
+        (left.0, its.1, left.1, its.3);
     replying = λ r same.
         subst (λ (y : Reply). StandsAt new (y.id - 1) (Replying y.status)) (same_Some rep r same)
         (subst (λ (n : ℕ). StandsAt new (n - 1) to) (sym number) (stands_now d.requests new k from to m));
@@ -307,6 +340,7 @@ replies config g d connected issuing fetching ending telling requests works page
     waiting = waiting_moved g.pushed issuing d.requests new k from to m (omega arith) h.waiting;
     pushed = pushed_moved g.fetched g.pushed fetching d.requests new k from to m (omega arith) (omega arith) h.pushed;
     works = works_moved works d.requests new k from to m (omega arith) h.works;
+    held = held_moved works d.requests new k from to m (omega arith) h.held;
     replying = λ r none. absurd (none-some r none);
     replied = λ i other e. elim (push_was g.replies rep i other e) [
       | inl was ↦ replied_moved g.replies d.requests new k from to m (omega arith) h.replied i other was

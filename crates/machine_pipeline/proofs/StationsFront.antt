@@ -31,7 +31,7 @@ use Rattle.machine_pipeline.proofs.Holds.{AreReplies, IsReply}
 use Rattle.machine_pipeline.proofs.Taking.{dropped, opened_without}
 use Rattle.machine_pipeline.proofs.Growing.{longer, push_was, known_more, opened_more}
 use Rattle.machine_pipeline.proofs.Turns.{Stepped}
-use Rattle.machine_pipeline.proofs.Stations.{StandsAt, AreStations, finishing, AreOpen, AreIssued, AreReplied, IsRing, IsMoved, is_moved, stands_now, other_stays, known_moved, open_moved, issued_moved, waiting_moved, pushed_moved, works_moved, replying_moved, replied_moved, taking_moved}
+use Rattle.machine_pipeline.proofs.Stations.{StandsAt, AreStations, finishing, kind_of, AreOpen, AreIssued, AreReplied, IsRing, IsMoved, is_moved, stands_now, other_stays, known_moved, open_moved, issued_moved, waiting_moved, pushed_moved, works_moved, held_moved, replying_moved, replied_moved, taking_moved}
 
 -- the front begins to close
 pub starts_to_close : (config : Options) (g : Flow) (d : Pipeline) (connected issuing fetching : Bool) (ending : Option Ending) (telling : Option ℕ) (replying : Option Reply) (requests : List Request) (works : List Work) (pages : List ℕ)
@@ -54,6 +54,7 @@ starts_to_close config g d connected issuing fetching ending telling replying re
     waiting = h.waiting;
     pushed = h.pushed;
     works = h.works;
+    held = h.held;
     replying = h.replying;
     replied = h.replied;
     taking = h.taking;
@@ -81,6 +82,7 @@ connects config g d issuing fetching ending telling replying requests works page
     waiting = h.waiting;
     pushed = h.pushed;
     works = h.works;
+    held = h.held;
     replying = h.replying;
     replied = h.replied;
     taking = h.taking;
@@ -112,6 +114,7 @@ begins_entry config g d connected fetching ending telling replying requests work
     };
     pushed = pushed_moved g.fetched g.pushed fetching d.requests new g.pushed Waiting Issuing m (omega arith) (omega arith) h.pushed;
     works = works_moved works d.requests new g.pushed Waiting Issuing m (omega arith) h.works;
+    held = held_moved works d.requests new g.pushed Waiting Issuing m (omega arith) h.held;
     replying = replying_moved replying d.requests new g.pushed Waiting Issuing m (omega arith) h.replying;
     replied = replied_moved g.replies d.requests new g.pushed Waiting Issuing m (omega arith) h.replied;
     taking = taking_moved ending telling d.requests new g.pushed Waiting Issuing m (omega arith) h.taking;
@@ -173,6 +176,7 @@ pushes config g d connected fetching ending telling replying requests works page
       ];
     };
     works = works_moved works d.requests new g.pushed Issuing Pushed m (omega arith) h.works;
+    held = held_moved works d.requests new g.pushed Issuing Pushed m (omega arith) h.held;
     replying = replying_moved replying d.requests new g.pushed Issuing Pushed m (omega arith) h.replying;
     replied = replied_moved g.replies d.requests new g.pushed Issuing Pushed m (omega arith) h.replied;
     taking = taking_moved ending telling d.requests new g.pushed Issuing Pushed m (omega arith) h.taking;
@@ -232,6 +236,7 @@ takes config g d connected issuing fetching replying requests works pages place 
     waiting = waiting_moved g.pushed issuing d.requests new k (Replied rep.status) (Taking rep.status) m (omega arith) h.waiting;
     pushed = pushed_moved g.fetched g.pushed fetching d.requests new k (Replied rep.status) (Taking rep.status) m (omega arith) (omega arith) h.pushed;
     works = works_moved works d.requests new k (Replied rep.status) (Taking rep.status) m (omega arith) h.works;
+    held = held_moved works d.requests new k (Replied rep.status) (Taking rep.status) m (omega arith) h.held;
     replying = replying_moved replying d.requests new k (Replied rep.status) (Taking rep.status) m (omega arith) h.replying;
     replied = others_replied;
     taking = λ f same.
@@ -290,7 +295,7 @@ opened_finished asked finished k from status requests e m unfinished number h =
 unread : (way : Transfer) (sector count : ℕ) (status : Status) → has_data way status ≡ false → station_after (job_of way sector count) (Answers status) ≡ Finished status
 unread transfer.Read sector count Okay none = absurd (true≢false none)
 unread transfer.Read sector count status none = refl
-unread (transfer.Write tag) sector count status none = refl
+unread way sector count status none = refl
 
 pub answers : (config : Options) (g : Flow) (d : Pipeline) (connected issuing fetching : Bool) (replying : Option Reply) (requests : List Request) (works : List Work) (pages : List ℕ) (e : Ending)
     → slice_get g.submitted (e.request.number - 1) ≡ Some e.request
@@ -314,6 +319,7 @@ answers config g d connected issuing fetching replying requests works pages e as
     waiting = waiting_moved g.pushed issuing d.requests new k (Taking e.status) (Finished e.status) m (omega arith) h.waiting;
     pushed = pushed_moved g.fetched g.pushed fetching d.requests new k (Taking e.status) (Finished e.status) m (omega arith) (omega arith) h.pushed;
     works = works_moved works d.requests new k (Taking e.status) (Finished e.status) m (omega arith) h.works;
+    held = held_moved works d.requests new k (Taking e.status) (Finished e.status) m (omega arith) h.held;
     replying = replying_moved replying d.requests new k (Taking e.status) (Finished e.status) m (omega arith) h.replying;
     replied = replied_moved g.replies d.requests new k (Taking e.status) (Finished e.status) m (omega arith) h.replied;
     taking = λ f same. absurd (none-some f same);
@@ -363,6 +369,7 @@ answers_read config g d connected issuing fetching replying requests works pages
     waiting = waiting_moved g.pushed issuing d.requests new k (Taking e.status) (Telling 0) m (omega arith) h.waiting;
     pushed = pushed_moved g.fetched g.pushed fetching d.requests new k (Taking e.status) (Telling 0) m (omega arith) (omega arith) h.pushed;
     works = works_moved works d.requests new k (Taking e.status) (Telling 0) m (omega arith) h.works;
+    held = held_moved works d.requests new k (Taking e.status) (Telling 0) m (omega arith) h.held;
     replying = replying_moved replying d.requests new k (Taking e.status) (Telling 0) m (omega arith) h.replying;
     replied = replied_moved g.replies d.requests new k (Taking e.status) (Telling 0) m (omega arith) h.replied;
     taking = λ f same. subst (λ (y : Ending). StandsAt new (y.request.number - 1) (Telling 0)) (same_Some e f same) (stands_now d.requests new k (Taking e.status) (Telling 0) m);
@@ -443,6 +450,7 @@ tells config g d connected issuing fetching replying requests works pages words 
     waiting = waiting_moved g.pushed issuing d.requests new k (Telling i) (Telling (i + 1)) m (omega arith) h.waiting;
     pushed = pushed_moved g.fetched g.pushed fetching d.requests new k (Telling i) (Telling (i + 1)) m (omega arith) (omega arith) h.pushed;
     works = works_moved works d.requests new k (Telling i) (Telling (i + 1)) m (omega arith) h.works;
+    held = held_moved works d.requests new k (Telling i) (Telling (i + 1)) m (omega arith) h.held;
     replying = replying_moved replying d.requests new k (Telling i) (Telling (i + 1)) m (omega arith) h.replying;
     replied = replied_moved g.replies d.requests new k (Telling i) (Telling (i + 1)) m (omega arith) h.replied;
     taking = λ f it. subst (λ (y : Ending). StandsAt new (y.request.number - 1) (Telling (i + 1))) (same_Some e f it)
@@ -496,6 +504,7 @@ tells_last config g d connected issuing fetching replying requests works pages w
     waiting = waiting_moved g.pushed issuing d.requests new k (Telling i) (Finished Okay) m (omega arith) h.waiting;
     pushed = pushed_moved g.fetched g.pushed fetching d.requests new k (Telling i) (Finished Okay) m (omega arith) (omega arith) h.pushed;
     works = works_moved works d.requests new k (Telling i) (Finished Okay) m (omega arith) h.works;
+    held = held_moved works d.requests new k (Telling i) (Finished Okay) m (omega arith) h.held;
     replying = replying_moved replying d.requests new k (Telling i) (Finished Okay) m (omega arith) h.replying;
     replied = replied_moved g.replies d.requests new k (Telling i) (Finished Okay) m (omega arith) h.replied;
     taking = λ f it. absurd (none-some f it);
@@ -560,6 +569,7 @@ submits config g d connected issuing fetching ending telling replying requests w
       rest = λ j le lt other. stands_more d.requests (submitted job) j Pushed (h.pushed.rest j le lt other);
     };
     works = λ i t e. stands_more d.requests (submitted job) (t.number - 1) (worked t.stage t.moved) (h.works i t e);
+    held = λ j q at kind. elim (push_was d.requests (submitted job) j q at) [ inl was ↦ h.held j q was kind | inr new ↦ absurd (let none = ap (λ (y : Asked). kind_of y.station) new.1 in omega (arith, none, kind)) ];
     replying = λ rep e. stands_more d.requests (submitted job) (rep.id - 1) (Replying rep.status) (h.replying rep e);
     replied = λ i rep e. stands_more d.requests (submitted job) (rep.id - 1) (Replied rep.status) (h.replied i rep e);
     taking = λ e same. stands_more d.requests (submitted job) (e.request.number - 1) (finishing telling e.status) (h.taking e same);

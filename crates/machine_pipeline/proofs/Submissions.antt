@@ -1,5 +1,5 @@
 -- A submission is refused, and changes nothing, or accepted, and then the pipeline has its request.
-use Rattle.std.proofs.Common.{◌≡◌, ◌≢◌, ℕ, ◌+◌, ◌-◌, ◌^◌, ◌<◌, ◌≤◌, ◌==◌, ◌&&◌, Bool, true, false, not, List, [], ◌∷◌, ◌++◌, length, refl, ap, sym, ◌∙◌, subst, arith}
+use Rattle.std.proofs.Common.{◌≡◌, ◌≢◌, ℕ, ◌+◌, ◌-◌, ◌<◌, ◌≤◌, ◌==◌, ◌&&◌, Bool, true, false, true≢false, not, List, [], ◌∷◌, ◌++◌, length, refl, ap, sym, ◌∙◌, subst, arith}
 use Rattle.std.specs.Prelude.{All, Option, Some, None, Result, Err, slice_get, nat_lt, nat_le, if◌then◌else◌}
 use Rattle.std.proofs.lemmas.Bool.Decides.{nat_tests}
 use Rattle.blk_base.specs.Options.{Options}
@@ -11,22 +11,22 @@ use Rattle.blk_front.specs.declared.request.Request.{Request}
 use Rattle.blk_front.specs.declared.request.Transfer.{Transfer}
 use Rattle.blk_front.specs.declared.request.Transfer.TheVariants as transfer
 use Rattle.blk_front.specs.declared.request.Wish.{Wish}
-use Rattle.blk_front.specs.Request.{is_write, tag_of, frames_for}
+use Rattle.blk_front.specs.Request.{is_write, is_moving, named_of, frames_for, IsCounted}
 use Rattle.blk_front.specs.Pool.{taking}
 use Rattle.blk_front.specs.declared.told.Refusal.{Refusal}
 use Rattle.blk_front.specs.declared.told.Refusal.TheVariants as refusal
 use Rattle.blk_front.specs.View.{View, next_request}
-use Rattle.blk_front.specs.Submit.{is_ready, unfinished, request_with, accepted, wish_of, submit_one, submit_of, submit_with}
+use Rattle.blk_front.specs.Submit.{is_ready, unfinished, request_with, accepted, wished, wish_of, submit_one, submit_of, submit_with}
 use Rattle.split_model.specs.World.{World}
 use Rattle.split_model.specs.Happening.{Submits, submit_line, lines_at, happens}
-use Rattle.machine_pipeline.specs.Allowed.{IsTransfer}
+use Rattle.machine_pipeline.specs.Allowed.{IsServable}
 use Rattle.machine_pipeline.proofs.Flow.{Flow, job_of, ending_at, telling_at, is_issuing, is_fetching, reply_at}
-use Rattle.machine_pipeline.proofs.Holds.{IsPooled, ArePooled, Holds}
+use Rattle.machine_pipeline.proofs.Holds.{AreOffered, IsPooled, AreNumbers, ArePooled, Holds}
 use Rattle.machine_pipeline.proofs.Turns.{Stepped, does_alone, GoesBy}
 use Rattle.machine_pipeline.proofs.Next.{waiting_few}
 use Rattle.machine_pipeline.proofs.Growing.{longer, submitted_more, disk_more, queue_more, pooled_more}
-use Rattle.machine_pipeline.proofs.Submitting.{submitted_flow, indices_more, next_more, front_at_more, IsIdle, idle_at, slots_more, frames_more, entries_more, works_more, front_at_grown, back_at_grown}
-use Rattle.machine_pipeline.proofs.Refusing.{answer_of, refused_rightly}
+use Rattle.machine_pipeline.proofs.Submitting.{submitted_flow, indices_more, next_more, front_at_more, IsIdle, idle_at, slots_more, frames_more, entries_more, works_more, front_at_grown, back_at_grown, offered_more}
+use Rattle.machine_pipeline.proofs.Refusing.{answer_of, offered_is, refused_rightly}
 use Rattle.machine_pipeline.proofs.Stations.{AreStations}
 use Rattle.machine_pipeline.proofs.StationsFront.{submits}
 use Rattle.ring_words.specs.Shape.{entries_of, Shape}
@@ -42,18 +42,19 @@ accepting w wish taken = record { front = accepted w.front wish taken; back = w.
 accepted_on : (config : Options) (w : World) (g : Flow) (d d' : Pipeline) (wish : Wish) (taken : List ℕ × List Bool)
     → Holds config w g d w.front.stage w.back.stage
     → is_ready w.front.stage ≡ true → w.front.last ≢ 4294967295 → unfinished w.front < entries_of g.shape.order
-    → (is_write wish.transfer && w.front.read_only) ≡ false → wish.sector + wish.count ≤ w.front.sectors → tag_of wish.transfer < 2 ^ 32 → 1 ≤ wish.count → wish.count ≤ 88
+    → (is_write wish.transfer && w.front.read_only) ≡ false → (is_moving wish.transfer ≡ false → config.read_only ≡ false)
+    → wish.sector + named_of wish.transfer wish.count ≤ w.front.sectors → AreNumbers wish.transfer wish.sector → IsCounted wish.transfer wish.count
     → taking (frames_for wish.count) w.front.pool [] ≡ Some taken
     → AreStations config (submitted_flow g (request_with w.front wish taken.0)) d' (is_ready w.front.stage) (is_issuing w.front.stage) (is_fetching w.back.stage) (ending_at w.front.stage w.front.ending) (telling_at w.front.stage) (reply_at w.back.stage) (w.front.requests ++ request_with w.front wish taken.0 ∷ []) w.back.jobs.works w.under.pages
     → Holds config (accepting w wish taken) (submitted_flow g (request_with w.front wish taken.0)) d' w.front.stage w.back.stage
-accepted_on config w g d d' wish taken h ready unspent free may on_disk small some few frames stations =
+accepted_on config w g d d' wish taken h ready unspent free may serves on_disk numbers counted frames stations =
     record {
       started = h.started;
       shaped = h.shaped;
-      sized = disk_more config w.front.sectors w.front.read_only g.submitted x may h.sized;
+      sized = disk_more config w.front.sectors w.front.read_only g.submitted x may serves h.sized;
       indices = indices_more g x w.front.ring w.back.ring w.front.seen w.back.seen w.back.fetched w.front.last w.front.waiting (length w.front.requests) _ _ (longer w.front.requests x) unspent free h.indices;
       queue = queue_more g.submitted g.pushed w.front.sectors w.front.last w.front.requests w.front.waiting x refl (let i = h.indices in i.all) (waiting_few h.indices) h.submitted h.queue;
-      submitted = submitted_more g.submitted w.front.sectors w.front.last x refl on_disk small (record { some = some; few = few; frames = pooled.2 }) pooled.1
+      submitted = submitted_more g.submitted w.front.sectors w.front.last x refl on_disk numbers (record { counted = counted; frames = pooled.2 }) pooled.1
           h.submitted;
       pool = pooled.0;
       stations = stations;
@@ -63,7 +64,7 @@ accepted_on config w g d d' wish taken h ready unspent free may on_disk small so
       replies = h.replies;
       front_at = front_at_more g.shape g.start g.pushed g.taken g.front_seen (g.submitted ++ x ∷ []) g.replies (next_request w.front) (next_request (accepted w.front wish taken)) w.front.entry w.front.ending w.front.stage (λ r e. next_more w.front.requests w.front.waiting x r e)
           (front_at_grown g.shape g.start g.pushed g.taken g.front_seen g.submitted g.replies (next_request w.front) w.front.entry w.front.ending x w.front.stage h.front_at);
-      unused = rw ready tt;
+      offered = offered_more (is_ready w.front.stage) config.read_only w.front.offers g.pushed w.front.last (w.front.last + 1) ready h.offered;
       back_at = back_at_grown g.shape g.start g.fetched g.back_seen g.replied g.submitted w.back.jobs.works w.back.entry x w.back.stage h.back_at;
       unhalted = h.unhalted;
       memory = h.memory;
@@ -109,33 +110,26 @@ either config w d job false y z p q = q refl
 refused : (config : Options) (w : World) (g : Flow) (d : Pipeline) (job : Job) (r : Refusal) → Holds config w g d w.front.stage w.back.stage → SubmitGoes config w d job (Err r, w.front)
 refused config w g d job r h same = record {
   flow = g;
-  step = Some (Refuses job (refusal_word r));
-  does = record { asides = []; aside = refl; shows = refl; asks = refl; allowed = same; disk = λ a b e. e };
+  steps = Refuses job (refusal_word r) ∷ [];
+  does = record { asides = []; aside = refl; shows = refl; asks = refl; allowed = (same, tt); disk = λ a b e. (b, e, refl) };
   holds = h;
 }
 
--- a read or a write of some sectors
-wish_is : (sector count : ℕ) (way : Transfer) → wish_of (job_of way sector count) ≡ Some (record { sector = sector; count = count; transfer = way })
-wish_is sector count transfer.Read = refl
-wish_is sector count (transfer.Write tag) = refl
-
-submit_transfer : (config : Options) (w : World) (g : Flow) (d : Pipeline) (sector count : ℕ) (way : Transfer) → 1 ≤ count → tag_of way < 2 ^ 32 → Holds config w g d w.front.stage w.back.stage → SubmitGoes config w d (job_of way sector count) (submit_of w.front (job_of way sector count))
-submit_transfer config w g d sector count way some small h =
-    subst (λ (o : Option Wish). SubmitGoes config w d job (if w.front.last == 4294967295 then (Err refusal.Spent, w.front) else (if w.front.closing then (Err refusal.Closing, w.front) else (if not (is_ready w.front.stage) then (Err refusal.NotReady, w.front) else submit_one w.front o)))) (sym (wish_is sector count way)) (
+-- a request of the front's, where its back serves it (`offered`)
+submit_wish : (config : Options) (w : World) (g : Flow) (d : Pipeline) (wish : Wish) (offered : Bool) → (let job : Job = job_of wish.transfer wish.sector wish.count in
+    wish_of w.front.offers job ≡ wished offered wish
+    → (is_ready w.front.stage ≡ true → offered ≡ true → is_moving wish.transfer ≡ false → config.read_only ≡ false)
+    → (nat_lt 11 (frames_for wish.count) ≡ false → IsCounted wish.transfer wish.count)
+    → AreNumbers wish.transfer wish.sector → Holds config w g d w.front.stage w.back.stage → SubmitGoes config w d job (submit_of w.front job))
+submit_wish config w g d wish offered asks serves counted numbers h =
+    subst (λ (o : Option Wish). SubmitGoes config w d job (if w.front.last == 4294967295 then (Err refusal.Spent, w.front) else (if w.front.closing then (Err refusal.Closing, w.front) else (if not (is_ready w.front.stage) then (Err refusal.NotReady, w.front) else submit_one w.front o)))) (sym asks) (
     either config w d job (w.front.last == 4294967295) (Err refusal.Spent, w.front) _ (λ t. refused config w g d job refusal.Spent h) (λ unspent.
     either config w d job w.front.closing (Err refusal.Closing, w.front) _ (λ t. refused config w g d job refusal.Closing h) (λ stays_open.
-    either config w d job (not (is_ready w.front.stage)) (Err refusal.NotReady, w.front) _ (λ t. refused config w g d job refusal.NotReady h) (λ ready.
-    either config w d job (is_write way && w.front.read_only) (Err refusal.ReadOnly, w.front) _ (λ t. refused config w g d job refusal.ReadOnly h) (λ may.
-    either config w d job (nat_lt w.front.sectors (sector + count)) (Err refusal.Range, w.front) _ (λ t. refused config w g d job refusal.Range h) (λ on_disk.
-    either config w d job (nat_lt 11 (frames_for count)) (Err refusal.Long, w.front) _ (λ t. refused config w g d job refusal.Long h) (λ short.
-    either config w d job (nat_le (entries_of w.front.shape.order) (unfinished w.front)) (Err refusal.Full, w.front) _ (λ t. refused config w g d job refusal.Full h) (λ free.
-    by_frames (is_true (is_ready w.front.stage) ready) unspent free may on_disk short (taking (frames_for count) w.front.pool []) refl))))))))
+    either config w d job (not (is_ready w.front.stage)) (Err refusal.NotReady, w.front) _ (λ t. refused config w g d job refusal.NotReady h) (λ unready.
+    by_offer offered (serves (is_true (is_ready w.front.stage) unready)) (is_true (is_ready w.front.stage) unready) unspent))))
   where
     job : Job
-    job = job_of way sector count
-
-    wish : Wish
-    wish = record { sector = sector; count = count; transfer = way }
+    job = job_of wish.transfer wish.sector wish.count
 
     stepped : (taken : List ℕ × List Bool) → refusal_now d job ≡ None → Stepped (Some job) IsSame d (lines.Submit (w.front.last + 1) job ∷ []) (λ p. AreStations config (submitted_flow g (request_with w.front wish taken.0)) p (is_ready w.front.stage) (is_issuing w.front.stage) (is_fetching w.back.stage) (ending_at w.front.stage w.front.ending) (telling_at w.front.stage) (reply_at w.back.stage) (w.front.requests ++ request_with w.front wish taken.0 ∷ []) w.back.jobs.works w.under.pages)
     stepped taken same =
@@ -155,27 +149,57 @@ submit_transfer config w g d sector count way some small h =
     above : (n m : ℕ) → nat_lt n m ≡ false → m ≤ n
     above n m e = grind (arith, nat_tests)
 
-    few_sectors : (n : ℕ) → nat_lt 11 (frames_for n) ≡ false → n ≤ 88
-    few_sectors n short = let few : frames_for n ≤ 11 = grind (arith, nat_tests) in omega arith
-
-    by_frames : is_ready w.front.stage ≡ true → (w.front.last == 4294967295) ≡ false → nat_le (entries_of w.front.shape.order) (unfinished w.front) ≡ false
-        → (is_write way && w.front.read_only) ≡ false → nat_lt w.front.sectors (sector + count) ≡ false → nat_lt 11 (frames_for count) ≡ false
-        → (o : Option (List ℕ × List Bool)) → taking (frames_for count) w.front.pool [] ≡ o → SubmitGoes config w d job (submit_with w.front wish o)
-    by_frames ready unspent free may on_disk short None none = refused config w g d job refusal.Buffers h
-    by_frames ready unspent free may on_disk short (Some taken) some_taken = λ same.
+    by_frames : (is_moving wish.transfer ≡ false → config.read_only ≡ false) → is_ready w.front.stage ≡ true → (w.front.last == 4294967295) ≡ false
+        → (is_write wish.transfer && w.front.read_only) ≡ false → nat_lt w.front.sectors (wish.sector + named_of wish.transfer wish.count) ≡ false → nat_lt 11 (frames_for wish.count) ≡ false
+        → nat_le (entries_of w.front.shape.order) (unfinished w.front) ≡ false
+        → (o : Option (List ℕ × List Bool)) → taking (frames_for wish.count) w.front.pool [] ≡ o → SubmitGoes config w d job (submit_with w.front wish o)
+    by_frames serves ready unspent may on_disk short free None none = refused config w g d job refusal.Buffers h
+    by_frames serves ready unspent may on_disk short free (Some taken) some_taken = λ same.
         let s = stepped taken same in
         record {
           flow = submitted_flow g (request_with w.front wish taken.0);
-          step = Some s.step;
+          steps = s.step ∷ [];
           does = does_alone s;
           holds = accepted_on config w g d (next d s.step) wish taken h ready (differs w.front.last unspent)
               (subst (λ (x : Shape). unfinished w.front < entries_of x.order) h.shaped.known (below (entries_of w.front.shape.order) (unfinished w.front) free))
-              may (above w.front.sectors (sector + count) on_disk) small some (few_sectors count short) some_taken s.now;
+              may serves (above w.front.sectors (wish.sector + named_of wish.transfer wish.count) on_disk) numbers (counted short) some_taken s.now;
         }
 
-pub submit_kept : (config : Options) (w : World) (g : Flow) (d : Pipeline) (job : Job) → IsPlain config → Holds config w g d w.front.stage w.back.stage → IsTransfer job → GoesBy (Some job) IsSame config (lines_at w (Submits job)) (happens w (Submits job)) d
-submit_kept config w g d (Write sector count tag) plain h one = submit_transfer config w g d sector count (transfer.Write tag) one.0 one.1 h (refused_rightly config w g d (Write sector count tag) plain h one)
-submit_kept config w g d (Read sector count) plain h one = submit_transfer config w g d sector count transfer.Read one (omega arith) h (refused_rightly config w g d (Read sector count) plain h one)
-submit_kept config w g d (Barrier sector count tag) plain h one = absurd one
-submit_kept config w g d Flush plain h one = absurd one
-submit_kept config w g d (Discard sector count) plain h one = absurd one
+    by_offer : (b : Bool) → (b ≡ true → is_moving wish.transfer ≡ false → config.read_only ≡ false) → is_ready w.front.stage ≡ true → (w.front.last == 4294967295) ≡ false → SubmitGoes config w d job (submit_one w.front (wished b wish))
+    by_offer false serves ready unspent = refused config w g d job refusal.Unsupported h
+    by_offer true serves ready unspent =
+        either config w d job (is_write wish.transfer && w.front.read_only) (Err refusal.ReadOnly, w.front) _ (λ t. refused config w g d job refusal.ReadOnly h) (λ may.
+        either config w d job (nat_lt w.front.sectors (wish.sector + named_of wish.transfer wish.count)) (Err refusal.Range, w.front) _ (λ t. refused config w g d job refusal.Range h) (λ on_disk.
+        either config w d job (nat_lt 11 (frames_for wish.count)) (Err refusal.Long, w.front) _ (λ t. refused config w g d job refusal.Long h) (λ short.
+        either config w d job (nat_le (entries_of w.front.shape.order) (unfinished w.front)) (Err refusal.Full, w.front) _ (λ t. refused config w g d job refusal.Full h) (λ free.
+        by_frames (serves refl) ready unspent may on_disk short free (taking (frames_for wish.count) w.front.pool []) refl))))
+
+-- a read, a write or a barrier moves a sector, and no more than an entry can name; another request moves none
+moves_some : (way : Transfer) (count : ℕ) → is_moving way ≡ true → 1 ≤ count → nat_lt 11 (frames_for count) ≡ false → IsCounted way count
+moves_some way count moving some short = record {
+  some = λ t. some;
+  none = λ t. absurd (true≢false (sym moving ∙ t));
+  few = (let few : frames_for count ≤ 11 = grind (arith, nat_tests) in omega arith);
+}
+
+moves_none : (way : Transfer) → is_moving way ≡ false → IsCounted way 0
+moves_none way still = record { some = λ t. absurd (true≢false (sym t ∙ still)); none = λ t. refl; few = omega arith }
+
+-- a flush or a discard is offered where the disk may be written alone
+may_write : (offered fixed : Bool) → offered ≡ not fixed → offered ≡ true → fixed ≡ false
+may_write true false e t = refl
+may_write true true e t = absurd (true≢false e)
+may_write false fixed e t = absurd (true≢false (sym t))
+
+pub submit_kept : (config : Options) (w : World) (g : Flow) (d : Pipeline) (job : Job) → IsPlain config → Holds config w g d w.front.stage w.back.stage → IsServable job → GoesBy (Some job) IsSame config (lines_at w (Submits job)) (happens w (Submits job)) d
+submit_kept config w g d job plain h one = by_job job one (refused_rightly config w g d job plain h one)
+  where
+    offers : is_ready w.front.stage ≡ true → AreOffered config.read_only w.front.offers
+    offers ready = offered_is (is_ready w.front.stage) config.read_only w.front.offers g.pushed w.front.last ready h.offered
+
+    by_job : (x : Job) → IsServable x → SubmitGoes config w d x (submit_of w.front x)
+    by_job (Write sector count tag) some = submit_wish config w g d (record { sector = sector; count = count; transfer = transfer.Write tag }) true refl (λ ready t still. absurd (true≢false still)) (moves_some (transfer.Write tag) count refl some.0) some.1 h
+    by_job (Read sector count) some = submit_wish config w g d (record { sector = sector; count = count; transfer = transfer.Read }) true refl (λ ready t still. absurd (true≢false still)) (moves_some transfer.Read count refl some) (omega arith) h
+    by_job (Barrier sector count tag) some = submit_wish config w g d (record { sector = sector; count = count; transfer = transfer.Barrier tag }) w.front.offers.barrier refl (λ ready t still. absurd (true≢false still)) (moves_some (transfer.Barrier tag) count refl some.0) some.1 h
+    by_job Flush some = submit_wish config w g d (record { sector = 0; count = 0; transfer = transfer.Flush }) w.front.offers.flush refl (λ ready t still. may_write w.front.offers.flush config.read_only (offers ready).flush t) (λ short. moves_none transfer.Flush refl) (omega arith) h
+    by_job (Discard sector count) some = submit_wish config w g d (record { sector = sector; count = 0; transfer = transfer.Discard count }) w.front.offers.discard refl (λ ready t still. may_write w.front.offers.discard config.read_only (offers ready).discard t) (λ short. moves_none (transfer.Discard count) refl) some h

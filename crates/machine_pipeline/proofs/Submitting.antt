@@ -1,5 +1,5 @@
 -- An accepted submission: the front has one request more, and so has the pipeline.
-use Rattle.std.proofs.Common.{◌≡◌, ◌≢◌, ℕ, ◌+◌, ◌-◌, ◌<◌, ◌≤◌, ◌==◌, Bool, true, false, List, [], ◌∷◌, ◌++◌, length, refl, sym, ◌∙◌, inl, inr, arith}
+use Rattle.std.proofs.Common.{◌≡◌, ◌≢◌, ℕ, ◌+◌, ◌-◌, ◌<◌, ◌≤◌, ◌==◌, Bool, true, false, true≢false, List, [], ◌∷◌, ◌++◌, length, refl, sym, ◌∙◌, inl, inr, arith}
 use Rattle.std.specs.Prelude.{All, Option, Some, None, slice_get, if◌then◌else◌}
 use Rattle.std.proofs.lemmas.Bool.Decides.{nat_tests}
 use Rattle.std.proofs.lemmas.Option.{none-some}
@@ -7,13 +7,14 @@ use Rattle.std.proofs.lemmas.List.Elements.{All-push}
 use Rattle.ring_words.specs.Ring.{Ring}
 use Rattle.grant_table.specs.declared.held.Held.{Held}
 use Rattle.blk_front.specs.declared.request.Request.{Request}
+use Rattle.blk_front.specs.declared.state.Offers.{Offers}
 use Rattle.blk_front.specs.declared.stage.Stage.{Stage as FrontStage}
 use Rattle.blk_front.specs.declared.stage.Stage.TheVariants as front
 use Rattle.blk_back.specs.declared.stage.Reply.{Reply}
 use Rattle.blk_back.specs.declared.stage.Stage.{Stage as BackStage}
 use Rattle.blk_back.specs.declared.stage.Stage.TheVariants as back
 use Rattle.machine_pipeline.proofs.Flow.{Flow, filled, named_frames, granted_frames, entered}
-use Rattle.machine_pipeline.proofs.Holds.{AreIndices, FrontAt, AreSlots, IsFilled, IsGranted, AreEntries, AreWorks, IsEnding, BackAt}
+use Rattle.machine_pipeline.proofs.Holds.{AreIndices, FrontAt, AreSlots, IsFilled, IsGranted, AreEntries, AreWorks, IsEnding, IsOffered, BackAt}
 use Rattle.ring_words.specs.Shape.{entries_of, Shape}
 use Rattle.machine_pipeline.proofs.Lists.{get_append}
 use Rattle.machine_pipeline.proofs.Growing.{longer, push_was}
@@ -139,11 +140,17 @@ entries_more pushed last pages live s ending requests x number few idle h = reco
   ending = h.ending;
 }
 
+-- what the back serves is as it was
+pub offered_more : (ready fixed : Bool) (offers : Offers) (pushed last last' : ℕ) → ready ≡ true → IsOffered ready fixed offers pushed last → IsOffered ready fixed offers pushed last'
+offered_more true fixed offers pushed last last' is h = h
+offered_more false fixed offers pushed last last' is h = absurd (true≢false (sym is))
+
 -- what is known of the requests that were there stays known
 pub works_more : (submitted : List Request) (fetched : ℕ) (works : List Work) (x : Request) → AreWorks submitted fetched works → AreWorks (submitted ++ x ∷ []) fetched works
 works_more submitted fetched works x h = record {
   each = λ k d lt. let was = h.each k d lt in record { r = was.r; known = get_append submitted (x ∷ []) _ was.r was.known; positive = was.positive; reached = was.reached; id = was.id; op = was.op; at = was.at };
   ascending = h.ascending;
+  clear = h.clear;
 }
 
 ending_more : (submitted : List Request) (replies : List Reply) (x : Request) (e : Ending) → IsEnding submitted replies e → IsEnding (submitted ++ x ∷ []) replies e

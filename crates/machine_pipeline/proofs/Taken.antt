@@ -1,7 +1,7 @@
 -- The front takes a response: what all that holds becomes.
-use Rattle.std.proofs.Common.{◌≡◌, ◌≢◌, ℕ, suc, ◌+◌, ◌-◌, ◌*◌, ◌^◌, ◌<◌, ◌≤◌, ◌==◌, [], ◌∷◌, length, drop, refl, ap, sym, ◌∙◌, subst, arith, true≢false, true, false}
-use Rattle.std.specs.Prelude.{Some, None, slice_get, remove, Result, Ok}
-use Rattle.std.proofs.lemmas.Option.{same_Some, slice_get_within}
+use Rattle.std.proofs.Common.{◌≡◌, ◌≢◌, ℕ, suc, ◌+◌, ◌-◌, ◌*◌, ◌^◌, ◌<◌, ◌≤◌, ◌==◌, ◌⊎◌, inl, inr, if◌then◌else◌, Bool, List, [], ◌∷◌, length, drop, refl, ap, sym, ◌∙◌, subst, arith, true≢false, true, false}
+use Rattle.std.specs.Prelude.{All, Option, Some, None, slice_get, remove, Result, Ok}
+use Rattle.std.proofs.lemmas.Option.{none-some, same_Some, slice_get_within}
 use Rattle.std.proofs.lemmas.List.Edits.{length-remove}
 use Rattle.std.proofs.lemmas.Bool.Decides.{nat_tests}
 use Rattle.blk_base.specs.Options.{Options}
@@ -15,109 +15,117 @@ use Rattle.xen_pages.specs.Pages.{word_of}
 use Rattle.blk_layout.specs.declared.response.Response.{Response}
 use Rattle.blk_layout.specs.Response.{response_of}
 use Rattle.blk_front.specs.declared.request.Request.{Request}
-use Rattle.blk_front.specs.Request.{grant_flags, frame_at, IsShaped}
+use Rattle.blk_base.specs.declared.moves.Move.{Move as Shown}
+use Rattle.blk_base.specs.declared.operation.Status.{Status}
+use Rattle.blk_front.specs.declared.request.Transfer.{Transfer}
+use Rattle.blk_front.specs.declared.request.Transfer.TheVariants as transfer
+use Rattle.blk_front.specs.Request.{is_moving, has_data, grant_flags, frame_at, IsShaped}
+use Rattle.blk_front.specs.Pool.{with_all_free}
 use Rattle.blk_front.specs.declared.stage.Ending.{Ending}
+use Rattle.blk_front.specs.declared.stage.Stage.{Stage as FrontStage}
 use Rattle.blk_front.specs.declared.stage.Stage.TheVariants as front
-use Rattle.blk_front.specs.View.{View, slot_frame, slot_word}
-use Rattle.blk_front.specs.Step.{taken, step_at, response_at, issued}
+use Rattle.blk_front.specs.View.{View, slot_frame, slot_word, next_request}
+use Rattle.blk_front.specs.Step.{freed, revokes, answered, taken, step_at, response_at, issued}
 use Rattle.back_jobs.specs.Task.{Work}
 use Rattle.back_jobs.specs.Jobs.{mapping_at}
 use Rattle.blk_back.specs.declared.stage.Reply.{Reply}
 use Rattle.blk_back.specs.Ask.{response_word}
 use Rattle.split_model.specs.World.{World}
 use Rattle.split_model.specs.Shown.{front_lines}
-use Rattle.machine_pipeline.proofs.Flow.{Flow, wrapped, is_fetching, reply_at, worked, frames_of}
-use Rattle.machine_pipeline.proofs.Holds.{Holds, AreQueued, IsReply, IsTaken, IsFilled, IsGranted, IsWork, flags_with, AreIndices, slot_of}
+use Rattle.machine_pipeline.proofs.Flow.{Flow, wrapped, entered, ending_at, telling_at, is_issuing, is_fetching, is_front_arming, is_bound_back, reply_at, worked, frames_of}
+use Rattle.machine_pipeline.proofs.Holds.{Holds, FrontAt, FrontSends, IsOffered, IsPooled, ArePooled, IsSubmitted, IsEnding, IsReply, AreQueued, AreReplies, IsTaken, IsFilled, IsGranted, AreRevoked, PortsAt, IsWork, flags_with, AreIndices, slot_of}
+use Rattle.machine_pipeline.proofs.Kept.{as_connected}
+use Rattle.machine_pipeline.proofs.Ending.{pooled_free}
 use Rattle.pipeline_laws.specs.Station.{Replied}
-use Rattle.machine_pipeline.proofs.Turns.{Goes, FrontGoes, Stepped, does_step}
+use Rattle.machine_pipeline.proofs.Turns.{Goes, FrontGoes, Stepped, does_step, does_after}
 use Rattle.machine_pipeline.proofs.Lists.{all_at, all_from, pair_at}
 use Rattle.machine_pipeline.proofs.Removals.{removed_was}
 use Rattle.machine_pipeline.proofs.Wrapped.{next_wrapped}
-use Rattle.machine_pipeline.proofs.Frames.{unmapped, is_submitted}
-use Rattle.machine_pipeline.proofs.Resting.{at_read, at_last, ring_rests, granted_rests, data_rests}
+use Rattle.machine_pipeline.proofs.Frames.{unmapped}
+use Rattle.machine_pipeline.proofs.Resting.{IsResting, at_loop, at_read, at_last, ring_rests, frames_rest, granted_rests, data_rests}
 use Rattle.machine_pipeline.proofs.Resuming.{response_read}
 use Rattle.machine_pipeline.proofs.Finding.{IsFound, finds, read_back, first_two, response_for}
 use Rattle.machine_pipeline.proofs.Taking.{queued_without, pooled_without, replies_without, dropped}
 use Rattle.machine_pipeline.proofs.Stations.{AreStations, apart, worked_kind}
-use Rattle.machine_pipeline.proofs.StationsFront.{takes}
+use Rattle.machine_pipeline.proofs.StationsFront.{takes, answers}
 use Rattle.machine_pipeline.specs.Step.{IsSame}
-use Rattle.blk_front.specs.Submit.{ending_of}
+use Rattle.blk_front.specs.Submit.{is_ready, ending_of}
 
--- a request has a frame
-some_of : (r : Request) → IsShaped r → 0 < frames_of r
-some_of r shaped = let some = shaped.some in let frames = shaped.frames in omega arith
+-- the machine once the oldest response was taken, with the front at that stage and with that ending request
+abbrev freed_at : World → (place : ℕ) → FrontStage → Option Ending → World
+freed_at w place s ending = record { front = (let v : View = freed w.front place in record v { stage = s; ending = ending; told = None }); back = w.back; under = w.under }
 
--- the front once it took the oldest response
-taken_holds : (config : Options) (w : World) (g : Flow) (d d' : Pipeline) (low high : ℕ) (rep : Reply)
+-- and what passes through the ring
+abbrev taken_flow : Flow → Flow
+taken_flow g = record g { taken = g.taken + 1; replies = drop 1 g.replies }
+
+-- what holds goes on holding
+freed_holds : (config : Options) (w : World) (g : Flow) (d d' : Pipeline) (low high : ℕ) (rep : Reply) (s : FrontStage) (ending : Option Ending)
+    → IsResting s → telling_at s ≡ None → is_front_arming s ≡ false → ending_of s ≤ 1
     → Holds config w g d (front.ResponseLast low high) w.back.stage
     → slice_get g.replies 0 ≡ Some rep
     → g.taken < g.front_seen
     → (f : IsFound w g rep.id)
-    → AreStations config (record g { taken = g.taken + 1; replies = drop 1 g.replies }) d' true false (is_fetching w.back.stage)
-    (Some (record { request = f.r; status = rep.status })) None (reply_at w.back.stage) (remove w.front.requests f.place) w.back.jobs.works w.under.pages
-    → (let x : View = taken w.front f.place f.r rep.status in let v : World = record { front = record x { told = None }; back = w.back; under = w.under } in
-    Holds config v (record g { taken = g.taken + 1; replies = drop 1 g.replies }) d' x.stage w.back.stage)
-taken_holds config w g d d' low high rep h oldest seen f stations = record {
+    → ArePooled w.front.pool (remove w.front.requests f.place) (ending_at s ending)
+    → AreStations config (taken_flow g) d' (is_ready s) (is_issuing s) (is_fetching w.back.stage) (ending_at s ending) (telling_at s) (reply_at w.back.stage) (remove w.front.requests f.place) w.back.jobs.works w.under.pages
+    → (let v : View = freed w.front f.place in FrontAt g.shape g.start g.pushed (g.taken + 1) g.front_seen g.submitted (drop 1 g.replies) (next_request v) w.front.entry ending s)
+    → AreRevoked w.under.pages s ending
+    → Holds config (freed_at w f.place s ending) (taken_flow g) d' s w.back.stage
+freed_holds config w g d d' low high rep s ending i untold unarmed few h oldest seen f pooled stations at revoked = record {
   started = h.started;
   shaped = h.shaped;
   sized = h.sized;
   indices = indices_taken;
   queue = queued_without g.submitted w.front.requests g.pushed w.front.waiting f.place f.r f.here f.early h.queue;
   submitted = h.submitted;
-  pool = pooled_without w.front.pool w.front.requests f.place f.r e f.here refl h.pool;
+  pool = pooled;
   stations = stations;
   works = h.works;
   counted = h.counted;
   info = h.info;
   replies = replies_without g.fetched g.taken g.replied g.replies rep oldest h.replies;
-  front_at = (
-    e,
-    refl,
-    record {
-      known = all_at (λ (x : Request). slice_get g.submitted (x.number - 1) ≡ Some x) w.front.requests f.place f.r queue.known f.here;
-      positive = (let number = f.number in let positive = is.positive in omega arith);
-      alone = all_from (λ (x : Reply). x.id ≢ f.r.number) (drop 1 g.replies) (λ i x at. let replies = h.replies in
-          let apart = pair_at (λ (a b : Reply). a.id ≢ b.id) g.replies 0 (suc i) rep x replies.distinct (omega arith) oldest (sym (dropped g.replies i) ∙ at) in
-          λ same. apart (sym (same ∙ f.number)));
-    },
-    some_frame,
-  );
-  unused = tt;
+  front_at = at;
+  offered = subst (λ (b : Bool). IsOffered b config.read_only w.front.offers g.pushed w.front.last) (sym i.ready) h.offered;
   back_at = h.back_at;
   unhalted = h.unhalted;
   memory = h.memory;
-  ring = ring_rests g.shape.order g.start g.pushed g.replied w.under.pages (front.ResponseLast low high) (front.GrantRead 0) (length w.back.pages) (at_last low high) (at_read 0) h.ring;
+  ring = ring_rests g.shape.order g.start g.pushed g.replied w.under.pages (front.ResponseLast low high) s (length w.back.pages) (at_last low high) i h.ring;
   slots = (let was = h.slots in record {
     entries = was.entries;
-    entry = λ r at i lt few. absurd (omega arith);
+    entry = λ r at i lt few. let none = entered_none in absurd (omega arith);
     responses = λ k x at i lt. ap (λ (n : ℕ). slot_of w.under.pages g.shape (wrapped g.start n) i) (omega arith) ∙ was.responses (suc k) x (sym (dropped g.replies k) ∙ at) i lt;
     response = was.response;
   });
-  frames = all_from (IsFilled g.pushed w.under.pages (front.GrantRead 0)) (remove w.front.requests f.place) (λ i x at.
-      let was = removed_was w.front.requests f.place i x at in
-      let filled = all_at (IsFilled g.pushed w.under.pages (front.ResponseLast low high)) w.front.requests was.0 x h.frames was.2 in
-      record { whole = filled.whole; begun = λ way n j lt. absurd (omega arith) });
-  telling = data_rests w.under.pages w.under.pages w.front.words w.front.ending (Some e) (front.ResponseLast low high) (front.GrantRead 0) refl h.telling;
+  frames = frames_rest g.pushed w.under.pages (front.ResponseLast low high) s (remove w.front.requests f.place) i (all_from (IsFilled g.pushed w.under.pages (front.ResponseLast low high)) (remove w.front.requests f.place) (λ j x at.
+      let was = removed_was w.front.requests f.place j x at in
+      all_at (IsFilled g.pushed w.under.pages (front.ResponseLast low high)) w.front.requests was.0 x h.frames was.2));
+  telling = data_rests w.under.pages w.under.pages w.front.words w.front.ending ending (front.ResponseLast low high) s untold h.telling;
   entries = record {
-    each = all_from (IsGranted g.pushed w.under.pages w.under.grants.live (front.GrantRead 0)) (remove w.front.requests f.place) (λ i x at.
-        let was = removed_was w.front.requests f.place i x at in
+    each = all_from (IsGranted g.pushed w.under.pages w.under.grants.live s) (remove w.front.requests f.place) (λ j x at.
+        let was = removed_was w.front.requests f.place j x at in
         let entries = h.entries in
-        granted_rests g.pushed w.under.pages w.under.grants.live (front.ResponseLast low high) (front.GrantRead 0) x (at_read 0) (all_at (IsGranted g.pushed w.under.pages w.under.grants.live (front.ResponseLast low high)) w.front.requests was.0 x entries.each was.2));
-    ending = λ x same. subst (λ (y : Ending). (place : ℕ) → 0 ≤ place → place < frames_of y.request
-        → entry_word0 w.under.pages (frame_at y.request place + 6) ≡ grant_flags y.request.transfer) (same_Some e x same)
-        (λ place le lt. unmapped_flags place lt);
+        granted_rests g.pushed w.under.pages w.under.grants.live (front.ResponseLast low high) s x i (all_at (IsGranted g.pushed w.under.pages w.under.grants.live (front.ResponseLast low high)) w.front.requests was.0 x entries.each was.2));
+    ending = revoked;
   };
   mapped = h.mapped;
   paged = h.paged;
-  front_sleep = (let was = h.front_sleep in record { arming = λ t. absurd (true≢false (sym t)); armed = λ t. absurd (true≢false (sym t ∙ was.may refl)); may = λ t. was.may refl; woken = λ t. absurd (true≢false (sym t ∙ was.may refl)) });
-  back_sleep = (let was = h.back_sleep in record { arming = was.arming; armed = was.armed; may = was.may; woken = was.woken });
-  ports = h.ports;
+  front_sleep = (let was = h.front_sleep in record { arming = λ t. absurd (true≢false (sym t ∙ unarmed)); armed = λ t. absurd (true≢false (sym t ∙ was.may refl)); may = λ t. was.may refl; woken = λ t. absurd (true≢false (sym t ∙ was.may refl)) });
+  back_sleep = (let was = h.back_sleep in record { arming = was.arming; armed = was.armed; may = was.may; woken = λ t. by_wake (was.woken t) });
+  ports = subst (λ (b : Bool). PortsAt b (is_bound_back w.back.stage) w.under.channels.made w.under.channels.ports) (as_connected (front.ResponseLast low high) s refl i.ready) h.ports;
 }
   where
     within : f.place < length w.front.requests
     within = slice_get_within w.front.requests f.place f.r f.here
 
-    indices_taken : (let x : View = taken w.front f.place f.r rep.status in AreIndices (record g { taken = g.taken + 1; replies = drop 1 g.replies }) x.ring w.back.ring x.seen w.back.seen w.back.fetched x.last x.waiting (length x.requests) (ending_of x.stage))
+    entered_none : entered s ≡ 0
+    entered_none = i.entered_none
+
+    by_wake : (g.pushed ≡ g.fetched) ⊎ (w.under.channels.back_pending ≡ true) ⊎ ⊥ → (g.pushed ≡ g.fetched) ⊎ (w.under.channels.back_pending ≡ true) ⊎ FrontSends s g.pushed g.fetched
+    by_wake (inl same) = inl same
+    by_wake (inr (inl t)) = inr (inl t)
+    by_wake (inr (inr sends)) = absurd sends
+
+    indices_taken : (let x : View = freed w.front f.place in AreIndices (taken_flow g) x.ring w.back.ring x.seen w.back.seen w.back.fetched x.last x.waiting (length x.requests) (ending_of s))
     indices_taken = (let was = h.indices in let less = length-remove w.front.requests f.place within in let room = was.room in let held = was.held in record {
       front_entries = was.front_entries;
       pushed = was.pushed;
@@ -140,20 +148,36 @@ taken_holds config w g d d' low high rep h oldest seen f stations = record {
       room = omega arith;
     })
 
-    e : Ending
-    e = record { request = f.r; status = rep.status }
-
-    is : IsReply g.fetched rep
-    is = let replies = h.replies in all_at (IsReply g.fetched) g.replies 0 rep replies.each oldest
-
+-- the request of the response is a submitted one, and no response that is left names it
+ending_taken : (config : Options) (w : World) (g : Flow) (d : Pipeline) (s : FrontStage) (rep : Reply) → Holds config w g d s w.back.stage → slice_get g.replies 0 ≡ Some rep → (f : IsFound w g rep.id)
+    → IsEnding g.submitted (drop 1 g.replies) (record { request = f.r; status = rep.status })
+ending_taken config w g d s rep h oldest f = record {
+  known = all_at (λ (x : Request). slice_get g.submitted (x.number - 1) ≡ Some x) w.front.requests f.place f.r queue.known f.here;
+  positive = (let number = f.number in let positive = is.positive in omega arith);
+  alone = all_from (λ (x : Reply). x.id ≢ f.r.number) (drop 1 g.replies) (λ i x at.
+      let apart = pair_at (λ (a b : Reply). a.id ≢ b.id) g.replies 0 (suc i) rep x replies.distinct (omega arith) oldest (sym (dropped g.replies i) ∙ at) in
+      λ same. apart (sym (same ∙ f.number)));
+}
+  where
     queue : AreQueued g.submitted g.pushed w.front.requests w.front.waiting
     queue = h.queue
 
-    reached : f.r.number ≤ g.pushed
-    reached = let number = f.number in let fetched = is.reached in let indices = h.indices in omega arith
+    replies : AreReplies g.fetched g.taken g.replied g.replies
+    replies = h.replies
 
-    granted : IsGranted g.pushed w.under.pages w.under.grants.live (front.ResponseLast low high) f.r
-    granted = let entries = h.entries in all_at (IsGranted g.pushed w.under.pages w.under.grants.live (front.ResponseLast low high)) w.front.requests f.place f.r entries.each f.here
+    is : IsReply g.fetched rep
+    is = all_at (IsReply g.fetched) g.replies 0 rep replies.each oldest
+
+-- and none of its frames is mapped any more
+flags_left : (config : Options) (w : World) (g : Flow) (d : Pipeline) (s : FrontStage) (rep : Reply) → Holds config w g d s w.back.stage → slice_get g.replies 0 ≡ Some rep → (f : IsFound w g rep.id)
+    → (place : ℕ) → place < frames_of f.r → entry_word0 w.under.pages (frame_at f.r place + 6) ≡ grant_flags f.r.transfer
+flags_left config w g d s rep h oldest f place lt =
+    let none = unmapped config w g d s w.back.stage h f.place f.r f.here place lt no_job
+    (λ (m : Mapping). m.gref == frame_at f.r place + 6) (λ m apart. grind (arith, nat_tests)) in
+    granted.flags reached place lt ∙ ap (flags_with f.r.transfer) none
+  where
+    granted : IsGranted g.pushed w.under.pages w.under.grants.live s f.r
+    granted = let entries = h.entries in all_at (IsGranted g.pushed w.under.pages w.under.grants.live s) w.front.requests f.place f.r entries.each f.here
 
     no_job : (i : ℕ) (t : Work) → slice_get w.back.jobs.works i ≡ Some t → t.number ≡ f.r.number → mapping_at t.stage ≡ None
     no_job i t at same =
@@ -161,30 +185,45 @@ taken_holds config w g d d' low high rep h oldest seen f stations = record {
         let work = all_at (IsWork g.submitted g.fetched) w.back.jobs.works i t works.each at in
         absurd (apart d.requests (t.number - 1) (rep.id - 1) (worked t.stage t.moved) (Replied rep.status) (h.stations.works i t at) (h.stations.replied 0 rep oldest) (omega (arith, worked_kind t.stage t.moved)) (omega (arith, f.number, same, work.positive)))
 
-    some_frame : 0 < frames_of f.r
-    some_frame =
-        let its = is_submitted config w g d (front.ResponseLast low high) w.back.stage h f.place f.r f.here in
-        some_of f.r its.shaped
+    reached : f.r.number ≤ g.pushed
+    reached =
+        let replies = h.replies in
+        let is : IsReply g.fetched rep = all_at (IsReply g.fetched) g.replies 0 rep replies.each oldest in
+        let number = f.number in let fetched = is.reached in let indices = h.indices in omega arith
 
-    unmapped_flags : (place : ℕ) → place < frames_of f.r → entry_word0 w.under.pages (frame_at f.r place + 6) ≡ grant_flags f.r.transfer
-    unmapped_flags place lt =
-        let none = unmapped config w g d (front.ResponseLast low high) w.back.stage h f.place f.r f.here place lt no_job
-        (λ (m : Mapping). m.gref == frame_at f.r place + 6) (λ m apart. grind (arith, nat_tests)) in
-        granted.flags reached place lt ∙ ap (flags_with f.r.transfer) none
+-- a request without frames moves no sector
+still_of : (r : Request) → IsShaped r → frames_of r ≡ 0 → is_moving r.transfer ≡ false
+still_of r shaped bare = by_moving (is_moving r.transfer) refl
+  where
+    by_moving : (b : Bool) → is_moving r.transfer ≡ b → b ≡ false
+    by_moving false t = refl
+    by_moving true t = let some = shaped.counted.some t in let frames = shaped.frames in absurd (omega arith)
 
--- the last word of the oldest response is read, and the response taken
+-- and has no data that are told
+dataless : (way : Transfer) (status : Status) → is_moving way ≡ false → has_data way status ≡ false
+dataless transfer.Read status still = absurd (true≢false still)
+dataless (transfer.Write tag) status still = refl
+dataless (transfer.Barrier tag) status still = refl
+dataless way status still = refl
+
+-- the pool has nothing of it
+bare_items : (frames : List ℕ) → length frames ≡ 0 → frames ≡ []
+bare_items [] none = refl
+bare_items (frame ∷ frames) none = absurd (omega arith)
+
+pooled_bare : (pool : List Bool) (requests : List Request) (place : ℕ) (r : Request) (e : Ending)
+    → slice_get requests place ≡ Some r → e.request ≡ r → All IsPooled r.frames.items → frames_of r ≡ 0 → ArePooled pool requests None → ArePooled pool (remove requests place) None
+pooled_bare pool requests place r e here same pooled bare h =
+    subst (λ (frames : List ℕ). ArePooled (with_all_free pool frames) (remove requests place) None) (ap (λ (x : Request). x.frames.items) same ∙ bare_items r.frames.items bare)
+    (pooled_free pool (remove requests place) e (subst (λ (x : Request). All IsPooled x.frames.items) (sym same) pooled) (pooled_without pool requests place r e here same h))
+
+-- the last word of the oldest response is read, and the response taken: its grants are ended next, or it has none and is answered
 pub last_goes : (config : Options) (w : World) (g : Flow) (d : Pipeline) (low high : ℕ)
     → w.front.told ≡ None
     → Holds config w g d (front.ResponseLast low high) w.back.stage
     → FrontGoes config w d (front.ResponseLast low high)
 last_goes config w g d low high told h =
-    subst (λ (x : View). Goes config (lines.Move (moves.FrontRead (slot_frame w.front.shape w.front.ring.cons 2) (slot_word w.front.shape w.front.ring.cons 2) last) ∷ front_lines x.told) (record { front = record x { told = None }; back = w.back; under = w.under }) d) (sym stepped)
-    (record {
-      flow = record g { taken = g.taken + 1; replies = drop 1 g.replies };
-      step = Some s.step;
-      does = does_step (moves.FrontRead (slot_frame w.front.shape w.front.ring.cons 2) (slot_word w.front.shape w.front.ring.cons 2) last) (front_lines w.front.told) (rw told refl) s;
-      holds = taken_holds config w g d (next d s.step) low high rep h place.0.oldest place.0.seen found s.now;
-    })
+    subst Becomes (sym stepped) (by_frames (frames_of found.r == 0) refl)
   where
     place : (t : IsTaken g.taken g.front_seen g.replies) × (low ≡ response_word t.rep 0) × (high ≡ response_word t.rep 1)
     place = h.front_at
@@ -195,6 +234,12 @@ last_goes config w g d low high told h =
     last : ℕ
     last = word_of w.under.pages (slot_frame w.front.shape w.front.ring.cons 2) (slot_word w.front.shape w.front.ring.cons 2)
 
+    shown : Shown
+    shown = moves.FrontRead (slot_frame w.front.shape w.front.ring.cons 2) (slot_word w.front.shape w.front.ring.cons 2) last
+
+    Becomes : View → Type 0
+    Becomes x = Goes config (lines.Move shown ∷ front_lines x.told) (record { front = record x { told = None }; back = w.back; under = w.under }) d
+
     is : IsReply g.fetched rep
     is = let replies = h.replies in all_at (IsReply g.fetched) g.replies 0 rep replies.each place.0.oldest
 
@@ -204,7 +249,7 @@ last_goes config w g d low high told h =
     e : Ending
     e = record { request = found.r; status = rep.status }
 
-    s : Stepped None IsSame d [] (λ p. AreStations config (record g { taken = g.taken + 1; replies = drop 1 g.replies }) p true false (is_fetching w.back.stage) (Some e) None (reply_at w.back.stage) (remove w.front.requests found.place) w.back.jobs.works w.under.pages)
+    s : Stepped None IsSame d [] (λ p. AreStations config (taken_flow g) p true false (is_fetching w.back.stage) (Some e) None (reply_at w.back.stage) (remove w.front.requests found.place) w.back.jobs.works w.under.pages)
     s = takes config g d true false (is_fetching w.back.stage) (reply_at w.back.stage) w.front.requests w.back.jobs.works w.under.pages found.place found.r rep e place.0.oldest found.here (sym found.number) refl h.replies h.stations
 
     read : response_of (low ∷ high ∷ last ∷ []) ≡ Ok (response_for rep)
@@ -215,3 +260,38 @@ last_goes config w g d low high told h =
 
     stepped : step_at (front.ResponseLast low high) w.front (answer.Word last) ≡ taken w.front found.place found.r rep.status
     stepped = ap (λ (x : Result Response ℕ). response_at w.front x low (issued w.front (low + high * 2 ^ 32))) read ∙ ap (response_at w.front (Ok (response_for rep)) low) looked_up
+
+    ends : IsEnding g.submitted (drop 1 g.replies) e
+    ends = ending_taken config w g d (front.ResponseLast low high) rep h place.0.oldest found
+
+    its : IsSubmitted w.front.sectors (found.r.number - 1) found.r
+    its = let submitted = h.submitted in submitted.each (found.r.number - 1) found.r ends.known
+
+    by_frames : (b : Bool) → (frames_of found.r == 0) ≡ b → Becomes (if b then answered (freed w.front found.place) found.r rep.status else revokes (freed w.front found.place) found.r rep.status)
+    by_frames true t = record {
+      flow = taken_flow g;
+      steps = s.step ∷ tells.step ∷ [];
+      does = does_after shown (lines.Answer found.r.number rep.status ∷ []) refl s tells;
+      holds = freed_holds config w g d (next (next d s.step) tells.step) low high rep front.Loop w.front.ending at_loop refl refl (omega arith) h place.0.oldest place.0.seen found
+          (pooled_bare w.front.pool w.front.requests found.place found.r e found.here refl its.frames bare h.pool) tells.now tt (λ x same. absurd (none-some x same));
+    }
+      where
+        bare : frames_of found.r ≡ 0
+        bare = grind (arith, nat_tests)
+
+        tells : Stepped None IsSame (next d s.step) (lines.Answer found.r.number rep.status ∷ []) (λ p. AreStations config (taken_flow g) p true false (is_fetching w.back.stage) None None (reply_at w.back.stage) (remove w.front.requests found.place) w.back.jobs.works w.under.pages)
+        tells = answers config (taken_flow g) (next d s.step) true false (is_fetching w.back.stage) (reply_at w.back.stage) (remove w.front.requests found.place) w.back.jobs.works w.under.pages e ends.known ends.positive
+            (dataless found.r.transfer rep.status (still_of found.r its.shaped bare)) s.now
+    by_frames false t = record {
+      flow = taken_flow g;
+      steps = s.step ∷ [];
+      does = does_step shown (front_lines w.front.told) (rw told refl) s;
+      holds = freed_holds config w g d (next d s.step) low high rep (front.GrantRead 0) (Some e) (at_read 0) refl refl (omega arith) h place.0.oldest place.0.seen found
+          (pooled_without w.front.pool w.front.requests found.place found.r e found.here refl h.pool) s.now (e, refl, ends, some_frame)
+          (λ x same. subst (λ (y : Ending). (place : ℕ) → 0 ≤ place → place < frames_of y.request
+          → entry_word0 w.under.pages (frame_at y.request place + 6) ≡ grant_flags y.request.transfer) (same_Some e x same)
+          (λ at le lt. flags_left config w g d (front.ResponseLast low high) rep h place.0.oldest found at lt));
+    }
+      where
+        some_frame : 0 < frames_of found.r
+        some_frame = let other : frames_of found.r ≢ 0 = grind (arith, nat_tests) in omega arith

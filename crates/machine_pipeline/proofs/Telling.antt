@@ -156,7 +156,7 @@ told_goes config w g d n untold h =
         (n / 128) is.known is.positive at.3.1 (omega arith) sized (whole last) stations in
         record {
           flow = g;
-          step = Some s.step;
+          steps = s.step ∷ [];
           does = does_step (moves.FrontRead (frame_at e.request (n / 1024)) (n % 1024) word) (lines.Data e.request.number (n / 128) words ∷ []) refl s;
           holds = goes_on (next d s.step) further (subst (λ (i : ℕ). At (Some e) (Some i) (next d s.step)) (sym (next_sector n last)) s.now)
               (λ k lt. absurd (let none = next_word n last in omega arith));
@@ -166,7 +166,7 @@ told_goes config w g d n untold h =
         let on = not_last n u in
         record {
           flow = g;
-          step = None;
+          steps = [];
           does = said_nothing d (moves.FrontRead (frame_at e.request (n / 1024)) (n % 1024) word) w.front.told untold;
           holds = goes_on d further (subst (λ (i : ℕ). At (Some e) (Some i) d) (sym (same_sector n on)) stations)
               (λ k lt. read k (let one = further_word n on in omega arith)
@@ -179,7 +179,7 @@ told_goes config w g d n untold h =
         (n / 128) is.known is.positive at.3.1 (omega arith) sized (whole last) stations in
         record {
           flow = g;
-          step = Some s.step;
+          steps = s.step ∷ [];
           does = does_step (moves.FrontRead (frame_at e.request (n / 1024)) (n % 1024) word) (lines.Data e.request.number (n / 128) words ∷ []) refl s;
           holds = ends_on config w g d (next d s.step) (front.ReadData n) front.Loop None (with_all_free w.front.pool e.request.frames.items) words w.under.pages (at_data n) at_loop refl refl (omega arith) h
               s.now (pooled_free w.front.pool w.front.requests e its.frames (subst (ArePooled w.front.pool w.front.requests) here h.pool)) tt

@@ -40,8 +40,8 @@ use Rattle.machine_pipeline.proofs.OverMoves.{front_ends, back_ends, job_ends}
 use Rattle.machine_pipeline.proofs.OverRest.{keys_end, notified_ends, submit_ends, enters_ends, attaches_late, halts_no_more}
 use Rattle.machine_pipeline.proofs.Keyed.{negotiates_goes}
 use Rattle.machine_pipeline.proofs.Quiet.{dumps_goes, looks_goes, settles_goes}
-use Rattle.pipeline_laws.specs.Pipeline.{Pipeline, pipeline_of}
-use Rattle.machine_pipeline.specs.Step.{CallAt, after_step, GoesStepwise}
+use Rattle.pipeline_laws.specs.Pipeline.{Pipeline, pipeline_of, after_steps}
+use Rattle.machine_pipeline.specs.Step.{CallAt, GoesStepwise}
 use Rattle.machine_pipeline.specs.Submissions.{submitted_at}
 
 -- the front's loop, whether a request waits or not
@@ -126,7 +126,7 @@ pub run_kept : (config : Options) (hs : List Happening) (w : World) (d : Pipelin
 run_kept config [] w d plain safe kept may = record { pipeline = d; safe = safe; kept = kept }
 run_kept config (h ∷ hs) w d plain safe kept may =
     let one = step_kept config w d h plain safe kept may.0 in
-    run_kept config hs (happens w h) (after_step d one.step) plain (safe_happens w h safe) one.kept may.1
+    run_kept config hs (happens w h) (after_steps one.steps d) plain (safe_happens w h safe) one.kept may.1
 
 -- so all starts
 start_kept : (config : Options) → IsPlain config → IsKept config (start_of config) (pipeline_of config)
@@ -140,7 +140,7 @@ pub steps_on : (config : Options) (hs : List Happening) (w : World) (d : Pipelin
 steps_on config [] w d plain safe kept may = tt
 steps_on config (h ∷ hs) w d plain safe kept may =
     let gone = step_kept config w d h plain safe kept may.0 in
-    (gone.step, gone.does, steps_on config hs (happens w h) (after_step d gone.step) plain (safe_happens w h safe) gone.kept may.1)
+    (gone.steps, gone.does, steps_on config hs (happens w h) (after_steps gone.steps d) plain (safe_happens w h safe) gone.kept may.1)
 
 pub always_steps : (config : Options) (hs : List Happening) → IsPlain config → AreServed hs (start_of config) → GoesStepwise hs (start_of config) (pipeline_of config)
 always_steps config hs plain may = steps_on config hs (start_of config) (pipeline_of config) plain (safe_start config) (start_kept config plain) may

@@ -1,14 +1,17 @@
--- A move of each mover from a given stage, and what has to be shown of it: it is nothing to the pipeline or one step, and what holds goes on holding.
-use Rattle.std.proofs.Common.{◌≡◌, ℕ, List, [], ◌∷◌, ◌++◌, refl, ap, sym, ◌∙◌}
+-- A move of each mover from a given stage, and what has to be shown of it: it is some steps of the pipeline, most often none or one, and what holds goes on holding.
+use Rattle.std.proofs.Common.{◌≡◌, ℕ, true, List, [], ◌∷◌, ◌++◌, refl, ap, sym, ◌∙◌}
 use Rattle.std.specs.Prelude.{Option, Some, None}
+use Rattle.std.specs.Option.{option_to_list}
+use Rattle.std.specs.List.{list_all}
+use Rattle.std.proofs.lemmas.List.{append-nil}
 use Rattle.blk_base.specs.Options.{Options}
 use Rattle.blk_base.specs.declared.ask.BackAnswer.{BackAnswer}
 use Rattle.blk_base.specs.declared.moves.BackMover.TheVariants as back_mover
 use Rattle.blk_base.specs.declared.moves.Move.{Move as Shown}
 use Rattle.schedule_text.specs.declared.line.Line.{Line}
 use Rattle.schedule_text.specs.declared.line.Line.TheVariants.{Move}
-use Rattle.pipeline_laws.specs.Pipeline.{Pipeline, Step, next, step_lines}
-use Rattle.pipeline_laws.specs.Allowed.{IsAllowed}
+use Rattle.pipeline_laws.specs.Pipeline.{Pipeline, Step, next, step_lines, after_steps}
+use Rattle.pipeline_laws.specs.Allowed.{IsAllowed, is_aside}
 use Rattle.pipeline_laws.specs.Disk.{DiskGoes}
 use Rattle.hypervisor.specs.Act.{FrontAct, BackAct, Outcome, Took, front_act, back_act}
 use Rattle.blk_front.specs.declared.stage.Stage.{Stage as FrontStage}
@@ -25,11 +28,11 @@ use Rattle.blk_back.specs.Step as back_step
 use Rattle.split_model.specs.World.{World}
 use Rattle.split_model.specs.Shown.{front_lines, back_lines, halt_lines}
 use Rattle.split_model.specs.Happening.{job_turn, job_after, job_shows}
-use Rattle.machine_pipeline.specs.Step.{Does, IsSame, after_step, CallOf}
+use Rattle.machine_pipeline.specs.Step.{Does, IsSame, CallOf}
 use Rattle.machine_pipeline.proofs.Flow.{Flow}
 use Rattle.machine_pipeline.proofs.Holds.{Holds}
 use Rattle.blk_base.specs.declared.config.Job.{Job}
-use Rattle.pipeline_laws.specs.Submissions.{submitted_at}
+use Rattle.pipeline_laws.specs.Submissions.{submitted_at, submitted_of}
 
 abbrev pub front_turn_at : FrontStage → World → Option FrontAct
 front_turn_at s w = front_act w.under (front_ask.ask_at s w.front)
@@ -55,12 +58,12 @@ back_says b w (Some a) =
     let v : back.View = back_step.step_at b w.back a.answer in
     Move a.shown ∷ back_lines v.told a.answer ++ halt_lines w.back.halted v.halted
 
--- the next machine, and the pipeline that it stands for: after one step, or as it was
+-- the next machine, and the pipeline that it stands for: after the steps that were made
 pub record GoesBy (asked : Option Job) (call : (before after : List (List ℕ)) → Type 0) (config : Options) (said : List Line) (w : World) (d : Pipeline) : Type 0 where
   pub flow : Flow
-  pub step : Option Step
-  pub does : Does asked call said d step
-  pub holds : Holds config w flow (after_step d step) w.front.stage w.back.stage
+  pub steps : List Step
+  pub does : Does asked call said d steps
+  pub holds : Holds config w flow (after_steps steps d) w.front.stage w.back.stage
 
 -- where no call of the disk is made
 abbrev pub Goes : Options → List Line → World → Pipeline → Type 0
@@ -77,18 +80,18 @@ abbrev pub JobGoes : Options → World → Pipeline → ℕ → Outcome → Type
 JobGoes config w d number outcome = GoesBy None (CallOf (back_step.job_ask_of w.back number) outcome) config (job_shows w number (job_turn w number outcome)) (job_after w number (job_turn w number outcome)) d
 
 -- a move by itself is nothing to the pipeline
-pub nothing : (call : (before after : List (List ℕ)) → Type 0) (shown : Shown) (d : Pipeline) → ((a b : List (List ℕ)) → call a b → b ≡ a) → Does None call (Move shown ∷ []) d None
+pub nothing : (call : (before after : List (List ℕ)) → Type 0) (shown : Shown) (d : Pipeline) → ((a b : List (List ℕ)) → call a b → b ≡ a) → Does None call (Move shown ∷ []) d []
 nothing call shown d same = record { asides = Move shown ∷ []; aside = refl; shows = refl; asks = refl; allowed = tt; disk = same }
 
 -- and where there is no move nothing is
-pub no_move : (call : (before after : List (List ℕ)) → Type 0) (d : Pipeline) → ((a b : List (List ℕ)) → call a b → b ≡ a) → Does None call [] d None
+pub no_move : (call : (before after : List (List ℕ)) → Type 0) (d : Pipeline) → ((a b : List (List ℕ)) → call a b → b ≡ a) → Does None call [] d []
 no_move call d same = record { asides = []; aside = refl; shows = refl; asks = refl; allowed = tt; disk = same }
 
 -- so is a move of an end that tells nothing
-pub said_nothing : (d : Pipeline) (shown : Shown) (told : Option Told) → told ≡ None → Does None IsSame (Move shown ∷ front_lines told) d None
+pub said_nothing : (d : Pipeline) (shown : Shown) (told : Option Told) → told ≡ None → Does None IsSame (Move shown ∷ front_lines told) d []
 said_nothing d shown told e = rw e (nothing IsSame shown d (λ a b same. same))
 
-pub silent : (shown : Shown) (told : Option BackTold) (halted : Option Halt) (answer : BackAnswer) (d : Pipeline) → told ≡ None → halted ≡ None → Does None IsSame (Move shown ∷ back_lines told answer ++ halt_lines halted halted) d None
+pub silent : (shown : Shown) (told : Option BackTold) (halted : Option Halt) (answer : BackAnswer) (d : Pipeline) → told ≡ None → halted ≡ None → Does None IsSame (Move shown ∷ back_lines told answer ++ halt_lines halted halted) d []
 silent shown told halted answer d untold unhalted = rw (untold, unhalted) (nothing IsSame shown d (λ a b same. same))
 
 -- one step, with its lines, and what stands after it
@@ -100,9 +103,56 @@ pub record Stepped (asked : Option Job) (call : (before after : List (List ℕ))
   pub disk : (before after : List (List ℕ)) → call before after → DiskGoes step before after
   pub now : After (next d step)
 
-pub does_step : {asked : Option Job} {call : (before after : List (List ℕ)) → Type 0} {d : Pipeline} {lines : List Line} {After : Pipeline → Type 0} (shown : Shown) (said : List Line) → said ≡ lines → (s : Stepped asked call d lines After) → Does asked call (Move shown ∷ said) d (Some s.step)
-does_step shown said e s = record { asides = Move shown ∷ []; aside = refl; shows = ap (λ (ls : List Line). Move shown ∷ ls) (e ∙ sym s.shows); asks = s.asks; allowed = s.allowed; disk = s.disk }
+-- the requests that a first step submits, and those of the steps after it
+pub submits_first : (s : Step) (steps : List Step) → submitted_of (s ∷ steps) ≡ option_to_list (submitted_at s) ++ submitted_of steps
+submits_first s steps = by_step (submitted_at s) refl
+  where
+    by_step : (x : Option Job) → submitted_at s ≡ x → submitted_of (s ∷ steps) ≡ option_to_list (submitted_at s) ++ submitted_of steps
+    by_step None e = rw e refl
+    by_step (Some job) e = rw e refl
+
+submits_one : (s : Step) → submitted_of (s ∷ []) ≡ option_to_list (submitted_at s)
+submits_one s = submits_first s [] ∙ append-nil (option_to_list (submitted_at s))
+
+submits_two : (s t : Step) → submitted_of (s ∷ t ∷ []) ≡ option_to_list (submitted_at s) ++ option_to_list (submitted_at t)
+submits_two s t = submits_first s (t ∷ []) ∙ ap (λ (jobs : List Job). option_to_list (submitted_at s) ++ jobs) (submits_one t)
+
+-- a step after what tells nothing of a request
+does_shown : {asked : Option Job} {call : (before after : List (List ℕ)) → Type 0} {d : Pipeline} {lines : List Line} {After : Pipeline → Type 0} (asides : List Line) → list_all is_aside asides ≡ true → (s : Stepped asked call d lines After) → Does asked call (asides ++ lines) d (s.step ∷ [])
+does_shown {d = d} asides aside s = record {
+  asides = asides;
+  aside = aside;
+  shows = ap (λ (ls : List Line). asides ++ ls) (sym s.shows ∙ sym (append-nil (step_lines d s.step)));
+  asks = submits_one s.step ∙ ap option_to_list s.asks;
+  allowed = (s.allowed, tt);
+  disk = λ before after made. (after, s.disk before after made, refl);
+}
+
+pub does_step : {asked : Option Job} {call : (before after : List (List ℕ)) → Type 0} {d : Pipeline} {lines : List Line} {After : Pipeline → Type 0} (shown : Shown) (said : List Line) → said ≡ lines → (s : Stepped asked call d lines After) → Does asked call (Move shown ∷ said) d (s.step ∷ [])
+does_step shown said e s = rw e (does_shown (Move shown ∷ []) refl s)
 
 -- a step that shows its lines alone
-pub does_alone : {asked : Option Job} {call : (before after : List (List ℕ)) → Type 0} {d : Pipeline} {lines : List Line} {After : Pipeline → Type 0} (s : Stepped asked call d lines After) → Does asked call lines d (Some s.step)
-does_alone s = record { asides = []; aside = refl; shows = sym s.shows; asks = s.asks; allowed = s.allowed; disk = s.disk }
+pub does_alone : {asked : Option Job} {call : (before after : List (List ℕ)) → Type 0} {d : Pipeline} {lines : List Line} {After : Pipeline → Type 0} (s : Stepped asked call d lines After) → Does asked call lines d (s.step ∷ [])
+does_alone s = does_shown [] refl s
+
+-- a step, and then one that shows nothing
+pub does_then : {call : (before after : List (List ℕ)) → Type 0} {d : Pipeline} {lines : List Line} {After Last : Pipeline → Type 0} (shown : Shown) (said : List Line) → said ≡ lines → (s : Stepped None call d lines After) (t : Stepped None IsSame (next d s.step) [] Last) → Does None call (Move shown ∷ said) d (s.step ∷ t.step ∷ [])
+does_then {d = d} shown said e s t = record {
+  asides = Move shown ∷ [];
+  aside = refl;
+  shows = ap (λ (ls : List Line). Move shown ∷ ls) (e ∙ (sym s.shows ∙ sym (ap (λ (ls : List Line). step_lines d s.step ++ (ls ++ [])) t.shows ∙ append-nil (step_lines d s.step))));
+  asks = submits_two s.step t.step ∙ rw (s.asks, t.asks) refl;
+  allowed = (s.allowed, (t.allowed, tt));
+  disk = λ before after made. (after, s.disk before after made, (after, t.disk after after refl, refl));
+}
+
+-- a step that shows nothing, and then another
+pub does_after : {call : (before after : List (List ℕ)) → Type 0} {d : Pipeline} {lines : List Line} {After Last : Pipeline → Type 0} (shown : Shown) (said : List Line) → said ≡ lines → (s : Stepped None IsSame d [] After) (t : Stepped None call (next d s.step) lines Last) → Does None call (Move shown ∷ said) d (s.step ∷ t.step ∷ [])
+does_after {d = d} shown said e s t = record {
+  asides = Move shown ∷ [];
+  aside = refl;
+  shows = ap (λ (ls : List Line). Move shown ∷ ls) (e ∙ (sym t.shows ∙ (sym (append-nil (step_lines (next d s.step) t.step)) ∙ sym (ap (λ (ls : List Line). ls ++ (step_lines (next d s.step) t.step ++ [])) s.shows))));
+  asks = submits_two s.step t.step ∙ rw (s.asks, t.asks) refl;
+  allowed = (s.allowed, (t.allowed, tt));
+  disk = λ before after made. (before, s.disk before before refl, (after, t.disk before after made, refl));
+}

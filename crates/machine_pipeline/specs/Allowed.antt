@@ -5,16 +5,18 @@ use Rattle.line_text.specs.Texts.{is_key_path, is_key_text}
 use Rattle.schedule_text.specs.declared.line.Line.TheVariants.{Halt as HaltLine}
 use Rattle.schedule_text.specs.Range.{IsInRange}
 use Rattle.blk_base.specs.declared.config.Job.{Job}
-use Rattle.blk_base.specs.declared.config.Job.TheVariants.{Read, Write}
+use Rattle.blk_base.specs.declared.config.Job.TheVariants.{Read, Write, Barrier, Flush, Discard}
 use Rattle.blk_front.specs.declared.stage.Stage.{Stage}
 use Rattle.blk_front.specs.declared.stage.Stage.TheVariants.{RingWord}
 use Rattle.blk_front.specs.declared.state.FrontState.{FrontState}
-use Rattle.blk_front.specs.declared.state.FrontState.TheVariants.{Agreed, Leaving, Closed, Broken}
+use Rattle.blk_front.specs.declared.state.FrontState.TheVariants.{Agreed, Connected, Leaving, Closed, Broken}
+use Rattle.blk_front.specs.declared.state.Offers.{Offers}
 use Rattle.ring_words.specs.Shape.{Shape}
 use Rattle.blk_front.specs.View as front
 use Rattle.blk_front.specs.Ask.{is_through}
 use Rattle.blk_front.specs.State.{is_made}
 use Rattle.blk_front.specs.Submit.{is_connected}
+use Rattle.blk_back.specs.View as back
 use Rattle.blk_back.specs.declared.stage.Stage.TheVariants.{Halted}
 use Rattle.blk_back.specs.declared.told.Halt.{Halt}
 use Rattle.split_model.specs.World.{World, is_quiet}
@@ -24,11 +26,13 @@ use Rattle.split_model.specs.Happening.{Happening, FrontMoves, BackMoves, JobMov
 use Rattle.pipeline_laws.specs.Allowed.{is_farewell}
 use Rattle.hypervisor.specs.Act.{IsGiven}
 
--- a read of some sectors, or a write of some whose tag has 32 bits
-abbrev pub IsTransfer : Job → Type 0
-IsTransfer (Read sector count) = 1 ≤ count
-IsTransfer (Write sector count tag) = (1 ≤ count) × (tag < 2 ^ 32)
-IsTransfer job = ⊥
+-- a read of some sectors, a write or a barrier of some whose tag has 32 bits, a flush, or a discard of some, whose number has 32 bits
+abbrev pub IsServable : Job → Type 0
+IsServable (Read sector count) = 1 ≤ count
+IsServable (Write sector count tag) = (1 ≤ count) × (tag < 2 ^ 32)
+IsServable (Barrier sector count tag) = (1 ≤ count) × (tag < 2 ^ 32)
+IsServable Flush = Unit {0}
+IsServable (Discard sector count) = (1 ≤ count) × (count < 2 ^ 32)
 
 -- a path and a text of the grammar
 abbrev pub IsSpelled : KeyMove → Type 0
@@ -42,9 +46,16 @@ abbrev pub is_free : Stage → Bool
 is_free (RingWord k) = k == 0
 is_free s = is_made s
 
--- the order that is agreed is the one that the front wished; the front leaves once the back has done all that follows its halt, is closed once the back has halted, and finds no state that breaks it
+-- what the front takes its back to serve is what the back published
+pub record ArePublished (w : World) (offers : Offers) : Type 0 where
+  pub barrier : offers.barrier ≡ (let v : back.View = w.back in v.jobs.info.barrier)
+  pub flush : offers.flush ≡ (let v : back.View = w.back in v.jobs.info.flush)
+  pub discard : offers.discard ≡ (let v : back.View = w.back in v.jobs.info.discard)
+
+-- the order that is agreed is the one that the front wished; as it connects it knows what the back published; the front leaves once the back has done all that follows its halt, is closed once the back has halted, and finds no state that breaks it
 abbrev pub MayEnter : World → FrontState → Type 0
 MayEnter w (Agreed order) = let v : front.View = w.front in order ≡ v.shape.order
+MayEnter w (Connected offers) = ArePublished w offers
 MayEnter w Leaving = w.back.stage ≡ Halted
 MayEnter w Closed = is_some w.back.halted ≡ true
 MayEnter w (Broken word) = ⊥
@@ -67,7 +78,7 @@ pub record IsFarewell (w : World) (why : Halt) : Type 0 where
   pub free : is_free w.front.stage ≡ true
   pub said : IsSaid why
 
--- the terms that the back takes are the front's own; it moves only once the front made its ring and its port, or after it halted, and then the front makes none; a sector that the disk gives has 128 words of 32 bits; what is submitted is a read or a write; no hostile hand overwrites a word; paths and texts of keys are of the grammar; and where all is found quiet it is
+-- the terms that the back takes are the front's own; it moves only once the front made its ring and its port, or after it halted, and then the front makes none; a sector that the disk gives has 128 words of 32 bits; what is submitted may be served; no hostile hand overwrites a word; paths and texts of keys are of the grammar; and where all is found quiet it is
 abbrev pub IsServed : World → Happening → Type 0
 IsServed w FrontMoves = is_some w.back.halted ≡ true → is_connected w.front.stage ≡ true
 IsServed w BackMoves = is_some w.back.halted ≡ false → is_connected w.front.stage ≡ true
@@ -76,7 +87,7 @@ IsServed w (Negotiates at move) = IsSpelled move
 IsServed w (FrontEnters state) = MayEnter w state
 IsServed w (BackAttaches shape grefs port) = AreTerms w shape grefs port
 IsServed w (BackHalts why) = IsFarewell w why
-IsServed w (Submits job) = IsTransfer job
+IsServed w (Submits job) = IsServable job
 IsServed w (Pokes frame word value) = ⊥
 IsServed w (Looks quiet) = quiet ≡ true → is_quiet w ≡ true
 IsServed w (Settles quiet) = quiet ≡ true → is_quiet w ≡ true

@@ -1,14 +1,15 @@
 //! How the machine of shared words (`split_model`) stands for a pipeline (`pipeline_laws`): at each
 //! moment a request is at one station, by what the front, the ring (`io/ring.h`), the back and its
-//! jobs have of it. Whatever happens is nothing to the pipeline, or one step of it. No word of the
-//! plain disk stands here: what a report of the machine is follows from the pipeline's laws.
+//! jobs have of it. Whatever happens is some steps of the pipeline, most often none or one. No word of
+//! the plain disk stands here: what a report of the machine is follows from the pipeline's laws.
 //!
 //! The premises: a ring of 1 to 16 pages, under either layout of entries (`IsPlain`); the order that is
 //! agreed is the one that the front wished, and the terms that the back takes are the front's own; the
 //! back moves only once the front made its ring and its port, and halts only where the front closes,
 //! has no request left and is at nothing; the front leaves after the back, and finds nothing that
-//! breaks it; what is submitted are reads and writes, keys are spelled as the grammar has them, and all
-//! is quiet where it is found so (`AreServed`).
+//! breaks it; as it connects it knows what the back published; what is submitted moves or discards some
+//! sectors, or is a flush, keys are spelled as the grammar has them, and all is quiet where it is found
+//! so (`AreServed`).
 //! What a schedule makes happen (`vbd_model`) is such until a word is overwritten.
 #![tactic(auto)]
 
@@ -24,10 +25,10 @@ ghost use Rattle.machine_pipeline.specs.Allowed.{AreServed};
 ghost use Rattle.machine_pipeline.specs.Step.{GoesStepwise};
 ghost use Rattle.machine_pipeline.specs.Run.{IsPipelineRun};
 
-/// Each happening of a history leaves the pipeline as it is, or makes exactly one of its steps,
-/// which the pipeline allows: the lines that the happening shows are that step's, but for moves of
-/// the machine, and its call of the disk is the one that the happening makes.
-pub fn each_happening_is_at_most_one_step()
+/// Each happening of a history makes some steps of the pipeline, most often none or one, which the
+/// pipeline allows: the lines that the happening shows are those of its steps, but for moves of the
+/// machine, and their call of the disk is the one that the happening makes.
+pub fn each_happening_is_steps_of_the_pipeline()
     ensures { (config : Options) (history : List Happening) → IsPlain config → AreServed history (start_of config)
         → GoesStepwise history (start_of config) (pipeline_of config) }
 {}

@@ -56,7 +56,7 @@ pub back_happens : (w : World) (h : Happening) → IsBack w.back → (let x : Wo
 back_happens w FrontMoves is = beside_front w (front_turn w) is
 back_happens w BackMoves is = back_after_move w Took (back_turn w Took) is refl
 back_happens w (JobMoves number outcome) is = back_after_job w number outcome (job_turn w number outcome) is refl
-back_happens w (BackAttaches shape grefs port) is = attach_cases (λ v shown. IsBack v) w shape grefs port (λ may named. back_attached shape grefs port w.back may is) is
+back_happens w (BackAttaches shape grefs port) is = attach_cases (λ v shown. IsBack v) w shape grefs port (λ may named says. back_attached shape grefs port w.back may is) is
 back_happens w (BackHalts why) is = back_halted why w.back is
 back_happens w h is = is
 

@@ -14,7 +14,7 @@ use Rattle.ring_words.specs.Ring.{next_of, requests_of, overruns, notifies}
 use Rattle.ring_words.specs.Shape.{Shape, entry_words_of, slot_word_of}
 use Rattle.blk_layout.specs.Entry.{request_of}
 use Rattle.back_jobs.specs.Task.{Work, IsAnswer as IsJobAnswer}
-use Rattle.back_jobs.specs.Jobs.{place_of, work_of, ask_job, first_mapping, is_done}
+use Rattle.back_jobs.specs.Jobs.{place_of, work_of, waits, ask_job, first_mapping, is_done}
 use Rattle.back_jobs.specs.Hands.{hands_in, Names}
 use Rattle.blk_back.specs.declared.told.Halt.{Halt}
 use Rattle.blk_back.specs.declared.told.Halt.TheVariants as halt
@@ -122,7 +122,7 @@ back_names v b = names_at v.stage v b.fetched b.mapped b
 
 job_names_at : (halted : Bool) (v : View) (number : ℕ) → AreJobs v.jobs.works → Names (hands_of v) (if halted then ask.Wait else ask_job v.jobs number)
 job_names_at true v number all = tt
-job_names_at false v number all = job_names v (ask_job v.jobs number) (asked_names v.jobs.works (place_of v.jobs.works number) (work_of v.jobs.works number) refl all)
+job_names_at false v number all = job_names v (ask_job v.jobs number) (asked_names v.jobs.works (place_of v.jobs.works number) (waits v.jobs.works number) (work_of v.jobs.works number) refl all)
 
 pub job_names_own : (v : View) (number : ℕ) → IsBack v → Names (hands_of v) (job_ask_of v number)
 job_names_own v number b = job_names_at (is_some v.halted) v number b.jobs
@@ -247,7 +247,7 @@ back_halted why v b =
 
 job_step_at : (halted : Bool) (v : View) (number : ℕ) (given : BackAnswer) → IsJobAnswer (if halted then ask.Wait else ask_job v.jobs number) given → IsBack v → IsBack (record (job_step v number given) { told = None })
 job_step_at true v number given h b = absurd h
-job_step_at false v number given h b = record { fetched = b.fetched; mapped = b.mapped; writable = b.writable; jobs = told_jobs v.jobs.works (place_of v.jobs.works number) (work_of v.jobs.works number) given refl h b.jobs }
+job_step_at false v number given h b = record { fetched = b.fetched; mapped = b.mapped; writable = b.writable; jobs = told_jobs v.jobs.works (place_of v.jobs.works number) (waits v.jobs.works number) (work_of v.jobs.works number) given refl h b.jobs }
 
 pub job_step_kept : (v : View) (number : ℕ) (given : BackAnswer) → IsJobAnswer (job_ask_of v number) given → IsBack v → IsBack (record (job_step v number given) { told = None })
 job_step_kept v number given h b = job_step_at (is_some v.halted) v number given h b

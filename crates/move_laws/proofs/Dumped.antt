@@ -165,6 +165,8 @@ effect_none id index a = refl
 back_none : (t : Option BackTold) (a : BackAnswer) → AllByRecursion IsNoWord (back_lines t a)
 back_none None a = tt
 back_none (Some (back_told.Effect id index)) a = (effect_none id index a, tt)
+back_none (Some (back_told.Flushed id)) a = (refl, tt)
+back_none (Some (back_told.Trimmed id)) a = (refl, tt)
 back_none (Some (back_told.Fault id index)) a = (refl, tt)
 back_none (Some (back_told.Reply id status)) a = (refl, tt)
 

@@ -30,10 +30,10 @@ use Rattle.blk_front.specs.declared.told.Refusal.{Refusal}
 use Rattle.blk_front.specs.declared.told.Refusal.TheVariants as refusal
 use Rattle.blk_front.specs.declared.request.Wish.{Wish}
 use Rattle.blk_front.specs.Pool.{lowest_of, with_taken, with_free, with_all_free, taking}
-use Rattle.blk_front.specs.Request.{is_write, has_data, frame_at, frames_for, words_in}
+use Rattle.blk_front.specs.Request.{is_write, named_of, has_data, frame_at, frames_for, words_in}
 use Rattle.blk_front.specs.View.{View, next_request, start_of, slot_frame, slot_word, ring_frame, ring_page_frame, entry_frame, entry_word}
 use Rattle.blk_front.specs.Ask.{ask_at, ask_of, data_ask, name_ask, grant_ask, revoke_ask, end_ask, read_ask, issue_ask, is_through, loop_ask, StaysInMemory}
-use Rattle.blk_front.specs.Step.{at, broken, looked, issue_stage, data_stage, granted, ring_granted, ring_left, loop_step, found_at, issued, response_at, is_mapped, finished, ended, revoked, sector_told, data_step, step_at, step_of}
+use Rattle.blk_front.specs.Step.{at, broken, looked, entered, begun, answered, freed, revokes, data_stage, granted, ring_granted, ring_left, loop_step, found_at, issued, response_at, is_mapped, finished, ended, revoked, sector_told, data_step, step_at, step_of}
 use Rattle.blk_front.specs.State.{is_unmade, may_enter, in_state, enters}
 use Rattle.blk_front.specs.Submit.{is_ready, unfinished, wish_of, submit_with, submit_one, submit_of}
 use Rattle.blk_front.proofs.Shapes.{few_pages, wide_entries}
@@ -114,9 +114,18 @@ data_within r n shared = (shared_frame r (n / 1024) shared, omega arith)
 name_within : (r : Request) (place : ℕ) → Shared r → StaysInMemory (name_ask (Some r) place)
 name_within r place shared = entry_within (frame_at r place) (shared_frame r place shared)
 
-issue_within : (r : Request) (way : Transfer) → Shared r → StaysInMemory (issue_ask r way)
-issue_within r transfer.Read shared = name_within r 0 shared
-issue_within r (transfer.Write tag) shared = data_within r 0 shared
+some_words : (abi : Abi) → 1 < entry_words_of abi
+some_words abi = let wide = wide_entries abi in omega arith
+
+first_word : (v : View) → v.shape.order ≤ 4 → (slot_frame v.shape v.ring.prod 0 < 1018) × (slot_word v.shape v.ring.prod 0 < 1024)
+first_word v narrow = let some = some_words v.shape.abi in in_slot v.shape v.ring.prod 0 narrow (omega arith)
+
+issue_within : (v : View) (r : Request) (way : Transfer) → v.shape.order ≤ 4 → Shared r → StaysInMemory (issue_ask v r way)
+issue_within v r transfer.Read narrow shared = name_within r 0 shared
+issue_within v r (transfer.Write tag) narrow shared = data_within r 0 shared
+issue_within v r (transfer.Barrier tag) narrow shared = data_within r 0 shared
+issue_within v r transfer.Flush narrow shared = first_word v narrow
+issue_within v r (transfer.Discard sectors) narrow shared = first_word v narrow
 
 -- while a request is issued
 next_data_within : (v : View) (n : ℕ) (r : Option Request) → All Shared v.requests → next_request v ≡ r → StaysInMemory (data_ask r n)
@@ -145,7 +154,7 @@ read_within n None shared = tt
 read_within n (Some e) shared = (shared_frame e.request (n / 1024) shared, omega arith)
 
 loop_ask_within : (v : View) (r : Option Request) → v.shape.order ≤ 4 → All Shared v.requests → next_request v ≡ r → StaysInMemory (loop_ask v r)
-loop_ask_within v (Some r) narrow all e = issue_within r r.transfer (next_shared v r all e)
+loop_ask_within v (Some r) narrow all e = issue_within v r r.transfer narrow (next_shared v r all e)
 loop_ask_within v None narrow all e =
     loop_within (v.asleep || is_through v) (responses_of v.ring v.seen == 0) (slot_frame v.shape v.ring.cons 0) (slot_word v.shape v.ring.cons 0) (response_in v 0 narrow (omega arith))
 
@@ -202,12 +211,19 @@ looked_kept v word otherwise f h =
     either (nat_lt (distance_of v.ring.cons v.ring.prod) (distance_of v.ring.cons word)) (broken word v) (if word == v.ring.cons then otherwise else record v { seen = word; stage = stage.Loop }) (record { order = f.order; placed = tt; shared = f.shared; ending = f.ending; pool = f.pool })
     (either (word == v.ring.cons) otherwise (record v { seen = word; stage = stage.Loop }) h (record { order = f.order; placed = tt; shared = f.shared; ending = f.ending; pool = f.pool }))
 
-issue_placed : (way : Transfer) (shape : Shape) → IsPlaced (issue_stage way) shape
-issue_placed transfer.Read shape = tt
-issue_placed (transfer.Write tag) shape = tt
+-- and at a word of the entry of one of them
+entered_kept : (v : View) (r : Request) (s : Stage) → IsPlaced s v.shape → IsFront v → IsFront (entered v r s)
+entered_kept v r s p f = record { order = f.order; placed = p; shared = f.shared; ending = f.ending; pool = f.pool }
+
+begun_kept : (v : View) (r : Request) (way : Transfer) → IsFront v → IsFront (begun v r way)
+begun_kept v r transfer.Read f = at_stage (stage.GrantFence 0) v tt f
+begun_kept v r (transfer.Write tag) f = at_stage (stage.Data 1) v tt f
+begun_kept v r (transfer.Barrier tag) f = at_stage (stage.Data 1) v tt f
+begun_kept v r transfer.Flush f = entered_kept v r (stage.Slot 1) (some_words v.shape.abi) f
+begun_kept v r (transfer.Discard sectors) f = entered_kept v r (stage.Slot 1) (some_words v.shape.abi) f
 
 loop_kept : (v : View) (r : Option Request) (x : FrontAnswer) → IsFront v → next_request v ≡ r → IsFront (loop_step v r x)
-loop_kept v (Some r) x f e = at_stage (issue_stage r.transfer) v (issue_placed r.transfer v.shape) f
+loop_kept v (Some r) x f e = begun_kept v r r.transfer f
 loop_kept v None (answer.Word word) f e =
     either (responses_of v.ring v.seen == 0) (looked v word (record v { seen = word; stage = stage.StoreEvent })) (at (stage.ResponseHigh word) v)
     (looked_kept v word (record v { seen = word; stage = stage.StoreEvent }) f (record { order = f.order; placed = tt; shared = f.shared; ending = f.ending; pool = f.pool })) (at_stage (stage.ResponseHigh word) v tt f)
@@ -230,7 +246,10 @@ found_shared requests (Some place) all = found_in requests place (slice_get requ
 response_kept : (v : View) (response : Result Response ℕ) (low : ℕ) (found : Option (ℕ × Request)) → IsFront v → FoundShared found → IsFront (response_at v response low found)
 response_kept v response low None f h = record { order = f.order; placed = tt; shared = f.shared; ending = f.ending; pool = f.pool }
 response_kept v (Err word) low (Some found) f h = record { order = f.order; placed = tt; shared = f.shared; ending = f.ending; pool = f.pool }
-response_kept v (Ok response) low (Some found) f h = record { order = f.order; placed = tt; shared = All-append Shared _ _ (All-take Shared found.0 v.requests f.shared) (All-drop Shared (suc found.0) v.requests f.shared); ending = h; pool = f.pool }
+response_kept v (Ok response) low (Some found) f h =
+    let rest = All-append Shared _ _ (All-take Shared found.0 v.requests f.shared) (All-drop Shared (suc found.0) v.requests f.shared) in
+    either (length found.1.frames.items == 0) (answered (freed v found.0) found.1 response.status) (revokes (freed v found.0) found.1 response.status)
+    (record { order = f.order; placed = tt; shared = rest; ending = f.ending; pool = f.pool }) (record { order = f.order; placed = tt; shared = rest; ending = h; pool = f.pool })
 
 -- frames that are given back leave the pool as long as it is
 freed_long : (pool : List Bool) (frames : List ℕ) → length (with_all_free pool frames) ≡ length pool
@@ -262,12 +281,9 @@ data_placed : (r : Option Request) (n : ℕ) (shape : Shape) → IsPlaced (data_
 data_placed None n shape = tt
 data_placed (Some r) n shape = either_stage (nat_lt (n + 1) (words_in r)) (stage.Data (n + 1)) (stage.GrantFrame 0) shape (λ t. tt) (λ t. tt)
 
-some_words : (abi : Abi) → 0 < entry_words_of abi
-some_words abi = let wide = wide_entries abi in omega arith
-
 granted_kept : (v : View) (r : Option Request) (place : ℕ) → IsFront v → IsFront (granted r place v)
 granted_kept v None place f = f
-granted_kept v (Some r) place f = either (nat_lt (place + 1) (length r.frames.items)) _ _ (at_stage (stage.GrantFrame (place + 1)) v tt f) (record { order = f.order; placed = some_words v.shape.abi; shared = f.shared; ending = f.ending; pool = f.pool })
+granted_kept v (Some r) place f = either (nat_lt (place + 1) (length r.frames.items)) _ _ (at_stage (stage.GrantFrame (place + 1)) v tt f) (entered_kept v r (stage.Slot 0) (let some = some_words v.shape.abi in omega arith) f)
 
 -- the next page of the ring is granted, or its grant ended
 page_granted : (v : View) (page : ℕ) → IsPlaced (ring_granted v page) v.shape
@@ -336,7 +352,7 @@ in_state_kept (state.Agreed order) v may f = record {
   ending = f.ending;
   pool = f.pool;
 }
-in_state_kept state.Connected v may f = at_stage _ v tt f
+in_state_kept (state.Connected offers) v may f = record { order = f.order; placed = tt; shared = f.shared; ending = f.ending; pool = f.pool }
 in_state_kept state.Closing v may f = record { order = f.order; placed = f.placed; shared = f.shared; ending = f.ending; pool = f.pool }
 in_state_kept state.Leaving v may f = at_stage _ v (pow_pos v.shape.order) f
 in_state_kept state.Closed v may f = at_stage _ v tt f
@@ -383,14 +399,14 @@ submit_wish v (Some wish) f =
     let frames = taking (frames_for wish.count) v.pool [] in
     let unless_full = if nat_le (entries_of v.shape.order) (unfinished v) then (Err refusal.Full, v) else submit_with v wish frames in
     let unless_long = if nat_lt 11 (frames_for wish.count) then (Err refusal.Long, v) else unless_full in
-    either_submit (is_write wish.transfer && v.read_only) (Err refusal.ReadOnly, v) (if nat_lt v.sectors (wish.sector + wish.count) then (Err refusal.Range, v) else unless_long) f
-    (either_submit (nat_lt v.sectors (wish.sector + wish.count)) (Err refusal.Range, v) unless_long f
+    either_submit (is_write wish.transfer && v.read_only) (Err refusal.ReadOnly, v) (if nat_lt v.sectors (wish.sector + named_of wish.transfer wish.count) then (Err refusal.Range, v) else unless_long) f
+    (either_submit (nat_lt v.sectors (wish.sector + named_of wish.transfer wish.count)) (Err refusal.Range, v) unless_long f
     (either_submit (nat_lt 11 (frames_for wish.count)) (Err refusal.Long, v) unless_full f
     (either_submit (nat_le (entries_of v.shape.order) (unfinished v)) (Err refusal.Full, v) (submit_with v wish frames) f (submit_frames v wish (frames_for wish.count) frames refl f))))
 
 pub front_submit : (v : View) (job : Job) → IsFront v → IsFront (submit_of v job).1
 front_submit v job f =
-    let unless_unready = if not (is_ready v.stage) then (Err refusal.NotReady, v) else submit_one v (wish_of job) in
+    let unless_unready = if not (is_ready v.stage) then (Err refusal.NotReady, v) else submit_one v (wish_of v.offers job) in
     either_submit (v.last == 4294967295) (Err refusal.Spent, v) (if v.closing then (Err refusal.Closing, v) else unless_unready) f
     (either_submit v.closing (Err refusal.Closing, v) unless_unready f
-    (either_submit (not (is_ready v.stage)) (Err refusal.NotReady, v) (submit_one v (wish_of job)) f (submit_wish v (wish_of job) f)))
+    (either_submit (not (is_ready v.stage)) (Err refusal.NotReady, v) (submit_one v (wish_of v.offers job)) f (submit_wish v (wish_of v.offers job) f)))

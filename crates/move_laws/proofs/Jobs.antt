@@ -1,6 +1,6 @@
 -- A job names the mapping in its hand and a word of its page, whatever it is told that its ask allows.
 use Rattle.std.proofs.Common.{◌≡◌, ℕ, ◌+◌, ◌<◌, ◌≤◌, suc, Bool, true, false, cond, if◌then◌else◌, List, [], ◌∷◌, take, refl, ap, ◌∙◌, subst, arith}
-use Rattle.std.specs.Prelude.{All, Option, Some, None, is_some, nat_le, ◌==◌}
+use Rattle.std.specs.Prelude.{All, Option, Some, None, is_some, not, nat_le, ◌==◌}
 use Rattle.std.specs.List.{AllByRecursion}
 use Rattle.std.proofs.lemmas.Option.{none-some, slice_get_within, get_or_from_slice_get}
 use Rattle.std.proofs.lemmas.List.Elements.{All-nil, All-tail, All-set, All-push, All-append, All-take, All-drop, All-get_or, recursion_from_All}
@@ -26,7 +26,7 @@ use Rattle.segment_list.specs.Verdict.{transfer_verdict, flush_verdict, verdict_
 use Rattle.segment_list.proofs.Served.{transfer_served}
 use Rattle.back_jobs.specs.declared.stage.Stage.{Stage}
 use Rattle.back_jobs.specs.declared.stage.Stage.TheVariants as stage
-use Rattle.back_jobs.specs.Task.{Work, ask_of, ask_at, map_ask, mode_of, step_of, step_at, sector_stage, next_sector, next_segment, counted, first_of, rest_of, last_of, begun, served, moving, ended, IsAnswer}
+use Rattle.back_jobs.specs.Task.{Work, ask_of, ask_at, map_ask, mode_of, step_of, step_at, sector_stage, next_sector, next_segment, counted, first_of, rest_of, last_of, begun, served, moving, ended, frameless, IsAnswer}
 use Rattle.back_jobs.specs.Jobs.{Held, mapping_at, asked, work_at, told_at, removed_at, behind_mapping, start_job}
 use Rattle.back_jobs.specs.Hands.{hand_of, hands_in, Names}
 use Rattle.back_jobs.proofs.Hands.{hand_at, named_in}
@@ -76,6 +76,8 @@ names_at (stage.WriteWord m k) t sound p =
     (only m, p.2.0 ∙ ap mode_of p.2.1, omega arith)
 names_at (stage.Unmap m) t sound p = only m
 names_at (stage.GiveUp m) t sound p = only m
+names_at stage.Flush t sound p = tt
+names_at (stage.Trim count) t sound p = tt
 names_at (stage.Done status) t sound p = tt
 
 job_names_hand : (t : Work) → IsJob t → Names (hand_of t) (ask_of t)
@@ -136,6 +138,10 @@ step_job_at (stage.WriteWord m k) t answer.Done sound p h =
     further n lt other = grind (arith, nat_tests)
 step_job_at (stage.Unmap m) t answer.Done sound p h = next_segment_job t (rest_of t.rest) (rest_sound t.rest sound)
 step_job_at (stage.GiveUp m) t answer.Done sound p h = record { segments = sound; placed = tt }
+step_job_at stage.Flush t answer.Done sound p h = record { segments = sound; placed = tt }
+step_job_at stage.Flush t answer.DiskFailed sound p h = record { segments = sound; placed = tt }
+step_job_at (stage.Trim count) t answer.Done sound p h = record { segments = sound; placed = tt }
+step_job_at (stage.Trim count) t answer.DiskFailed sound p h = record { segments = sound; placed = tt }
 step_job_at s t given sound p h = absurd h
 
 step_job : (t : Work) (given : BackAnswer) → IsAnswer (ask_of t) given → IsJob t → IsJob (step_of t given)
@@ -155,10 +161,10 @@ choose P p false false true d A B C D at_a at_b at_c at_d h = at_c h
 choose P p false false false true A B C D at_a at_b at_c at_d h = at_d refl
 choose P p false false false false A B C D at_a at_b at_c at_d h = absurd (cc)
 
-no_flush : (code : ℕ) → nat_le code 1 ≡ true → (code == 3) ≡ true → ⊥
+no_flush : (code : ℕ) → nat_le code 2 ≡ true → (code == 3) ≡ true → ⊥
 no_flush code few is = grind (arith, nat_tests)
 
-pub direct_served : (code count device id sector : ℕ) (segments : List Segment) (info : DiskInfo) (p : Plan) → nat_le code 1 ≡ true → verdict_of (Direct code count device id sector segments) info ≡ verdict.Serve p → (0 < count) × IsOnDisk sector (take count segments) info
+pub direct_served : (code count device id sector : ℕ) (segments : List Segment) (info : DiskInfo) (p : Plan) → nat_le code 2 ≡ true → verdict_of (Direct code count device id sector segments) info ≡ verdict.Serve p → (0 < count) × IsOnDisk sector (take count segments) info
 direct_served code count device id sector segments info p few h =
     choose (IsOn count sector segments info) p
     (code == op_code op.Read) (code == op_code op.Write) (code == op_code op.Barrier) (code == op_code op.Flush)
@@ -167,9 +173,10 @@ direct_served code count device id sector segments info p few h =
 
 served_job : (number : ℕ) (request : RawRequest) (size : ℕ) (info : DiskInfo) (p : Plan) → verdict_of request info ≡ verdict.Serve p → IsJob (served number request size)
 served_job number (Direct code count device id sector segments) size info p h =
-    either (nat_le code 1) (moving number (Direct code count device id sector segments) size (code == 1) sector (take count segments)) (ended number (Direct code count device id sector segments) size (stage.Done Error))
+    let request : RawRequest = Direct code count device id sector segments in
+    either (nat_le code 2) (moving number request size (not (code == 0)) sector (take count segments)) _
     (λ few. let sound = recursion_from_All IsSound (take count segments) (direct_served code count device id sector segments info p few h).1.sound in record { segments = sound; placed = first_last (take count segments) sound })
-    (λ more. record { segments = tt; placed = tt })
+    (λ more. either (code == 3) (frameless number request size sector stage.Flush) (ended number request size (stage.Done Error)) (λ flush. record { segments = tt; placed = tt }) (λ other. record { segments = tt; placed = tt }))
 served_job number (Discard flag device id sector count) size info p h = record { segments = tt; placed = tt }
 served_job number (Indirect code count device id sector pages) size info p h = record { segments = tt; placed = tt }
 
@@ -188,10 +195,11 @@ none_jobs = All-nil IsJob
 pub started_jobs : (h : Held) (number : ℕ) (request : RawRequest) → AreJobs h.works → AreJobs (start_job h number request).works
 started_jobs h number request all = All-push IsJob h.works _ all (begun_job number request h.info.sectors h.info (verdict_of request h.info) refl)
 
-pub told_jobs : (works : List Work) (place : Option ℕ) (found : Option Work) (given : BackAnswer) → work_at works place ≡ found → IsAnswer (asked found) given → AreJobs works → AreJobs (told_at works place found given)
-told_jobs works None found given e h all = all
-told_jobs works (Some place) None given e h all = all
-told_jobs works (Some place) (Some t) given e h all =
+pub told_jobs : (works : List Work) (place : Option ℕ) (waits : Bool) (found : Option Work) (given : BackAnswer) → work_at works place ≡ found → IsAnswer (asked waits found) given → AreJobs works → AreJobs (told_at works place found given)
+told_jobs works place waits None given e h all = absurd h
+told_jobs works place true (Some t) given e h all = absurd h
+told_jobs works None false (Some t) given e h all = all
+told_jobs works (Some place) false (Some t) given e h all =
     let within = slice_get_within works place t e in
     let same = get_or_from_slice_get works place t t e in
     All-set IsJob works place (step_of t given) (step_job t given h (subst IsJob same (All-get_or IsJob works place t within all))) all
@@ -211,10 +219,11 @@ behind_jobs (t ∷ works) all =
     behind_jobs_at (is_some (mapping_at t.stage)) works rest (behind_jobs works rest)
 
 -- what a job asks names what jobs hold
-pub asked_names : (works : List Work) (place : Option ℕ) (found : Option Work) → work_at works place ≡ found → AreJobs works → Names (hands_in works) (asked found)
-asked_names works place None e all = tt
-asked_names works None (Some t) e all = absurd (none-some t e)
-asked_names works (Some place) (Some t) e all =
+pub asked_names : (works : List Work) (place : Option ℕ) (waits : Bool) (found : Option Work) → work_at works place ≡ found → AreJobs works → Names (hands_in works) (asked waits found)
+asked_names works place waits None e all = tt
+asked_names works place true (Some t) e all = tt
+asked_names works None false (Some t) e all = absurd (none-some t e)
+asked_names works (Some place) false (Some t) e all =
     let within = slice_get_within works place t e in
     let same = get_or_from_slice_get works place t t e in
     named_in works place t (ask_of t) e (job_names_hand t (subst IsJob same (All-get_or IsJob works place t within all)))

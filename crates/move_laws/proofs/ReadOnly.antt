@@ -1,6 +1,6 @@
--- The jobs of a read-only disk move no word to it, whatever happens.
-use Rattle.std.proofs.Common.{◌≡◌, ℕ, ◌+◌, ◌==◌, suc, Bool, true, false, true≢false, cond, if◌then◌else◌, List, [], ◌∷◌, ◌++◌, take, refl, sym, ap, ◌∙◌, subst, arith}
-use Rattle.std.specs.Prelude.{All, Option, Some, None, is_some, nat_le, position}
+-- The jobs of a read-only disk move no word to it and trim no sector of it, whatever happens.
+use Rattle.std.proofs.Common.{◌≡◌, ℕ, ◌+◌, ◌==◌, zero, suc, Bool, true, false, true≢false, cond, if◌then◌else◌, List, [], ◌∷◌, ◌++◌, take, refl, sym, ap, ◌∙◌, subst, arith}
+use Rattle.std.specs.Prelude.{All, Option, Some, None, is_some, nat_le, not, position}
 use Rattle.std.proofs.lemmas.Option.{none-some, slice_get_within, get_or_from_slice_get}
 use Rattle.std.proofs.lemmas.List.Elements.{All-nil, All-tail, All-set, All-push, All-append, All-take, All-drop, All-get_or}
 use Rattle.std.proofs.lemmas.Bool.Decides.{nat_tests}
@@ -23,8 +23,8 @@ use Rattle.segment_list.specs.declared.verdict.Verdict.TheVariants as verdict
 use Rattle.segment_list.specs.Verdict.{verdict_of}
 use Rattle.back_jobs.specs.declared.stage.Stage.{Stage as JobStage}
 use Rattle.back_jobs.specs.declared.stage.Stage.TheVariants as job
-use Rattle.back_jobs.specs.Task.{Work, ask_at, map_ask, step_of, step_at as job_step_at, next_sector, next_segment, counted, rest_of, last_of, begun, moving, ended}
-use Rattle.back_jobs.specs.Jobs.{Held, work_at, work_of, place_of, asked, ask_job, told_at, removed_at, behind_mapping, mapping_at, is_done, start_job}
+use Rattle.back_jobs.specs.Task.{Work, ask_at, map_ask, step_of, step_at as job_step_at, sector_stage, next_sector, next_segment, counted, rest_of, last_of, begun, moving, ended, frameless}
+use Rattle.back_jobs.specs.Jobs.{Held, work_at, work_of, place_of, waits, asked, ask_job, told_at, removed_at, behind_mapping, mapping_at, is_done, start_job}
 use Rattle.blk_back.specs.declared.stage.Reply.{Reply}
 use Rattle.blk_back.specs.declared.stage.Stage.{Stage}
 use Rattle.blk_back.specs.declared.stage.Stage.TheVariants as stage
@@ -42,70 +42,89 @@ use Rattle.move_laws.proofs.Jobs.{IsJob, IsPlaced}
 use Rattle.move_laws.proofs.Back.{IsBack, back_start}
 use Rattle.move_laws.proofs.Always.{back_happens}
 
--- a job whose words go from the disk to the guest
+-- it trims no sectors
+abbrev TrimsNone : JobStage → Type 0
+TrimsNone (job.Trim count) = ⊥
+TrimsNone s = Unit {0}
+
+-- a job that leaves the disk its content: its words go from there to the guest, and it trims no sectors
 abbrev Reads : Work → Type 0
-Reads t = t.writes ≡ false
+Reads t = (t.writes ≡ false) × TrimsNone t.stage
 
--- whatever a job is told, its words go the same way
-sector_same : (b : Bool) (x y : Work) (w : Bool) → x.writes ≡ w → y.writes ≡ w → (let z : Work = (if b then x else y) in z.writes ≡ w)
-sector_same true x y w p q = p
-sector_same false x y w p q = q
+either_reads : (b : Bool) (x y : Work) → (b ≡ true → Reads x) → Reads y → Reads (if b then x else y)
+either_reads true x y p q = p refl
+either_reads false x y p q = q
 
-next_same : (t : Work) (m : Mapping) → (let z : Work = next_sector t m in z.writes ≡ t.writes)
-next_same t m = sector_same (t.within == last_of t.rest) _ _ t.writes refl refl
+-- whatever such a job is told, it goes on so
+begins_none : (b : Bool) (m : Mapping) → TrimsNone (sector_stage b m)
+begins_none true m = tt
+begins_none false m = tt
 
-segment_same : (t : Work) (rest : List Segment) → (let z : Work = next_segment t rest in z.writes ≡ t.writes)
-segment_same t [] = refl
-segment_same t (s ∷ rest) = refl
+next_reads : (t : Work) (m : Mapping) → t.writes ≡ false → Reads (next_sector t m)
+next_reads t m reads = either_reads (t.within == last_of t.rest) _ _ (λ last. (reads, tt)) (reads, begins_none t.writes m)
 
-way_same : (s : JobStage) (t : Work) (given : BackAnswer) → (let z : Work = job_step_at s t given in z.writes ≡ t.writes)
-way_same job.Map t (answer.Mapped m) = refl
-way_same job.Map t (answer.MapRefused status) = refl
-way_same (job.ReadWord m k) t (answer.Word word) = refl
-way_same (job.DiskWrite m) t answer.Done = next_same (counted t) m
-way_same (job.DiskWrite m) t answer.DiskFailed = refl
-way_same (job.DiskRead m) t (answer.Sector words) = refl
-way_same (job.DiskRead m) t answer.DiskFailed = refl
-way_same (job.WriteWord m k) t answer.Done = sector_same (k == 127) _ _ t.writes (next_same t m) refl
-way_same (job.Unmap m) t answer.Done = segment_same t (rest_of t.rest)
-way_same (job.GiveUp m) t answer.Done = refl
-way_same s t given = refl
+segment_reads : (t : Work) (rest : List Segment) → t.writes ≡ false → Reads (next_segment t rest)
+segment_reads t [] reads = (reads, tt)
+segment_reads t (s ∷ rest) reads = (reads, tt)
 
--- a request of a read-only disk that is served is a read
-begun_reads : (number : ℕ) (request : RawRequest) (size : ℕ) (info : DiskInfo) → info.read_only ≡ true → Reads (begun number request size (verdict_of request info))
-begun_reads number (Direct code count device id sector segments) size info fixed = by_code (code == 1) refl
+step_reads : (s : JobStage) (t : Work) (given : BackAnswer) → Reads t → Reads (job_step_at s t given)
+step_reads job.Map t (answer.Mapped m) r = (r.0, begins_none t.writes m)
+step_reads job.Map t (answer.MapRefused status) r = (r.0, tt)
+step_reads (job.ReadWord m k) t (answer.Word word) r = (r.0, by_last (k == 127))
   where
-    served_reads : (few : Bool) → (code == 1) ≡ false
-        → (let z : Work = (if few then moving number (Direct code count device id sector segments) size (code == 1) sector (take count segments) else ended number (Direct code count device id sector segments) size (job.Done Error)) in z.writes ≡ false)
-    served_reads true e = e
-    served_reads false e = refl
+    by_last : (b : Bool) → TrimsNone (if b then job.DiskWrite m else job.ReadWord m (k + 1))
+    by_last true = tt
+    by_last false = tt
+step_reads (job.DiskWrite m) t answer.Done r = next_reads (counted t) m r.0
+step_reads (job.DiskWrite m) t answer.DiskFailed r = (r.0, tt)
+step_reads (job.DiskRead m) t (answer.Sector words) r = (r.0, tt)
+step_reads (job.DiskRead m) t answer.DiskFailed r = (r.0, tt)
+step_reads (job.WriteWord m k) t answer.Done r = either_reads (k == 127) _ _ (λ last. next_reads t m r.0) (r.0, tt)
+step_reads (job.Unmap m) t answer.Done r = segment_reads t (rest_of t.rest) r.0
+step_reads (job.GiveUp m) t answer.Done r = (r.0, tt)
+step_reads job.Flush t answer.Done r = (r.0, tt)
+step_reads job.Flush t answer.DiskFailed r = (r.0, tt)
+step_reads (job.Trim count) t answer.Done r = (r.0, tt)
+step_reads (job.Trim count) t answer.DiskFailed r = (r.0, tt)
+step_reads s t given r = r
 
-    by_verdict : (v : Verdict) → (code == 1) ≡ false → Reads (begun number (Direct code count device id sector segments) size v)
-    by_verdict (verdict.Serve plan) e = served_reads (nat_le code 1) e
-    by_verdict (verdict.Error why) e = refl
-    by_verdict verdict.Unsupported e = refl
+-- a disk that is read-only, and has no barriers and no discards
+abbrev IsUnchanging : DiskInfo → Type 0
+IsUnchanging info = (info.read_only ≡ true) × (info.discard ≡ false) × (info.barrier ≡ false)
 
-    by_code : (b : Bool) → (code == 1) ≡ b → Reads (begun number (Direct code count device id sector segments) size (verdict_of (Direct code count device id sector segments) info))
-    by_code true e =
-        let is : code ≡ 1 = grind (arith, nat_tests) in
-        subst (λ (c : ℕ). Reads (begun number (Direct c count device id sector segments) size (verdict_of (Direct c count device id sector segments) info))) (sym is) (rw fixed refl)
-    by_code false e = by_verdict (verdict_of (Direct code count device id sector segments) info) e
-begun_reads number (Discard flag device id sector count) size info fixed = by_verdict (verdict_of (Discard flag device id sector count) info)
+-- of such a disk, a request that is served is a read or a flush
+begun_reads : (number : ℕ) (request : RawRequest) (size : ℕ) (info : DiskInfo) → IsUnchanging info → Reads (begun number request size (verdict_of request info))
+begun_reads number (Direct code count device id sector segments) size info u = by_code code
   where
-    by_verdict : (v : Verdict) → Reads (begun number (Discard flag device id sector count) size v)
-    by_verdict (verdict.Serve plan) = refl
-    by_verdict (verdict.Error why) = refl
-    by_verdict verdict.Unsupported = refl
-begun_reads number (Indirect code count device id sector pages) size info fixed = by_verdict (verdict_of (Indirect code count device id sector pages) info)
+    request : ℕ → RawRequest
+    request n = Direct n count device id sector segments
+
+    by_verdict : (n : ℕ) (v : Verdict) → (nat_le n 2 ≡ true → not (n == 0) ≡ false) → Reads (begun number (Direct n count device id sector segments) size v)
+    by_verdict n (verdict.Serve plan) read =
+        either_reads (nat_le n 2) (moving number (request n) size (not (n == 0)) sector (take count segments)) _ (λ few. (read few, tt))
+        (either_reads (n == 3) (frameless number (request n) size sector job.Flush) (ended number (request n) size (job.Done Error)) (λ flush. (refl, tt)) (refl, tt))
+    by_verdict n (verdict.Error why) read = (refl, tt)
+    by_verdict n verdict.Unsupported read = (refl, tt)
+
+    by_code : (n : ℕ) → Reads (begun number (Direct n count device id sector segments) size (verdict_of (Direct n count device id sector segments) info))
+    by_code zero = by_verdict 0 (verdict_of (request 0) info) (λ few. refl)
+    by_code (suc zero) = rw u.0 (refl, tt)
+    by_code (suc (suc zero)) = rw u.2 (refl, tt)
+    by_code (suc (suc (suc n))) = by_verdict (suc (suc (suc n))) (verdict_of (request (suc (suc (suc n)))) info) (λ few. absurd (too_many n few))
+      where
+        too_many : (m : ℕ) → nat_le (suc (suc (suc m))) 2 ≡ true → ⊥
+        too_many m few = grind (arith, nat_tests)
+begun_reads number (Discard flag device id sector count) size info u = rw u.1 (refl, tt)
+begun_reads number (Indirect code count device id sector pages) size info u = by_verdict (verdict_of (Indirect code count device id sector pages) info)
   where
     by_verdict : (v : Verdict) → Reads (begun number (Indirect code count device id sector pages) size v)
-    by_verdict (verdict.Serve plan) = refl
-    by_verdict (verdict.Error why) = refl
-    by_verdict verdict.Unsupported = refl
+    by_verdict (verdict.Serve plan) = (refl, tt)
+    by_verdict (verdict.Error why) = (refl, tt)
+    by_verdict verdict.Unsupported = (refl, tt)
 
--- the back knows that its disk is read-only, and its jobs read
+-- the back's disk is such a one, and its jobs leave it its content
 abbrev pub OnlyReads : Held → Type 0
-OnlyReads h = (h.info.read_only ≡ true) × All Reads h.works
+OnlyReads h = IsUnchanging h.info × All Reads h.works
 
 started : (h : Held) (number : ℕ) (request : RawRequest) → OnlyReads h → OnlyReads (start_job h number request)
 started h number request o = (o.0, All-push Reads h.works _ o.1 (begun_reads number request h.info.sectors h.info o.0))
@@ -116,7 +135,7 @@ told_reads works (Some place) None given e all = all
 told_reads works (Some place) (Some t) given e all =
     let within = slice_get_within works place t e in
     let same = get_or_from_slice_get works place t t e in
-    All-set Reads works place (step_of t given) (way_same t.stage t given ∙ subst Reads same (All-get_or Reads works place t within all)) all
+    All-set Reads works place (step_of t given) (step_reads t.stage t given (subst Reads same (All-get_or Reads works place t within all))) all
 
 removed_reads : (works : List Work) (place : Option ℕ) → All Reads works → All Reads (removed_at works place)
 removed_reads works None all = all
@@ -187,7 +206,7 @@ world_stays : (w : World) (h : Happening) → Stays w.back → (let x : World = 
 world_stays w FrontMoves o = front_stays w o
 world_stays w BackMoves o = back_stays w (back_turn w Took) o
 world_stays w (JobMoves number outcome) o = job_stays w number (job_turn w number outcome) o
-world_stays w (BackAttaches shape grefs port) o = attach_cases (λ v shown. Stays v) w shape grefs port (λ may named. o) o
+world_stays w (BackAttaches shape grefs port) o = attach_cases (λ v shown. Stays v) w shape grefs port (λ may named says. o) o
 world_stays w (BackHalts why) o = halt_stays why w.back o
 world_stays w h o = o
 
@@ -201,26 +220,32 @@ map_called : (rest : List Segment) (outcome : Outcome) (a b : DiskSeen) → Disk
 map_called [] outcome a b does = none_called outcome a b does
 map_called (s ∷ rest) outcome a b does = none_called outcome a b does
 
-stage_called : (s : JobStage) (t : Work) (outcome : Outcome) (a b : DiskSeen) → Reads t → IsPlaced s t → DiskDoes (ask_at s t) outcome a b → b.content ≡ a.content
-stage_called job.Map t outcome a b reads placed does = map_called t.rest outcome a b (subst (λ (w : Bool). DiskDoes (map_ask t.rest w) outcome a b) reads does)
-stage_called (job.DiskWrite m) t outcome a b reads placed does = absurd (true≢false (sym placed.1.1 ∙ reads))
-stage_called (job.DiskRead m) t (Gave words) a b reads placed does = ap (λ (d : DiskSeen). d.content) does.1
-stage_called (job.DiskRead m) t Took a b reads placed does = absurd does
-stage_called (job.DiskRead m) t Failed a b reads placed does = does.content
-stage_called s t outcome a b reads placed does = none_called outcome a b does
+stage_called : (s : JobStage) (t : Work) (outcome : Outcome) (a b : DiskSeen) → t.writes ≡ false → TrimsNone s → IsPlaced s t → DiskDoes (ask_at s t) outcome a b → b.content ≡ a.content
+stage_called job.Map t outcome a b reads none placed does = map_called t.rest outcome a b (subst (λ (w : Bool). DiskDoes (map_ask t.rest w) outcome a b) reads does)
+stage_called (job.DiskWrite m) t outcome a b reads none placed does = absurd (true≢false (sym placed.1.1 ∙ reads))
+stage_called (job.DiskRead m) t (Gave words) a b reads none placed does = ap (λ (d : DiskSeen). d.content) does.1
+stage_called (job.DiskRead m) t Took a b reads none placed does = absurd does
+stage_called (job.DiskRead m) t Failed a b reads none placed does = does.content
+stage_called job.Flush t Took a b reads none placed does = ap (λ (d : DiskSeen). d.content) does
+stage_called job.Flush t Failed a b reads none placed does = does.content
+stage_called job.Flush t (Gave words) a b reads none placed does = absurd does
+stage_called (job.Trim count) t outcome a b reads none placed does = absurd none
+stage_called s t outcome a b reads none placed does = none_called outcome a b does
 
-asked_called : (works : List Work) (place : Option ℕ) (found : Option Work) (outcome : Outcome) (a b : DiskSeen) → work_at works place ≡ found → All Reads works → All IsJob works → DiskDoes (asked found) outcome a b → b.content ≡ a.content
-asked_called works place None outcome a b e all jobs does = none_called outcome a b does
-asked_called works None (Some t) outcome a b e all jobs does = absurd (none-some t e)
-asked_called works (Some place) (Some t) outcome a b e all jobs does =
+asked_called : (works : List Work) (place : Option ℕ) (waits : Bool) (found : Option Work) (outcome : Outcome) (a b : DiskSeen) → work_at works place ≡ found → All Reads works → All IsJob works → DiskDoes (asked waits found) outcome a b → b.content ≡ a.content
+asked_called works place waits None outcome a b e all jobs does = none_called outcome a b does
+asked_called works place true (Some t) outcome a b e all jobs does = none_called outcome a b does
+asked_called works None false (Some t) outcome a b e all jobs does = absurd (none-some t e)
+asked_called works (Some place) false (Some t) outcome a b e all jobs does =
     let within = slice_get_within works place t e in
     let same = get_or_from_slice_get works place t t e in
     let is : IsJob t = subst IsJob same (All-get_or IsJob works place t within jobs) in
-    stage_called t.stage t outcome a b (subst Reads same (All-get_or Reads works place t within all)) is.placed does
+    let reads : Reads t = subst Reads same (All-get_or Reads works place t within all) in
+    stage_called t.stage t outcome a b reads.0 reads.1 is.placed does
 
 job_called : (halted : Bool) (h : Held) (number : ℕ) (outcome : Outcome) (a b : DiskSeen) → OnlyReads h → All IsJob h.works → DiskDoes (if halted then ask.Wait else ask_job h number) outcome a b → b.content ≡ a.content
 job_called true h number outcome a b o jobs does = none_called outcome a b does
-job_called false h number outcome a b o jobs does = asked_called h.works (place_of h.works number) (work_of h.works number) outcome a b refl o.1 jobs does
+job_called false h number outcome a b o jobs does = asked_called h.works (place_of h.works number) (waits h.works number) (work_of h.works number) outcome a b refl o.1 jobs does
 
 called : (w : World) (h : Happening) (a b : DiskSeen) → Stays w.back → IsBack w.back → DiskGoes w h a b → b.content ≡ a.content
 called w (JobMoves number outcome) a b o back goes = job_called (is_some w.back.halted) w.back.jobs number outcome a b o back.jobs goes
@@ -232,4 +257,4 @@ kept_from (h ∷ hs) w a b o is runs =
     kept_from hs (happens w h) runs.0 b (world_stays w h o) (back_happens w h is) runs.2 ∙ called w h a runs.0 o is runs.1
 
 pub content_kept : (config : Options) (history : List Happening) (before now : DiskSeen) → config.read_only ≡ true → DiskRuns history (start_of config) before now → now.content ≡ before.content
-content_kept config history before now fixed runs = kept_from history (start_of config) before now (fixed, All-nil Reads) (back_start config) runs
+content_kept config history before now fixed runs = kept_from history (start_of config) before now ((fixed, ap (λ (b : Bool). not b) fixed, ap (λ (b : Bool). not b) fixed), All-nil Reads) (back_start config) runs

@@ -64,6 +64,8 @@ effect_kept id index answers.DiskFailed = refl
 back_lines_kept : (t : Option BackTold) (a : BackAnswer) → AreKept (back_lines t a)
 back_lines_kept None a = refl
 back_lines_kept (Some (back_told.Effect id index)) a = effect_kept id index a
+back_lines_kept (Some (back_told.Flushed id)) a = refl
+back_lines_kept (Some (back_told.Trimmed id)) a = refl
 back_lines_kept (Some (back_told.Fault id index)) a = refl
 back_lines_kept (Some (back_told.Reply id status)) a = refl
 
@@ -73,7 +75,7 @@ halt_lines_kept None (Some h) = refl
 halt_lines_kept (Some g) now = refl
 
 state_lines_kept : (s : FrontState) → AreKept (state_lines s)
-state_lines_kept state.Connected = refl
+state_lines_kept (state.Connected offers) = refl
 state_lines_kept state.Closing = refl
 state_lines_kept (state.Agreed order) = refl
 state_lines_kept state.Leaving = refl
@@ -132,7 +134,7 @@ lines_at_kept w (Negotiates at move) =
     negotiated_cases (λ keys shown. AreKept shown) w.back.stage at move w.under.keys
     (λ may. key_cases (λ keys shown. AreKept shown) at move w.under.keys (λ path same. refl) (λ path text same may_set. refl) (λ path same. refl) (λ path first. refl) refl) refl
 lines_at_kept w (FrontEnters state) = enters_cases (λ v shown. AreKept shown) state w.front (λ may. state_lines_kept state) refl
-lines_at_kept w (BackAttaches shape grefs port) = attach_cases (λ v shown. AreKept shown) w shape grefs port (λ may named. refl) refl
+lines_at_kept w (BackAttaches shape grefs port) = attach_cases (λ v shown. AreKept shown) w shape grefs port (λ may named says. refl) refl
 lines_at_kept w (BackHalts why) = halt_lines_kept w.back.halted (let b : back.View = back_step.halts why w.back in b.halted)
 lines_at_kept w (Submits job) = submit_kept job (front_submit.submit_of w.front job).0
 lines_at_kept w (Notifies at) = refl

@@ -86,6 +86,8 @@ plain_effect_line id index answers.DiskFailed = plain_effect id index
 pub plain_back : (t : Option BackTold) (a : BackAnswer) → ArePlain (back_lines t a)
 plain_back None a = tt
 plain_back (Some (back_told.Effect id index)) a = (plain_effect_line id index a, tt)
+plain_back (Some (back_told.Flushed id)) a = (record { is_still = still (lines.Flushed id) refl (λ f w v b. refl) (λ n. refl) refl; free = λ b. record { coherent = tt; answered = tt; numbered = tt; touched = tt; grantable = tt } }, tt)
+plain_back (Some (back_told.Trimmed id)) a = (record { is_still = still (lines.Trimmed id) refl (λ f w v b. refl) (λ n. refl) refl; free = λ b. record { coherent = tt; answered = tt; numbered = tt; touched = tt; grantable = tt } }, tt)
 plain_back (Some (back_told.Fault id index)) a = (record { is_still = still (lines.Fault id index) refl (λ f w v b. refl) (λ n. refl) refl; free = λ b. record { coherent = tt; answered = tt; numbered = tt; touched = tt; grantable = tt } }, tt)
 plain_back (Some (back_told.Reply id status)) a = (record { is_still = still (lines.Reply id status) refl (λ f w v b. refl) (λ n. refl) refl; free = λ b. record { coherent = tt; answered = tt; numbered = tt; touched = tt; grantable = tt } }, tt)
 

@@ -23,7 +23,7 @@ use Rattle.blk_front.specs.declared.state.FrontState.{FrontState}
 use Rattle.blk_front.specs.declared.state.FrontState.TheVariants as state
 use Rattle.blk_front.specs.declared.told.Refusal.TheVariants as refusal
 use Rattle.blk_front.specs.Pool.{taking}
-use Rattle.blk_front.specs.Request.{is_write, frames_for}
+use Rattle.blk_front.specs.Request.{is_write, named_of, frames_for}
 use Rattle.blk_front.specs.View.{View}
 use Rattle.blk_front.specs.Step.{step_of}
 use Rattle.blk_front.specs.Ask.{is_through}
@@ -98,7 +98,7 @@ same_counts start w w' before ls none same h =
     (subst (λ (c : ℕ). CountsAt start (answers_told before) w.front.start c w'.front.stage) (sym same.cons) (subst (CountsAt start (answers_told before) w.front.start w.front.ring.cons) (sym same.stage) h)))
 
 back_unanswered : OfBack (λ (line : Line). says_answer line ≡ false)
-back_unanswered = record { move = λ m. refl; effect = λ id index. refl; effect_read = λ id index words. refl; fault = λ id index. refl; reply = λ id status. refl; halt = λ why. refl }
+back_unanswered = record { move = λ m. refl; effect = λ id index. refl; effect_read = λ id index words. refl; flushed = λ id. refl; trimmed = λ id. refl; fault = λ id index. refl; reply = λ id status. refl; halt = λ why. refl }
 
 back_counts : (start : ℕ) (w : World) (before : List Line) (act : Option BackAct) → CountsTo start before w → CountsTo start (before ++ back_shows w act) (back_after w act)
 back_counts start w before None h = same_counts start w w before [] tt (untaken w.front) h
@@ -123,17 +123,17 @@ wish_submitted v (Some wish) =
     let frames = taking (frames_for wish.count) v.pool [] in
     let unless_full = if nat_le (entries_of v.shape.order) (unfinished v) then (Err refusal.Full, v) else submit_with v wish frames in
     let unless_long = if nat_lt 11 (frames_for wish.count) then (Err refusal.Long, v) else unless_full in
-    either_submit (is_write wish.transfer && v.read_only) v (Err refusal.ReadOnly, v) (if nat_lt v.sectors (wish.sector + wish.count) then (Err refusal.Range, v) else unless_long) (untaken v)
-    (either_submit (nat_lt v.sectors (wish.sector + wish.count)) v (Err refusal.Range, v) unless_long (untaken v)
+    either_submit (is_write wish.transfer && v.read_only) v (Err refusal.ReadOnly, v) (if nat_lt v.sectors (wish.sector + named_of wish.transfer wish.count) then (Err refusal.Range, v) else unless_long) (untaken v)
+    (either_submit (nat_lt v.sectors (wish.sector + named_of wish.transfer wish.count)) v (Err refusal.Range, v) unless_long (untaken v)
     (either_submit (nat_lt 11 (frames_for wish.count)) v (Err refusal.Long, v) unless_full (untaken v)
     (either_submit (nat_le (entries_of v.shape.order) (unfinished v)) v (Err refusal.Full, v) (submit_with v wish frames) (untaken v) (with_frames v wish frames))))
 
 submit_untaken : (v : View) (job : Job) → IsUntaken v (submit_of v job).1
 submit_untaken v job =
-    let unless_unready = if not (is_ready v.stage) then (Err refusal.NotReady, v) else submit_one v (wish_of job) in
+    let unless_unready = if not (is_ready v.stage) then (Err refusal.NotReady, v) else submit_one v (wish_of v.offers job) in
     either_submit (v.last == 4294967295) v (Err refusal.Spent, v) (if v.closing then (Err refusal.Closing, v) else unless_unready) (untaken v)
     (either_submit v.closing v (Err refusal.Closing, v) unless_unready (untaken v)
-    (either_submit (not (is_ready v.stage)) v (Err refusal.NotReady, v) (submit_one v (wish_of job)) (untaken v) (wish_submitted v (wish_of job))))
+    (either_submit (not (is_ready v.stage)) v (Err refusal.NotReady, v) (submit_one v (wish_of v.offers job)) (untaken v) (wish_submitted v (wish_of v.offers job))))
 
 submit_unanswered : (job : Job) (r : Result ℕ Refusal) → AreUnanswered (submit_line job r ∷ [])
 submit_unanswered job (Ok number) = (refl, tt)
@@ -170,7 +170,7 @@ led_from (state.Agreed order) v may = unmade (is_unmade v.stage) (nat_le order v
     unmade : (a b : Bool) → (a && b) ≡ true → a ≡ true
     unmade true b e = refl
     unmade false b e = e
-led_from state.Connected v may = waiting v.stage may
+led_from (state.Connected offers) v may = waiting v.stage may
   where
     waiting : (s : Stage) → is_initialised s ≡ true → (is_made s || is_bare s) ≡ true
     waiting stage.Initialised may = refl
@@ -197,7 +197,7 @@ begun_anew start n begins cons s unmade h = absurd (cc)
 
 entered_count : (start n : ℕ) (s : FrontState) (v : View) → LedFrom s v.stage → CountsAt start n v.start v.ring.cons v.stage → (let x : View = in_state s v in CountsAt start n x.start x.ring.cons x.stage)
 entered_count start n (state.Agreed order) v from h = begun_anew start n v.start v.ring.cons v.stage from h
-entered_count start n state.Connected v from h = whole_counts start n v.start v.ring.cons v.stage from h
+entered_count start n (state.Connected offers) v from h = whole_counts start n v.start v.ring.cons v.stage from h
 entered_count start n state.Closing v from h = h
 entered_count start n state.Leaving v from h = whole_counts start n v.start v.ring.cons v.stage from h
 entered_count start n state.Closed v from h = whole_counts start n v.start v.ring.cons v.stage from h

@@ -1,5 +1,5 @@
 -- What the back and its jobs ask has the widths of the grammar.
-use Rattle.std.proofs.Common.{◌≡◌, ℕ, ◌^◌, ◌<◌, ◌≤◌, ◌==◌, ◌⊎◌, inl, inr, Bool, true, false, if◌then◌else◌, List, [], ◌∷◌, length, refl, sym, subst, arith}
+use Rattle.std.proofs.Common.{◌≡◌, ℕ, ◌^◌, ◌<◌, ◌≤◌, ◌==◌, ◌⊎◌, inl, inr, Bool, true, false, if◌then◌else◌, List, [], ◌∷◌, length, refl, ap, sym, subst, arith}
 use Rattle.std.specs.Prelude.{Option, Some, None, is_some, nat_lt}
 use Rattle.std.specs.List.{AllByRecursion}
 use Rattle.std.proofs.lemmas.Bool.Decides.{nat_tests}
@@ -16,7 +16,7 @@ use Rattle.back_jobs.specs.declared.stage.Stage.{Stage as JobStage}
 use Rattle.back_jobs.specs.declared.stage.Stage.TheVariants as job
 use Rattle.back_jobs.specs.Task as task
 use Rattle.back_jobs.specs.Task.{Work, map_ask}
-use Rattle.back_jobs.specs.Jobs.{place_of, work_at, asked, ask_job}
+use Rattle.back_jobs.specs.Jobs.{place_of, work_at, waits, asked, ask_job}
 use Rattle.blk_back.specs.declared.stage.Reply.{Reply}
 use Rattle.blk_back.specs.declared.stage.Stage.{Stage}
 use Rattle.blk_back.specs.declared.stage.Stage.TheVariants as stage
@@ -66,7 +66,7 @@ back_at s v words said next = tt
 pub back_asks : (most : ℕ) (v : View) → IsFit most v → BackFits Back (ask_of v)
 back_asks most v f = back_at v.stage v f.1 f.0.said (next_fits most v f)
 
--- a job of a number that asks with the widths of the grammar; one that isn't held waits
+-- a job of a number that asks with the widths of the grammar; one that isn't held waits, and one that waits for another
 pub record JobAsks (number : ℕ) (x : BackAsk) : Type 0 where
   pub mover : IsMover (Job number)
   pub fits : BackFits (Job number) x
@@ -87,6 +87,8 @@ work_fits number (job.DiskRead m) t long positive lies is = (disk_fits t.disk t.
 work_fits number (job.WriteWord m k) t long positive lies is = index_fits t.words k is.0.held
 work_fits number (job.Unmap m) t long positive lies is = tt
 work_fits number (job.GiveUp m) t long positive lies is = tt
+work_fits number job.Flush t long positive lies is = (long, positive)
+work_fits number (job.Trim count) t long positive lies is = (lies.0, lies.1, (long, positive))
 work_fits number (job.Done status) t long positive lies is = tt
 
 found_asks : (number : ℕ) (t : Work) → (t.number == number) ≡ true → IsWork t → JobAsks number (task.ask_of t)
@@ -106,12 +108,15 @@ found_asks number t same is =
 pub job_asks : (most : ℕ) (v : View) (number : ℕ) → IsFit most v → (job_ask_of v number ≡ ask.Wait) ⊎ JobAsks number (job_ask_of v number)
 job_asks most v number f = by_halt (is_some v.halted)
   where
-    by_place : (place : Option ℕ) → place_of v.jobs.works number ≡ place → (asked (work_at v.jobs.works place) ≡ ask.Wait) ⊎ JobAsks number (asked (work_at v.jobs.works place))
-    by_place None e = inl refl
-    by_place (Some p) e =
+    by_place : (held : Bool) (place : Option ℕ) → place_of v.jobs.works number ≡ place → (asked held (work_at v.jobs.works place) ≡ ask.Wait) ⊎ JobAsks number (asked held (work_at v.jobs.works place))
+    by_place held None e = inl refl
+    by_place true (Some p) e =
         let found = found_at (λ (t : Work). t.number == number) v.jobs.works p e in
-        inr (subst (λ (x : Option Work). JobAsks number (asked x)) (sym found.1) (found_asks number found.0 found.2 (all_at IsWork v.jobs.works p found.0 f.0.jobs found.1)))
+        inl (ap (λ (x : Option Work). asked true x) found.1)
+    by_place false (Some p) e =
+        let found = found_at (λ (t : Work). t.number == number) v.jobs.works p e in
+        inr (subst (λ (x : Option Work). JobAsks number (asked false x)) (sym found.1) (found_asks number found.0 found.2 (all_at IsWork v.jobs.works p found.0 f.0.jobs found.1)))
 
     by_halt : (b : Bool) → ((if b then ask.Wait else ask_job v.jobs number) ≡ ask.Wait) ⊎ JobAsks number (if b then ask.Wait else ask_job v.jobs number)
     by_halt true = inl refl
-    by_halt false = by_place (place_of v.jobs.works number) refl
+    by_halt false = by_place (waits v.jobs.works number) (place_of v.jobs.works number) refl

@@ -1,6 +1,6 @@
 -- The numbers that the back and its jobs keep have the widths of the grammar, and so has what they tell, whatever words they read.
 use Rattle.std.proofs.Common.{◌≡◌, ℕ, zero, suc, ◌+◌, ◌-◌, ◌%◌, ◌^◌, ◌<◌, ◌≤◌, Bool, true, false, cond, if◌then◌else◌, List, [], ◌∷◌, ◌++◌, length, take, replicate, refl, arith}
-use Rattle.std.specs.Prelude.{All, Option, Some, None, is_some, option_and_then, nat_lt, nat_le, ◌==◌, slice_get, slice_set, slice_index, position}
+use Rattle.std.specs.Prelude.{All, Option, Some, None, is_some, option_and_then, not, nat_lt, nat_le, ◌==◌, slice_get, slice_set, slice_index, position}
 use Rattle.std.specs.List.{AllByRecursion}
 use Rattle.std.proofs.lemmas.Bool.Decides.{nat_tests}
 use Rattle.std.proofs.lemmas.List.{length-take}
@@ -30,7 +30,7 @@ use Rattle.schedule_text.specs.Range.{AreOptions}
 use Rattle.back_jobs.specs.declared.stage.Stage.{Stage as JobStage}
 use Rattle.back_jobs.specs.declared.stage.Stage.TheVariants as job
 use Rattle.back_jobs.specs.Task as task
-use Rattle.back_jobs.specs.Task.{Work, sector_stage, next_sector, next_segment, counted, first_of, last_of, rest_of, id_of, response_op, ended, moving, served, begun}
+use Rattle.back_jobs.specs.Task.{Work, sector_stage, next_sector, next_segment, counted, first_of, last_of, rest_of, id_of, response_op, ended, frameless, moving, served, begun}
 use Rattle.back_jobs.specs.Jobs.{place_of, work_at, work_of, told_at, removed_at, behind_mapping, first_mapping, mapping_at, is_done, response_of, response_at, effect_at, effect_of}
 use Rattle.blk_back.specs.declared.stage.Reply.{Reply}
 use Rattle.blk_back.specs.declared.stage.Stage.{Stage}
@@ -70,6 +70,7 @@ abbrev pub Lies : (disk within ahead : ℕ) → List Segment → Type 0
 Lies disk within ahead [] = ⊥
 Lies disk within ahead (s ∷ rest) = (within ≤ s.last) × (disk + (s.last - within) + ahead + sectors_of rest ≤ 2 ^ 64)
 
+-- so it is at each stage; the first sector of a trim, and how many it trims, lie below 2 ^ 64 too
 abbrev pub LiesAt : JobStage → (disk within : ℕ) → List Segment → Type 0
 LiesAt job.Map disk within rest = Lies disk within 1 rest
 LiesAt (job.ReadWord m k) disk within rest = Lies disk within 1 rest
@@ -77,6 +78,7 @@ LiesAt (job.DiskWrite m) disk within rest = Lies disk within 1 rest
 LiesAt (job.DiskRead m) disk within rest = Lies disk within 1 rest
 LiesAt (job.WriteWord m k) disk within rest = Lies disk within 0 rest
 LiesAt (job.Unmap m) disk within rest = disk + sectors_of (rest_of rest) ≤ 2 ^ 64
+LiesAt (job.Trim count) disk within rest = (disk < 2 ^ 64) × (count < 2 ^ 64)
 LiesAt s disk within rest = Unit {0}
 
 abbrev pub IsWork : Work → Type 0
@@ -144,12 +146,16 @@ step_work (job.WriteWord m k) t answer.Done h w told =
     either_work (k == 127) (next_sector t m) (record t { stage = job.WriteWord m (k + 1) }) (λ last. next_sector_fits t m w.0 h) (λ more. (w.0, h))
 step_work (job.Unmap m) t answer.Done h w told = next_segment_fits t (rest_of t.rest) (rest_now t.rest w.0) h
 step_work (job.GiveUp m) t answer.Done h w told = (w.0, tt)
+step_work job.Flush t answer.Done h w told = (w.0, tt)
+step_work job.Flush t answer.DiskFailed h w told = (w.0, tt)
+step_work (job.Trim count) t answer.Done h w told = (w.0, tt)
+step_work (job.Trim count) t answer.DiskFailed h w told = (w.0, tt)
 step_work s t a h w told = w
 
 -- a request as words of 32 bits have it
 abbrev IsRead : RawRequest → Type 0
 IsRead (Direct op count device id sector segments) = (op < 2 ^ 8) × (id < 2 ^ 64) × (0 < length segments) × All HasGref segments
-IsRead (Discard flag device id sector count) = id < 2 ^ 64
+IsRead (Discard flag device id sector count) = (id < 2 ^ 64) × (sector < 2 ^ 64) × (count < 2 ^ 64)
 IsRead (Indirect op count device id sector pages) = (op < 2 ^ 8) × (id < 2 ^ 64)
 
 double_fits : (words : List ℕ) (at : ℕ) → AreWords words → double_at words at < 2 ^ 64
@@ -176,12 +182,13 @@ request_read : (abi : Abi) (words : List ℕ) → AreWords words → IsRead (req
 unfolding request_of
 request_read abi words all =
     let at = places_of abi in
-    either_read (slice_index words 0 % 2 ^ 8 == 5) (slice_index words 0 % 2 ^ 8 == 6) _ _ _ (double_fits words at.id all) (omega arith, double_fits words at.id all)
+    either_read (slice_index words 0 % 2 ^ 8 == 5) (slice_index words 0 % 2 ^ 8 == 6) _ _ _
+    (double_fits words at.id all, double_fits words at.sector all, double_fits words at.discard_count all) (omega arith, double_fits words at.id all)
     (omega arith, double_fits words at.id all, some_segments words at.segments, All-from_recursion HasGref (segments_at words at.segments 11) (grefs_fit words at.segments 11 all))
 
 named_read : (request : RawRequest) → IsRead request → (id_of request < 2 ^ 64) × (response_op request < 2 ^ 8)
 named_read (Direct op count device id sector segments) h = (h.1, h.0)
-named_read (Discard flag device id sector count) h = (h, omega arith)
+named_read (Discard flag device id sector count) h = (h.0, omega arith)
 named_read (Indirect op count device id sector pages) h = (h.1, h.0)
 
 begun_numbers : (number : ℕ) (request : RawRequest) (rest : List Segment) → 1 ≤ number → number < 2 ^ 64 → IsRead request → AllByRecursion IsSound rest → AllByRecursion HasGref rest → HasNumbers number (id_of request) (response_op request) 0 (replicate 128 0) rest
@@ -191,7 +198,9 @@ begun_numbers number request rest positive long read sound grefs =
 
 served_fits : (number : ℕ) (request : RawRequest) (info : DiskInfo) (plan : Plan) → verdict_of request info ≡ verdict.Serve plan → info.sectors ≤ 2 ^ 64 → 1 ≤ number → number < 2 ^ 64 → IsRead request → IsWork (served number request info.sectors)
 served_fits number (Direct op count device id sector segments) info plan e sized positive long read =
-    either_work (nat_le op 1) (moving number (Direct op count device id sector segments) info.sectors (op == 1) sector (take count segments)) (ended number (Direct op count device id sector segments) info.sectors (job.Done Error))
+    let request : RawRequest = Direct op count device id sector segments in
+    let alone = begun_numbers number request [] positive long read tt tt in
+    either_work (nat_le op 2) (moving number request info.sectors (not (op == 0)) sector (take count segments)) _
     (λ few.
     let is = direct_served op count device id sector segments info plan few e in
     let sound = recursion_from_All IsSound (take count segments) is.1.sound in
@@ -199,11 +208,11 @@ served_fits number (Direct op count device id sector segments) info plan e sized
     let some = is.0 in
     let all = read.2 in
     let long_is = length-take count segments in (
-      begun_numbers number (Direct op count device id sector segments) (take count segments) positive long read sound (recursion_from_All HasGref (take count segments) (All-take HasGref count segments read.3)),
+      begun_numbers number request (take count segments) positive long read sound (recursion_from_All HasGref (take count segments) (All-take HasGref count segments read.3)),
       lies_first sector (take count segments) (omega arith) sound (omega arith),
     ))
-    (λ more. (begun_numbers number (Direct op count device id sector segments) [] positive long read tt tt, tt))
-served_fits number (Discard flag device id sector count) info plan e sized positive long read = (begun_numbers number (Discard flag device id sector count) [] positive long read tt tt, tt)
+    (λ more. either_work (op == 3) (frameless number request info.sectors sector job.Flush) (ended number request info.sectors (job.Done Error)) (λ flush. (alone, tt)) (λ other. (alone, tt)))
+served_fits number (Discard flag device id sector count) info plan e sized positive long read = (begun_numbers number (Discard flag device id sector count) [] positive long read tt tt, (read.1, read.2))
 served_fits number (Indirect op count device id sector pages) info plan e sized positive long read = (begun_numbers number (Indirect op count device id sector pages) [] positive long read tt tt, tt)
 
 begun_fits : (number : ℕ) (request : RawRequest) (info : DiskInfo) (v : Verdict) → verdict_of request info ≡ v → info.sectors ≤ 2 ^ 64 → 1 ≤ number → number < 2 ^ 64 → IsRead request → IsWork (begun number request info.sectors v)
@@ -254,6 +263,8 @@ HasWords s = Unit {0}
 abbrev pub TellsWords : Option BackTold → Type 0
 TellsWords None = Unit {0}
 TellsWords (Some (told.Effect id index)) = (id < 2 ^ 64) × (index < 2 ^ 32)
+TellsWords (Some (told.Flushed id)) = id < 2 ^ 64
+TellsWords (Some (told.Trimmed id)) = id < 2 ^ 64
 TellsWords (Some (told.Fault id index)) = (id < 2 ^ 64) × (index < 2 ^ 32)
 TellsWords (Some (told.Reply id status)) = id < 2 ^ 64
 
@@ -416,6 +427,10 @@ effect_told (job.DiskWrite m) t answer.Done w = (w.0.named, w.0.few)
 effect_told (job.DiskWrite m) t answer.DiskFailed w = (w.0.named, w.0.few)
 effect_told (job.DiskRead m) t (answer.Sector words) w = (w.0.named, w.0.few)
 effect_told (job.DiskRead m) t answer.DiskFailed w = (w.0.named, w.0.few)
+effect_told job.Flush t answer.Done w = w.0.named
+effect_told job.Flush t answer.DiskFailed w = (w.0.named, w.0.few)
+effect_told (job.Trim count) t answer.Done w = w.0.named
+effect_told (job.Trim count) t answer.DiskFailed w = (w.0.named, w.0.few)
 effect_told s t a w = tt
 
 found_told : (found : Option Work) (a : BackAnswer) → IsWorkFound found → TellsWords (told_effect (effect_of found a))
@@ -432,6 +447,8 @@ pub back_good : (t : Option BackTold) (a : BackAnswer) → TellsWords t → Back
 back_good None a h told = tt
 back_good (Some (told.Effect id index)) (answer.Sector words) h told = (good (lines.EffectRead id index words) (h.0, h.1, told) refl, tt)
 back_good (Some (told.Effect id index)) a h told = (good (lines.Effect id index) h refl, tt)
+back_good (Some (told.Flushed id)) a h told = (good (lines.Flushed id) h refl, tt)
+back_good (Some (told.Trimmed id)) a h told = (good (lines.Trimmed id) h refl, tt)
 back_good (Some (told.Fault id index)) a h told = (good (lines.Fault id index) h refl, tt)
 back_good (Some (told.Reply id status)) a h told = (good (lines.Reply id status) h refl, tt)
 

@@ -13,6 +13,8 @@ use Rattle.blk_front.specs.declared.stage.Stage.{Stage}
 use Rattle.blk_front.specs.declared.stage.Stage.TheVariants as stage
 use Rattle.blk_front.specs.declared.stage.Ending.{Ending}
 use Rattle.blk_front.specs.declared.request.Request.{Request}
+use Rattle.blk_front.specs.declared.request.Transfer.{Transfer}
+use Rattle.blk_front.specs.declared.request.Transfer.TheVariants as transfer
 use Rattle.blk_front.specs.declared.request.Wish.{Wish}
 use Rattle.blk_front.specs.declared.state.FrontState.{FrontState}
 use Rattle.blk_front.specs.declared.state.FrontState.TheVariants as state
@@ -20,9 +22,9 @@ use Rattle.blk_front.specs.declared.told.Refusal.{Refusal}
 use Rattle.blk_front.specs.declared.told.Refusal.TheVariants as refusal
 use Rattle.blk_front.specs.declared.told.Told.TheVariants as told
 use Rattle.blk_front.specs.Pool.{taking}
-use Rattle.blk_front.specs.Request.{is_write, has_data, words_in, frames_for}
+use Rattle.blk_front.specs.Request.{is_write, named_of, has_data, words_in, frames_for}
 use Rattle.blk_front.specs.View.{View, next_request}
-use Rattle.blk_front.specs.Step.{at, broken, looked, granted, loop_step, issued, response_at, is_mapped, ring_left, ended, revoked, sector_told, data_step, step_at}
+use Rattle.blk_front.specs.Step.{at, broken, looked, begun, answered, freed, revokes, granted, loop_step, issued, response_at, is_mapped, ring_left, ended, revoked, sector_told, data_step, step_at}
 use Rattle.blk_front.specs.State.{in_state}
 use Rattle.blk_front.specs.Submit.{is_ready, unfinished, wish_of, submit_with, submit_one, submit_of}
 use Rattle.split_model.specs.Shown.{state_lines}
@@ -46,8 +48,15 @@ granted_keeps : (v : View) (r : Option Request) (place : ℕ) → Keeps v (grant
 granted_keeps v None place = refl
 granted_keeps v (Some r) place = either (nat_lt (place + 1) (length r.frames.items)) v _ _ refl refl
 
+begun_keeps : (v : View) (r : Request) (way : Transfer) → Keeps v (begun v r way)
+begun_keeps v r transfer.Read = refl
+begun_keeps v r (transfer.Write tag) = refl
+begun_keeps v r (transfer.Barrier tag) = refl
+begun_keeps v r transfer.Flush = refl
+begun_keeps v r (transfer.Discard sectors) = refl
+
 loop_keeps : (v : View) (r : Option Request) (a : FrontAnswer) → Keeps v (loop_step v r a)
-loop_keeps v (Some r) a = refl
+loop_keeps v (Some r) a = begun_keeps v r r.transfer
 loop_keeps v None (answer.Word word) =
     either (responses_of v.ring v.seen == 0) v (looked v word (record v { seen = word; stage = stage.StoreEvent })) (at (stage.ResponseHigh word) v)
     (looked_keeps v word (record v { seen = word; stage = stage.StoreEvent }) refl) refl
@@ -57,7 +66,7 @@ loop_keeps v None a = refl
 response_keeps : (v : View) (response : Result Response ℕ) (low : ℕ) (found : Option (ℕ × Request)) → Keeps v (response_at v response low found)
 response_keeps v response low None = refl
 response_keeps v (Err word) low (Some found) = refl
-response_keeps v (Ok response) low (Some found) = refl
+response_keeps v (Ok response) low (Some found) = either (length found.1.frames.items == 0) v (answered (freed v found.0) found.1 response.status) (revokes (freed v found.0) found.1 response.status) refl refl
 
 revoked_keeps : (v : View) (e : Option Ending) (place : ℕ) → Keeps v (revoked e place v)
 revoked_keeps v None place = refl
@@ -104,22 +113,22 @@ wish_keeps v (Some wish) =
     let frames = taking (frames_for wish.count) v.pool [] in
     let unless_full = if nat_le (entries_of v.shape.order) (unfinished v) then (Err refusal.Full, v) else submit_with v wish frames in
     let unless_long = if nat_lt 11 (frames_for wish.count) then (Err refusal.Long, v) else unless_full in
-    either_submit (is_write wish.transfer && v.read_only) v (Err refusal.ReadOnly, v) (if nat_lt v.sectors (wish.sector + wish.count) then (Err refusal.Range, v) else unless_long) refl
-    (either_submit (nat_lt v.sectors (wish.sector + wish.count)) v (Err refusal.Range, v) unless_long refl
+    either_submit (is_write wish.transfer && v.read_only) v (Err refusal.ReadOnly, v) (if nat_lt v.sectors (wish.sector + named_of wish.transfer wish.count) then (Err refusal.Range, v) else unless_long) refl
+    (either_submit (nat_lt v.sectors (wish.sector + named_of wish.transfer wish.count)) v (Err refusal.Range, v) unless_long refl
     (either_submit (nat_lt 11 (frames_for wish.count)) v (Err refusal.Long, v) unless_full refl
     (either_submit (nat_le (entries_of v.shape.order) (unfinished v)) v (Err refusal.Full, v) (submit_with v wish frames) refl (with_keeps v wish frames))))
 
 submit_keeps : (v : View) (job : Job) → Keeps v (submit_of v job).1
 submit_keeps v job =
-    let unless_unready = if not (is_ready v.stage) then (Err refusal.NotReady, v) else submit_one v (wish_of job) in
+    let unless_unready = if not (is_ready v.stage) then (Err refusal.NotReady, v) else submit_one v (wish_of v.offers job) in
     either_submit (v.last == 4294967295) v (Err refusal.Spent, v) (if v.closing then (Err refusal.Closing, v) else unless_unready) refl
     (either_submit v.closing v (Err refusal.Closing, v) unless_unready refl
-    (either_submit (not (is_ready v.stage)) v (Err refusal.NotReady, v) (submit_one v (wish_of job)) refl (wish_keeps v (wish_of job))))
+    (either_submit (not (is_ready v.stage)) v (Err refusal.NotReady, v) (submit_one v (wish_of v.offers job)) refl (wish_keeps v (wish_of v.offers job))))
 
 -- it begins to close with that line
 entered_closing : (s : FrontState) (v : View) → (let x : View = in_state s v in x.closing) ≡ true → v.closing ≡ true ⊎ Has says_closing (state_lines s)
 entered_closing state.Closing v t = inr refl
-entered_closing state.Connected v t = inl t
+entered_closing (state.Connected offers) v t = inl t
 entered_closing (state.Agreed order) v t = inl t
 entered_closing state.Leaving v t = inl t
 entered_closing state.Closed v t = inl t

@@ -18,7 +18,7 @@ use Rattle.blk_front.specs.declared.stage.Stage.TheVariants as stage
 use Rattle.blk_front.specs.declared.told.Told.{Told}
 use Rattle.blk_front.specs.declared.told.Told.TheVariants as told
 use Rattle.blk_front.specs.View.{View, next_request}
-use Rattle.blk_front.specs.Step.{broken, looked, entry_of, issue_stage, data_stage, granted, loop_step, issued, response_at, is_mapped, at, ring_granted, ring_left, finished, ended, revoked, sector_told, data_step, step_at}
+use Rattle.blk_front.specs.Step.{broken, looked, entered, begun, answered, freed, revokes, data_stage, granted, loop_step, issued, response_at, is_mapped, at, ring_granted, ring_left, finished, ended, revoked, sector_told, data_step, step_at}
 use Rattle.machine_pipeline.proofs.Flow.{wrapped}
 use Rattle.machine_pipeline.proofs.Wrapped.{next_wrapped}
 
@@ -54,9 +54,12 @@ looked_counts start answers v word otherwise e h p =
     either start answers (nat_lt (distance_of v.ring.cons v.ring.prod) (distance_of v.ring.cons word)) (broken word v) (if word == v.ring.cons then otherwise else record v { seen = word; stage = stage.Loop }) tt
     (either start answers (word == v.ring.cons) otherwise (record v { seen = word; stage = stage.Loop }) p (untold start answers v.start v.ring.cons v.told stage.Loop e h))
 
-issue_counts : (start answers begins cons : ℕ) (way : Transfer) → cons ≡ wrapped start answers → CountsAt start answers begins cons (issue_stage way)
-issue_counts start answers begins cons transfer.Read h = h
-issue_counts start answers begins cons (transfer.Write tag) h = h
+begun_counts : (start answers : ℕ) (v : View) (r : Request) (way : Transfer) → v.told ≡ None → v.ring.cons ≡ wrapped start answers → Counts start answers (begun v r way)
+begun_counts start answers v r transfer.Read e h = untold start answers v.start v.ring.cons v.told (stage.GrantFence 0) e h
+begun_counts start answers v r (transfer.Write tag) e h = untold start answers v.start v.ring.cons v.told (stage.Data 1) e h
+begun_counts start answers v r (transfer.Barrier tag) e h = untold start answers v.start v.ring.cons v.told (stage.Data 1) e h
+begun_counts start answers v r transfer.Flush e h = untold start answers v.start v.ring.cons v.told (stage.Slot 1) e h
+begun_counts start answers v r (transfer.Discard sectors) e h = untold start answers v.start v.ring.cons v.told (stage.Slot 1) e h
 
 data_counts : (start answers begins cons : ℕ) (next : Option Request) (n : ℕ) → cons ≡ wrapped start answers → CountsAt start answers begins cons (data_stage next n)
 data_counts start answers begins cons None n h = h
@@ -65,7 +68,7 @@ data_counts start answers begins cons (Some r) n h = either_stage start answers 
 granted_counts : (start answers : ℕ) (v : View) (next : Option Request) (place : ℕ) → v.told ≡ None → v.stage ≡ stage.GrantFlags place → v.ring.cons ≡ wrapped start answers → Counts start answers (granted next place v)
 granted_counts start answers v None place e s h = untold start answers v.start v.ring.cons v.told v.stage e (subst (CountsAt start answers v.start v.ring.cons) (sym s) h)
 granted_counts start answers v (Some r) place e s h =
-    either start answers (nat_lt (place + 1) (length r.frames.items)) (at (stage.GrantFrame (place + 1)) v) (record v { stage = stage.Slot 0; entry = entry_of v.shape.abi r })
+    either start answers (nat_lt (place + 1) (length r.frames.items)) (at (stage.GrantFrame (place + 1)) v) (entered v r (stage.Slot 0))
     (untold start answers v.start v.ring.cons v.told (stage.GrantFrame (place + 1)) e h) (untold start answers v.start v.ring.cons v.told (stage.Slot 0) e h)
 
 -- a grant of the ending request was ended: the next one is, or its answer is told
@@ -96,7 +99,7 @@ read_counts start answers v (Some x) n word e s h =
     (told_counts start answers v x n words (stage.ReadData (n + 1)) e h) (told_counts start answers v x n words stage.Loop e h)
 
 loop_counts : (start answers : ℕ) (v : View) (next : Option Request) (a : FrontAnswer) → v.told ≡ None → v.stage ≡ stage.Loop → v.ring.cons ≡ wrapped start answers → Counts start answers (loop_step v next a)
-loop_counts start answers v (Some r) a e s h = untold start answers v.start v.ring.cons v.told (issue_stage r.transfer) e (issue_counts start answers v.start v.ring.cons r.transfer h)
+loop_counts start answers v (Some r) a e s h = begun_counts start answers v r r.transfer e h
 loop_counts start answers v None (answer.Word word) e s h =
     either start answers (responses_of v.ring v.seen == 0) (looked v word (record v { seen = word; stage = stage.StoreEvent })) (at (stage.ResponseHigh word) v)
     (looked_counts start answers v word (record v { seen = word; stage = stage.StoreEvent }) e h (untold start answers v.start v.ring.cons v.told stage.StoreEvent e h))
@@ -107,7 +110,9 @@ response_counts : (start answers : ℕ) (v : View) (response : Result Response �
 response_counts start answers v response low None e h = tt
 response_counts start answers v (Err word) low (Some found) e h = tt
 response_counts start answers v (Ok response) low (Some found) e h =
-    untold start answers v.start (next_of v.ring.cons) v.told (stage.GrantRead 0) e (next_wrapped start answers v.ring.cons h)
+    let next = next_wrapped start answers v.ring.cons h in
+    either start answers (length found.1.frames.items == 0) (answered (freed v found.0) found.1 response.status) (revokes (freed v found.0) found.1 response.status)
+    next (untold start answers v.start (next_of v.ring.cons) v.told (stage.GrantRead 0) e next)
 
 pub front_counts : (start answers : ℕ) (s : Stage) (v : View) (a : FrontAnswer) → v.told ≡ None → v.stage ≡ s → CountsAt start answers v.start v.ring.cons s → Counts start answers (step_at s v a)
 front_counts start answers (stage.RingWord k) v a e same h =

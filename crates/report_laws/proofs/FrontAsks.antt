@@ -1,6 +1,7 @@
 -- What the front asks has the widths of the grammar.
-use Rattle.std.proofs.Common.{ℕ, ◌^◌, ◌<◌, ◌==◌, ◌||◌, Bool, true, false, if◌then◌else◌, arith}
+use Rattle.std.proofs.Common.{ℕ, ◌≡◌, ◌^◌, ◌<◌, ◌==◌, ◌||◌, Bool, true, false, if◌then◌else◌, refl, arith}
 use Rattle.std.specs.Prelude.{Option, Some, None}
+use Rattle.std.specs.List.{AllByRecursion}
 use Rattle.blk_base.specs.declared.ask.FrontAsk.TheVariants.{Wait, Read}
 use Rattle.ring_words.specs.Ring.{next_of, responses_of}
 use Rattle.hypervisor.specs.Hypervisor.{Hypervisor}
@@ -11,12 +12,13 @@ use Rattle.blk_front.specs.declared.stage.Stage.{Stage}
 use Rattle.blk_front.specs.declared.stage.Stage.TheVariants as stage
 use Rattle.blk_front.specs.declared.stage.Ending.{Ending}
 use Rattle.blk_front.specs.Request.{filling_at}
+use Rattle.blk_front.specs.Entry.{entry_of}
 use Rattle.blk_front.specs.View.{View, fresh_word, next_request, ring_frame, slot_frame, slot_word}
 use Rattle.blk_front.specs.Ask.{is_through, ask_at, ask_of, data_ask, name_ask, grant_ask, revoke_ask, end_ask, read_ask, issue_ask, loop_ask, StaysInMemory}
 use Rattle.split_model.specs.Safe.{IsPorted}
 use Rattle.report_laws.proofs.Words.{each_fits}
 use Rattle.report_laws.proofs.Acts.{FrontFits}
-use Rattle.report_laws.proofs.FrontNumbers.{HasWords, IsFit, flags_few}
+use Rattle.report_laws.proofs.FrontNumbers.{HasWords, IsFit, AreShared, flags_few, issued_entry}
 
 fresh_fits : (start k : ℕ) → start < 2 ^ 32 → fresh_word start k < 2 ^ 32
 fresh_fits start k small = by_tests (k == 0) (k == 1) (k == 2) (k == 3)
@@ -61,31 +63,34 @@ read_fits : (h : Hypervisor) (ending : Option Ending) (n : ℕ) → FrontFits h 
 read_fits h None n = tt
 read_fits h (Some e) n = tt
 
-issue_fits : (h : Hypervisor) (r : Request) (way : Transfer) → StaysInMemory (issue_ask r way) → FrontFits h (issue_ask r way)
-issue_fits h r transfer.Read within = name_fits h (Some r) 0 within
-issue_fits h r (transfer.Write tag) within = filling_fits r.transfer 0
+issue_fits : (h : Hypervisor) (v : View) (r : Request) (way : Transfer) → AllByRecursion (λ (n : ℕ). n < 2 ^ 32) (entry_of v.shape.abi r) → StaysInMemory (issue_ask v r way) → FrontFits h (issue_ask v r way)
+issue_fits h v r transfer.Read entry within = name_fits h (Some r) 0 within
+issue_fits h v r (transfer.Write tag) entry within = filling_fits r.transfer 0
+issue_fits h v r (transfer.Barrier tag) entry within = filling_fits r.transfer 0
+issue_fits h v r transfer.Flush entry within = each_fits (entry_of v.shape.abi r) entry 0
+issue_fits h v r (transfer.Discard sectors) entry within = each_fits (entry_of v.shape.abi r) entry 0
 
-loop_fits : (h : Hypervisor) (v : View) (next : Option Request) → StaysInMemory (loop_ask v next) → FrontFits h (loop_ask v next)
-loop_fits h v (Some r) within = issue_fits h r r.transfer within
-loop_fits h v None within = unvalued h (v.asleep || is_through v) (responses_of v.ring v.seen == 0) ring_frame 2 (slot_frame v.shape v.ring.cons 0) (slot_word v.shape v.ring.cons 0)
+loop_fits : (h : Hypervisor) (v : View) (next : Option Request) → AreShared v.requests → IsFit v → next_request v ≡ next → StaysInMemory (loop_ask v next) → FrontFits h (loop_ask v next)
+loop_fits h v (Some r) shared f e within = issue_fits h v r r.transfer (issued_entry v r f.0.asked shared e) within
+loop_fits h v None shared f e within = unvalued h (v.asleep || is_through v) (responses_of v.ring v.seen == 0) ring_frame 2 (slot_frame v.shape v.ring.cons 0) (slot_word v.shape v.ring.cons 0)
 
-asks_at : (h : Hypervisor) (s : Stage) (v : View) → IsPorted s h.channels → StaysInMemory (ask_at s v) → HasWords s → IsFit v → FrontFits h (ask_at s v)
-asks_at h (stage.RingWord k) v ported within words f = fresh_fits v.start k f.0.begins
-asks_at h (stage.RingFrame page) v ported within words f = let framed = within.0 in omega arith
-asks_at h (stage.RingFlags page) v ported within words f = omega arith
-asks_at h stage.NewPort v ported within words f = omega (arith, ported.0)
-asks_at h stage.Loop v ported within words f = loop_fits h v (next_request v) within
-asks_at h (stage.Data n) v ported within words f = data_fits h (next_request v) n
-asks_at h (stage.GrantFrame place) v ported within words f = name_fits h (next_request v) place within
-asks_at h (stage.GrantFlags place) v ported within words f = grant_fits h (next_request v) place
-asks_at h (stage.Slot k) v ported within words f = each_fits v.entry f.0.written k
-asks_at h stage.Producer v ported within words f = omega arith
-asks_at h (stage.GrantRead place) v ported within words f = revoke_fits h v.ending place
-asks_at h (stage.GrantEnd place before) v ported within words f = end_fits h v.ending place before words
-asks_at h (stage.ReadData n) v ported within words f = read_fits h v.ending n
-asks_at h stage.StoreEvent v ported within words f = omega arith
-asks_at h (stage.RingEnd page seen) v ported within words f = (words, omega arith)
-asks_at h s v ported within words f = tt
+asks_at : (h : Hypervisor) (s : Stage) (v : View) → AreShared v.requests → IsPorted s h.channels → StaysInMemory (ask_at s v) → HasWords s → IsFit v → FrontFits h (ask_at s v)
+asks_at h (stage.RingWord k) v shared ported within words f = fresh_fits v.start k f.0.begins
+asks_at h (stage.RingFrame page) v shared ported within words f = let framed = within.0 in omega arith
+asks_at h (stage.RingFlags page) v shared ported within words f = omega arith
+asks_at h stage.NewPort v shared ported within words f = omega (arith, ported.0)
+asks_at h stage.Loop v shared ported within words f = loop_fits h v (next_request v) shared f refl within
+asks_at h (stage.Data n) v shared ported within words f = data_fits h (next_request v) n
+asks_at h (stage.GrantFrame place) v shared ported within words f = name_fits h (next_request v) place within
+asks_at h (stage.GrantFlags place) v shared ported within words f = grant_fits h (next_request v) place
+asks_at h (stage.Slot k) v shared ported within words f = each_fits v.entry f.0.written k
+asks_at h stage.Producer v shared ported within words f = omega arith
+asks_at h (stage.GrantRead place) v shared ported within words f = revoke_fits h v.ending place
+asks_at h (stage.GrantEnd place before) v shared ported within words f = end_fits h v.ending place before words
+asks_at h (stage.ReadData n) v shared ported within words f = read_fits h v.ending n
+asks_at h stage.StoreEvent v shared ported within words f = omega arith
+asks_at h (stage.RingEnd page seen) v shared ported within words f = (words, omega arith)
+asks_at h s v shared ported within words f = tt
 
-pub front_asks : (h : Hypervisor) (v : View) → IsPorted v.stage h.channels → StaysInMemory (ask_of v) → IsFit v → FrontFits h (ask_of v)
-front_asks h v ported within f = asks_at h v.stage v ported within f.1 f
+pub front_asks : (h : Hypervisor) (v : View) → AreShared v.requests → IsPorted v.stage h.channels → StaysInMemory (ask_of v) → IsFit v → FrontFits h (ask_of v)
+front_asks h v shared ported within f = asks_at h v.stage v shared ported within f.1 f

@@ -1,5 +1,5 @@
 -- The numbers that the front keeps have the widths of the grammar, and so has what it tells and answers, whatever word it reads.
-use Rattle.std.proofs.Common.{◌≡◌, ℕ, suc, ◌≤◌, ◌+◌, ◌-◌, ◌*◌, ◌/◌, ◌%◌, ◌^◌, ◌<◌, Bool, true, false, not, if◌then◌else◌, List, [], ◌∷◌, length, take, map, refl, arith, length-set}
+use Rattle.std.proofs.Common.{◌≡◌, ℕ, zero, suc, ◌≤◌, ◌+◌, ◌-◌, ◌*◌, ◌/◌, ◌%◌, ◌^◌, ◌<◌, Bool, true, false, not, if◌then◌else◌, List, [], ◌∷◌, length, take, map, refl, arith, length-set}
 use Rattle.std.specs.Prelude.{◌&&◌, All, Option, Some, None, Result, Ok, Err, nat_lt, nat_le, ◌==◌, slice_get, slice_set, slice_index, position}
 use Rattle.std.specs.Option.{option_map}
 use Rattle.std.specs.List.{AllByRecursion, range_with_len}
@@ -20,6 +20,7 @@ use Rattle.ring_words.specs.Ring.{responses_of, notifies}
 use Rattle.ring_words.specs.Shape.{entries_of, entry_words_of}
 use Rattle.line_text.specs.Sector.{IsSector}
 use Rattle.blk_layout.specs.Entry.{words_of}
+use Rattle.blk_layout.specs.declared.request.RawRequest.TheVariants.{Direct, Discard}
 use Rattle.blk_layout.specs.Response.{status_of, response_with, response_of}
 use Rattle.blk_layout.specs.declared.response.Response.{Response}
 use Rattle.blk_layout.specs.declared.segment.Segment.{Segment}
@@ -37,10 +38,11 @@ use Rattle.blk_front.specs.declared.told.Told.TheVariants as told
 use Rattle.blk_front.specs.declared.told.Refusal.{Refusal}
 use Rattle.blk_front.specs.declared.told.Refusal.TheVariants as refusal
 use Rattle.blk_front.specs.Pool.{taking}
-use Rattle.blk_front.specs.Request.{operation_of, is_write, grant_flags, has_data, frames_for, words_in, segment_in, segment_at}
+use Rattle.blk_front.specs.Request.{operation_of, is_write, named_of, segments_of, grant_flags, has_data, frames_for, words_in, segment_in, segment_at}
 use Rattle.blk_front.specs.View.{View, next_request, start_of}
-use Rattle.blk_front.specs.Step.{at, broken, looked, entry_of, issue_stage, data_stage, granted, loop_step, found_at, issued, response_at, is_mapped, ring_left, finished, ended, revoked, sector_told, data_step, step_at, step_of}
-use Rattle.blk_front.specs.Submit.{is_ready, unfinished, wish_of, request_with, submit_with, submit_one, submit_of}
+use Rattle.blk_front.specs.Entry.{entry_as, entry_of}
+use Rattle.blk_front.specs.Step.{at, broken, looked, entered, begun, freed, revokes, answered, data_stage, granted, loop_step, found_at, issued, response_at, is_mapped, ring_left, finished, ended, revoked, sector_told, data_step, step_at, step_of}
+use Rattle.blk_front.specs.Submit.{is_ready, unfinished, wished, wish_of, request_with, submit_with, submit_one, submit_of}
 use Rattle.blk_front.specs.declared.state.FrontState.{FrontState}
 use Rattle.blk_front.specs.declared.state.FrontState.TheVariants as state
 use Rattle.blk_front.specs.State.{in_state, enters}
@@ -48,7 +50,7 @@ use Rattle.split_model.specs.World.{World}
 use Rattle.split_model.specs.Shown.{front_lines, state_lines, refusal_word}
 use Rattle.split_model.specs.Happening.{enter_lines, submit_line}
 use Rattle.split_model.proofs.States.{enters_cases}
-use Rattle.machine_pipeline.specs.Allowed.{IsTransfer, IsStated}
+use Rattle.machine_pipeline.specs.Allowed.{IsServable, IsStated}
 use Rattle.machine_pipeline.proofs.Lists.{all_at}
 use Rattle.report_laws.proofs.Told.{AreGood, good}
 use Rattle.report_laws.proofs.Acts.{FrontTells}
@@ -64,8 +66,9 @@ none_fits : 0 < 2 ^ 32
 none_fits = omega arith
 
 pub flags_few : (way : Transfer) → grant_flags way ≤ 5
-flags_few transfer.Read = omega arith
 flags_few (transfer.Write tag) = omega arith
+flags_few (transfer.Barrier tag) = omega arith
+flags_few way = omega arith
 
 -- a segment's words, and those of none
 segment_few : (count place : ℕ) (frame : Option ℕ) → ((f : ℕ) → frame ≡ Some f → f < 1018) → (let s : Segment = segment_in count place frame in (s.gref < 1024) × (s.first ≡ 0) × (s.last ≤ 7))
@@ -78,9 +81,15 @@ gref_fits r place all = let few = segment_few r.count place (slice_get r.frames.
 ends_fit : (r : Request) (place : ℕ) → All (λ (frame : ℕ). frame < 1018) r.frames.items → (let s : Segment = segment_at r place in s.first * 1 + (s.last * 256 + 0) < 2 ^ 32)
 ends_fit r place all = let few = segment_few r.count place (slice_get r.frames.items place) (λ f e. all_at (λ (frame : ℕ). frame < 1018) r.frames.items place f all e) in omega (arith, few.1, few.2)
 
-operation_fits : (way : Transfer) (frames : ℕ) → frames ≤ 11 → operation_of way * 1 + (frames * 256 + 3388997632) < 2 ^ 32
-operation_fits transfer.Read frames few = omega arith
-operation_fits (transfer.Write tag) frames few = omega arith
+operation_few : (way : Transfer) → operation_of way ≤ 5
+operation_few transfer.Read = omega arith
+operation_few (transfer.Write tag) = omega arith
+operation_few (transfer.Barrier tag) = omega arith
+operation_few transfer.Flush = omega arith
+operation_few (transfer.Discard sectors) = omega arith
+
+first_fits : (op frames : ℕ) → op ≤ 5 → frames ≤ 11 → op * 1 + (frames * 256 + 3388997632) < 2 ^ 32
+first_fits op frames small few = omega arith
 
 -- two words for each segment
 abbrev segment_words : List Segment → List ℕ
@@ -92,18 +101,40 @@ segments_fit r [] all = tt
 segments_fit r (place ∷ places) all = (gref_fits r place all, (ends_fit r place all, segments_fit r places all))
 
 -- under each layout: the first word, one that is 0 where 64-bit fields need it, the id, the sector and eleven segments
-entry_words : (abi : Abi) (r : Request) → r.number < 2 ^ 64 → r.sector < 2 ^ 64 → r.count ≤ 88 → All (λ (frame : ℕ). frame < 1018) r.frames.items → AllByRecursion (λ (v : ℕ). v < 2 ^ 32) (entry_of abi r)
+direct_words : (abi : Abi) (op : ℕ) (r : Request) → op ≤ 5 → r.number < 2 ^ 64 → r.sector < 2 ^ 64 → r.count ≤ 88 → All (λ (frame : ℕ). frame < 1018) r.frames.items
+    → AllByRecursion (λ (v : ℕ). v < 2 ^ 32) (words_of abi (Direct op (frames_for r.count) 51712 r.number r.sector (segments_of r)))
 unfolding words_of
-entry_words X64 r number sector count all =
-    (operation_fits r.transfer (frames_for r.count) (omega arith), (none_fits, (low_half r.number, (high_half r.number number, (low_half r.sector, (high_half r.sector sector, segments_fit r (range_with_len 0 11) all))))))
-entry_words X32 r number sector count all =
-    (operation_fits r.transfer (frames_for r.count) (omega arith), (low_half r.number, (high_half r.number number, (low_half r.sector, (high_half r.sector sector, segments_fit r (range_with_len 0 11) all)))))
+direct_words X64 op r small number sector count all =
+    (first_fits op (frames_for r.count) small (omega arith), (none_fits, (low_half r.number, (high_half r.number number, (low_half r.sector, (high_half r.sector sector, segments_fit r (range_with_len 0 11) all))))))
+direct_words X32 op r small number sector count all =
+    (first_fits op (frames_for r.count) small (omega arith), (low_half r.number, (high_half r.number number, (low_half r.sector, (high_half r.sector sector, segments_fit r (range_with_len 0 11) all)))))
+
+-- a discard has its count in their place, and then zeros
+abbrev zeros : ℕ → List ℕ
+zeros zero = []
+zeros (suc n) = 0 ∷ zeros n
+
+zeros_fit : (n : ℕ) → AllByRecursion (λ (v : ℕ). v < 2 ^ 32) (zeros n)
+zeros_fit zero = tt
+zeros_fit (suc n) = (none_fits, zeros_fit n)
+
+discard_words : (abi : Abi) (number sector sectors : ℕ) → number < 2 ^ 64 → sector < 2 ^ 64 → sectors < 2 ^ 64 → AllByRecursion (λ (v : ℕ). v < 2 ^ 32) (words_of abi (Discard 0 51712 number sector sectors))
+unfolding words_of
+discard_words X64 number sector sectors numbered placed long =
+    (first_fits 5 0 (omega arith) (omega arith), (none_fits, (low_half number, (high_half number numbered, (low_half sector, (high_half sector placed, (low_half sectors, (high_half sectors long, zeros_fit 20))))))))
+discard_words X32 number sector sectors numbered placed long =
+    (first_fits 5 0 (omega arith) (omega arith), (low_half number, (high_half number numbered, (low_half sector, (high_half sector placed, (low_half sectors, (high_half sectors long, zeros_fit 20)))))))
+
+entry_words : (abi : Abi) (way : Transfer) (r : Request) → r.number < 2 ^ 64 → r.sector < 2 ^ 64 → r.count ≤ 88 → named_of way r.count < 2 ^ 32 → All (λ (frame : ℕ). frame < 1018) r.frames.items → AllByRecursion (λ (v : ℕ). v < 2 ^ 32) (words_of abi (entry_as way r))
+entry_words abi (transfer.Discard sectors) r number sector count named all = discard_words abi r.number r.sector sectors number sector (omega arith)
+entry_words abi way r number sector count named all = direct_words abi (operation_of way) r (operation_few way) number sector count all
 
 -- a request: one entry names its sectors, and its numbers have the widths of their fields
 pub record IsAsked (r : Request) : Type 0 where
   pub number : r.number < 2 ^ 32
   pub sector : r.sector < 2 ^ 64
   pub few : r.count ≤ 88
+  pub named : named_of r.transfer r.count < 2 ^ 32
 
 abbrev pub IsAskedEnding : Option Ending → Type 0
 IsAskedEnding None = Unit {0}
@@ -115,7 +146,7 @@ AreShared requests = All (λ (r : Request). All (λ (frame : ℕ). frame < 1018)
 
 pub record AreNumbers (sectors start last : ℕ) (requests : List Request) (ending : Option Ending) (entry words : List ℕ) : Type 0 where
   pub begins : start < 2 ^ 32
-  pub sized : sectors ≤ 2 ^ 64
+  pub sized : sectors < 2 ^ 64
   pub given : last < 2 ^ 32
   pub asked : All IsAsked requests
   pub ends : IsAskedEnding ending
@@ -144,7 +175,7 @@ pub front_start : (config : Options) → AreOptions config → IsFit (start_of c
 front_start config options = (
   record {
     begins = options.3;
-    sized = let sectors = options.4 in omega arith;
+    sized = options.4;
     given = omega arith;
     asked = All-nil IsAsked;
     ends = tt;
@@ -172,10 +203,6 @@ looked_fits v word otherwise small f h =
     either (nat_lt (distance_of v.ring.cons v.ring.prod) (distance_of v.ring.cons word)) (broken word v) (if word == v.ring.cons then otherwise else record v { seen = word; stage = stage.Loop })
     (λ t. (f.0, tt, small)) (λ t. either (word == v.ring.cons) otherwise (record v { seen = word; stage = stage.Loop }) (λ u. h) (λ u. (f.0, tt, f.2)))
 
-issue_words : (way : Transfer) → HasWords (issue_stage way)
-issue_words transfer.Read = tt
-issue_words (transfer.Write tag) = tt
-
 data_words : (r : Option Request) (n : ℕ) → HasWords (data_stage r n)
 data_words None n = tt
 data_words (Some r) n = either_stage (nat_lt (n + 1) (words_in r)) (stage.Data (n + 1)) (stage.GrantFrame 0) tt tt
@@ -188,26 +215,34 @@ next_holds P v r all e = by_waiting (v.waiting == 0) e
     by_waiting true e = absurd (none-some r e)
     by_waiting false e = all_at P v.requests (length v.requests - v.waiting) r all e
 
-issued_entry : (v : View) (r : Request) → All IsAsked v.requests → AreShared v.requests → next_request v ≡ Some r → AllByRecursion (λ (n : ℕ). n < 2 ^ 32) (entry_of v.shape.abi r)
+pub issued_entry : (v : View) (r : Request) → All IsAsked v.requests → AreShared v.requests → next_request v ≡ Some r → AllByRecursion (λ (n : ℕ). n < 2 ^ 32) (entry_of v.shape.abi r)
 issued_entry v r asked shared e =
     let is = next_holds IsAsked v r asked e in
     let number = is.number in
-    entry_words v.shape.abi r (omega arith) is.sector is.few (next_holds (λ (x : Request). All (λ (frame : ℕ). frame < 1018) x.frames.items) v r shared e)
+    entry_words v.shape.abi r.transfer r (omega arith) is.sector is.few is.named (next_holds (λ (x : Request). All (λ (frame : ℕ). frame < 1018) x.frames.items) v r shared e)
+
+entered_fits : (v : View) (r : Request) (s : Stage) → HasWords s → AllByRecursion (λ (n : ℕ). n < 2 ^ 32) (entry_of v.shape.abi r) → IsFit v → IsFit (entered v r s)
+entered_fits v r s words entry f = let k = f.0 in (record { begins = k.begins; sized = k.sized; given = k.given; asked = k.asked; ends = k.ends; written = entry; read = k.read }, words, f.2)
 
 granted_fits : (v : View) (r : Option Request) (place : ℕ) → ((x : Request) → r ≡ Some x → AllByRecursion (λ (n : ℕ). n < 2 ^ 32) (entry_of v.shape.abi x)) → IsFit v → IsFit (granted r place v)
 granted_fits v None place entry f = f
 granted_fits v (Some r) place entry f =
-    let k = f.0 in
-    either (nat_lt (place + 1) (length r.frames.items)) (at (stage.GrantFrame (place + 1)) v) (record v { stage = stage.Slot 0; entry = entry_of v.shape.abi r }) (λ t. (f.0, tt, f.2))
-    (λ t. (record { begins = k.begins; sized = k.sized; given = k.given; asked = k.asked; ends = k.ends; written = entry r refl; read = k.read }, tt, f.2))
+    either (nat_lt (place + 1) (length r.frames.items)) (at (stage.GrantFrame (place + 1)) v) (entered v r (stage.Slot 0)) (λ t. (f.0, tt, f.2)) (λ t. entered_fits v r (stage.Slot 0) tt (entry r refl) f)
 
-loop_fits : (v : View) (r : Option Request) (x : FrontAnswer) → IsFit v → FrontTells x → IsFit (loop_step v r x)
-loop_fits v (Some r) x f small = (f.0, issue_words r.transfer, f.2)
-loop_fits v None (answer.Word word) f small =
+begun_fits : (v : View) (r : Request) (way : Transfer) → AllByRecursion (λ (n : ℕ). n < 2 ^ 32) (entry_of v.shape.abi r) → IsFit v → IsFit (begun v r way)
+begun_fits v r transfer.Read entry f = (f.0, tt, f.2)
+begun_fits v r (transfer.Write tag) entry f = (f.0, tt, f.2)
+begun_fits v r (transfer.Barrier tag) entry f = (f.0, tt, f.2)
+begun_fits v r transfer.Flush entry f = entered_fits v r (stage.Slot 1) tt entry f
+begun_fits v r (transfer.Discard sectors) entry f = entered_fits v r (stage.Slot 1) tt entry f
+
+loop_fits : (v : View) (r : Option Request) (x : FrontAnswer) → ((y : Request) → r ≡ Some y → AllByRecursion (λ (n : ℕ). n < 2 ^ 32) (entry_of v.shape.abi y)) → IsFit v → FrontTells x → IsFit (loop_step v r x)
+loop_fits v (Some r) x entry f small = begun_fits v r r.transfer (entry r refl) f
+loop_fits v None (answer.Word word) entry f small =
     either (responses_of v.ring v.seen == 0) (looked v word (record v { seen = word; stage = stage.StoreEvent })) (at (stage.ResponseHigh word) v)
     (λ t. looked_fits v word (record v { seen = word; stage = stage.StoreEvent }) small f (f.0, tt, f.2)) (λ t. (f.0, small, f.2))
-loop_fits v None answer.Event f small = f
-loop_fits v None x f small = f
+loop_fits v None answer.Event entry f small = f
+loop_fits v None x entry f small = f
 
 -- a request that is found is one of them
 abbrev IsAskedFound : Option (ℕ × Request) → Type 0
@@ -235,11 +270,12 @@ response_fits : (v : View) (response : Result Response ℕ) (low : ℕ) (found :
 response_fits v response low None small wrong is f = (f.0, tt, small)
 response_fits v (Err word) low (Some found) small wrong is f = (f.0, tt, wrong)
 response_fits v (Ok response) low (Some found) small wrong is f =
-    let k = f.0 in (
-      record { begins = k.begins; sized = k.sized; given = k.given; asked = All-append IsAsked _ _ (All-take IsAsked found.0 v.requests k.asked) (All-drop IsAsked (suc found.0) v.requests k.asked); ends = is; written = k.written; read = k.read },
-      tt,
-      f.2,
-    )
+    let k = f.0 in
+    let rest = All-append IsAsked _ _ (All-take IsAsked found.0 v.requests k.asked) (All-drop IsAsked (suc found.0) v.requests k.asked) in
+    let number = is.number in
+    either (length found.1.frames.items == 0) (answered (freed v found.0) found.1 response.status) (revokes (freed v found.0) found.1 response.status)
+    (λ t. (record { begins = k.begins; sized = k.sized; given = k.given; asked = rest; ends = k.ends; written = k.written; read = k.read }, tt, omega arith))
+    (λ t. (record { begins = k.begins; sized = k.sized; given = k.given; asked = rest; ends = is; written = k.written; read = k.read }, tt, f.2))
 
 ended_fits : (v : View) (e : Ending) → IsAsked e.request → IsFit v → IsFit (ended e v)
 ended_fits v e is f =
@@ -280,7 +316,7 @@ step_fits (stage.RingFrame page) v x shared h f small = (f.0, tt, f.2)
 step_fits (stage.RingFence page) v x shared h f small = (f.0, tt, f.2)
 step_fits (stage.RingFlags page) v x shared h f small = (f.0, either_stage (nat_lt (page + 1) (2 ^ v.shape.order)) (stage.RingFrame (page + 1)) stage.NewPort tt tt, f.2)
 step_fits stage.NewPort v x shared h f small = (f.0, tt, f.2)
-step_fits stage.Loop v x shared h f small = loop_fits v (next_request v) x f small
+step_fits stage.Loop v x shared h f small = loop_fits v (next_request v) x (λ r e. issued_entry v r f.0.asked shared e) f small
 step_fits (stage.Data n) v x shared h f small = (f.0, data_words (next_request v) n, f.2)
 step_fits (stage.GrantFrame place) v x shared h f small = (f.0, tt, f.2)
 step_fits (stage.GrantFence place) v x shared h f small = (f.0, tt, f.2)
@@ -316,7 +352,7 @@ enters_fits w s v small f = enters_cases (λ x shown. IsFit x × AreGood shown) 
   where
     entered : (s : FrontState) → IsStated w s → IsFit (in_state s v) × AreGood (state_lines s)
     entered (state.Agreed order) small = (f, tt)
-    entered state.Connected small = ((f.0, tt, f.2), (good lines.Ready tt refl, tt))
+    entered (state.Connected offers) small = ((f.0, tt, f.2), (good lines.Ready tt refl, tt))
     entered state.Closing small = (f, (good lines.Closing tt refl, tt))
     entered state.Leaving small = ((f.0, tt, f.2), tt)
     entered state.Closed small = ((f.0, tt, f.2), (good lines.Closed tt refl, tt))
@@ -340,9 +376,9 @@ either_submit job false x y p q = q refl
 refused : (v : View) (job : Job) (why : Refusal) → IsFit v → IsSubmitted job (Err why, v)
 refused v job why f = (good (lines.Refuse (refusal_word why)) tt refl, f)
 
-accepted_fits : (v : View) (job : Job) (wish : Wish) (frames : Option (List ℕ × List Bool)) → v.last + 1 < 2 ^ 32 → wish.sector < 2 ^ 64 → wish.count ≤ 88 → JobHasWidths job → IsFit v → IsSubmitted job (submit_with v wish frames)
-accepted_fits v job wish None last sector few widths f = refused v job refusal.Buffers f
-accepted_fits v job wish (Some taken) last sector few widths f =
+accepted_fits : (v : View) (job : Job) (wish : Wish) (frames : Option (List ℕ × List Bool)) → v.last + 1 < 2 ^ 32 → wish.sector < 2 ^ 64 → wish.count ≤ 88 → named_of wish.transfer wish.count < 2 ^ 32 → JobHasWidths job → IsFit v → IsSubmitted job (submit_with v wish frames)
+accepted_fits v job wish None last sector few named widths f = refused v job refusal.Buffers f
+accepted_fits v job wish (Some taken) last sector few named widths f =
     let k = f.0 in (
       good (lines.Submit (v.last + 1) job) (omega arith, widths) refl,
       (
@@ -350,7 +386,7 @@ accepted_fits v job wish (Some taken) last sector few widths f =
           begins = k.begins;
           sized = k.sized;
           given = last;
-          asked = All-push IsAsked v.requests (request_with v wish taken.0) k.asked (record { number = last; sector = sector; few = few });
+          asked = All-push IsAsked v.requests (request_with v wish taken.0) k.asked (record { number = last; sector = sector; few = few; named = named });
           ends = k.ends;
           written = k.written;
           read = k.read;
@@ -360,38 +396,51 @@ accepted_fits v job wish (Some taken) last sector few widths f =
       ),
     )
 
-wish_fits : (v : View) (job : Job) (wish : Wish) → 1 ≤ wish.count → (wish.sector < 2 ^ 64 → wish.count ≤ 88 → JobHasWidths job) → v.last + 1 < 2 ^ 32 → IsFit v → IsSubmitted job (submit_one v (Some wish))
-wish_fits v job wish some widths last f =
+wish_fits : (v : View) (job : Job) (wish : Wish) → (wish.count ≤ 88 → named_of wish.transfer wish.count < 2 ^ 32) → (wish.sector < 2 ^ 64 → wish.count ≤ 88 → JobHasWidths job) → v.last + 1 < 2 ^ 32 → IsFit v → IsSubmitted job (submit_one v (Some wish))
+wish_fits v job wish named widths last f =
     let sized = f.0.sized in
     let frames = taking (frames_for wish.count) v.pool [] in
     let unless_full = if nat_le (entries_of v.shape.order) (unfinished v) then (Err refusal.Full, v) else submit_with v wish frames in
     let unless_long = if nat_lt 11 (frames_for wish.count) then (Err refusal.Long, v) else unless_full in
-    let unless_past = if nat_lt v.sectors (wish.sector + wish.count) then (Err refusal.Range, v) else unless_long in
+    let unless_past = if nat_lt v.sectors (wish.sector + named_of wish.transfer wish.count) then (Err refusal.Range, v) else unless_long in
     either_submit job (is_write wish.transfer && v.read_only) (Err refusal.ReadOnly, v) unless_past (λ t. refused v job refusal.ReadOnly f)
-    (λ free. either_submit job (nat_lt v.sectors (wish.sector + wish.count)) (Err refusal.Range, v) unless_long (λ t. refused v job refusal.Range f)
+    (λ free. either_submit job (nat_lt v.sectors (wish.sector + named_of wish.transfer wish.count)) (Err refusal.Range, v) unless_long (λ t. refused v job refusal.Range f)
     (λ range. either_submit job (nat_lt 11 (frames_for wish.count)) (Err refusal.Long, v) unless_full (λ t. refused v job refusal.Long f)
     (λ long. either_submit job (nat_le (entries_of v.shape.order) (unfinished v)) (Err refusal.Full, v) (submit_with v wish frames) (λ t. refused v job refusal.Full f)
-    (λ t. accepted_fits v job wish frames last (low range sized) (short long) (widths (low range sized) (short long)) f))))
+    (λ t. accepted_fits v job wish frames last (low (named_of wish.transfer wish.count) range sized) (short long) (named (short long)) (widths (low (named_of wish.transfer wish.count) range sized) (short long)) f))))
   where
-    low : nat_lt v.sectors (wish.sector + wish.count) ≡ false → v.sectors ≤ 2 ^ 64 → wish.sector < 2 ^ 64
-    low range sized = let fits : wish.sector + wish.count ≤ v.sectors = grind (arith, nat_tests) in omega arith
+    low : (n : ℕ) → nat_lt v.sectors (wish.sector + n) ≡ false → v.sectors < 2 ^ 64 → wish.sector < 2 ^ 64
+    low n range sized = let fits : wish.sector + n ≤ v.sectors = grind (arith, nat_tests) in omega arith
 
     short : nat_lt 11 (frames_for wish.count) ≡ false → wish.count ≤ 88
     short long = let few : frames_for wish.count ≤ 11 = grind (arith, nat_tests) in omega arith
 
-pub submit_fits : (v : View) (job : Job) → IsTransfer job → IsFit v → IsSubmitted job (submit_of v job)
+-- where the back doesn't serve it, it is refused
+wished_fits : (v : View) (job : Job) (offered : Bool) (wish : Wish) → IsFit v → IsSubmitted job (submit_one v (Some wish)) → IsSubmitted job (submit_one v (wished offered wish))
+wished_fits v job true wish f is = is
+wished_fits v job false wish f is = refused v job refusal.Unsupported f
+
+pub submit_fits : (v : View) (job : Job) → IsServable job → IsFit v → IsSubmitted job (submit_of v job)
 submit_fits v job may f =
-    let unless_unready = if not (is_ready v.stage) then (Err refusal.NotReady, v) else submit_one v (wish_of job) in
+    let unless_unready = if not (is_ready v.stage) then (Err refusal.NotReady, v) else submit_one v (wish_of v.offers job) in
     either_submit job (v.last == 4294967295) (Err refusal.Spent, v) (if v.closing then (Err refusal.Closing, v) else unless_unready) (λ t. refused v job refusal.Spent f)
     (λ unspent. either_submit job v.closing (Err refusal.Closing, v) unless_unready (λ t. refused v job refusal.Closing f)
-    (λ unclosing. either_submit job (not (is_ready v.stage)) (Err refusal.NotReady, v) (submit_one v (wish_of job)) (λ t. refused v job refusal.NotReady f) (λ t. by_job job may (one_more v.last f.0.given unspent))))
+    (λ unclosing. either_submit job (not (is_ready v.stage)) (Err refusal.NotReady, v) (submit_one v (wish_of v.offers job)) (λ t. refused v job refusal.NotReady f) (λ t. by_job job may (one_more v.last f.0.given unspent))))
   where
     one_more : (last : ℕ) → last < 2 ^ 32 → (last == 4294967295) ≡ false → last + 1 < 2 ^ 32
     one_more last given unspent = grind (arith, nat_tests)
 
-    by_job : (job : Job) → IsTransfer job → v.last + 1 < 2 ^ 32 → IsSubmitted job (submit_one v (wish_of job))
+    by_job : (job : Job) → IsServable job → v.last + 1 < 2 ^ 32 → IsSubmitted job (submit_one v (wish_of v.offers job))
     by_job (jobs.Read sector count) may last =
-        wish_fits v (jobs.Read sector count) (record { sector = sector; count = count; transfer = transfer.Read }) may (λ low few. (low, (omega arith, omega arith))) last f
+        wish_fits v (jobs.Read sector count) (record { sector = sector; count = count; transfer = transfer.Read }) (λ few. omega arith) (λ low few. (low, (omega arith, omega arith))) last f
     by_job (jobs.Write sector count tag) may last =
-        wish_fits v (jobs.Write sector count tag) (record { sector = sector; count = count; transfer = transfer.Write tag }) may.0 (λ low few. (low, (let some = may.0 in omega arith, omega arith), may.1)) last f
-    by_job job may last = absurd may
+        wish_fits v (jobs.Write sector count tag) (record { sector = sector; count = count; transfer = transfer.Write tag }) (λ few. omega arith) (λ low few. (low, (let some = may.0 in omega arith, omega arith), may.1)) last f
+    by_job (jobs.Barrier sector count tag) may last =
+        let wish : Wish = record { sector = sector; count = count; transfer = transfer.Barrier tag } in
+        wished_fits v (jobs.Barrier sector count tag) v.offers.barrier wish f (wish_fits v (jobs.Barrier sector count tag) wish (λ few. omega arith) (λ low few. (low, (let some = may.0 in omega arith, omega arith), may.1)) last f)
+    by_job jobs.Flush may last =
+        let wish : Wish = record { sector = 0; count = 0; transfer = transfer.Flush } in
+        wished_fits v jobs.Flush v.offers.flush wish f (wish_fits v jobs.Flush wish (λ few. omega arith) (λ low few. tt) last f)
+    by_job (jobs.Discard sector count) may last =
+        let wish : Wish = record { sector = sector; count = 0; transfer = transfer.Discard count } in
+        wished_fits v (jobs.Discard sector count) v.offers.discard wish f (wish_fits v (jobs.Discard sector count) wish (λ few. may.1) (λ low few. (low, (let some = may.0 in omega arith, may.1))) last f)

@@ -90,7 +90,7 @@ front_good : (before : List Line) (w : World) (act : Option FrontAct) → IsWell
 front_good before w None is within e = let n = is.numbered in stays before [] w w.front w.under n n.front n.words tt
 front_good before w (Some a) is within e =
     let n = is.numbered in
-    let asks : FrontFits w.under (front_ask.ask_of w.front) = front_asks w.under w.front is.safe.ported within n.front in
+    let asks : FrontFits w.under (front_ask.ask_of w.front) = front_asks w.under w.front is.orderly.front.shared is.safe.ported within n.front in
     let fits : ActFits a.shown a.under.pages = front_act_fits w.under (front_ask.ask_of w.front) a n.words within asks is.spelled e in
     let v : front_numbers.IsFit (front_step.step_of w.front a.answer) = front_numbers.front_fits w.front a.answer is.orderly.front.shared n.front (front_told_fits w.under (front_ask.ask_of w.front) a n.words asks e) in
     let f : front.View = front_step.step_of w.front a.answer in
@@ -167,7 +167,7 @@ attached_good : (before : List Line) (w : World) (shape : Shape) (grefs : List �
     → ShowsGood before (lines_at w (BackAttaches shape grefs port)) (happens w (BackAttaches shape grefs port))
 attached_good before w shape grefs port said spelled n =
     attach_cases (λ b shown. ShowsGood before shown (record { front = w.front; back = b; under = w.under })) w shape grefs port
-    (λ may named. back_stays before _ w _ n (back_numbers.attached_fits most shape grefs port w.back said n.back) (layout_good w spelled, tt)) (back_stays before [] w w.back n n.back tt)
+    (λ may named says. back_stays before _ w _ n (back_numbers.attached_fits most shape grefs port w.back said n.back) (layout_good w spelled, tt)) (back_stays before [] w w.back n n.back tt)
 
 -- or halts
 halted_good : (before : List Line) (w : World) (why : Halt) → IsSaid why → IsNumbered w → ShowsGood before (lines_at w (BackHalts why)) (happens w (BackHalts why))

@@ -81,6 +81,8 @@ pub record OfBack (P : Line → Type 0) : Type 0 where
   pub move : (shown : Move) → P (lines.Move shown)
   pub effect : (id index : ℕ) → P (lines.Effect id index)
   pub effect_read : (id index : ℕ) (words : List ℕ) → P (lines.EffectRead id index words)
+  pub flushed : (id : ℕ) → P (lines.Flushed id)
+  pub trimmed : (id : ℕ) → P (lines.Trimmed id)
   pub fault : (id index : ℕ) → P (lines.Fault id index)
   pub reply : (id : ℕ) (status : Status) → P (lines.Reply id status)
   pub halt : (why : HaltLine) → P (lines.Halt why)
@@ -92,6 +94,8 @@ effect_all P of id index a = of.effect id index
 back_lines_all : (P : Line → Type 0) → OfBack P → (t : Option BackTold) (a : BackAnswer) → AllByRecursion P (back_lines t a)
 back_lines_all P of None a = tt
 back_lines_all P of (Some (back_told.Effect id index)) a = (effect_all P of id index a, tt)
+back_lines_all P of (Some (back_told.Flushed id)) a = (of.flushed id, tt)
+back_lines_all P of (Some (back_told.Trimmed id)) a = (of.trimmed id, tt)
 back_lines_all P of (Some (back_told.Fault id index)) a = (of.fault id index, tt)
 back_lines_all P of (Some (back_told.Reply id status)) a = (of.reply id status, tt)
 
@@ -115,7 +119,7 @@ job_all P of w number None = tt
 job_all P of w number (Some a) = (of.move a.shown, back_lines_all P of (let b : back.View = back_step.job_step w.back number a.answer in b.told) a.answer)
 
 back_is_usual : OfBack (λ (line : Line). is_usual line ≡ true)
-back_is_usual = record { move = λ m. refl; effect = λ id index. refl; effect_read = λ id index words. refl; fault = λ id index. refl; reply = λ id status. refl; halt = λ why. refl }
+back_is_usual = record { move = λ m. refl; effect = λ id index. refl; effect_read = λ id index words. refl; flushed = λ id. refl; trimmed = λ id. refl; fault = λ id index. refl; reply = λ id status. refl; halt = λ why. refl }
 
 pub front_usual : (w : World) (act : Option FrontAct) → AreUsual (front_shows w act)
 front_usual w None = tt

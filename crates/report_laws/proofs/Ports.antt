@@ -106,7 +106,7 @@ initialised stage.Initialised e = refl
 initialised s e = absurd (cc)
 
 entered_port : (config : Options) (w : World) (before : List Line) (s : FrontState) → IsStanding config w → HasPort before w → may_enter s w.front ≡ true → list_any says_ready (before ++ state_lines s) ≡ true → w.under.channels.made ≡ 1
-entered_port config w before state.Connected stands has may t = port_made config w (initialised w.front.stage may) stands
+entered_port config w before (state.Connected offers) stands has may t = port_made config w (initialised w.front.stage may) stands
 entered_port config w before state.Closing stands has may t = has (earlier before (lines.Closing ∷ []) refl t)
 entered_port config w before (state.Agreed order) stands has may t = has (earlier before [] refl t)
 entered_port config w before state.Leaving stands has may t = has (earlier before [] refl t)

@@ -73,7 +73,7 @@ step_settles s v a here = λ t. inl refl
 
 -- a state that settles the front has its line
 entered_outcome : (s : FrontState) (v : View) → (let x : View = in_state s v in is_settled x.stage) ≡ true → is_settled v.stage ≡ true ⊎ HasOutcome (state_lines s)
-entered_outcome state.Connected v t = inr refl
+entered_outcome (state.Connected offers) v t = inr refl
 entered_outcome state.Closing v t = inl t
 entered_outcome (state.Agreed order) v t = inl t
 entered_outcome state.Leaving v t = absurd (true≢false (sym t))

@@ -159,6 +159,8 @@ effect_silent id index a = refl
 back_lines_silent : (t : Option BackTold) (a : BackAnswer) → AreSilent (back_lines t a)
 back_lines_silent None a = tt
 back_lines_silent (Some (back_told.Effect id index)) a = (effect_silent id index a, tt)
+back_lines_silent (Some (back_told.Flushed id)) a = (refl, tt)
+back_lines_silent (Some (back_told.Trimmed id)) a = (refl, tt)
 back_lines_silent (Some (back_told.Fault id index)) a = (refl, tt)
 back_lines_silent (Some (back_told.Reply id status)) a = (refl, tt)
 

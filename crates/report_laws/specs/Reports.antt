@@ -45,7 +45,7 @@ OfShortEnded Rule =
     (config : Options) (detail : Detail) (history : List Happening) → AreOptions config → ArePossible history (start_of config) → length (report_of config detail history) < 2 ^ 64
     → Rule config detail (kept_of detail (ended_report_of config detail history))
 
--- of the report of each history of reads and writes, on a ring of 1 to 16 pages over a disk that may be written
+-- of the report of each history of reads, writes, barriers, flushes and discards, on a ring of 1 to 16 pages over a disk that may be written
 abbrev pub OfPlainReports : (Options → Detail → List Line → Type 0) → Type 0
 OfPlainReports Rule =
     (config : Options) (detail : Detail) (history : List Happening) → IsPlain config → AreServed history (start_of config)
@@ -65,7 +65,7 @@ OfAgreedReports Rule = (config : Options) (history : List Happening) → AreAgre
 abbrev pub OfAgreedEnded : (List Line → Type 0) → Type 0
 OfAgreedEnded Rule = (config : Options) (history : List Happening) → AreAgreed history (start_of config) → Rule (kept_of Moves (ended_report_of config Moves history))
 
--- of the machine after each history of reads and writes, on such a ring
+-- of the machine after each history of reads, writes, barriers, flushes and discards, on such a ring
 abbrev pub OfPlainMachines : (World → Type 0) → Type 0
 OfPlainMachines Holds =
     (config : Options) (history : List Happening) → IsPlain config → AreServed history (start_of config)

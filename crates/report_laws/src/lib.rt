@@ -5,10 +5,10 @@
 //! and its text gives back exactly its lines. The machine is the pure function of `split_model`; each
 //! law is over every list of happenings, of what a recorder keeps of the report, so with and without
 //! the lines of moves (`OfEachReport`), and where it says `OfPlain` the premises are those of
-//! `machine_pipeline`: reads and writes, of which the disk gives 128 words of 32 bits, and a machine
-//! that is quiet where it is found so. `OfPossible` lets a hostile hand overwrite words too, and so
-//! does `OfShort`, of reports of fewer than 2^64 lines. What obeys a rule obeys it up to each of its
-//! lines.
+//! `machine_pipeline`: reads, of which the disk gives 128 words of 32 bits, writes, barriers, flushes
+//! and discards, and a machine that is quiet where it is found so. `OfPossible` lets a hostile hand
+//! overwrite words too, and so does `OfShort`, of reports of fewer than 2^64 lines. What obeys a rule
+//! obeys it up to each of its lines.
 #![tactic(auto)]
 
 ghost use Rattle.std.specs.Prelude.{◌≡◌, ℕ, ◌≤◌, ◌^◌, List, [], ◌∷◌, ◌++◌, Contains};

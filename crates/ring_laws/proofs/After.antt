@@ -1,5 +1,5 @@
 -- What each happening keeps, all of them keep.
-use Rattle.std.proofs.Common.{◌≡◌, ◌<◌, ◌^◌, List, [], ◌∷◌, ◌++◌, length, sym, subst, append_assoc, append-nil, length-append, arith}
+use Rattle.std.proofs.Common.{◌≡◌, ◌<◌, ◌^◌, List, [], ◌∷◌, ◌++◌, sym, subst, append_assoc, append-nil, arith}
 use Rattle.schedule_text.specs.declared.line.Line.{Line}
 use Rattle.split_model.specs.World.{World}
 use Rattle.ring_laws.proofs.BackReads.{reads_of, reads_append}

@@ -1,5 +1,5 @@
 -- What a move of the back makes of the jobs, and what it shows.
-use Rattle.std.proofs.Common.{◌≡◌, ℕ, ◌+◌, ◌≤◌, ◌==◌, Bool, true, false, if◌then◌else◌, List, [], ◌∷◌, ◌++◌, length, refl, sym, ◌∙◌, arith}
+use Rattle.std.proofs.Common.{◌≡◌, ℕ, ◌+◌, ◌≤◌, ◌==◌, not, Bool, true, false, if◌then◌else◌, List, [], ◌∷◌, ◌++◌, length, refl, ap, sym, ◌∙◌, arith}
 use Rattle.std.specs.Prelude.{Option, Some, None, is_some, position, Result, Ok, Err}
 use Rattle.blk_base.specs.declared.operation.Abi.{Abi}
 use Rattle.blk_base.specs.declared.parts.Mapping.{Mapping}
@@ -43,10 +43,10 @@ use Rattle.split_model.proofs.SafeActs.{of_front, of_back, front_wait, back_wait
 use Rattle.split_model.proofs.SafeAnswers.{IsBacks, AsksNoKey}
 use Rattle.ring_laws.proofs.Shows.{Sight, Shows, other_on_pages, untouched_value, shows_map}
 use Rattle.ring_laws.proofs.Knows.{Serves, KnowsAt}
-use Rattle.ring_laws.proofs.Bystanders.{IsBystander, AreBystanders}
+use Rattle.ring_laws.proofs.Bystanders.{sets_none, IsBystander, AreBystanders}
 use Rattle.ring_laws.proofs.Sight.{is_other, other_touch}
 use Rattle.ring_laws.proofs.Entry.{shape_is}
-use Rattle.ring_laws.proofs.Fetched.{Reads, shaped, blind, values_still}
+use Rattle.ring_laws.proofs.Fetched.{is_ready, Reads, shaped, blind, values_still}
 
 -- the back's jobs and how many it fetched, before and after a move; so many words of entries were read before
 pub data Change (words : ℕ) (old new : View) : Type 0 where
@@ -127,35 +127,42 @@ change_at s v x a k t = changed (length x.values) v v refl refl refl t (λ r. r)
 pub bystander : (line : Line) → IsBystander line → AreBystanders (line ∷ [])
 bystander line b = (b, tt)
 
+-- and the back sets no key as it serves
 abbrev BackBy : BackAct → Type 0
-BackBy a = IsBystander (lines.Move a.shown)
+BackBy a = IsBystander (lines.Move a.shown) × (sets_none (lines.Move a.shown) ≡ true)
 
 map_by : (h : Hypervisor) (gref : ℕ) (mode : Mode) (verdict : Result ℕ MapRefusal) → BackBy (map_act h back.Back gref mode verdict)
-map_by h gref mode (Ok frame) = record { plain = refl; unstepped = refl }
-map_by h gref mode (Err refusal) = record { plain = refl; unstepped = refl }
+map_by h gref mode (Ok frame) = (record { plain = refl; unstepped = refl }, refl)
+map_by h gref mode (Err refusal) = (record { plain = refl; unstepped = refl }, refl)
 
 bind_by : (h : Hypervisor) (p : ℕ) (state : PortState) → BackBy (bind_act h p state)
-bind_by h p port.Unbound = record { plain = refl; unstepped = refl }
-bind_by h p port.Closed = record { plain = refl; unstepped = refl }
-bind_by h p port.Bound = record { plain = refl; unstepped = refl }
+bind_by h p port.Unbound = (record { plain = refl; unstepped = refl }, refl)
+bind_by h p port.Closed = (record { plain = refl; unstepped = refl }, refl)
+bind_by h p port.Bound = (record { plain = refl; unstepped = refl }, refl)
 
-pub back_by : (h : Hypervisor) (a' : BackAsk) (o : Outcome) (a : BackAct) → IsBacks a' → back_act h back.Back a' o ≡ Some a → BackBy a
-back_by h ask.Wait o a own e = back_wait BackBy h back.Back a (record { plain = refl; unstepped = refl }) (λ path. record { plain = refl; unstepped = refl }) e
-back_by h ask.Fence o a own e = of_back BackBy _ a (record { plain = refl; unstepped = refl }) e
-back_by h (ask.Read m word) o a own e = of_back BackBy _ a (record { plain = refl; unstepped = refl }) e
-back_by h (ask.Write m word value) o a own e = of_back BackBy _ a (record { plain = refl; unstepped = refl }) e
-back_by h (ask.Map gref mode) o a own e = of_back BackBy _ a (map_by h gref mode (verdict_at h.pages gref mode)) e
-back_by h (ask.Unmap m) o a own e = of_back BackBy _ a (record { plain = refl; unstepped = refl }) e
-back_by h (ask.Bind p) o a own e = of_back BackBy _ a (bind_by h p (state_of h.channels p)) e
-back_by h ask.Send o a own e = of_back BackBy _ a (record { plain = refl; unstepped = refl }) e
-back_by h ask.ClosePort o a own e = of_back BackBy _ a (record { plain = refl; unstepped = refl }) e
-back_by h (ask.GetKey path) o a own e = absurd own
-back_by h (ask.SetKey path text) o a own e = absurd own
-back_by h (ask.Watch path) o a own e = absurd own
-back_by h (ask.DiskRead sector) o a own e = absurd own
-back_by h (ask.DiskWrite sector words) o a own e = absurd own
-back_by h ask.Flush o a own e = absurd own
-back_by h (ask.Trim sector count) o a own e = absurd own
+back_both : (h : Hypervisor) (a' : BackAsk) (o : Outcome) (a : BackAct) → IsBacks a' → back_act h back.Back a' o ≡ Some a → BackBy a
+back_both h ask.Wait o a own e = back_wait BackBy h back.Back a (record { plain = refl; unstepped = refl }, refl) (λ path. (record { plain = refl; unstepped = refl }, refl)) e
+back_both h ask.Fence o a own e = of_back BackBy _ a (record { plain = refl; unstepped = refl }, refl) e
+back_both h (ask.Read m word) o a own e = of_back BackBy _ a (record { plain = refl; unstepped = refl }, refl) e
+back_both h (ask.Write m word value) o a own e = of_back BackBy _ a (record { plain = refl; unstepped = refl }, refl) e
+back_both h (ask.Map gref mode) o a own e = of_back BackBy _ a (map_by h gref mode (verdict_at h.pages gref mode)) e
+back_both h (ask.Unmap m) o a own e = of_back BackBy _ a (record { plain = refl; unstepped = refl }, refl) e
+back_both h (ask.Bind p) o a own e = of_back BackBy _ a (bind_by h p (state_of h.channels p)) e
+back_both h ask.Send o a own e = of_back BackBy _ a (record { plain = refl; unstepped = refl }, refl) e
+back_both h ask.ClosePort o a own e = of_back BackBy _ a (record { plain = refl; unstepped = refl }, refl) e
+back_both h (ask.GetKey path) o a own e = absurd own
+back_both h (ask.SetKey path text) o a own e = absurd own
+back_both h (ask.Watch path) o a own e = absurd own
+back_both h (ask.DiskRead sector) o a own e = absurd own
+back_both h (ask.DiskWrite sector words) o a own e = absurd own
+back_both h ask.Flush o a own e = absurd own
+back_both h (ask.Trim sector count) o a own e = absurd own
+
+pub back_by : (h : Hypervisor) (a' : BackAsk) (o : Outcome) (a : BackAct) → IsBacks a' → back_act h back.Back a' o ≡ Some a → IsBystander (lines.Move a.shown)
+back_by h a' o a own e = (back_both h a' o a own e).0
+
+pub back_sets : (h : Hypervisor) (a' : BackAsk) (o : Outcome) (a : BackAct) → IsBacks a' → back_act h back.Back a' o ≡ Some a → sets_none (lines.Move a.shown) ≡ true
+back_sets h a' o a own e = (back_both h a' o a own e).1
 
 pub halt_by : (old new : Option Halt) → AreBystanders (halt_lines old new)
 halt_by None None = tt
@@ -166,6 +173,8 @@ pub told_by : (t : Option BackTold) (a : BackAnswer) (old new : Option Halt) →
 told_by None a old new is = halt_by old new
 told_by (Some (told.Reply id status)) a old new is = (record { plain = refl; unstepped = refl }, halt_by old new)
 told_by (Some (told.Effect id index)) a old new is = absurd is
+told_by (Some (told.Flushed id)) a old new is = absurd is
+told_by (Some (told.Trimmed id)) a old new is = absurd is
 told_by (Some (told.Fault id index)) a old new is = absurd is
 
 abbrev FrontBy : FrontAct → Type 0
@@ -191,40 +200,44 @@ front_told_by (Some (front_told.Sector id index words)) = (record { plain = refl
 front_told_by (Some (front_told.Broken word)) = (record { plain = refl; unstepped = refl }, tt)
 
 -- a line of the back's reads words of entries of its layout, or none
-abbrev Looks : List Line → View → BackAct → Type 0
-Looks before v a = Reads before v.shape.abi (lines.Move a.shown)
+abbrev Looks : List Line → Bool → View → BackAct → Type 0
+Looks before ready v a = Reads before v.shape.abi ready (lines.Move a.shown)
 
-blindly : (before : List Line) (abi : Abi) (line : Line) → is_other line ≡ true → Reads before abi line
+blindly : (before : List Line) (abi : Abi) (line : Line) {ready : Bool} → is_other line ≡ true → Reads before abi ready line
 blindly before abi line other = blind (other_touch line other) (values_still before line (other_on_pages line other) (untouched_value before line (other_touch line other)))
 
-map_reads : (before : List Line) (h : Hypervisor) (v : View) (x : Sight) (gref : ℕ) (mode : Mode) (verdict : Result ℕ MapRefusal) → x.touched ≡ false → Shows before x → Looks before v (map_act h back.Back gref mode verdict)
-map_reads before h v x gref mode (Ok frame) none shows = let now = shows_map before gref (h.grants.made + 1) frame mode x none shows in blind refl (now.values ∙ sym shows.values)
-map_reads before h v x gref mode (Err refusal) none shows = blindly before v.shape.abi _ refl
+map_reads : (before : List Line) (h : Hypervisor) (ready : Bool) (v : View) (x : Sight) (gref : ℕ) (mode : Mode) (verdict : Result ℕ MapRefusal) → x.touched ≡ false → Shows before x → Looks before ready v (map_act h back.Back gref mode verdict)
+map_reads before h ready v x gref mode (Ok frame) none shows = let now = shows_map before gref (h.grants.made + 1) frame mode x none shows in blind refl (now.values ∙ sym shows.values)
+map_reads before h ready v x gref mode (Err refusal) none shows = blindly before v.shape.abi _ refl
 
-unmap_reads : (before : List Line) (h : Hypervisor) (v : View) (o : Outcome) (a : BackAct) (pages : List Mapping) → back_act h back.Back (unmap_ask pages) o ≡ Some a → Looks before v a
-unmap_reads before h v o a [] e = back_wait (Looks before v) h back.Back a (blindly before v.shape.abi _ refl) (λ path. blindly before v.shape.abi _ refl) e
-unmap_reads before h v o a (page ∷ pages) e = of_back (Looks before v) _ a (blindly before v.shape.abi _ refl) e
+unmap_reads : (before : List Line) (h : Hypervisor) (ready : Bool) (v : View) (o : Outcome) (a : BackAct) (pages : List Mapping) → back_act h back.Back (unmap_ask pages) o ≡ Some a → Looks before ready v a
+unmap_reads before h ready v o a [] e = back_wait (Looks before ready v) h back.Back a (blindly before v.shape.abi _ refl) (λ path. blindly before v.shape.abi _ refl) e
+unmap_reads before h ready v o a (page ∷ pages) e = of_back (Looks before ready v) _ a (blindly before v.shape.abi _ refl) e
 
-bind_reads : (before : List Line) (h : Hypervisor) (v : View) (p : ℕ) (state : PortState) → Looks before v (bind_act h p state)
-bind_reads before h v p port.Unbound = blindly before v.shape.abi _ refl
-bind_reads before h v p port.Closed = blindly before v.shape.abi _ refl
-bind_reads before h v p port.Bound = blindly before v.shape.abi _ refl
+bind_reads : (before : List Line) (h : Hypervisor) (ready : Bool) (v : View) (p : ℕ) (state : PortState) → Looks before ready v (bind_act h p state)
+bind_reads before h ready v p port.Unbound = blindly before v.shape.abi _ refl
+bind_reads before h ready v p port.Closed = blindly before v.shape.abi _ refl
+bind_reads before h ready v p port.Bound = blindly before v.shape.abi _ refl
 
-loop_reads : (before : List Line) (h : Hypervisor) (v : View) (o : Outcome) (a : BackAct) (r : Option Reply) (asleep none : Bool) → v.asleep ≡ asleep → (requests_of v.ring v.seen == 0) ≡ none → ring_shape before ≡ Some v.shape → back_act h back.Back (loop_ask v r) o ≡ Some a → Looks before v a
-loop_reads before h v o a (Some r) asleep none p q shape e = of_back (Looks before v) _ a (shaped v.shape shape refl refl) e
-loop_reads before h v o a None true none p q shape e = back_wait (Looks before v) h back.Back a (blindly before v.shape.abi _ refl) (λ path. blindly before v.shape.abi _ refl) (rw p at e)
-loop_reads before h v o a None false true p q shape e = of_back (Looks before v) _ a (shaped v.shape shape refl refl) (rw (p, q) at e)
-loop_reads before h v o a None false false p q shape e = of_back (Looks before v) _ a (shaped v.shape shape refl refl) (rw (p, q) at e)
+loop_reads : (before : List Line) (h : Hypervisor) (ready : Bool) (v : View) (o : Outcome) (a : BackAct) (r : Option Reply) (asleep none : Bool) → v.asleep ≡ asleep → (requests_of v.ring v.seen == 0) ≡ none → ready ≡ true → ring_shape before ≡ Some v.shape → back_act h back.Back (loop_ask v r) o ≡ Some a → Looks before ready v a
+loop_reads before h ready v o a (Some r) asleep none p q goes shape e = of_back (Looks before ready v) _ a (shaped goes v.shape shape refl refl) e
+loop_reads before h ready v o a None true none p q goes shape e = back_wait (Looks before ready v) h back.Back a (blindly before v.shape.abi _ refl) (λ path. blindly before v.shape.abi _ refl) (rw p at e)
+loop_reads before h ready v o a None false true p q goes shape e = of_back (Looks before ready v) _ a (shaped goes v.shape shape refl refl) (rw (p, q) at e)
+loop_reads before h ready v o a None false false p q goes shape e = of_back (Looks before ready v) _ a (shaped goes v.shape shape refl refl) (rw (p, q) at e)
 
-pub back_reads : (before : List Line) (h : Hypervisor) (s : Stage) (v : View) (o : Outcome) (a : BackAct) (x : Sight) → KnowsAt s x v → Shows before x → back_act h back.Back (ask_at s v) o ≡ Some a → Looks before v a
-back_reads before h stage.InitWait v o a x k shows e = back_wait (Looks before v) h back.Back a (blindly before v.shape.abi _ refl) (λ path. blindly before v.shape.abi _ refl) e
-back_reads before h stage.MapRing v o a x k shows e = of_back (Looks before v) _ a (map_reads before h v x (next_gref v) ReadWrite (verdict_at h.pages (next_gref v) ReadWrite) k.waits.untouched shows) e
-back_reads before h stage.Bind v o a x k shows e = of_back (Looks before v) _ a (bind_reads before h v v.port (state_of h.channels v.port)) e
-back_reads before h stage.Loop v o a x k shows e = loop_reads before h v o a (next_reply v) v.asleep (requests_of v.ring v.seen == 0) refl refl (shape_is before 0 x v shows k) e
-back_reads before h (stage.Fetch n) v o a x k shows e = of_back (Looks before v) _ a (shaped v.shape (shape_is before n x v shows k.1) refl refl) e
-back_reads before h (stage.GiveUp m) v o a x k shows e = of_back (Looks before v) _ a (blindly before v.shape.abi _ refl) e
-back_reads before h stage.UnmapRing v o a x k shows e = unmap_reads before h v o a v.pages e
-back_reads before h stage.ClosePort v o a x k shows e = of_back (Looks before v) _ a (blindly before v.shape.abi _ refl) e
-back_reads before h stage.UnmapUnbound v o a x k shows e = unmap_reads before h v o a v.pages e
-back_reads before h stage.Halted v o a x k shows e = unmap_reads before h v o a [] e
-back_reads before h s v o a x k shows e = of_back (Looks before v) _ a (shaped v.shape (shape_is before 0 x v shows k) refl refl) e
+-- one that serves is ready
+runs : (halted : Option Halt) → halted ≡ None → not (is_some halted) ≡ true
+runs halted none = ap (λ (h : Option Halt). not (is_some h)) none
+
+pub back_reads : (before : List Line) (h : Hypervisor) (s : Stage) (v : View) (o : Outcome) (a : BackAct) (x : Sight) → KnowsAt s x v → Shows before x → back_act h back.Back (ask_at s v) o ≡ Some a → Looks before (is_ready s v.halted) v a
+back_reads before h stage.InitWait v o a x k shows e = back_wait (Looks before (is_ready stage.InitWait v.halted) v) h back.Back a (blindly before v.shape.abi _ refl) (λ path. blindly before v.shape.abi _ refl) e
+back_reads before h stage.MapRing v o a x k shows e = of_back (Looks before (is_ready stage.MapRing v.halted) v) _ a (map_reads before h (is_ready stage.MapRing v.halted) v x (next_gref v) ReadWrite (verdict_at h.pages (next_gref v) ReadWrite) k.waits.untouched shows) e
+back_reads before h stage.Bind v o a x k shows e = of_back (Looks before (is_ready stage.Bind v.halted) v) _ a (bind_reads before h (is_ready stage.Bind v.halted) v v.port (state_of h.channels v.port)) e
+back_reads before h stage.Loop v o a x k shows e = loop_reads before h (is_ready stage.Loop v.halted) v o a (next_reply v) v.asleep (requests_of v.ring v.seen == 0) refl refl (runs v.halted k.running) (shape_is before 0 x v shows k) e
+back_reads before h (stage.Fetch n) v o a x k shows e = of_back (Looks before (is_ready (stage.Fetch n) v.halted) v) _ a (shaped (let serves : Serves n x v = k.1 in runs v.halted serves.running) v.shape (shape_is before n x v shows k.1) refl refl) e
+back_reads before h (stage.GiveUp m) v o a x k shows e = of_back (Looks before (is_ready (stage.GiveUp m) v.halted) v) _ a (blindly before v.shape.abi _ refl) e
+back_reads before h stage.UnmapRing v o a x k shows e = unmap_reads before h (is_ready stage.UnmapRing v.halted) v o a v.pages e
+back_reads before h stage.ClosePort v o a x k shows e = of_back (Looks before (is_ready stage.ClosePort v.halted) v) _ a (blindly before v.shape.abi _ refl) e
+back_reads before h stage.UnmapUnbound v o a x k shows e = unmap_reads before h (is_ready stage.UnmapUnbound v.halted) v o a v.pages e
+back_reads before h stage.Halted v o a x k shows e = unmap_reads before h (is_ready stage.Halted v.halted) v o a [] e
+back_reads before h s v o a x k shows e = of_back (Looks before (is_ready s v.halted) v) _ a (shaped (runs v.halted k.running) v.shape (shape_is before 0 x v shows k) refl refl) e

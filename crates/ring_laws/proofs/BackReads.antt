@@ -1,6 +1,6 @@
 -- The words that the back itself reads, of the ring: by their number those of the jobs are few.
 use Rattle.std.proofs.Common.{◌≡◌, ℕ, ◌+◌, ◌-◌, ◌≤◌, not, List, [], ◌∷◌, ◌++◌, length, arith}
-use Rattle.std.specs.Prelude.{Option, Some, None, Bool, true, false, is_some, filter_map, sum_by}
+use Rattle.std.specs.Prelude.{Bool, true, false, is_some, filter_map, sum_by}
 use Rattle.std.specs.List.{cons_option, suffix_len}
 use Rattle.std.proofs.lemmas.List.Sums.{sum_by-cons, sum_by-append, sum_by-take-drop}
 use Rattle.blk_base.specs.declared.moves.BackMover.TheVariants as back_mover

@@ -1,7 +1,7 @@
 -- A move of the back keeps what the lines tell of its jobs: one that begins has the entry that was read last.
-use Rattle.std.proofs.Common.{◌≡◌, ℕ, ◌+◌, ◌-◌, ◌*◌, ◌%◌, ◌^◌, ◌≤◌, ◌<◌, ◌==◌, not, Bool, true, false, if◌then◌else◌, List, [], ◌∷◌, ◌++◌, length, take, drop, refl, ap, sym, ◌∙◌, subst, length-append, length-drop, arith}
-use Rattle.std.specs.Prelude.{Option, Some, None, is_some, position, nat_le}
-use Rattle.std.specs.List.{list_any, filter_map, cons_option, suffix_len}
+use Rattle.std.proofs.Common.{◌≡◌, ℕ, ◌+◌, ◌-◌, ◌*◌, ◌%◌, ◌^◌, ◌≤◌, ◌<◌, ◌==◌, Bool, true, false, if◌then◌else◌, List, [], ◌∷◌, ◌++◌, length, take, drop, refl, ap, sym, ◌∙◌, subst, length-append, arith}
+use Rattle.std.specs.Prelude.{Option, Some, None, is_some, position, not, nat_le}
+use Rattle.std.specs.List.{list_any}
 use Rattle.blk_base.specs.Options.{Options}
 use Rattle.blk_base.specs.declared.operation.Abi.{Abi}
 use Rattle.blk_base.specs.declared.operation.Abi.TheVariants.{X64, X32}
@@ -19,10 +19,10 @@ use Rattle.segment_list.specs.declared.verdict.DiskInfo.{DiskInfo}
 use Rattle.segment_list.specs.declared.verdict.Verdict.{Verdict}
 use Rattle.segment_list.specs.declared.verdict.Verdict.TheVariants as verdict
 use Rattle.segment_list.specs.Verdict.{verdict_of}
-use Rattle.report_rules.specs.Standing.{this_epoch, is_epoch}
-use Rattle.report_rules.specs.Job.{entry_value, entry_values}
+use Rattle.report_rules.specs.Standing.{this_epoch}
+use Rattle.report_rules.specs.Job.{entry_values}
 use Rattle.back_jobs.specs.declared.stage.Stage.TheVariants as job_stage
-use Rattle.back_jobs.specs.Task.{Work, begun, moving, ended}
+use Rattle.back_jobs.specs.Task.{Work, begun, moving, ended, frameless}
 use Rattle.back_jobs.specs.Jobs.{is_done}
 use Rattle.blk_back.specs.declared.told.BackTold.{BackTold}
 use Rattle.blk_back.specs.declared.told.Halt.{Halt}
@@ -51,7 +51,9 @@ number_if n false x y p q = q
 
 pub begun_number : (n size : ℕ) (r : RawRequest) (v : Verdict) → (let t : Work = begun n r size v in t.number) ≡ n
 begun_number n size (Direct op count device id sector segments) (verdict.Serve plan) =
-    number_if n (nat_le op 1) (moving n (Direct op count device id sector segments) size (op == 1) sector (take count segments)) (ended n (Direct op count device id sector segments) size (job_stage.Done Error)) refl refl
+    let request : RawRequest = Direct op count device id sector segments in
+    let other = number_if n (op == 3) (frameless n request size sector job_stage.Flush) (ended n request size (job_stage.Done Error)) refl refl in
+    number_if n (nat_le op 2) (moving n request size (not (op == 0)) sector (take count segments)) _ refl other
 begun_number n size (Discard flag device id sector count) (verdict.Serve plan) = refl
 begun_number n size (Indirect op count device id sector pages) (verdict.Serve plan) = refl
 begun_number n size r (verdict.Error why) = refl

@@ -1,6 +1,6 @@
 -- A job, where its entry was fetched; and one that begins.
-use Rattle.std.proofs.Common.{◌≡◌, ℕ, zero, suc, ◌+◌, ◌-◌, ◌*◌, ◌≤◌, ◌==◌, Bool, true, false, if◌then◌else◌, List, [], ◌∷◌, length, take, refl, ap, sym, ◌∙◌, subst, arith}
-use Rattle.std.specs.Prelude.{nat_le, Option, Some}
+use Rattle.std.proofs.Common.{◌≡◌, ℕ, zero, suc, ◌+◌, ◌-◌, ◌*◌, ◌%◌, ◌≤◌, ◌==◌, ◌||◌, not, Bool, true, false, if◌then◌else◌, List, [], ◌∷◌, length, take, refl, ap, sym, ◌∙◌, subst, arith}
+use Rattle.std.specs.Prelude.{nat_le, nat_lt, Option, Some}
 use Rattle.std.specs.List.{AllByRecursion, list_any}
 use Rattle.std.proofs.lemmas.Bool.Decides.{nat_tests}
 use Rattle.std.proofs.lemmas.List.Sums.{sum_by-cons}
@@ -17,6 +17,7 @@ use Rattle.blk_layout.specs.declared.request.RawRequest.{RawRequest}
 use Rattle.blk_layout.specs.declared.request.RawRequest.TheVariants.{Direct, Discard, Indirect}
 use Rattle.blk_layout.specs.Entry.{request_of}
 use Rattle.segment_list.specs.declared.verdict.DiskInfo.{DiskInfo}
+use Rattle.segment_list.specs.declared.verdict.Kind.{Kind}
 use Rattle.segment_list.specs.declared.verdict.Kind.TheVariants as kind
 use Rattle.segment_list.specs.declared.verdict.Plan.{Plan}
 use Rattle.segment_list.specs.declared.verdict.Why.{Why}
@@ -24,20 +25,21 @@ use Rattle.segment_list.specs.declared.verdict.Why.TheVariants as why
 use Rattle.segment_list.specs.declared.verdict.Verdict.{Verdict}
 use Rattle.segment_list.specs.declared.verdict.Verdict.TheVariants as verdict
 use Rattle.segment_list.specs.Segments.{IsSound, length_of, sectors_of}
-use Rattle.segment_list.specs.Verdict.{transfer_verdict, flush_verdict, verdict_of}
+use Rattle.segment_list.specs.Verdict.{first_of, planned, transfer_verdict, flush_verdict, verdict_of}
 use Rattle.segment_list.proofs.Served.{IsTransfer, transfer_served}
 use Rattle.report_rules.specs.declared.walk.Spot.{Spot}
 use Rattle.report_rules.specs.declared.work.Task.{Task}
-use Rattle.report_rules.specs.Work.{stores_of, loads_of, planned_tasks, served_tasks, settled, work_verdict, indirect_tasks, work_tasks, status_by, response_to, work_response}
+use Rattle.report_rules.specs.declared.work.Task.TheVariants as tasks
+use Rattle.report_rules.specs.Work.{planned_tasks, served_tasks, settled, work_verdict, indirect_tasks, work_tasks, status_by, response_to, work_response}
 use Rattle.report_rules.specs.Job.{words_of_job, id_of}
 use Rattle.report_rules.specs.Walk.{walk_of}
 use Rattle.report_rules.specs.Reply.{end_of}
 use Rattle.back_jobs.specs.declared.stage.Stage.{Stage}
 use Rattle.back_jobs.specs.declared.stage.Stage.TheVariants as stage
-use Rattle.back_jobs.specs.Task.{Work, id_of as job_id, response_op, begun, served, moving, ended}
+use Rattle.back_jobs.specs.Task.{Work, id_of as job_id, response_op, begun, served, moving, ended, frameless}
 use Rattle.blk_back.specs.View.{info_of as back_info}
 use Rattle.ring_laws.proofs.JobLines.{is_of, walk_aside, moves_aside, failed_skip}
-use Rattle.ring_laws.proofs.Places.{tasks_of, Before, ending, IsAt}
+use Rattle.ring_laws.proofs.Places.{tasks_of, Before, Alone, ending, IsAt}
 
 -- what is to be done for a request: this work, with this status where it is done in full; and the id and the operation that the response names
 pub record IsPlan (request : RawRequest) (info : DiskInfo) (work : List Task) (served : Status) (id op : ℕ) : Type 0 where
@@ -171,88 +173,132 @@ idle terms k size request values epoch v fresh refused e = record {
   at = over refl (nothing_done k epoch (status_by v) fresh.none);
 }
 
--- a read, and a write
-reads : (terms : Terms) (k size count device id sector : ℕ) (segments : List Segment) (values : List ℕ) (epoch : List Line) (plan : Plan) → IsFresh terms.abi k (Direct 0 count device id sector segments) values epoch → verdict_of (Direct 0 count device id sector segments) (back_info terms.config) ≡ verdict.Serve plan
-    → IsJobOf terms values epoch (moving k (Direct 0 count device id sector segments) size false sector (take count segments))
-reads terms k size count device id sector segments values epoch plan fresh e =
-    let t : IsTransfer kind.Read count sector segments (back_info terms.config) plan = transfer_served kind.Read count sector segments (back_info terms.config) plan e in
+-- a read, a write or a barrier: the verdict is that of a transfer of its kind, and the work that of its segments
+moves : (kind : Kind) (writes : Bool) (terms : Terms) (k size op count device id sector : ℕ) (segments : List Segment) (values : List ℕ) (epoch : List Line) (plan : Plan) → IsFresh terms.abi k (Direct op count device id sector segments) values epoch
+    → ((info : DiskInfo) → verdict_of (Direct op count device id sector segments) info ≡ transfer_verdict kind count sector segments info) → planned_tasks false (planned kind sector count) kind (take count segments) ≡ tasks_of writes sector (take count segments)
+    → verdict_of (Direct op count device id sector segments) (back_info terms.config) ≡ verdict.Serve plan → IsJobOf terms values epoch (moving k (Direct op count device id sector segments) size writes sector (take count segments))
+moves kind writes terms k size op count device id sector segments values epoch plan fresh judged work e =
+    let info : DiskInfo = back_info terms.config in
+    let t : IsTransfer kind count sector segments info plan = transfer_served kind count sector segments info plan (sym (judged info) ∙ e) in
     let sound = recursion_from_All IsSound (take count segments) t.on_disk.sound in
     let few = few_sectors count segments sound in
     let small = t.few in
     record {
-      work = loads_of sector (take count segments);
+      work = tasks_of writes sector (take count segments);
       served = Okay;
       first = fresh.first;
       read = fresh.read;
       id = ap id_of (sym fresh.is);
       plan = record {
         names = λ status. ap (λ (r : RawRequest). work_response r status) (sym fresh.is);
-        tasks = λ indirect. ap (λ (r : RawRequest). work_tasks r (back_info terms.config) false indirect) (sym fresh.is) ∙ (ap (λ (v : Verdict). served_tasks false v (take count segments)) e ∙ ap (λ (p : Plan). planned_tasks false p p.kind (take count segments)) t.plan_is);
-        verdict = λ indirect. ap (λ (r : RawRequest). status_by (work_verdict r (back_info terms.config) indirect)) (sym fresh.is) ∙ ap status_by e;
+        tasks = λ indirect. ap (λ (r : RawRequest). work_tasks r info false indirect) (sym fresh.is) ∙ (ap (λ (v : Verdict). served_tasks false v (take count segments)) e ∙ (ap (λ (p : Plan). planned_tasks false p p.kind (take count segments)) t.plan_is ∙ work));
+        verdict = λ indirect. ap (λ (r : RawRequest). status_by (work_verdict r info indirect)) (sym fresh.is) ∙ ap status_by e;
       };
-      at = serves refl (begins k epoch (take count segments) sector false fresh.none sound (omega arith), refl);
+      at = serves refl (begins k epoch (take count segments) sector writes fresh.none sound (omega arith), refl);
     }
 
-stores : (terms : Terms) (k size count device id sector : ℕ) (segments : List Segment) (values : List ℕ) (epoch : List Line) (plan : Plan) → IsFresh terms.abi k (Direct 1 count device id sector segments) values epoch → verdict_of (Direct 1 count device id sector segments) (back_info terms.config) ≡ verdict.Serve plan
-    → IsJobOf terms values epoch (moving k (Direct 1 count device id sector segments) size true sector (take count segments))
-stores terms k size count device id sector segments values epoch plan fresh e =
-    let t : IsTransfer kind.Write count sector segments (back_info terms.config) plan = transfer_served kind.Write count sector segments (back_info terms.config) plan e in
-    let sound = recursion_from_All IsSound (take count segments) t.on_disk.sound in
-    let few = few_sectors count segments sound in
-    let small = t.few in
+-- where no test before it applies, a request is served as it was planned
+served_plan : (tests : List (Bool × Verdict)) (p plan : Plan) → AllByRecursion (λ (test : Bool × Verdict). IsRefused test.1) tests → first_of tests p ≡ verdict.Serve plan → plan ≡ p
+served_plan [] p plan all h = cc
+served_plan (test ∷ tests) p plan all h = by_test test.0 test.1 all.0 (served_plan tests p plan all.1) h
+  where
+    by_test : (b : Bool) (v : Verdict) → IsRefused v → (first_of tests p ≡ verdict.Serve plan → plan ≡ p) → (if b then v else first_of tests p) ≡ verdict.Serve plan → plan ≡ p
+    by_test true (verdict.Serve q) refused rest h = absurd refused
+    by_test true (verdict.Error w) refused rest h = absurd (cc)
+    by_test true verdict.Unsupported refused rest h = absurd (cc)
+    by_test false v refused rest h = rest h
+
+-- a flush and a discard: one call of the disk
+flush_plan : (count device id sector : ℕ) (segments : List Segment) (info : DiskInfo) (plan : Plan) → verdict_of (Direct 3 count device id sector segments) info ≡ verdict.Serve plan → IsPlan (Direct 3 count device id sector segments) info (tasks.Flush ∷ []) Okay id 3
+flush_plan count device id sector segments info plan e =
+    let tests : List (Bool × Verdict) = (not info.flush, verdict.Unsupported) ∷ (not (count == 0), verdict.Error why.Count) ∷ [] in
+    let plan_is = served_plan tests (planned kind.Flush sector count) plan (tt, (tt, tt)) e in
     record {
-      work = stores_of false sector (take count segments);
-      served = Okay;
-      first = fresh.first;
-      read = fresh.read;
-      id = ap id_of (sym fresh.is);
-      plan = record {
-        names = λ status. ap (λ (r : RawRequest). work_response r status) (sym fresh.is);
-        tasks = λ indirect. ap (λ (r : RawRequest). work_tasks r (back_info terms.config) false indirect) (sym fresh.is) ∙ (ap (λ (v : Verdict). served_tasks false v (take count segments)) e ∙ ap (λ (p : Plan). planned_tasks false p p.kind (take count segments)) t.plan_is);
-        verdict = λ indirect. ap (λ (r : RawRequest). status_by (work_verdict r (back_info terms.config) indirect)) (sym fresh.is) ∙ ap status_by e;
-      };
-      at = serves refl (begins k epoch (take count segments) sector true fresh.none sound (omega arith), refl);
+      names = λ status. refl;
+      tasks = λ indirect. ap (λ (v : Verdict). served_tasks false v (take count segments)) e ∙ ap (λ (p : Plan). planned_tasks false p p.kind (take count segments)) plan_is;
+      verdict = λ indirect. ap status_by e;
     }
+
+trim_plan : (flag device id sector count : ℕ) (info : DiskInfo) (plan : Plan) → verdict_of (Discard flag device id sector count) info ≡ verdict.Serve plan → IsPlan (Discard flag device id sector count) info (tasks.Trim sector count ∷ []) Okay id 5
+trim_plan flag device id sector count info plan e =
+    let tests : List (Bool × Verdict) = (not info.discard || (flag % 2 == 1), verdict.Unsupported) ∷ (count == 0, verdict.Error why.Count) ∷ (nat_lt info.sectors (sector + count), verdict.Error why.Range) ∷ [] in
+    let plan_is = served_plan tests (planned kind.Discard sector count) plan (tt, (tt, (tt, tt))) e in
+    record {
+      names = λ status. refl;
+      tasks = λ indirect. ap (λ (v : Verdict). served_tasks false v []) e ∙ ap (λ (p : Plan). planned_tasks false p p.kind []) plan_is;
+      verdict = λ indirect. ap status_by e;
+    }
+
+alone : (k : ℕ) (epoch : List Line) (task : Task) → list_any (is_of k) epoch ≡ false → Alone (task ∷ []) k epoch task 0
+alone k epoch task none = record { is = refl; came = walk_aside (task ∷ []) k [] epoch none; once = refl; counted = moves_aside k [] epoch none; whole = failed_skip k epoch none }
+
+calls : (terms : Terms) (k size sector : ℕ) (request : RawRequest) (values : List ℕ) (epoch : List Line) (task : Task) (s : Stage) → IsFresh terms.abi k request values epoch → IsPlan request (back_info terms.config) (task ∷ []) Okay (job_id request) (response_op request)
+    → IsAt (task ∷ []) k epoch s (frameless k request size sector s) → IsJobOf terms values epoch (frameless k request size sector s)
+calls terms k size sector request values epoch task s fresh plan at = record {
+  work = task ∷ [];
+  served = Okay;
+  first = fresh.first;
+  read = fresh.read;
+  id = ap id_of (sym fresh.is) ∙ same_id request;
+  plan = subst (λ (r : RawRequest). IsPlan r (back_info terms.config) (task ∷ []) Okay (job_id request) (response_op request)) fresh.is plan;
+  at = serves refl at;
+}
+
+flushes : (terms : Terms) (k size count device id sector : ℕ) (segments : List Segment) (values : List ℕ) (epoch : List Line) (plan : Plan) → IsFresh terms.abi k (Direct 3 count device id sector segments) values epoch → verdict_of (Direct 3 count device id sector segments) (back_info terms.config) ≡ verdict.Serve plan
+    → IsJobOf terms values epoch (frameless k (Direct 3 count device id sector segments) size sector stage.Flush)
+flushes terms k size count device id sector segments values epoch plan fresh e =
+    calls terms k size sector (Direct 3 count device id sector segments) values epoch tasks.Flush stage.Flush fresh (flush_plan count device id sector segments (back_info terms.config) plan e) (alone k epoch tasks.Flush fresh.none)
+
+trims : (terms : Terms) (k size flag device id sector count : ℕ) (values : List ℕ) (epoch : List Line) (plan : Plan) → IsFresh terms.abi k (Discard flag device id sector count) values epoch → verdict_of (Discard flag device id sector count) (back_info terms.config) ≡ verdict.Serve plan
+    → IsJobOf terms values epoch (frameless k (Discard flag device id sector count) size sector (stage.Trim count))
+trims terms k size flag device id sector count values epoch plan fresh e =
+    calls terms k size sector (Discard flag device id sector count) values epoch (tasks.Trim sector count) (stage.Trim count) fresh (trim_plan flag device id sector count (back_info terms.config) plan e) (alone k epoch (tasks.Trim sector count) fresh.none)
 
 -- of other operations this back serves none
 unsupported : {plan : Plan} → verdict.Unsupported ≡ verdict.Serve plan → ⊥
 unsupported e = cc
 
-no_other : (terms : Terms) (op count device id sector : ℕ) (segments : List Segment) (plan : Plan) → nat_le op 1 ≡ false → verdict_of (Direct op count device id sector segments) (back_info terms.config) ≡ verdict.Serve plan → ⊥
-no_other terms op count device id sector segments plan high e = by_tests (op == 0) (op == 1) (op == 2) (op == 3) (grind (arith, nat_tests)) (grind (arith, nat_tests)) e
+no_other : (terms : Terms) (op count device id sector : ℕ) (segments : List Segment) (plan : Plan) → nat_le op 2 ≡ false → (op == 3) ≡ false → verdict_of (Direct op count device id sector segments) (back_info terms.config) ≡ verdict.Serve plan → ⊥
+no_other terms op count device id sector segments plan high other e = by_tests (op == 0) (op == 1) (op == 2) (op == 3) (grind (arith, nat_tests)) (grind (arith, nat_tests)) (grind (arith, nat_tests)) other e
   where
-    by_tests : (a b c d : Bool) → a ≡ false → b ≡ false
+    by_tests : (a b c d : Bool) → a ≡ false → b ≡ false → c ≡ false → d ≡ false
         → (if a then transfer_verdict kind.Read count sector segments (back_info terms.config)
         else (if b then transfer_verdict kind.Write count sector segments (back_info terms.config)
         else (if c then transfer_verdict kind.Barrier count sector segments (back_info terms.config)
         else (if d then flush_verdict count sector (back_info terms.config)
         else verdict.Error why.Op)))) ≡ verdict.Serve plan → ⊥
-    by_tests true b c d p q h = absurd (cc)
-    by_tests false true c d p q h = absurd (cc)
-    by_tests false false true d p q h = unsupported h
-    by_tests false false false true p q h = unsupported h
-    by_tests false false false false p q h = no_error h
+    by_tests true b c d p q r s h = absurd (cc)
+    by_tests false true c d p q r s h = absurd (cc)
+    by_tests false false true d p q r s h = absurd (cc)
+    by_tests false false false true p q r s h = absurd (cc)
+    by_tests false false false false p q r s h = no_error h
       where
         no_error : {w : Why} → verdict.Error w ≡ verdict.Serve plan → ⊥
         no_error f = cc
 
-direct : (terms : Terms) (k op size count device id sector : ℕ) (segments : List Segment) (values : List ℕ) (epoch : List Line) (plan : Plan) (few : Bool) → nat_le op 1 ≡ few → IsFresh terms.abi k (Direct op count device id sector segments) values epoch → verdict_of (Direct op count device id sector segments) (back_info terms.config) ≡ verdict.Serve plan
-    → IsJobOf terms values epoch (if few then moving k (Direct op count device id sector segments) size (op == 1) sector (take count segments) else ended k (Direct op count device id sector segments) size (stage.Done Error))
-direct terms k op size count device id sector segments values epoch plan true few fresh e = by_op op few fresh e
+direct : (terms : Terms) (k op size count device id sector : ℕ) (segments : List Segment) (values : List ℕ) (epoch : List Line) (plan : Plan) (few flush : Bool) → nat_le op 2 ≡ few → (op == 3) ≡ flush → IsFresh terms.abi k (Direct op count device id sector segments) values epoch → verdict_of (Direct op count device id sector segments) (back_info terms.config) ≡ verdict.Serve plan
+    → IsJobOf terms values epoch (if few then moving k (Direct op count device id sector segments) size (not (op == 0)) sector (take count segments)
+    else (if flush then frameless k (Direct op count device id sector segments) size sector stage.Flush else ended k (Direct op count device id sector segments) size (stage.Done Error)))
+direct terms k op size count device id sector segments values epoch plan true flush few three fresh e = by_op op few fresh e
   where
-    by_op : (n : ℕ) → nat_le n 1 ≡ true → IsFresh terms.abi k (Direct n count device id sector segments) values epoch → verdict_of (Direct n count device id sector segments) (back_info terms.config) ≡ verdict.Serve plan
-        → IsJobOf terms values epoch (moving k (Direct n count device id sector segments) size (n == 1) sector (take count segments))
-    by_op zero few fresh e = reads terms k size count device id sector segments values epoch plan fresh e
-    by_op (suc zero) few fresh e = stores terms k size count device id sector segments values epoch plan fresh e
-    by_op (suc (suc n)) few fresh e = absurd (too_many n few)
+    by_op : (n : ℕ) → nat_le n 2 ≡ true → IsFresh terms.abi k (Direct n count device id sector segments) values epoch → verdict_of (Direct n count device id sector segments) (back_info terms.config) ≡ verdict.Serve plan
+        → IsJobOf terms values epoch (moving k (Direct n count device id sector segments) size (not (n == 0)) sector (take count segments))
+    by_op zero few fresh e = moves kind.Read false terms k size 0 count device id sector segments values epoch plan fresh (λ info. refl) refl e
+    by_op (suc zero) few fresh e = moves kind.Write true terms k size 1 count device id sector segments values epoch plan fresh (λ info. refl) refl e
+    by_op (suc (suc zero)) few fresh e = moves kind.Barrier true terms k size 2 count device id sector segments values epoch plan fresh (λ info. refl) refl e
+    by_op (suc (suc (suc n))) few fresh e = absurd (too_many n few)
       where
-        too_many : (m : ℕ) → nat_le (suc (suc m)) 1 ≡ true → ⊥
+        too_many : (m : ℕ) → nat_le (suc (suc (suc m))) 2 ≡ true → ⊥
         too_many m h = grind (arith, nat_tests)
-direct terms k op size count device id sector segments values epoch plan false few fresh e = absurd (no_other terms op count device id sector segments plan few e)
+direct terms k op size count device id sector segments values epoch plan false true few three fresh e =
+    let is : 3 ≡ op = grind (arith, nat_tests) in
+    subst (λ (n : ℕ). IsFresh terms.abi k (Direct n count device id sector segments) values epoch → verdict_of (Direct n count device id sector segments) (back_info terms.config) ≡ verdict.Serve plan → IsJobOf terms values epoch (frameless k (Direct n count device id sector segments) size sector stage.Flush)) is
+    (flushes terms k size count device id sector segments values epoch plan) fresh e
+direct terms k op size count device id sector segments values epoch plan false false few three fresh e = absurd (no_other terms op count device id sector segments plan few three e)
 
 served_job : (terms : Terms) (k size : ℕ) (request : RawRequest) (values : List ℕ) (epoch : List Line) (plan : Plan) → IsFresh terms.abi k request values epoch → verdict_of request (back_info terms.config) ≡ verdict.Serve plan → IsJobOf terms values epoch (served k request size)
-served_job terms k size (Direct op count device id sector segments) values epoch plan fresh e = direct terms k op size count device id sector segments values epoch plan (nat_le op 1) refl fresh e
-served_job terms k size (Discard flag device id sector count) values epoch plan fresh e = absurd (unsupported e)
+served_job terms k size (Direct op count device id sector segments) values epoch plan fresh e = direct terms k op size count device id sector segments values epoch plan (nat_le op 2) (op == 3) refl refl fresh e
+served_job terms k size (Discard flag device id sector count) values epoch plan fresh e = trims terms k size flag device id sector count values epoch plan fresh e
 served_job terms k size (Indirect op count device id sector pages) values epoch plan fresh e = absurd (unsupported e)
 
 pub begun_job : (terms : Terms) (k size : ℕ) (request : RawRequest) (values : List ℕ) (epoch : List Line) (v : Verdict) → IsFresh terms.abi k request values epoch → verdict_of request (back_info terms.config) ≡ v → IsJobOf terms values epoch (begun k request size v)

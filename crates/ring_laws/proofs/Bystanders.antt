@@ -17,14 +17,13 @@ use Rattle.report_rules.specs.Obeys.{Obeys}
 use Rattle.report_rules.specs.Standing.{is_epoch, this_epoch}
 use Rattle.report_rules.specs.Job.{is_job}
 use Rattle.report_rules.specs.declared.published.Keeping.{Keeping}
-use Rattle.report_rules.specs.Published.{info_of, no_disk, info_told, serving, is_offer, serving_after, disk_with, disk_of, kept_by, is_one, says_one, keeping_after, is_kept, is_persistent}
+use Rattle.report_rules.specs.Published.{info_of, no_disk, info_told, kept_by, is_one, says_one, keeping_after, is_kept, is_persistent}
 use Rattle.report_rules.specs.Step.{stepper}
 use Rattle.report_rules.specs.Steps.{is_fault, IsStepAt}
 use Rattle.report_rules.specs.Data.{words_in, IsDataAt}
 use Rattle.report_rules.specs.Effect.{disk_move_of, disk_move_shown, outcome_of, IsEffectAt}
 use Rattle.report_rules.proofs.Obeys.{obeys_more}
-use Rattle.blk_back.specs.View.{info_of as back_info}
-use Rattle.split_model.specs.Keys.{names_feature, is_zero_text}
+use Rattle.split_model.specs.Keys.{names_persistent, is_zero_text}
 use Rattle.ring_laws.proofs.Shows.{epoch_longer}
 use Rattle.ring_laws.proofs.JobLines.{is_of, IsAside}
 
@@ -41,28 +40,22 @@ OffersNone s = s.offered ≡ false
 abbrev pub KeepsNone : Line → Type 0
 KeepsNone line = (s : Keeping) → OffersNone s → OffersNone (keeping_after s line)
 
--- the lines obey them; grants are not persistent, and the disk is that of the options, of which reads and writes are served
+-- the lines obey them; grants are not persistent, and the options are those of the run
 pub record Tale (config : Options) (before : List Line) : Type 0 where
   pub obeys : Obeys IsRule before
   pub keeping : OffersNone (fold keeping_after (kept_by false false) (this_epoch before))
-  pub serves : fold serving_after (serving false false false false) (this_epoch before) ≡ (serving false false false false)
   pub told : fold info_told no_disk before ≡ info_of config
 
 pub shown_last : (before : List Line) (line : Line) → disk_move_shown (before ++ line ∷ []) ≡ disk_move_of line
 shown_last before line = rw (reverse-append before (line ∷ [])) refl
 
-pub tale_more : (config : Options) (before : List Line) (line : Line) → Tale config before → is_epoch line ≡ false → KeepsNone line → serving_after (serving false false false false) line ≡ (serving false false false false) → info_told (info_of config) line ≡ info_of config → IsRule before line → Tale config (before ++ line ∷ [])
-tale_more config before line t same keeps serves tells rule = record {
+pub tale_more : (config : Options) (before : List Line) (line : Line) → Tale config before → is_epoch line ≡ false → KeepsNone line → info_told (info_of config) line ≡ info_of config → IsRule before line → Tale config (before ++ line ∷ [])
+tale_more config before line t same keeps tells rule = record {
   obeys = obeys_more IsRule before line t.obeys rule;
   keeping = subst OffersNone (sym (ap (λ (ls : List Line). fold keeping_after (kept_by false false) ls) (epoch_longer before line same) ∙ fold-append keeping_after (kept_by false false) (this_epoch before) (line ∷ [])))
       (keeps (fold keeping_after (kept_by false false) (this_epoch before)) t.keeping);
-  serves = ap (λ (ls : List Line). fold serving_after (serving false false false false) ls) (epoch_longer before line same)
-      ∙ (fold-append serving_after (serving false false false false) (this_epoch before) (line ∷ []) ∙ (ap (λ s. serving_after s line) t.serves ∙ serves));
   told = fold-append info_told no_disk before (line ∷ []) ∙ (ap (λ (i : DiskInfo). info_told i line) t.told ∙ tells);
 }
-
-pub disk_is : (config : Options) (before : List Line) → Tale config before → disk_of before ≡ back_info config
-disk_is config before t = ap (λ s. disk_with s (fold info_told no_disk before)) t.serves ∙ ap (λ (i : DiskInfo). disk_with (serving false false false false) i) t.told
 
 pub not_persistent : (config : Options) (before : List Line) → Tale config before → is_persistent before ≡ false
 not_persistent config before t = none_kept (fold keeping_after (kept_by false false) (this_epoch before)) t.keeping
@@ -70,33 +63,14 @@ not_persistent config before t = none_kept (fold keeping_after (kept_by false fa
     none_kept : (s : Keeping) → OffersNone s → is_kept s ≡ false
     none_kept s none = ap (λ (b : Bool). b && s.asked) none
 
--- a key that the back sets offers nothing
-abbrev pub offers_none : (path text : List ℕ) → Bool
-offers_none path text = not (names_feature path) || is_zero_text text
-
--- of five keys one is set, so the text is 0
-zero_set : (a b c d zero : Bool) → (not (a || b || c || d || true) || zero) ≡ true → zero ≡ true
-zero_set true b c d zero e = e
-zero_set false true c d zero e = e
-zero_set false false true d zero e = e
-zero_set false false false true zero e = e
-zero_set false false false false zero e = e
-
-none_served : (a b c d persistent zero offer : Bool) → (not (a || b || c || d || persistent) || zero) ≡ true → (zero ≡ true → offer ≡ false)
-    → (if a then serving offer false false false else (if b then serving false offer false false else (if c then serving false false offer false else (if d then serving false false false offer else serving false false false false)))) ≡ serving false false false false
-none_served true b c d persistent zero offer e none = ap (λ (o : Bool). serving o false false false) (none e)
-none_served false true c d persistent zero offer e none = ap (λ (o : Bool). serving false o false false) (none e)
-none_served false false true d persistent zero offer e none = ap (λ (o : Bool). serving false false o false) (none e)
-none_served false false false true persistent zero offer e none = ap (λ (o : Bool). serving false false false o) (none e)
-none_served false false false false persistent zero offer e none = refl
-
-zero_no_offer : (text : List ℕ) → is_zero_text text ≡ true → is_offer text ≡ false
-zero_no_offer text e = ap is_offer ((bytes_eq-Decides text (codes "0")).0 e)
+-- a key that the back sets offers no persistent grants
+abbrev pub offers_no_grants : (path text : List ℕ) → Bool
+offers_no_grants path text = not (names_persistent path) || is_zero_text text
 
 zero_not_one : (text : List ℕ) → is_zero_text text ≡ true → is_one text ≡ false
 zero_not_one text e = ap is_one ((bytes_eq-Decides text (codes "0")).0 e)
 
--- a line that says nothing of epochs, options or effects, and in which the back offers nothing
+-- a line that says nothing of epochs, options or effects, and in which the back offers no persistent grants
 abbrev pub is_plain : Line → Bool
 is_plain (lines.Begin config detail) = false
 is_plain lines.Epoch = false
@@ -105,7 +79,7 @@ is_plain (lines.EffectRead id index words) = false
 is_plain (lines.Flushed id) = false
 is_plain (lines.Trimmed id) = false
 is_plain (lines.Fault id index) = false
-is_plain (lines.Move (moves.SetKey mover.Back path text)) = offers_none path text
+is_plain (lines.Move (moves.SetKey mover.Back path text)) = offers_no_grants path text
 is_plain line = true
 
 pub plain_epoch : (line : Line) → is_plain line ≡ true → is_epoch line ≡ false
@@ -118,18 +92,12 @@ plain_keeps (lines.Move (moves.GetKey mover.Back path text)) e s none = by_path 
     by_path : (b : Bool) → OffersNone (if b then kept_by s.offered (says_one text) else s)
     by_path true = none
     by_path false = none
-plain_keeps (lines.Move (moves.SetKey mover.Back path text)) e s none =
-    by_path (bytes_eq path (codes "/local/domain/0/backend/vbd/1/51712/feature-barrier")) (bytes_eq path (codes "/local/domain/0/backend/vbd/1/51712/feature-flush-cache")) (bytes_eq path (codes "/local/domain/0/backend/vbd/1/51712/feature-discard"))
-    (bytes_eq path (codes "/local/domain/0/backend/vbd/1/51712/feature-max-indirect-segments")) (bytes_eq path (codes "/local/domain/0/backend/vbd/1/51712/feature-persistent")) e
+plain_keeps (lines.Move (moves.SetKey mover.Back path text)) e s none = by_path (names_persistent path) e
   where
-    by_path : (a b c d persistent : Bool) → (not (a || b || c || d || persistent) || is_zero_text text) ≡ true → OffersNone (if persistent then kept_by (is_one text) s.asked else s)
-    by_path a b c d true e = zero_not_one text (zero_set a b c d (is_zero_text text) e)
-    by_path a b c d false e = none
+    by_path : (b : Bool) → (not b || is_zero_text text) ≡ true → OffersNone (if b then kept_by (is_one text) s.asked else s)
+    by_path true e = zero_not_one text e
+    by_path false e = none
 plain_keeps line e s none = none
-
-pub plain_serves : (line : Line) → is_plain line ≡ true → serving_after (serving false false false false) line ≡ (serving false false false false)
-plain_serves (lines.Move (moves.SetKey mover.Back path text)) e = none_served _ _ _ _ _ (is_zero_text text) (is_offer text) e (zero_no_offer text)
-plain_serves line e = refl
 
 pub plain_tells : (info : DiskInfo) (line : Line) → is_plain line ≡ true → info_told info line ≡ info
 plain_tells info (lines.Begin config detail) e = absurd (cc)
@@ -151,7 +119,13 @@ plain_words : (line : Line) → is_plain line ≡ true → words_in line ≡ Non
 plain_words (lines.EffectRead id index words) e = absurd (cc)
 plain_words line e = refl
 
--- and that is no step of a job
+-- a line that begins no epoch, and in which the back sets no key
+abbrev pub sets_none : Line → Bool
+sets_none lines.Epoch = false
+sets_none (lines.Move (moves.SetKey mover.Back path text)) = false
+sets_none line = true
+
+-- a plain line that is no step of a job
 pub record IsBystander (line : Line) : Type 0 where
   pub plain : is_plain line ≡ true
   pub unstepped : stepper line ≡ None
@@ -204,7 +178,7 @@ bystanders_go config [] before all t quiet = record {
 }
 bystanders_go config (y ∷ ys) before all t quiet =
     let b : IsBystander y = all.0 in
-    let one : Tale config (before ++ y ∷ []) = tale_more config before y t (plain_epoch y b.plain) (plain_keeps y b.plain) (plain_serves y b.plain) (plain_tells (info_of config) y b.plain) (bystander_rule before y quiet b) in
+    let one : Tale config (before ++ y ∷ []) = tale_more config before y t (plain_epoch y b.plain) (plain_keeps y b.plain) (plain_tells (info_of config) y b.plain) (bystander_rule before y quiet b) in
     let rest : Aside config (before ++ y ∷ []) ys = bystanders_go config ys (before ++ y ∷ []) all.1 one (shown_last before y ∙ still_disk y b.unstepped) in
     record {
       tale = subst (λ (ls : List Line). Tale config ls) (append_assoc before (y ∷ []) ys) rest.tale;

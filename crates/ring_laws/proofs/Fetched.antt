@@ -1,9 +1,10 @@
--- What was fetched for each job, by the lines so far: the request that its entry's words tell, of a disk that serves reads and writes, where no grants are persistent.
-use Rattle.std.proofs.Common.{◌≡◌, ℕ, ◌*◌, ◌≤◌, ◌&&◌, Bool, true, false, if◌then◌else◌, List, [], ◌∷◌, ◌++◌, length, refl, ap, sym, ◌∙◌, subst, append_assoc, append-nil, length-append, arith}
+-- What was fetched for each job, by the lines so far: the request that its entry's words tell, of the disk that the back publishes, where no grants are persistent.
+use Rattle.std.proofs.Common.{◌≡◌, ℕ, ◌*◌, ◌≤◌, ◌&&◌, not, Bool, true, false, if◌then◌else◌, List, [], ◌∷◌, ◌++◌, length, refl, ap, sym, ◌∙◌, subst, append_assoc, append-nil, length-append, arith}
 use Rattle.std.specs.Prelude.{Option, Some, None, is_some, option_map, nat_lt, nat_le}
 use Rattle.std.specs.List.{AllByRecursion}
 use Rattle.std.specs.Option.{option_to_list}
 use Rattle.std.proofs.lemmas.Bool.Decides.{nat_tests}
+use Rattle.blk_base.specs.Options.{Options}
 use Rattle.blk_base.specs.declared.operation.Abi.{Abi}
 use Rattle.blk_base.specs.declared.moves.BackMover.TheVariants as back
 use Rattle.blk_base.specs.declared.moves.Move.TheVariants as moves
@@ -18,9 +19,12 @@ use Rattle.report_rules.specs.declared.job.Fetched.{Fetched}
 use Rattle.report_rules.specs.Standing.{is_epoch}
 use Rattle.report_rules.specs.Ring.{page_made, order_of, ring_order, ring_abi, shape_of, ring_shape, start_told}
 use Rattle.report_rules.specs.Stretch.{entry_word_read}
-use Rattle.report_rules.specs.Published.{is_persistent}
+use Rattle.report_rules.specs.Published.{disk_of, is_persistent}
 use Rattle.report_rules.specs.Job.{when, entry_value, entry_values, words_of_job, is_fetched, entry_of, request_in, request_told, fetched_with, told_first, fetched_of}
 use Rattle.report_rules.proofs.Prefixes.{fetched_more}
+use Rattle.blk_back.specs.declared.told.Halt.{Halt}
+use Rattle.blk_back.specs.declared.stage.Stage.{Stage}
+use Rattle.blk_back.specs.Ask.{is_led}
 use Rattle.blk_back.specs.View.{info_of as back_info}
 use Rattle.ring_laws.specs.Layout.{reads_protocol}
 use Rattle.ring_laws.proofs.Sight.{is_touch, is_other, other_epoch, other_touch, same_abi, untouched_word}
@@ -28,7 +32,7 @@ use Rattle.ring_laws.proofs.Shows.{IsOnPages, other_on_pages, untouched_value, v
 use Rattle.ring_laws.proofs.Touches.{read_on}
 use Rattle.ring_laws.proofs.Began.{Terms, request_at, none_read}
 use Rattle.ring_laws.proofs.Works.{entry_kept}
-use Rattle.ring_laws.proofs.Bystanders.{Tale, disk_is, not_persistent, IsBystander, is_plain, plain_epoch}
+use Rattle.ring_laws.proofs.Bystanders.{Tale, not_persistent, IsBystander, is_plain, plain_epoch}
 
 -- what is fetched for a job by these words of entries
 abbrev pub fetched_in : Terms → List ℕ → ℕ → Fetched
@@ -90,14 +94,14 @@ grown terms values more k = by_test (is_fetched values (entry_words_of terms.abi
         ∙ ap (λ (b : Bool). if b then Some (fetched_in terms (values ++ more) k) else None) (sym longer)
 
 -- what the lines tell, once the ring has a shape
-told_by_shape : (terms : Terms) (before : List Line) (k : ℕ) (s : Shape) → Tale terms.config before → ring_shape before ≡ Some s → s.abi ≡ terms.abi → option_map (fetched_with before) (request_told before k) ≡ fetched_by terms (entry_values before) k
-told_by_shape terms before k s t shape same =
+told_by_shape : (terms : Terms) (before : List Line) (k : ℕ) (s : Shape) → Tale terms.config before → disk_of before ≡ back_info terms.config → ring_shape before ≡ Some s → s.abi ≡ terms.abi → option_map (fetched_with before) (request_told before k) ≡ fetched_by terms (entry_values before) k
+told_by_shape terms before k s t published shape same =
     ap (λ (o : Option Shape). option_map (fetched_with before) (request_in (entry_values before) k o)) shape
     ∙ (ap (λ (abi : Abi). option_map (fetched_with before) (entry_of abi (entry_values before) k)) same ∙ by_test (is_fetched (entry_values before) (entry_words_of terms.abi) k))
   where
     with_facts : (request : RawRequest) → fetched_with before request ≡ record { request = request; disk = back_info terms.config; persistent = false }
     with_facts request =
-        ap (λ (d : DiskInfo). record { request = request; disk = d; persistent = is_persistent before }) (disk_is terms.config before t)
+        ap (λ (d : DiskInfo). record { request = request; disk = d; persistent = is_persistent before }) published
         ∙ ap (λ (p : Bool). record { request = request; disk = back_info terms.config; persistent = p }) (not_persistent terms.config before t)
 
     by_test : (b : Bool) → option_map (fetched_with before) (if b then Some (request_at terms.abi (entry_values before) k) else None) ≡ (if b then Some (fetched_in terms (entry_values before) k) else None)
@@ -110,18 +114,18 @@ shape_then before line on unnamed =
     ∙ ap (λ (ps : List Standing). shape_of (ring_abi before) (order_of (length ps))) (pages_kept before line on.same_epoch on.page)
 
 -- the line of a read of a word of an entry
-entry_fetched : (terms : Terms) (before : List Line) (line : Line) (s : Shape) (w : ℕ) → entry_word_read before line ≡ Some w → ring_shape before ≡ Some s → s.abi ≡ terms.abi → Tale terms.config (before ++ line ∷ []) → AreFetched terms before → AreFetched terms (before ++ line ∷ [])
-entry_fetched terms before (lines.Move (moves.Read back.Back number frame word value)) s w read shape same tale are k =
+entry_fetched : (terms : Terms) (before : List Line) (line : Line) (s : Shape) (w : ℕ) → entry_word_read before line ≡ Some w → ring_shape before ≡ Some s → s.abi ≡ terms.abi → Tale terms.config (before ++ line ∷ []) → disk_of (before ++ line ∷ []) ≡ back_info terms.config → AreFetched terms before → AreFetched terms (before ++ line ∷ [])
+entry_fetched terms before (lines.Move (moves.Read back.Back number frame word value)) s w read shape same tale published are k =
     let line : Line = lines.Move (moves.Read back.Back number frame word value) in
     let on : IsOnPages (lines.Move (moves.Read back.Back number frame word value)) = read_on number frame word value in
     let behind = shape_then before line on refl ∙ shape in
     let values : entry_values (before ++ line ∷ []) ≡ entry_values before ++ option_to_list (entry_value before line) = values_more before line on in
     fetched_more before line k
     ∙ (rw read (ap (λ (f : Option Fetched). told_first f (option_map (fetched_with (before ++ line ∷ [])) (request_told (before ++ line ∷ []) k))) (are k)
-    ∙ (ap (λ (f : Option Fetched). told_first (fetched_by terms (entry_values before) k) f) (told_by_shape terms (before ++ line ∷ []) k s tale behind same)
+    ∙ (ap (λ (f : Option Fetched). told_first (fetched_by terms (entry_values before) k) f) (told_by_shape terms (before ++ line ∷ []) k s tale published behind same)
     ∙ (ap (λ (vs : List ℕ). told_first (fetched_by terms (entry_values before) k) (fetched_by terms vs k)) values
     ∙ (grown terms (entry_values before) (option_to_list (entry_value before line)) k ∙ ap (λ (vs : List ℕ). fetched_by terms vs k) (sym values))))))
-entry_fetched terms before line s w read shape same tale are k = absurd (cc)
+entry_fetched terms before line s w read shape same tale published are k = absurd (cc)
 
 -- a line of a mover that reads none and maps nothing
 no_value : (before : List Line) (line : Line) → entry_word_read before line ≡ None → entry_value before line ≡ None
@@ -135,23 +139,31 @@ plain_on line plain none = record { same_epoch = plain_epoch line plain; start =
     starts n (lines.Begin terms detail) e = absurd (cc)
     starts n l e = refl
 
--- a line of the back's reads words of entries from a ring of this layout, or none
-pub data Reads (before : List Line) (abi : Abi) (line : Line) : Type 0 where
-  shaped : (s : Shape) → ring_shape before ≡ Some s → s.abi ≡ abi → page_made line ≡ None → Reads before abi line
-  blind : is_touch line ≡ false → entry_values (before ++ line ∷ []) ≡ entry_values before → Reads before abi line
+-- the back took the terms of its front, and hasn't halted
+abbrev pub is_ready : Stage → Option Halt → Bool
+is_ready s halted = not (is_led s) && not (is_some halted)
+
+-- a line of the back's reads words of entries from a ring of this layout, where it is ready, or none
+pub data Reads (before : List Line) (abi : Abi) (ready : Bool) (line : Line) : Type 0 where
+  shaped : ready ≡ true → (s : Shape) → ring_shape before ≡ Some s → s.abi ≡ abi → page_made line ≡ None → Reads before abi ready line
+  blind : is_touch line ≡ false → entry_values (before ++ line ∷ []) ≡ entry_values before → Reads before abi ready line
+
+-- where it is, the lines tell of the disk that it publishes
+abbrev pub IsPublished : Options → Bool → List Line → Type 0
+IsPublished config ready before = ready ≡ true → disk_of before ≡ back_info config
 
 -- a line of the back's, and those after it
-own_fetched : (terms : Terms) (before : List Line) (line : Line) (read : Option ℕ) → entry_word_read before line ≡ read → IsBystander line → Reads before terms.abi line → Tale terms.config (before ++ line ∷ []) → AreFetched terms before → AreFetched terms (before ++ line ∷ [])
-own_fetched terms before line (Some w) read b (shaped s shape same none) tale are = entry_fetched terms before line s w read shape same tale are
-own_fetched terms before line None read b (shaped s shape same none) tale are =
+own_fetched : (terms : Terms) (before : List Line) (line : Line) (ready : Bool) (read : Option ℕ) → entry_word_read before line ≡ read → IsBystander line → Reads before terms.abi ready line → Tale terms.config (before ++ line ∷ []) → IsPublished terms.config ready (before ++ line ∷ []) → AreFetched terms before → AreFetched terms (before ++ line ∷ [])
+own_fetched terms before line ready (Some w) read b (shaped goes s shape same none) tale published are = entry_fetched terms before line s w read shape same tale (published goes) are
+own_fetched terms before line ready None read b (shaped goes s shape same none) tale published are =
     λ k. fetched_still before line k (plain_epoch line b.plain) read ∙ (are k ∙ ap (λ (vs : List ℕ). fetched_by terms vs k) (sym (values_still before line (plain_on line b.plain none) (no_value before line read))))
-own_fetched terms before line read e b (blind untouched same) tale are =
+own_fetched terms before line ready read e b (blind untouched same) tale published are =
     λ k. fetched_still before line k (plain_epoch line b.plain) (untouched_word before line untouched) ∙ (are k ∙ ap (λ (vs : List ℕ). fetched_by terms vs k) (sym same))
 
-pub back_fetched : (terms : Terms) (before ys : List Line) (line : Line) → IsBystander line → AreOther ys → Reads before terms.abi line → Tale terms.config (before ++ line ∷ []) → AreFetched terms before → AreFetched terms (before ++ line ∷ ys)
-back_fetched terms before ys line b all reads tale are =
+pub back_fetched : (terms : Terms) (before ys : List Line) (line : Line) (ready : Bool) → IsBystander line → AreOther ys → Reads before terms.abi ready line → Tale terms.config (before ++ line ∷ []) → IsPublished terms.config ready (before ++ line ∷ []) → AreFetched terms before → AreFetched terms (before ++ line ∷ ys)
+back_fetched terms before ys line ready b all reads tale published are =
     subst (λ (ls : List Line). AreFetched terms ls) (append_assoc before (line ∷ []) ys)
-    (others_fetched terms (before ++ line ∷ []) ys all (own_fetched terms before line (entry_word_read before line) refl b reads tale are))
+    (others_fetched terms (before ++ line ∷ []) ys all (own_fetched terms before line ready (entry_word_read before line) refl b reads tale published are))
 
 -- what was fetched for a job whose entry was read
 pub fetched_is : (terms : Terms) (before : List Line) (values : List ℕ) (k : ℕ) → entry_values before ≡ values → AreFetched terms before → 1 ≤ k → entry_words_of terms.abi * k ≤ length values → fetched_of before k ≡ Some (fetched_in terms values k)

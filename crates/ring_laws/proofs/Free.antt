@@ -138,8 +138,8 @@ job_free over h k (back_ask.SetKey path text) o a running own e = absurd own
 job_free over h k (back_ask.Watch path) o a running own e = absurd own
 job_free over h k (back_ask.DiskRead sector) o a running own e = read_free over h (moves.DiskRead k sector) o a (busy over _ running refl refl refl) e
 job_free over h k (back_ask.DiskWrite sector words) o a running own e = call_free over h (moves.DiskWrite k sector) o a (busy over _ running refl refl refl) e
-job_free over h k back_ask.Flush o a running own e = absurd own
-job_free over h k (back_ask.Trim sector count) o a running own e = absurd own
+job_free over h k back_ask.Flush o a running own e = call_free over h (moves.DiskFlush k) o a (busy over _ running refl refl refl) e
+job_free over h k (back_ask.Trim sector count) o a running own e = call_free over h (moves.DiskTrim k sector count) o a (busy over _ running refl refl refl) e
 
 -- after a halt no job moves
 pub job_running : (over : Bool) (h : Hypervisor) (k : ℕ) (ask : BackAsk) (o : Outcome) (a : BackAct) → back_act h (back.Job k) (if over then back_ask.Wait else ask) o ≡ Some a → over ≡ false
@@ -159,6 +159,8 @@ free_effect over id index a running = busy over (lines.Effect id index) running 
 pub free_told : (over : Bool) (t : Option BackTold) (a : BackAnswer) → over ≡ false → AreFree over (back_lines t a)
 free_told over None a running = tt
 free_told over (Some (back_told.Effect id index)) a running = (free_effect over id index a running, tt)
+free_told over (Some (back_told.Flushed id)) a running = (busy over (lines.Flushed id) running refl refl refl, tt)
+free_told over (Some (back_told.Trimmed id)) a running = (busy over (lines.Trimmed id) running refl refl refl, tt)
 free_told over (Some (back_told.Fault id index)) a running = (busy over (lines.Fault id index) running refl refl refl, tt)
 free_told over (Some (back_told.Reply id status)) a running = (busy over (lines.Reply id status) running refl refl refl, tt)
 

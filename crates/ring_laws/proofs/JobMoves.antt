@@ -12,13 +12,14 @@ use Rattle.schedule_text.specs.declared.line.Line.TheVariants as lines
 use Rattle.blk_layout.specs.declared.segment.Segment.{Segment}
 use Rattle.segment_list.specs.Segments.{length_of, sectors_of}
 use Rattle.report_rules.specs.declared.work.Task.{Task}
+use Rattle.report_rules.specs.declared.work.Task.TheVariants as tasks
 use Rattle.report_rules.specs.Walk.{spot, advanced, walk_of}
 use Rattle.report_rules.specs.Steps.{failed_in, begins_with_fault}
 use Rattle.back_jobs.specs.declared.stage.Stage.{Stage}
 use Rattle.back_jobs.specs.declared.stage.Stage.TheVariants as stage
 use Rattle.back_jobs.specs.Task.{Work, rest_of, counted}
 use Rattle.ring_laws.proofs.JobLines.{is_of, is_disk_of, IsAside, walk_aside, walk_own, moves_aside, moves_own, moves_step, words_aside, failed_same, failed_aside, failed_own}
-use Rattle.ring_laws.proofs.Places.{tasks_of, Before, Within, IsAt, ending_aside, Passed, passed}
+use Rattle.ring_laws.proofs.Places.{tasks_of, Before, Within, Alone, IsAt, ending_aside, Passed, passed}
 
 pub itself : (k : ℕ) → (k == k) ≡ true
 itself k = grind (arith, nat_tests)
@@ -55,6 +56,15 @@ within_aside work k epoch ys rest within disk moved writes j ahead m aside w = r
   whole = failed_aside k epoch ys aside w.whole;
 }
 
+alone_aside : (work : List Task) (k : ℕ) (epoch ys : List Line) (task : Task) (moved : ℕ) → IsAside k ys → Alone work k epoch task moved → Alone work k (epoch ++ ys) task moved
+alone_aside work k epoch ys task moved aside w = record {
+  is = w.is;
+  came = walk_aside work k epoch ys aside.none ∙ w.came;
+  once = w.once;
+  counted = moves_aside k epoch ys aside.none ∙ w.counted;
+  whole = failed_aside k epoch ys aside w.whole;
+}
+
 pub at_aside : (work : List Task) (k : ℕ) (epoch ys : List Line) (s : Stage) (t : Work) → IsAside k ys → IsAt work k epoch s t → IsAt work k (epoch ++ ys) s t
 at_aside work k epoch ys stage.Map t aside at = (before_aside work k epoch ys t.rest t.disk t.moved t.writes aside at.0, at.1)
 at_aside work k epoch ys (stage.ReadWord m j) t aside at = (within_aside work k epoch ys t.rest t.within t.disk t.moved t.writes j 1 m aside at.0, at.1, at.2)
@@ -63,6 +73,8 @@ at_aside work k epoch ys (stage.DiskRead m) t aside at = (within_aside work k ep
 at_aside work k epoch ys (stage.WriteWord m j) t aside at = (within_aside work k epoch ys t.rest t.within t.disk t.moved t.writes (1 + j) 0 m aside at.0, at.1, at.2, words_aside k epoch ys aside ∙ at.3)
 at_aside work k epoch ys (stage.Unmap m) t aside at = before_aside work k epoch ys (rest_of t.rest) t.disk t.moved t.writes aside at
 at_aside work k epoch ys (stage.GiveUp m) t aside at = failed_same k epoch ys aside ∙ at
+at_aside work k epoch ys stage.Flush t aside at = alone_aside work k epoch ys tasks.Flush t.moved aside at
+at_aside work k epoch ys (stage.Trim count) t aside at = alone_aside work k epoch ys (tasks.Trim t.disk count) t.moved aside at
 at_aside work k epoch ys (stage.Done status) t aside at = ending_aside work k epoch ys Okay aside ∙ at
 
 -- the same sector, at another step

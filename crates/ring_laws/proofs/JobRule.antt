@@ -2,7 +2,7 @@
 use Rattle.std.proofs.Common.{◌≡◌, ℕ, ◌+◌, ◌==◌, ◌||◌, Bool, true, false, if◌then◌else◌, List, [], ◌∷◌, count_by, refl, ap, sym, ◌∙◌, subst, arith}
 use Rattle.std.specs.Prelude.{Option, Some, None, IfSome, IsSomeAnd, option_and_then, slice_get}
 use Rattle.std.proofs.lemmas.Bool.Decides.{nat_tests}
-use Rattle.std.proofs.lemmas.Option.{same_Some}
+use Rattle.std.proofs.lemmas.Option.{none-some, same_Some}
 use Rattle.blk_base.specs.declared.moves.BackMover.TheVariants as back
 use Rattle.blk_base.specs.declared.moves.Move.{Move}
 use Rattle.blk_base.specs.declared.moves.Move.TheVariants as moves
@@ -15,12 +15,13 @@ use Rattle.report_rules.specs.declared.job.Fetched.{Fetched}
 use Rattle.report_rules.specs.Standing.{is_epoch, this_epoch}
 use Rattle.report_rules.specs.Work.{work_tasks}
 use Rattle.report_rules.specs.Job.{fetched_of, id_of, disk_moves_of}
-use Rattle.report_rules.specs.Published.{info_told, serving, serving_after}
+use Rattle.report_rules.specs.Published.{info_told}
 use Rattle.report_rules.specs.Step.{stepper, values_read, work_of}
 use Rattle.report_rules.specs.Walk.{step_at, is_step_at, spot_behind, is_unmapped_step, spot_in, advanced, walk_of, spot_of}
 use Rattle.report_rules.specs.Steps.{gref_of, touched_by, IsKeptFor, IsThrough, IsNextStep, IsStepOf, IsStepAt}
 use Rattle.report_rules.specs.Data.{IsDataAt}
-use Rattle.report_rules.specs.Effect.{disk_move_of, disk_move_shown, IsEffectAt}
+use Rattle.report_rules.specs.declared.effect.DiskCall.{DiskCall}
+use Rattle.report_rules.specs.Effect.{disk_move, disk_move_of, disk_move_shown, IsEffectAt}
 use Rattle.blk_back.specs.View.{info_of as back_info}
 use Rattle.report_rules.proofs.Walked.{step_of_next}
 use Rattle.ring_laws.proofs.JobLines.{is_disk_of}
@@ -103,7 +104,6 @@ own_rule terms before values k shown work quiet asked plan plain own s = record 
 pub record IsTold (shown : Move) (k id index : ℕ) (line : Line) : Type 0 where
   pub same_epoch : is_epoch line ≡ false
   pub keeps : KeepsNone line
-  pub serves : serving_after (serving false false false false) line ≡ serving false false false false
   pub tells : (info : DiskInfo) → info_told info line ≡ info
   pub still : disk_move_of line ≡ None
   pub unstepped : stepper line ≡ None
@@ -118,16 +118,25 @@ pub data ToldBy (epoch : List Line) (shown : Move) (k id index : ℕ) (told : Li
 
 pub effect_done : (k sector id index : ℕ) → IsTold (moves.DiskWrite k sector) k id index (lines.Effect id index)
 effect_done k sector id index =
-    record { same_epoch = refl; keeps = λ s none. none; serves = refl; tells = λ info. refl; still = refl; unstepped = refl; step = λ before. tt; moved = λ before. tt; effect = λ before shows request place. record { told = if_some _ shows (record { done = refl; request = request; place = place }); only = λ some none. absurd (cc) } }
+    record { same_epoch = refl; keeps = λ s none. none; tells = λ info. refl; still = refl; unstepped = refl; step = λ before. tt; moved = λ before. tt; effect = λ before shows request place. record { told = if_some _ shows (record { done = refl; request = request; place = place }); only = λ some none. absurd (cc) } }
 
 pub effect_given : (k sector id index : ℕ) (words : List ℕ) → IsTold (moves.DiskRead k sector) k id index (lines.EffectRead id index words)
 effect_given k sector id index words =
-    record { same_epoch = refl; keeps = λ s none. none; serves = refl; tells = λ info. refl; still = refl; unstepped = refl; step = λ before. tt; moved = λ before. tt; effect = λ before shows request place. record { told = if_some _ shows (record { done = refl; request = request; place = place }); only = λ some none. absurd (cc) } }
+    record { same_epoch = refl; keeps = λ s none. none; tells = λ info. refl; still = refl; unstepped = refl; step = λ before. tt; moved = λ before. tt; effect = λ before shows request place. record { told = if_some _ shows (record { done = refl; request = request; place = place }); only = λ some none. absurd (cc) } }
 
-pub write_failed : (k sector id index : ℕ) → IsTold (moves.DiskWrite k sector) k id index (lines.Fault id index)
-write_failed k sector id index =
-    record { same_epoch = refl; keeps = λ s none. none; serves = refl; tells = λ info. refl; still = refl; unstepped = refl; step = λ before. tt; moved = λ before. tt; effect = λ before shows request place. record { told = if_some _ shows (record { done = tt; request = request; place = place }); only = λ some none. absurd (cc) } }
+-- a flush and a discard move the disk once
+first : {index count : ℕ} → index ≡ 0 → index + 1 ≡ count → 0 + 1 ≡ count
+first once place = omega arith
 
-pub read_failed : (k sector id index : ℕ) → IsTold (moves.DiskRead k sector) k id index (lines.Fault id index)
-read_failed k sector id index =
-    record { same_epoch = refl; keeps = λ s none. none; serves = refl; tells = λ info. refl; still = refl; unstepped = refl; step = λ before. tt; moved = λ before. tt; effect = λ before shows request place. record { told = if_some _ shows (record { done = tt; request = request; place = place }); only = λ some none. absurd (cc) } }
+pub flush_done : (k id index : ℕ) → index ≡ 0 → IsTold (moves.DiskFlush k) k id index (lines.Flushed id)
+flush_done k id index once =
+    record { same_epoch = refl; keeps = λ s none. none; tells = λ info. refl; still = refl; unstepped = refl; step = λ before. tt; moved = λ before. tt; effect = λ before shows request place. record { told = if_some _ shows (record { done = refl; request = request; place = first once place }); only = λ some none. absurd (cc) } }
+
+pub trim_done : (k sector count id index : ℕ) → index ≡ 0 → IsTold (moves.DiskTrim k sector count) k id index (lines.Trimmed id)
+trim_done k sector count id index once =
+    record { same_epoch = refl; keeps = λ s none. none; tells = λ info. refl; still = refl; unstepped = refl; step = λ before. tt; moved = λ before. tt; effect = λ before shows request place. record { told = if_some _ shows (record { done = refl; request = request; place = first once place }); only = λ some none. absurd (cc) } }
+
+-- the disk failed at any move of it
+pub call_failed : (k id index : ℕ) (shown : Move) (call : DiskCall) → disk_move_of (lines.Move shown) ≡ Some (disk_move k call) → IsTold shown k id index (lines.Fault id index)
+call_failed k id index shown call is =
+    record { same_epoch = refl; keeps = λ s none. none; tells = λ info. refl; still = refl; unstepped = refl; step = λ before. tt; moved = λ before. tt; effect = λ before shows request place. record { told = if_some _ (shows ∙ is) (record { done = tt; request = request; place = place }); only = λ some none. none-some _ (sym none ∙ (shows ∙ is)) } }

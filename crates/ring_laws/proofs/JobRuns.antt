@@ -1,5 +1,5 @@
 -- Whatever happens from the start, the lines keep the rules on jobs.
-use Rattle.std.proofs.Common.{◌≡◌, ℕ, ◌<◌, ◌^◌, Bool, true, false, if◌then◌else◌, ◌*◌, List, [], ◌∷◌, ◌++◌, length, refl, ap, sym, ◌∙◌, subst, append-nil}
+use Rattle.std.proofs.Common.{◌≡◌, ℕ, ◌<◌, ◌^◌, Bool, true, false, if◌then◌else◌, ◌*◌, List, [], ◌∷◌, ◌++◌, refl, ap, sym, ◌∙◌, subst, append-nil}
 use Rattle.std.specs.Prelude.{Option, Some, None, is_some, Result, Ok, Err}
 use Rattle.blk_base.specs.Options.{Options}
 use Rattle.blk_base.specs.declared.config.Job.{Job}
@@ -15,7 +15,7 @@ use Rattle.report_rules.specs.Data.{AreData}
 use Rattle.report_rules.specs.Effect.{AreEffects}
 use Rattle.report_rules.specs.Job.{entry_values}
 use Rattle.report_rules.proofs.Obeys.{obeys_none, obeys_more}
-use Rattle.back_jobs.specs.Jobs.{ask_job, place_of, work_of}
+use Rattle.back_jobs.specs.Jobs.{ask_job, place_of, work_of, waits}
 use Rattle.blk_front.specs.declared.told.Refusal.{Refusal}
 use Rattle.blk_front.specs.Ask as front_ask
 use Rattle.blk_front.specs.Step as front_step
@@ -41,7 +41,7 @@ use Rattle.split_model.proofs.SafeAnswers.{backs_of, jobs_of, fronts_no_key}
 use Rattle.split_model.specs.Keys.{is_layout}
 use Rattle.split_model.proofs.SafeActs.{made_front}
 use Rattle.split_model.proofs.Shapes.{back_shape}
-use Rattle.split_model.proofs.Attaching.{attach_cases}
+use Rattle.split_model.proofs.Attaching.{SaysServed, attach_cases}
 use Rattle.split_model.specs.Report.{report_of, ended_report_of}
 use Rattle.ring_laws.proofs.BackReads.{reads_of}
 use Rattle.ring_laws.proofs.Sight.{is_other}
@@ -56,11 +56,12 @@ use Rattle.ring_laws.proofs.Lists.{all_both}
 use Rattle.ring_laws.proofs.Standings.{Stands, stands_aside, turn_stands}
 use Rattle.ring_laws.proofs.MakerLines.{AreCalm, calm_quiet, front_lines_calm, back_calm, halt_calm, told_calm, submit_calm, look_calm, settle_calm}
 use Rattle.ring_laws.proofs.Bystanders.{IsRule, IsBystander, AreBystanders, Aside, bystanders_go, no_effect}
-use Rattle.ring_laws.proofs.Fetched.{AreFetched, AreOther, none_fetched, fetched_anew, values_aside, others_fetched, back_fetched}
-use Rattle.ring_laws.proofs.BackChange.{back_by, back_reads, front_by, front_told_by, halt_by}
+use Rattle.ring_laws.proofs.Fetched.{is_ready, AreFetched, AreOther, none_fetched, fetched_anew, values_aside, others_fetched, back_fetched}
+use Rattle.ring_laws.proofs.BackChange.{back_by, back_sets, back_reads, front_by, front_told_by, halt_by}
 use Rattle.ring_laws.proofs.Halting.{Stops, stops_cases}
 use Rattle.ring_laws.proofs.Tells.{Tells, terms_of, tells_aside, shows_free}
 use Rattle.ring_laws.proofs.BackTells.{back_tells}
+use Rattle.ring_laws.proofs.Publishes.{Publishes, publishes_happens, own_published}
 use Rattle.ring_laws.proofs.JobTells.{JobTells, job_tells}
 use Rattle.ring_laws.proofs.JobTurn.{After}
 use Rattle.ring_laws.proofs.After.{kept_after}
@@ -72,6 +73,7 @@ pub record Stand (config : Options) (before : List Line) (w : World) : Type 0 wh
   pub safe : IsSafe w
   pub tells : Tells config before w.back
   pub fetched : AreFetched (terms_of config w.back) before
+  pub published : Publishes before w
 
 pub same_values : (over : Bool) (before ys : List Line) (x : Sight) → AreFree over ys → Shows before x → entry_values (before ++ ys) ≡ entry_values before
 same_values over before ys x free shows = let longer : Shows (before ++ ys) x = shows_free over ys before x free shows in longer.values ∙ sym shows.values
@@ -106,7 +108,7 @@ job_goes_on config w before k o (Some a) s e =
     let running : is_some w.back.halted ≡ false = job_running (is_some w.back.halted) w.under k (ask_job w.back.jobs k) o a e in
     let asks = ap (λ (b : Bool). back_act w.under (mover.Job k) (if b then ask.Wait else ask_job w.back.jobs k) o) (sym running) ∙ e in
     let free : AreFree (is_some w.back.halted) (job_shows w k (Some a)) = (job_free (is_some w.back.halted) w.under k (back_step.job_ask_of w.back k) o a running (jobs_of w.back k) e, free_told (is_some w.back.halted) _ a.answer running) in
-    let told : JobTells config before (job_shows w k (Some a)) w.back k _ = job_tells config config.start before w.under w.back k o a (place_of w.back.jobs.works k) (work_of w.back.jobs.works k) refl refl running s.ring.follows s.fetched free s.tells asks in
+    let told : JobTells config before (job_shows w k (Some a)) w.back k _ = job_tells config config.start before w.under w.back k o a (place_of w.back.jobs.works k) (waits w.back.jobs.works k) (work_of w.back.jobs.works k) refl refl running s.ring.follows s.fetched free s.tells asks in
     let behind : After config before (job_shows w k (Some a)) = told.after in
     record { tale = behind.tale; quiet = behind.quiet; info = t.info; jobs = λ r. told.jobs; unseen = told.unseen }
 
@@ -163,8 +165,8 @@ layout_by w = (record { plain = refl; unstepped = refl }, tt)
 attached_tells : (config : Options) (w : World) (before : List Line) (shape : Shape) (grefs : List ℕ) (port : ℕ) → Stand config before w → (let n : World = happens w (BackAttaches shape grefs port) in Tells config (before ++ lines_at w (BackAttaches shape grefs port)) n.back)
 attached_tells config w before shape grefs port s = attach_cases (λ (new : back.View) (shown : List Line). Tells config (before ++ shown) new) w shape grefs port takes (no_lines config before w.back s.tells)
   where
-    takes : may_attach shape grefs w.back ≡ true → is_layout shape.abi (layout_text w) ≡ true → Tells config (before ++ lines.Move (layout_read w) ∷ []) (attached shape grefs port w.back)
-    takes may layout =
+    takes : may_attach shape grefs w.back ≡ true → is_layout shape.abi (layout_text w) ≡ true → SaysServed w → Tells config (before ++ lines.Move (layout_read w) ∷ []) (attached shape grefs port w.back)
+    takes may layout says =
         let same = values_aside (lines.Move (layout_read w) ∷ []) before (refl, tt) in
         let t : Tells config (before ++ lines.Move (layout_read w) ∷ []) w.back = tells_aside config before (lines.Move (layout_read w) ∷ []) w.back (layout_by w) same s.tells in
         record { tale = t.tale; quiet = t.quiet; info = t.info; jobs = λ runs. jobs_anew (terms_of config w.back) _ _ _ w.back.fetched w.back.jobs.works (same ∙ unread config.start w before shape grefs s.ring may) (t.jobs runs); unseen = t.unseen }
@@ -209,8 +211,8 @@ back_fetches config w before (Some a) e s =
     let b : IsBystander (lines.Move a.shown) = back_by w.under (ask_of w.back) Took a (backs_of w.back) e in
     let one : Aside config before (lines.Move a.shown ∷ []) = bystanders_go config (lines.Move a.shown ∷ []) before (b, tt) t.tale t.quiet in
     subst (λ (s : Shape). AreFetched (record { config = config; abi = s.abi }) (before ++ back_shows w (Some a))) (sym (back_shape w.back a.answer))
-    (back_fetched (terms_of config w.back) before (back_lines new.told a.answer ++ halt_lines v.halted new.halted) (lines.Move a.shown) b (back_other w.back new.told a.answer new.halted)
-    (back_reads before w.under v.stage w.back Took a f.sight f.knows f.shows e) one.tale s.fetched)
+    (back_fetched (terms_of config w.back) before (back_lines new.told a.answer ++ halt_lines v.halted new.halted) (lines.Move a.shown) (is_ready v.stage v.halted) b (back_other w.back new.told a.answer new.halted)
+    (back_reads before w.under v.stage w.back Took a f.sight f.knows f.shows e) one.tale (own_published config w before (lines.Move a.shown) (back_sets w.under (ask_of w.back) Took a (backs_of w.back) e) one.tale t.info s.published) s.fetched)
 
 job_fetches : (terms : Terms) (w : World) (before : List Line) (k : ℕ) (o : Outcome) (act : Option BackAct) → job_turn w k o ≡ act → AreFetched terms before → AreFetched terms (before ++ job_shows w k act)
 job_fetches terms w before k o None e are = no_fetch terms before are
@@ -244,7 +246,7 @@ attached_fetches : (config : Options) (w : World) (before : List Line) (shape : 
     → (let n : World = happens w (BackAttaches shape grefs port) in AreFetched (terms_of config n.back) (before ++ lines_at w (BackAttaches shape grefs port)))
 attached_fetches config w before shape grefs port s =
     attach_cases (λ (new : back.View) (shown : List Line). AreFetched (terms_of config new) (before ++ shown)) w shape grefs port
-    (λ may layout. fetched_anew (terms_of config w.back) (terms_of config (attached shape grefs port w.back)) (before ++ lines.Move (layout_read w) ∷ []) (values_aside (lines.Move (layout_read w) ∷ []) before (refl, tt) ∙ unread config.start w before shape grefs s.ring may) (others_fetched (terms_of config w.back) before (lines.Move (layout_read w) ∷ []) (refl, tt) s.fetched))
+    (λ may layout says. fetched_anew (terms_of config w.back) (terms_of config (attached shape grefs port w.back)) (before ++ lines.Move (layout_read w) ∷ []) (values_aside (lines.Move (layout_read w) ∷ []) before (refl, tt) ∙ unread config.start w before shape grefs s.ring may) (others_fetched (terms_of config w.back) before (lines.Move (layout_read w) ∷ []) (refl, tt) s.fetched))
     (no_fetch (terms_of config w.back) before s.fetched)
 
 outside_fetched : (config : Options) (w : World) (before ys : List Line) → AreOutsiders w.back.stage ys → Stand config before w → AreFetched (terms_of config w.back) (before ++ ys)
@@ -314,7 +316,7 @@ stands_happen config w (Negotiates at move) before s = outside_stands config w b
 stands_happen config w (FrontEnters state) before s = outside_stands config w before (lines_at w (FrontEnters state)) (state_outsiders w.back.stage state w.front) s
 stands_happen config w (BackAttaches shape grefs port) before s =
     attach_cases (λ (new : back.View) (shown : List Line). Stands (before ++ shown) w.under.grants) w shape grefs port
-    (λ may layout. stands_aside before (lines.Move (layout_read w) ∷ []) w.under.grants (record { same_epoch = refl; none_gone = λ n. refl; none_made = λ k. refl }, tt) (refl, tt) s.standing) (none_stands before w.under.grants s.standing)
+    (λ may layout says. stands_aside before (lines.Move (layout_read w) ∷ []) w.under.grants (record { same_epoch = refl; none_gone = λ n. refl; none_made = λ k. refl }, tt) (refl, tt) s.standing) (none_stands before w.under.grants s.standing)
 stands_happen config w (BackHalts why) before s = stands_aside before (lines_at w (BackHalts why)) w.under.grants (calm_quiet _ (halt_calm w.back.halted _)) (halts_other w.back.halted _) s.standing
 stands_happen config w (Submits job) before s = free_stands config w before (lines_at w (Submits job)) (submit_calm job (front_submit.submit_of w.front job).0, tt) (free_submit false job (front_submit.submit_of w.front job).0, tt) s
 stands_happen config w (Notifies at) before s = none_stands before w.under.grants s.standing
@@ -330,6 +332,7 @@ stand_happens config w h before s few = record {
   safe = safe_happens w h s.safe;
   tells = tells_happens config w h before s few;
   fetched = fetched_happens config w h before s;
+  published = publishes_happens config.start w h before s.ring s.published;
 }
 
 begin_rule : (config : Options) (detail : Detail) → IsRule [] (lines.Begin config detail)
@@ -341,13 +344,14 @@ stand_start config detail = record {
   standing = refl;
   safe = safe_start config;
   tells = record {
-    tale = record { obeys = obeys_more IsRule [] (lines.Begin config detail) (obeys_none IsRule) (begin_rule config detail); keeping = refl; serves = refl; told = refl };
+    tale = record { obeys = obeys_more IsRule [] (lines.Begin config detail) (obeys_none IsRule) (begin_rule config detail); keeping = refl; told = refl };
     quiet = refl;
     info = refl;
     jobs = λ running. no_jobs (terms_of config (back.start_of config)) [] (lines.Begin config detail ∷ []) 0;
     unseen = λ k above. refl;
   };
   fetched = λ k. sym (none_fetched (terms_of config (back.start_of config)) [] k refl);
+  published = record { told = refl; says = λ ready. absurd (cc) };
 }
 
 report_stands : (config : Options) (detail : Detail) (history : List Happening) → reads_of (report_of config detail history) < 2 ^ 64 → Stand config (report_of config detail history) (after history (start_of config))

@@ -15,6 +15,7 @@ use Rattle.schedule_text.specs.declared.line.Line.{Line}
 use Rattle.schedule_text.specs.declared.line.Line.TheVariants as lines
 use Rattle.blk_layout.specs.declared.segment.Segment.{Segment}
 use Rattle.report_rules.specs.declared.work.Task.{Task}
+use Rattle.report_rules.specs.declared.work.Task.TheVariants as tasks
 use Rattle.back_jobs.specs.declared.stage.Stage.{Stage}
 use Rattle.back_jobs.specs.declared.stage.Stage.TheVariants as stage
 use Rattle.back_jobs.specs.Task.{Work, ask_at, step_at, map_ask, mode_of, first_of, rest_of, sector_stage, next_segment}
@@ -26,6 +27,7 @@ use Rattle.ring_laws.proofs.Mapping.{map_is, refusal_is, map_taken, mapped_on}
 use Rattle.ring_laws.proofs.JobSteps.{takes, rests, JobGoes, told_at, sector_at, on_step}
 use Rattle.ring_laws.proofs.JobWords.{read_goes, write_goes}
 use Rattle.ring_laws.proofs.JobDisk.{take_goes, give_goes, disk_failed, take_step, give_step}
+use Rattle.ring_laws.proofs.JobCall.{flush_call, trim_call, call_done, call_broken}
 
 abbrev Goes : List Task → ℕ → List Line → Stage → Work → BackAct → Type 0
 Goes work k epoch s t a = JobGoes work k epoch a.shown (told_at s t a.answer) (step_at s t a.answer)
@@ -84,4 +86,10 @@ job_goes work k epoch h (stage.Unmap m) t o a at e =
 job_goes work k epoch h (stage.GiveUp m) t o a at e =
     of_back (Goes work k epoch (stage.GiveUp m) t) _ a
     (record { steps = rests refl; at = failed_end work k (epoch ++ lines.Move (moves.Unmap (back.Job k) m.number) ∷ []) (failed_same k epoch (lines.Move (moves.Unmap (back.Job k) m.number) ∷ []) (unmap_aside k m.number) ∙ at) }) e
+job_goes work k epoch h stage.Flush t Took a at e = of_back (Goes work k epoch stage.Flush t) _ a (call_done work k epoch tasks.Flush (moves.DiskFlush k) (lines.Flushed t.id) t at (flush_call k epoch) refl refl) e
+job_goes work k epoch h stage.Flush t Failed a at e = of_back (Goes work k epoch stage.Flush t) _ a (call_broken work k epoch tasks.Flush (moves.DiskFlush k) t.id t.moved t at (flush_call k epoch)) e
+job_goes work k epoch h stage.Flush t (Gave words) a at e = absurd (none-some a e)
+job_goes work k epoch h (stage.Trim count) t Took a at e = of_back (Goes work k epoch (stage.Trim count) t) _ a (call_done work k epoch (tasks.Trim t.disk count) (moves.DiskTrim k t.disk count) (lines.Trimmed t.id) t at (trim_call k t.disk count epoch) refl refl) e
+job_goes work k epoch h (stage.Trim count) t Failed a at e = of_back (Goes work k epoch (stage.Trim count) t) _ a (call_broken work k epoch (tasks.Trim t.disk count) (moves.DiskTrim k t.disk count) t.id t.moved t at (trim_call k t.disk count epoch)) e
+job_goes work k epoch h (stage.Trim count) t (Gave words) a at e = absurd (none-some a e)
 job_goes work k epoch h (stage.Done status) t o a at e = absurd (none-some a e)

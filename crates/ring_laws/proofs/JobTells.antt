@@ -1,5 +1,5 @@
 -- A move of a job keeps what the lines tell of all.
-use Rattle.std.proofs.Common.{◌≡◌, ◌≢◌, ℕ, ◌≤◌, ◌<◌, ◌==◌, true, false, List, [], ◌∷◌, ◌++◌, refl, ap, sym, ◌∙◌, subst, arith}
+use Rattle.std.proofs.Common.{◌≡◌, ◌≢◌, ℕ, ◌≤◌, ◌<◌, ◌==◌, Bool, true, false, List, [], ◌∷◌, ◌++◌, refl, ap, sym, ◌∙◌, subst, arith}
 use Rattle.std.specs.Prelude.{Option, Some, None, is_some, slice_get}
 use Rattle.std.specs.List.{AllByRecursion, list_any}
 use Rattle.std.proofs.lemmas.Option.{none-some, get_or_from_slice_get}
@@ -60,13 +60,14 @@ pub record JobTells (config : Options) (before ys : List Line) (v : View) (k : �
   pub unseen : (n : ℕ) → v.fetched < n → list_any (is_of n) (this_epoch (before ++ ys)) ≡ false
   pub aside : (n : ℕ) → n ≢ k → IsAside n ys
 
-pub job_tells : (config : Options) (start : ℕ) (before : List Line) (h : Hypervisor) (v : View) (k : ℕ) (o : Outcome) (a : BackAct) (place : Option ℕ) (found : Option Work)
+pub job_tells : (config : Options) (start : ℕ) (before : List Line) (h : Hypervisor) (v : View) (k : ℕ) (o : Outcome) (a : BackAct) (place : Option ℕ) (waits : Bool) (found : Option Work)
     → place_of v.jobs.works k ≡ place → work_at v.jobs.works place ≡ found → is_some v.halted ≡ false → Follows start [] before v → AreFetched (terms_of config v) before → AreFree (is_some v.halted) (lines_of_job found a) → Tells config before v
-    → back_act h (mover.Job k) (asked found) o ≡ Some a
+    → back_act h (mover.Job k) (asked waits found) o ≡ Some a
     → JobTells config before (lines_of_job found a) v k (told_works v.jobs.works place found a.answer)
-job_tells config start before h v k o a place None at is running f are free t e = absurd (none-some a e)
-job_tells config start before h v k o a None (Some work) at is running f are free t e = absurd (none-some work is)
-job_tells config start before h v k o a (Some place) (Some work) at is running f are free t e =
+job_tells config start before h v k o a place waits None at is running f are free t e = absurd (none-some a e)
+job_tells config start before h v k o a place true (Some work) at is running f are free t e = absurd (none-some a e)
+job_tells config start before h v k o a None false (Some work) at is running f are free t e = absurd (none-some work is)
+job_tells config start before h v k o a (Some place) false (Some work) at is running f are free t e =
     let jobs : AreJobs (terms_of config v) f.sight.values (this_epoch before) v.fetched v.jobs.works = same_jobs (terms_of config v) (entry_values before) f.sight.values (this_epoch before) (this_epoch before) v.fetched v.fetched v.jobs.works v.jobs.works f.shows.values refl refl refl (t.jobs running) in
     let number : work.number ≡ k = found_number v.jobs.works k place work at is in
     let low : work.number ≤ v.fetched = low_number (terms_of config v) f.sight.values (this_epoch before) v.fetched v.jobs.works place work is jobs in

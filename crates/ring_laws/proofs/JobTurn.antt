@@ -21,11 +21,13 @@ use Rattle.blk_layout.specs.declared.segment.Segment.{Segment}
 use Rattle.blk_layout.specs.declared.request.RawRequest.{RawRequest}
 use Rattle.segment_list.specs.declared.verdict.DiskInfo.{DiskInfo}
 use Rattle.report_rules.specs.declared.work.Task.{Task}
+use Rattle.report_rules.specs.declared.work.Task.TheVariants as tasks
 use Rattle.report_rules.specs.Standing.{this_epoch}
 use Rattle.report_rules.specs.Work.{work_tasks}
 use Rattle.report_rules.specs.declared.job.Fetched.{Fetched}
 use Rattle.report_rules.specs.Job.{is_job, entry_values, fetched_of, id_of}
 use Rattle.report_rules.specs.Published.{info_of}
+use Rattle.report_rules.specs.declared.effect.DiskCall.TheVariants as calls
 use Rattle.report_rules.specs.Effect.{disk_move_shown}
 use Rattle.blk_back.specs.View.{info_of as back_info}
 use Rattle.back_jobs.specs.declared.stage.Stage.{Stage}
@@ -37,15 +39,15 @@ use Rattle.ring_words.specs.Shape.{entry_words_of}
 use Rattle.ring_laws.proofs.Shows.{Sight, epoch_longer}
 use Rattle.ring_laws.proofs.Sight.{is_other, other_touch, untouched_word}
 use Rattle.ring_laws.proofs.JobLines.{is_of, is_disk_of, IsAside, moves_own}
-use Rattle.ring_laws.proofs.Places.{Within, IsAt}
+use Rattle.ring_laws.proofs.Places.{Within, Alone, IsAt}
 use Rattle.ring_laws.proofs.JobMoves.{itself}
 use Rattle.ring_laws.proofs.JobSteps.{StepsBy, takes, rests, JobGoes, told_at}
 use Rattle.ring_laws.proofs.JobStages.{job_goes}
 use Rattle.ring_laws.proofs.Began.{Terms, IsPlan, HasCome, serves, over, IsJobOf, request_at}
 use Rattle.ring_laws.proofs.Works.{AreJobs, jobs_told, job_found}
-use Rattle.ring_laws.proofs.Bystanders.{IsRule, Tale, shown_last, tale_more, is_plain, plain_keeps, plain_serves, plain_tells, bystander_rule, some_and}
+use Rattle.ring_laws.proofs.Bystanders.{IsRule, Tale, shown_last, tale_more, is_plain, plain_keeps, plain_tells, bystander_rule, some_and}
 use Rattle.ring_laws.proofs.Fetched.{AreFetched, fetched_in, fetched_still, fetched_is}
-use Rattle.ring_laws.proofs.JobRule.{own_rule, ToldBy, nothing, one, effect_done, effect_given, write_failed, read_failed}
+use Rattle.ring_laws.proofs.JobRule.{own_rule, ToldBy, nothing, one, effect_done, effect_given, flush_done, trim_done, call_failed}
 
 -- what a job's move shows, and the lines after it
 pub record IsSpoken (epoch : List Line) (k : ℕ) (s : Stage) (t : Work) (a : BackAct) : Type 0 where
@@ -68,18 +70,32 @@ job_tells work epoch h k (stage.DiskWrite m) t Took a at e =
     of_back (IsSpoken epoch k (stage.DiskWrite m) t) _ a (record { plain = refl; told = one _ refl (effect_done k t.disk t.id t.moved) (itself k) w.counted }) e
 job_tells work epoch h k (stage.DiskWrite m) t Failed a at e =
     let w : Within work k epoch t.rest t.within t.disk t.moved t.writes 128 1 m = at.0 in
-    of_back (IsSpoken epoch k (stage.DiskWrite m) t) _ a (record { plain = refl; told = one _ refl (write_failed k t.disk t.id t.moved) (itself k) w.counted }) e
+    of_back (IsSpoken epoch k (stage.DiskWrite m) t) _ a (record { plain = refl; told = one _ refl (call_failed k t.id t.moved _ calls.Write refl) (itself k) w.counted }) e
 job_tells work epoch h k (stage.DiskWrite m) t (Gave words) a at e = absurd (none-some a e)
 job_tells work epoch h k (stage.DiskRead m) t (Gave words) a at e =
     let w : Within work k epoch t.rest t.within t.disk t.moved t.writes 0 1 m = at.0 in
     of_back (IsSpoken epoch k (stage.DiskRead m) t) _ a (record { plain = refl; told = one _ refl (effect_given k t.disk t.id t.moved words) (itself k) w.counted }) e
 job_tells work epoch h k (stage.DiskRead m) t Failed a at e =
     let w : Within work k epoch t.rest t.within t.disk t.moved t.writes 0 1 m = at.0 in
-    of_back (IsSpoken epoch k (stage.DiskRead m) t) _ a (record { plain = refl; told = one _ refl (read_failed k t.disk t.id t.moved) (itself k) w.counted }) e
+    of_back (IsSpoken epoch k (stage.DiskRead m) t) _ a (record { plain = refl; told = one _ refl (call_failed k t.id t.moved _ calls.Read refl) (itself k) w.counted }) e
 job_tells work epoch h k (stage.DiskRead m) t Took a at e = absurd (none-some a e)
 job_tells work epoch h k (stage.WriteWord m j) t o a at e = of_back (IsSpoken epoch k (stage.WriteWord m j) t) _ a (record { plain = refl; told = nothing refl refl }) e
 job_tells work epoch h k (stage.Unmap m) t o a at e = of_back (IsSpoken epoch k (stage.Unmap m) t) _ a (record { plain = refl; told = nothing refl refl }) e
 job_tells work epoch h k (stage.GiveUp m) t o a at e = of_back (IsSpoken epoch k (stage.GiveUp m) t) _ a (record { plain = refl; told = nothing refl refl }) e
+job_tells work epoch h k stage.Flush t Took a at e =
+    let w : Alone work k epoch tasks.Flush t.moved = at in
+    of_back (IsSpoken epoch k stage.Flush t) _ a (record { plain = refl; told = one _ refl (flush_done k t.id t.moved w.once) (itself k) w.counted }) e
+job_tells work epoch h k stage.Flush t Failed a at e =
+    let w : Alone work k epoch tasks.Flush t.moved = at in
+    of_back (IsSpoken epoch k stage.Flush t) _ a (record { plain = refl; told = one _ refl (call_failed k t.id t.moved _ calls.Flush refl) (itself k) w.counted }) e
+job_tells work epoch h k stage.Flush t (Gave words) a at e = absurd (none-some a e)
+job_tells work epoch h k (stage.Trim count) t Took a at e =
+    let w : Alone work k epoch (tasks.Trim t.disk count) t.moved = at in
+    of_back (IsSpoken epoch k (stage.Trim count) t) _ a (record { plain = refl; told = one _ refl (trim_done k t.disk count t.id t.moved w.once) (itself k) w.counted }) e
+job_tells work epoch h k (stage.Trim count) t Failed a at e =
+    let w : Alone work k epoch (tasks.Trim t.disk count) t.moved = at in
+    of_back (IsSpoken epoch k (stage.Trim count) t) _ a (record { plain = refl; told = one _ refl (call_failed k t.id t.moved _ calls.Trim refl) (itself k) w.counted }) e
+job_tells work epoch h k (stage.Trim count) t (Gave words) a at e = absurd (none-some a e)
 job_tells work epoch h k (stage.Done status) t o a at e = absurd (none-some a e)
 
 -- the lines after a job's own
@@ -98,7 +114,7 @@ after_told config before k id index shown told tale (one line is l disk counted)
     let epoch : this_epoch longer ≡ this_epoch before ++ lines.Move shown ∷ [] = epoch_longer before (lines.Move shown) refl in
     let moved : count_by (is_disk_of k) (this_epoch longer) ≡ index + 1 = ap (λ (ls : List Line). count_by (is_disk_of k) ls) epoch ∙ (moves_own k (this_epoch before) [] (lines.Move shown) disk refl ∙ ap (λ (n : ℕ). n + 1) counted) in
     let rule : IsRule longer line = record { step = l.step longer; moved = l.moved longer; effect = l.effect longer (shown_last before (lines.Move shown)) asked (sym moved) } in
-    let more : Tale config (longer ++ line ∷ []) = tale_more config longer line tale l.same_epoch l.keeps l.serves (l.tells (info_of config)) rule in
+    let more : Tale config (longer ++ line ∷ []) = tale_more config longer line tale l.same_epoch l.keeps (l.tells (info_of config)) rule in
     let joined : longer ++ line ∷ [] ≡ before ++ lines.Move shown ∷ line ∷ [] = append_assoc before (lines.Move shown ∷ []) (line ∷ []) in
     subst (λ (ls : List Line). After config before (lines.Move shown ∷ ls)) (sym is)
     (record {
@@ -167,6 +183,10 @@ step_same (stage.DiskRead m) t answers.DiskFailed = record { number = refl; id =
 step_same (stage.WriteWord m k) t answers.Done = either_same t (k == 127) (next_sector t m) (record t { stage = stage.WriteWord m (k + 1) }) (sector_same t t m (record { number = refl; id = refl; op = refl })) (record { number = refl; id = refl; op = refl })
 step_same (stage.Unmap m) t answers.Done = segment_same t (rest_of t.rest)
 step_same (stage.GiveUp m) t answers.Done = record { number = refl; id = refl; op = refl }
+step_same stage.Flush t answers.Done = record { number = refl; id = refl; op = refl }
+step_same stage.Flush t answers.DiskFailed = record { number = refl; id = refl; op = refl }
+step_same (stage.Trim count) t answers.Done = record { number = refl; id = refl; op = refl }
+step_same (stage.Trim count) t answers.DiskFailed = record { number = refl; id = refl; op = refl }
 step_same s t a = record { number = refl; id = refl; op = refl }
 
 -- a job under its number
@@ -208,7 +228,7 @@ found_turn terms before x fetched k works h o a place t found is same_values are
         let tells : IsSpoken (this_epoch before) t.number t.stage t a = job_tells j.work (this_epoch before) h t.number t.stage t o a runs.at act in
         let asked : fetched_of before t.number ≡ Some (fetched_in terms x.values t.number) = fetched_is terms before x.values t.number same_values are j.first j.read in
         let rule : IsRule before (lines.Move a.shown) = own_line terms before x.values t.number a.shown j.work quiet asked plan.tasks tells.plain goes.steps in
-        let longer : Tale terms.config (before ++ lines.Move a.shown ∷ []) = tale_more terms.config before (lines.Move a.shown) tale refl (plain_keeps (lines.Move a.shown) tells.plain) (plain_serves (lines.Move a.shown) tells.plain) (plain_tells (info_of terms.config) (lines.Move a.shown) tells.plain) rule in
+        let longer : Tale terms.config (before ++ lines.Move a.shown ∷ []) = tale_more terms.config before (lines.Move a.shown) tale refl (plain_keeps (lines.Move a.shown) tells.plain) (plain_tells (info_of terms.config) (lines.Move a.shown) tells.plain) rule in
         let asked_then : fetched_of (before ++ lines.Move a.shown ∷ []) t.number ≡ Some (fetched_in terms x.values t.number) = fetched_still before (lines.Move a.shown) t.number refl (untouched_word before (lines.Move a.shown) (other_touch (lines.Move a.shown) other)) ∙ asked in
         let same : IsSame t (step_at t.stage t a.answer) = step_same t.stage t a.answer in
         let aside : (n : ℕ) → n ≢ t.number → IsAside n (lines.Move a.shown ∷ told_at t.stage t a.answer) = λ n apart. told_aside (this_epoch before) n t.number t.id t.moved a.shown (told_at t.stage t a.answer) (mover_aside j.work t.number n (this_epoch before) a.shown apart goes.steps) tells.told in

@@ -22,6 +22,7 @@ pub mod Mapping
 pub mod JobSteps
 pub mod JobWords
 pub mod JobDisk
+pub mod JobCall
 pub mod JobStages
 pub mod Began
 pub mod Due
@@ -39,6 +40,7 @@ pub mod Tells
 pub mod BackTells
 pub mod JobTells
 pub mod After
+pub mod Publishes
 pub mod JobRuns
 pub mod Makers
 pub mod Standings

@@ -93,6 +93,8 @@ effect_open id index answers.DiskFailed before = record { unmap = tt; touch = tt
 back_open : (t : Option BackTold) (a : BackAnswer) → AllByRecursion IsOpen (back_lines t a)
 back_open None a = tt
 back_open (Some (back_told.Effect id index)) a = (effect_open id index a, tt)
+back_open (Some (back_told.Flushed id)) a = (λ before. record { unmap = tt; touch = tt }, tt)
+back_open (Some (back_told.Trimmed id)) a = (λ before. record { unmap = tt; touch = tt }, tt)
 back_open (Some (back_told.Fault id index)) a = (λ before. record { unmap = tt; touch = tt }, tt)
 back_open (Some (back_told.Reply id status)) a = (λ before. record { unmap = tt; touch = tt }, tt)
 

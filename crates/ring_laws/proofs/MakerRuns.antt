@@ -20,7 +20,7 @@ use Rattle.ring_laws.specs.Unmaps.{AreUnmaps}
 use Rattle.ring_laws.specs.Own.{AreOwn}
 use Rattle.report_rules.proofs.Obeys.{obeys_none, obeys_more}
 use Rattle.back_jobs.specs.Task.{Work}
-use Rattle.back_jobs.specs.Jobs.{ask_job, place_of, work_of, mapping_at}
+use Rattle.back_jobs.specs.Jobs.{ask_job, place_of, work_of, waits, mapping_at}
 use Rattle.back_jobs.proofs.Hands.{IsAmong, place_among}
 use Rattle.blk_front.specs.Ask as front_ask
 use Rattle.blk_front.specs.Step as front_step
@@ -94,7 +94,7 @@ job_made config w before k o (Some a) e old s m =
     let stands : AllByRecursion (HandStands (before ++ job_shows w k (Some a))) n.back.jobs.works = all_by_place (HandStands (before ++ job_shows w k (Some a))) n.back.jobs.works
     (λ i t found x is. in_hand (before ++ job_shows w k (Some a)) n.under.grants n.back i t x s.standing s.safe.held found is) in
     let jobs : AreJobs (terms_of config v) (entry_values before) (this_epoch before) v.fetched v.jobs.works = old.tells.jobs running in
-    let turned : Turned before (job_shows w k (Some a)) n.back.jobs.works = job_turned before w.under v.jobs.works k o a (place_of v.jobs.works k) (work_of v.jobs.works k) refl refl asks m.obeys jobs.apart (m.hands running) stands in
+    let turned : Turned before (job_shows w k (Some a)) n.back.jobs.works = job_turned before w.under v.jobs.works k o a (place_of v.jobs.works k) (waits v.jobs.works k) (work_of v.jobs.works k) refl refl asks m.obeys jobs.apart (m.hands running) stands in
     record { obeys = turned.obeys; hands = λ runs. turned.hands }
 
 -- a back that halts holds nothing that a job made
@@ -119,7 +119,7 @@ made_happens config w (Negotiates at move) before s t m = made_aside before (lin
 made_happens config w (FrontEnters state) before s t m = made_aside before (lines_at w (FrontEnters state)) w.back (outsiders_calm w.back.stage _ (state_outsiders w.back.stage state w.front)) m
 made_happens config w (BackAttaches shape grefs port) before s t m =
     attach_cases (λ (new : back.View) (shown : List Line). Made (before ++ shown) new) w shape grefs port
-    (λ may layout. let now : Made (before ++ lines.Move (layout_read w) ∷ []) w.back = made_aside before (lines.Move (layout_read w) ∷ []) w.back (key_calm who.Back (layout_read w) refl, tt) m in record { obeys = now.obeys; hands = now.hands }) (no_lines before w.back m)
+    (λ may layout says. let now : Made (before ++ lines.Move (layout_read w) ∷ []) w.back = made_aside before (lines.Move (layout_read w) ∷ []) w.back (key_calm who.Back (layout_read w) refl, tt) m in record { obeys = now.obeys; hands = now.hands }) (no_lines before w.back m)
 made_happens config w (BackHalts why) before s t m = halted_made config w before why s m
 made_happens config w (Submits job) before s t m = made_aside before (lines_at w (Submits job)) w.back (submit_calm job (front_submit.submit_of w.front job).0, tt) m
 made_happens config w (Notifies at) before s t m = no_lines before w.back m

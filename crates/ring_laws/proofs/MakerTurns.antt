@@ -1,5 +1,5 @@
 -- What each job has in its hand it made itself, it stands, and nothing else of the job's does: so a job unmaps only what is its own.
-use Rattle.std.proofs.Common.{◌≡◌, ◌≢◌, ◌<◌, ◌≤◌, ℕ, zero, suc, ◌+◌, ◌%◌, ◌^◌, ◌==◌, ◌||◌, Bool, true, false, if◌then◌else◌, List, [], ◌∷◌, ◌++◌, remove, refl, ap, sym, ◌∙◌, subst, append_assoc, arith}
+use Rattle.std.proofs.Common.{◌≡◌, ◌≢◌, ◌<◌, ◌≤◌, ℕ, zero, suc, ◌+◌, ◌%◌, ◌^◌, ◌==◌, ◌||◌, not, Bool, true, false, if◌then◌else◌, List, [], ◌∷◌, ◌++◌, remove, refl, ap, sym, ◌∙◌, subst, append_assoc, arith}
 use Rattle.std.specs.Prelude.{Option, Some, None, is_some, IsSomeAnd, slice_get, nat_le, take}
 use Rattle.std.specs.List.{AllByRecursion, list_any}
 use Rattle.std.proofs.lemmas.Option.{none-some}
@@ -24,7 +24,7 @@ use Rattle.report_rules.specs.Made.{left_to}
 use Rattle.report_rules.proofs.Obeys.{obeys_more}
 use Rattle.back_jobs.specs.declared.stage.Stage.{Stage}
 use Rattle.back_jobs.specs.declared.stage.Stage.TheVariants as stage
-use Rattle.back_jobs.specs.Task.{Work, step_of, begun, moving, ended}
+use Rattle.back_jobs.specs.Task.{Work, step_of, begun, moving, ended, frameless}
 use Rattle.back_jobs.specs.Jobs.{place_of, work_at, asked, told_at as told_works, effect_at, mapping_at, removed_at}
 use Rattle.back_jobs.proofs.Hands.{IsAmong, place_among}
 use Rattle.blk_back.specs.View.{View}
@@ -65,7 +65,10 @@ either_empty true x y p q = p
 either_empty false x y p q = q
 
 begun_empty : (n : ℕ) (request : RawRequest) (size : ℕ) (v : Verdict) → (let t : Work = begun n request size v in mapping_at t.stage) ≡ None
-begun_empty n (Direct op count device id sector segments) size (verdict.Serve plan) = either_empty (nat_le op 1) (moving n (Direct op count device id sector segments) size (op == 1) sector (take count segments)) (ended n (Direct op count device id sector segments) size (stage.Done Error)) refl refl
+begun_empty n (Direct op count device id sector segments) size (verdict.Serve plan) =
+    let request : RawRequest = Direct op count device id sector segments in
+    let other = either_empty (op == 3) (frameless n request size sector stage.Flush) (ended n request size (stage.Done Error)) refl refl in
+    either_empty (nat_le op 2) (moving n request size (not (op == 0)) sector (take count segments)) _ refl other
 begun_empty n (Discard flag device id sector count) size (verdict.Serve plan) = refl
 begun_empty n (Indirect op count device id sector pages) size (verdict.Serve plan) = refl
 begun_empty n request size (verdict.Error why) = refl
@@ -152,11 +155,12 @@ pub record Turned (before ys : List Line) (works : List Work) : Type 0 where
   pub obeys : Obeys IsMine (before ++ ys)
   pub hands : AllByRecursion (IsMadeBy (this_epoch (before ++ ys))) works
 
-pub job_turned : (before : List Line) (h : Hypervisor) (works : List Work) (k : ℕ) (o : Outcome) (a : BackAct) (place : Option ℕ) (found : Option Work) → place_of works k ≡ place → work_at works place ≡ found → back_act h (mover.Job k) (asked found) o ≡ Some a
+pub job_turned : (before : List Line) (h : Hypervisor) (works : List Work) (k : ℕ) (o : Outcome) (a : BackAct) (place : Option ℕ) (waits : Bool) (found : Option Work) → place_of works k ≡ place → work_at works place ≡ found → back_act h (mover.Job k) (asked waits found) o ≡ Some a
     → Obeys IsMine before → AreApart (numbers works) → AllByRecursion (IsMadeBy (this_epoch before)) works → AllByRecursion (HandStands (before ++ lines_of_job found a)) (told_works works place found a.answer) → Turned before (lines_of_job found a) (told_works works place found a.answer)
-job_turned before h works k o a place None at is e obeys apart all stands = absurd (none-some a e)
-job_turned before h works k o a None (Some t) at is e obeys apart all stands = absurd (none-some t is)
-job_turned before h works k o a (Some place) (Some t) at is e obeys apart all stands =
+job_turned before h works k o a place waits None at is e obeys apart all stands = absurd (none-some a e)
+job_turned before h works k o a place true (Some t) at is e obeys apart all stands = absurd (none-some a e)
+job_turned before h works k o a None false (Some t) at is e obeys apart all stands = absurd (none-some t is)
+job_turned before h works k o a (Some place) false (Some t) at is e obeys apart all stands =
     let ys : List Line = lines_of_job (Some t) a in
     let among : IsAmong works place t = place_among works place t is in
     let number : t.number ≡ k = found_number works k place t at is in

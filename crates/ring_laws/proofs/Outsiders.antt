@@ -27,7 +27,7 @@ use Rattle.blk_back.specs.declared.stage.Stage.{Stage}
 use Rattle.blk_back.specs.declared.stage.Stage.TheVariants as stage
 use Rattle.blk_back.specs.Ask.{is_led}
 use Rattle.blk_back.specs.View.{View}
-use Rattle.split_model.specs.Keys.{KeyMove, Gets, mover_at, reads_layout, may_set, may_negotiate, is_between, key_lines, negotiated_lines}
+use Rattle.split_model.specs.Keys.{KeyMove, Gets, mover_at, is_early, may_set, may_negotiate, is_between, key_lines, negotiated_lines}
 use Rattle.split_model.specs.Happening.{poke_lines, ring_lines, enter_lines}
 use Rattle.split_model.proofs.SafeActs.{IsKeyMove}
 use Rattle.split_model.proofs.Keys.{key_cases, negotiated_cases}
@@ -40,7 +40,7 @@ use Rattle.ring_laws.proofs.ObeysRing.{IsWhole, is_overrun, unnamed_first, own_s
 use Rattle.ring_laws.proofs.Knows.{Waits, KnowsAt, Follows, whole_words}
 use Rattle.ring_laws.proofs.Free.{follow_named}
 use Rattle.ring_laws.proofs.Lists.{all_more}
-use Rattle.ring_laws.proofs.Bystanders.{IsBystander, AreBystanders, is_plain, offers_none}
+use Rattle.ring_laws.proofs.Bystanders.{IsBystander, AreBystanders, is_plain, offers_no_grants}
 use Rattle.ring_laws.proofs.Fetched.{AreOther}
 use Rattle.ring_laws.proofs.Makers.{IsOpen}
 use Rattle.ring_laws.proofs.MakerLines.{IsCalm, AreCalm, key_calm}
@@ -103,10 +103,10 @@ pub get_key : (s : Stage) (at : End) (path : List ℕ) (text : Option (List ℕ)
 get_key s end.Front path text foreign unnamed = key_outsider s end.Front (moves.GetKey mover.Front path text) refl foreign unnamed refl
 get_key s end.Back path text foreign unnamed = key_outsider s end.Back (moves.GetKey mover.Back path text) refl foreign unnamed refl
 
--- what is set offers nothing
+-- what is set offers no persistent grants
 set_key : (s : Stage) (at : End) (path text : List ℕ) → (is_between s ≡ false → is_mover_back (mover_at at) ≡ false) → may_set at path text ≡ true → IsOutsider s (lines.Move (moves.SetKey (mover_at at) path text))
 set_key s end.Front path text foreign may = key_outsider s end.Front (moves.SetKey mover.Front path text) refl foreign (λ led. refl) refl
-set_key s end.Back path text foreign may = key_outsider s end.Back (moves.SetKey mover.Back path text) refl foreign (λ led. refl) (last (is_own_path end.Back path) (offers_none path text) may)
+set_key s end.Back path text foreign may = key_outsider s end.Back (moves.SetKey mover.Back path text) refl foreign (λ led. refl) (last (is_own_path end.Back path) (offers_no_grants path text) may)
   where
     last : (a b : Bool) → (a && b) ≡ true → b ≡ true
     last true b e = e
@@ -121,6 +121,13 @@ end_outsiders s at move d foreign unnamed =
     (λ path same. (key_outsider s at (moves.Watch (mover_at at) path) refl foreign (λ led. refl) refl, tt))
     (λ path first. (key_outsider s at (moves.Watched (mover_at at) path) refl foreign (λ led. refl) refl, tt)) tt
 
+-- a move that the back makes only while it waits for the terms of its front
+pub not_early : (between early led : Bool) → (between && (not early || led)) ≡ true → led ≡ false → early ≡ false
+not_early true true true e none = absurd (cc)
+not_early true true false e none = absurd (cc)
+not_early true false led e none = refl
+not_early false early led e none = absurd (cc)
+
 -- those of the back come only where they may
 pub keys_outsiders : (s : Stage) (at : End) (move : KeyMove) (d : Directory) → AreOutsiders s (negotiated_lines s at move d)
 keys_outsiders s end.Front move d = end_outsiders s end.Front move d (λ own. refl) (λ path text same led. refl)
@@ -130,16 +137,10 @@ keys_outsiders s end.Back move d = negotiated_cases (λ keys shown. AreOutsiders
     between true b e = refl
     between false b e = e
 
-    unread : (a reads led : Bool) → (a && (not reads || led)) ≡ true → led ≡ false → reads ≡ false
-    unread true true true e none = absurd (cc)
-    unread true true false e none = absurd (cc)
-    unread true false led e none = refl
-    unread false reads led e none = absurd (cc)
-
     does : may_negotiate s end.Back move ≡ true → AreOutsiders s (key_lines end.Back move d)
     does may =
-        end_outsiders s end.Back move d (λ own. let is : is_between s ≡ true = between (is_between s) (not (reads_layout move) || is_led s) may in absurd (cc))
-        (λ path text same led. ap reads_layout (sym same) ∙ unread (is_between s) (reads_layout move) (is_led s) may led)
+        end_outsiders s end.Back move d (λ own. let is : is_between s ≡ true = between (is_between s) (not (is_early move) || is_led s) may in absurd (cc))
+        (λ path text same led. ap is_early (sym same) ∙ not_early (is_between s) (is_early move) (is_led s) may led)
 
 pub state_outsiders : (s : Stage) (state : FrontState) (v : front.View) → AreOutsiders s (enter_lines state v)
 state_outsiders s state v =

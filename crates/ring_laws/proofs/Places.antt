@@ -59,6 +59,14 @@ pub record Within (work : List Task) (k : ℕ) (epoch : List Line) (rest : List 
   pub counted : count_by (is_disk_of k) epoch ≡ moved
   pub whole : failed_in k epoch ≡ false
 
+-- the whole work is this one task of one step, which is still to come
+pub record Alone (work : List Task) (k : ℕ) (epoch : List Line) (task : Task) (moved : ℕ) : Type 0 where
+  pub is : work ≡ task ∷ []
+  pub came : walk_of false work k epoch ≡ Some (spot 0 0 false None)
+  pub once : moved ≡ 0
+  pub counted : count_by (is_disk_of k) epoch ≡ moved
+  pub whole : failed_in k epoch ≡ false
+
 -- the status with which the work ends by these lines, if it ends; `served` is that of work done in full
 abbrev pub ending : List Task → ℕ → List Line → Status → Option Status
 ending work k epoch served = end_of (failed_in k epoch) (length work) served (walk_of false work k epoch)
@@ -71,6 +79,8 @@ IsAt work k epoch (stage.DiskRead m) t = Within work k epoch t.rest t.within t.d
 IsAt work k epoch (stage.WriteWord m j) t = Within work k epoch t.rest t.within t.disk t.moved t.writes (1 + j) 0 m × (j < 128) × (t.writes ≡ false) × (words_from None k epoch ≡ Some t.words)
 IsAt work k epoch (stage.Unmap m) t = Before work k epoch (rest_of t.rest) t.disk t.moved t.writes
 IsAt work k epoch (stage.GiveUp m) t = failed_in k epoch ≡ true
+IsAt work k epoch stage.Flush t = Alone work k epoch tasks.Flush t.moved
+IsAt work k epoch (stage.Trim count) t = Alone work k epoch (tasks.Trim t.disk count) t.moved
 IsAt work k epoch (stage.Done status) t = ending work k epoch Okay ≡ Some status
 
 -- others' lines leave it as it ended
@@ -93,6 +103,13 @@ all_done work k epoch disk moved writes b =
 
     enough : (n : ℕ) → nat_le n n ≡ true
     enough n = grind (arith, nat_tests)
+
+-- the one task is done
+pub one_done : (work : List Task) (k : ℕ) (epoch : List Line) (task : Task) → work ≡ task ∷ [] → failed_in k epoch ≡ false → walk_of false work k epoch ≡ Some (spot 1 0 false None) → ending work k epoch Okay ≡ Some Okay
+one_done work k epoch task is whole came =
+    ap (λ (failed : Bool). end_of failed (length work) Okay (walk_of false work k epoch)) whole
+    ∙ (ap (λ (s : Option Spot). end_of false (length work) Okay s) came
+    ∙ ap (λ (l : List Task). if nat_le (length l) 1 then Some Okay else None) is)
 
 -- a map was refused
 pub refused_end : (work : List Task) (k : ℕ) (epoch : List Line) (done place : ℕ) (mapping : Option ℕ) → failed_in k epoch ≡ false → walk_of false work k epoch ≡ Some (spot done place true mapping) → ending work k epoch Okay ≡ Some Error

@@ -13,7 +13,7 @@ use Rattle.hypervisor.specs.Act.{FrontAct, BackAct, Outcome, Took, back_act}
 use Rattle.report_rules.specs.Job.{entry_values}
 use Rattle.report_rules.specs.Standing.{is_epoch, this_epoch}
 use Rattle.report_rules.specs.Reply.{AreReplies}
-use Rattle.back_jobs.specs.Jobs.{ask_job, asked, place_of, work_of, work_at, told_at as told_works}
+use Rattle.back_jobs.specs.Jobs.{ask_job, asked, place_of, work_of, waits, work_at, told_at as told_works}
 use Rattle.back_jobs.specs.Task.{Work, step_of}
 use Rattle.ring_words.specs.Shape.{Shape}
 use Rattle.blk_base.specs.declared.parts.End.TheVariants as end
@@ -34,7 +34,7 @@ use Rattle.split_model.specs.World.{World, start_of}
 use Rattle.split_model.specs.Happening.{Happening, FrontMoves, BackMoves, JobMoves, Negotiates, FrontEnters, BackAttaches, BackHalts, Submits, Notifies, Pokes, Dumps, Looks, Settles, poke_lines, layout_text, layout_read, happens, lines_at, after, front_after, front_shows, back_after, back_shows, job_after, job_shows, front_turn, back_turn, job_turn}
 use Rattle.split_model.specs.Shown.{halt_lines}
 use Rattle.split_model.specs.Report.{report_of, ended_report_of}
-use Rattle.split_model.proofs.Attaching.{attach_cases}
+use Rattle.split_model.proofs.Attaching.{SaysServed, attach_cases}
 use Rattle.split_model.proofs.Shapes.{back_shape, attaches_waiting}
 use Rattle.split_model.proofs.SafeAnswers.{backs_of, jobs_of, fronts_no_key}
 use Rattle.back_jobs.specs.Jobs.{mapping_at}
@@ -196,12 +196,13 @@ back_replies config w before o (Some a) e s stand made r =
     }
 
 -- a job moved: those that were answered are others
-moved_owes : (config : Options) (before : List Line) (h : Hypervisor) (v : back.View) (k : ℕ) (o : Outcome) (a : BackAct) (place : Option ℕ) (found : Option Work) (owed : List Answered) → place_of v.jobs.works k ≡ place → work_at v.jobs.works place ≡ found → back_act h (mover.Job k) (asked found) o ≡ Some a
+moved_owes : (config : Options) (before : List Line) (h : Hypervisor) (v : back.View) (k : ℕ) (o : Outcome) (a : BackAct) (place : Option ℕ) (waits : Bool) (found : Option Work) (owed : List Answered) → place_of v.jobs.works k ≡ place → work_at v.jobs.works place ≡ found → back_act h (mover.Job k) (asked waits found) o ≡ Some a
     → entry_values (before ++ lines_of_job found a) ≡ entry_values before → JobTells config before (lines_of_job found a) v k (told_works v.jobs.works place found a.answer) → Owes (terms_of config v) (entry_values before) (this_epoch before) v.fetched v.jobs.works owed
     → Owes (terms_of config v) (entry_values (before ++ lines_of_job found a)) (this_epoch (before ++ lines_of_job found a)) v.fetched (told_works v.jobs.works place found a.answer) owed
-moved_owes config before h v k o a place None owed at is e same told owes = absurd (none-some a e)
-moved_owes config before h v k o a None (Some t) owed at is e same told owes = absurd (none-some t is)
-moved_owes config before h v k o a (Some place) (Some t) owed at is e same told owes =
+moved_owes config before h v k o a place waits None owed at is e same told owes = absurd (none-some a e)
+moved_owes config before h v k o a place true (Some t) owed at is e same told owes = absurd (none-some a e)
+moved_owes config before h v k o a None false (Some t) owed at is e same told owes = absurd (none-some t is)
+moved_owes config before h v k o a (Some place) false (Some t) owed at is e same told owes =
     let behind : After config before (lines_of_job (Some t) a) = told.after in
     let number : t.number ≡ k = found_number v.jobs.works k place t at is in
     let kept : IsSame t (step_of t a.answer) = step_same t.stage t a.answer in
@@ -220,7 +221,7 @@ job_replies config w before k o (Some a) e s r =
     let running : is_some v.halted ≡ false = job_running (is_some w.back.halted) w.under k (ask_job w.back.jobs k) o a e in
     let asks = ap (λ (b : Bool). back_act w.under (mover.Job k) (if b then ask.Wait else ask_job w.back.jobs k) o) (sym running) ∙ e in
     let free : AreFree (is_some w.back.halted) (job_shows w k (Some a)) = (job_free (is_some w.back.halted) w.under k (back_step.job_ask_of w.back k) o a running (jobs_of w.back k) e, free_told (is_some w.back.halted) _ a.answer running) in
-    let told : JobTells config before (job_shows w k (Some a)) w.back k _ = job_tells config config.start before w.under w.back k o a (place_of w.back.jobs.works k) (work_of w.back.jobs.works k) refl refl running f s.fetched free s.tells asks in
+    let told : JobTells config before (job_shows w k (Some a)) w.back k _ = job_tells config config.start before w.under w.back k o a (place_of w.back.jobs.works k) (waits w.back.jobs.works k) (work_of w.back.jobs.works k) refl refl running f s.fetched free s.tells asks in
     let same : entry_values (before ++ job_shows w k (Some a)) ≡ entry_values before = same_values (is_some w.back.halted) before (job_shows w k (Some a)) f.sight free f.shows in
     let elses : AreElse (job_shows w k (Some a)) = job_else w.under k (back_step.job_ask_of w.back k) o a _ (jobs_of w.back k) e in
     let behind : After config before (job_shows w k (Some a)) = told.after in
@@ -229,7 +230,7 @@ job_replies config w before k o (Some a) e s r =
       answered = r.answered;
       job = r.job;
       writes = other_writes before (job_shows w k (Some a)) v.stage r.answered elses r.writes;
-      owes = λ runs. moved_owes config before w.under w.back k o a (place_of w.back.jobs.works k) (work_of w.back.jobs.works k) (r.answered ++ pending_at v.stage r.job) refl refl asks same told (r.owes running);
+      owes = λ runs. moved_owes config before w.under w.back k o a (place_of w.back.jobs.works k) (waits w.back.jobs.works k) (work_of w.back.jobs.works k) (r.answered ++ pending_at v.stage r.job) refl refl asks same told (r.owes running);
       chosen = chosen_aside false before (job_shows w k (Some a)) v.stage r.answered elses (record { epoch = behind.epoch; same = free_epochs (is_some w.back.halted) (job_shows w k (Some a)) free }) (move_idle before a.shown _ a.answer behind_tale.obeys) r.chosen;
     }
 
@@ -277,8 +278,8 @@ attached_replies : (config : Options) (w : World) (before : List Line) (shape : 
     → (let n : World = happens w (BackAttaches shape grefs port) in Replies config (before ++ lines_at w (BackAttaches shape grefs port)) n.back)
 attached_replies config w before shape grefs port s r = attach_cases (λ (new : back.View) (shown : List Line). Replies config (before ++ shown) new) w shape grefs port takes (no_lines config before w.back r)
   where
-    takes : may_attach shape grefs w.back ≡ true → is_layout shape.abi (layout_text w) ≡ true → Replies config (before ++ lines.Move (layout_read w) ∷ []) (attached shape grefs port w.back)
-    takes may layout =
+    takes : may_attach shape grefs w.back ≡ true → is_layout shape.abi (layout_text w) ≡ true → SaysServed w → Replies config (before ++ lines.Move (layout_read w) ∷ []) (attached shape grefs port w.back)
+    takes may layout says =
         let waits : w.back.stage ≡ stage.InitWait = attaches_waiting shape grefs w.back may in
         let same = values_aside (lines.Move (layout_read w) ∷ []) before (refl, tt) in
         let told : Replies config (before ++ lines.Move (layout_read w) ∷ []) w.back = outside_replies config w before (lines.Move (layout_read w) ∷ []) (layout_outsider w waits, tt) s r in

@@ -39,7 +39,7 @@ use Rattle.split_model.specs.Shown.{halt_lines, halt_line}
 use Rattle.split_model.specs.Report.{report_of, ended_report_of}
 use Rattle.split_model.specs.Safe.{IsSafe}
 use Rattle.split_model.proofs.Safe.{safe_start, safe_happens}
-use Rattle.split_model.proofs.Attaching.{attach_cases}
+use Rattle.split_model.proofs.Attaching.{SaysServed, attach_cases}
 use Rattle.split_model.proofs.Shapes.{attaches_waiting, attaches_order, attaches_grefs}
 use Rattle.ring_laws.specs.Layout.{IsNamedFirst}
 use Rattle.ring_laws.proofs.ObeysRing.{IsWhole, ring_none, ring_more, foreign_stretch, none_whole, own_stretch}
@@ -134,8 +134,8 @@ attached_follows start w before shape grefs port f =
     x : Sight
     x = f.follows.sight
 
-    takes : may_attach shape grefs w.back ≡ true → is_layout shape.abi (layout_text w) ≡ true → FollowsTo start (before ++ lines.Move (layout_read w) ∷ []) (record { front = w.front; back = attached shape grefs port w.back; under = w.under })
-    takes may layout =
+    takes : may_attach shape grefs w.back ≡ true → is_layout shape.abi (layout_text w) ≡ true → SaysServed w → FollowsTo start (before ++ lines.Move (layout_read w) ∷ []) (record { front = w.front; back = attached shape grefs port w.back; under = w.under })
+    takes may layout says =
         let n : Untold x w.back.ring w.back.pages w.back.seen w.back.halted w.back.fetched = waited start w before shape grefs f may in
         let waits : Waits x w.back.ring w.back.seen w.back.halted w.back.fetched = n.waits in
         let line : Line = lines.Move (layout_read w) in

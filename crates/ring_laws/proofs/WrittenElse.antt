@@ -13,6 +13,7 @@ use Rattle.schedule_text.specs.declared.line.Line.{Line}
 use Rattle.schedule_text.specs.declared.line.Line.TheVariants as lines
 use Rattle.report_rules.specs.Reply.{is_reply}
 use Rattle.back_jobs.specs.declared.effect.Effect.{Effect}
+use Rattle.back_jobs.specs.declared.effect.Effect.TheVariants as effect
 use Rattle.blk_front.specs.declared.told.Told.{Told}
 use Rattle.blk_front.specs.declared.told.Told.TheVariants as front_told
 use Rattle.blk_front.specs.declared.told.Refusal.{Refusal}
@@ -56,15 +57,14 @@ effect_else id index a f = free_else false (lines.Effect id index) f refl
 
 effects_else : (e : Option Effect) (a : BackAnswer) → AreElse (back_lines (told_effect e) a)
 effects_else None a = tt
-effects_else (Some e) a = by_failed e.failed
-  where
-    by_failed : (failed : Bool) → AreElse (back_lines (Some (if failed then back_told.Fault e.id e.index else back_told.Effect e.id e.index)) a)
-    by_failed true = (free_else false (lines.Fault e.id e.index) (free_told false (Some (back_told.Fault e.id e.index)) a refl).0 refl, tt)
-    by_failed false = (effect_else e.id e.index a (free_told false (Some (back_told.Effect e.id e.index)) a refl).0, tt)
+effects_else (Some (effect.Moved id index)) a = (effect_else id index a (free_told false (Some (back_told.Effect id index)) a refl).0, tt)
+effects_else (Some (effect.Flushed id)) a = (free_else false (lines.Flushed id) (free_told false (Some (back_told.Flushed id)) a refl).0 refl, tt)
+effects_else (Some (effect.Trimmed id)) a = (free_else false (lines.Trimmed id) (free_told false (Some (back_told.Trimmed id)) a refl).0 refl, tt)
+effects_else (Some (effect.Failed id index)) a = (free_else false (lines.Fault id index) (free_told false (Some (back_told.Fault id index)) a refl).0 refl, tt)
 
 -- what a job does and tells
 pub job_else : (h : Hypervisor) (k : ℕ) (ask : BackAsk) (o : Outcome) (a : BackAct) (e : Option Effect) → IsJobs ask → back_act h (back.Job k) ask o ≡ Some a → AreElse (lines.Move a.shown ∷ back_lines (told_effect e) a.answer)
-job_else h k ask o a effect own e = (free_else false (lines.Move a.shown) (job_free false h k ask o a refl own e) refl, effects_else effect a.answer)
+job_else h k ask o a effected own e = (free_else false (lines.Move a.shown) (job_free false h k ask o a refl own e) refl, effects_else effected a.answer)
 
 pub submit_else : (job : Job) (r : Result ℕ Refusal) → AreElse (submit_line job r ∷ [])
 submit_else job (Ok number) = (free_else false (submit_line job (Ok number)) (free_submit false job (Ok number)) refl, tt)

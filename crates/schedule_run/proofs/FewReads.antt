@@ -36,6 +36,7 @@ use Rattle.split_model.proofs.States.{enters_cases}
 use Rattle.blk_base.specs.declared.parts.End.TheVariants as end
 use Rattle.blk_front.specs.declared.state.FrontState.{FrontState}
 use Rattle.blk_front.specs.declared.state.FrontState.TheVariants as state
+use Rattle.blk_front.specs.declared.state.Offers.{Offers}
 use Rattle.xenbus_state.specs.declared.front.FrontNews.{FrontNews}
 use Rattle.xenbus_state.specs.declared.table.BackHalt.{BackHalt}
 use Rattle.xenbus_state.specs.declared.back.BackBusAsk.{BackBusAsk}
@@ -82,6 +83,8 @@ front_few (Some (front_told.Broken word)) = omega arith
 back_few : (told : Option BackTold) (answer : BackAnswer) → length (back_lines told answer) ≤ 1
 back_few None answer = omega arith
 back_few (Some (back_told.Effect id index)) answer = omega arith
+back_few (Some (back_told.Flushed id)) answer = omega arith
+back_few (Some (back_told.Trimmed id)) answer = omega arith
 back_few (Some (back_told.Fault id index)) answer = omega arith
 back_few (Some (back_told.Reply id status)) answer = omega arith
 
@@ -118,7 +121,7 @@ key_few stage at move d =
 
 state_few : (s : FrontState) → length (state_lines s) ≤ 3
 state_few (state.Agreed order) = omega arith
-state_few state.Connected = omega arith
+state_few (state.Connected offers) = omega arith
 state_few state.Closing = omega arith
 state_few state.Leaving = omega arith
 state_few state.Closed = omega arith
@@ -173,6 +176,8 @@ told_reads : (told : Option BackTold) (answer : BackAnswer) → reads_of (back_l
 told_reads None answer = refl
 told_reads (Some (back_told.Effect id index)) (back_answer.Sector words) = refl
 told_reads (Some (back_told.Effect id index)) answer = refl
+told_reads (Some (back_told.Flushed id)) answer = refl
+told_reads (Some (back_told.Trimmed id)) answer = refl
 told_reads (Some (back_told.Fault id index)) answer = refl
 told_reads (Some (back_told.Reply id status)) answer = refl
 
@@ -250,16 +255,16 @@ entered_few : (w : World) (act : Option FrontAct) → length (entered_at w act) 
 entered_few w None = omega arith
 entered_few w (Some a) =
     let f : frontend.View = frontend_of w in
-    by_both (frontend_step.news_of f a.answer) (bus_asks.ask_of (frontend_step.bus_after f a.answer) (frontend.is_unoccupied f.ring)) (ring_order (frontend_step.bus_after f a.answer))
+    by_both (frontend_step.offers_of (frontend_step.bus_after f a.answer)) (frontend_step.news_of f a.answer) (bus_asks.ask_of (frontend_step.bus_after f a.answer) (frontend.is_unoccupied f.ring)) (ring_order (frontend_step.bus_after f a.answer))
   where
     due_few : (ask : FrontBusAsk) (order : ℕ) → length (frontend_step.states_due ask order) ≤ 1
     due_few (front_ask.WriteRingWord word) order = omega arith
     due_few (front_ask.EndGrant page) order = omega arith
     due_few ask order = omega arith
 
-    by_both : (news : Option FrontNews) (ask : FrontBusAsk) (order : ℕ) → length (frontend_step.states_entered news ask order) ≤ 2
-    by_both None ask order = let few = due_few ask order in omega arith
-    by_both (Some n) ask order = let few = due_few ask order in omega arith
+    by_both : (offers : Offers) (news : Option FrontNews) (ask : FrontBusAsk) (order : ℕ) → length (frontend_step.states_entered offers news ask order) ≤ 2
+    by_both offers None ask order = let few = due_few ask order in omega arith
+    by_both offers (Some n) ask order = let few = due_few ask order in omega arith
 
 enters_short : (speaks : Bool) (w : World) → IsShort (front_enters speaks w)
 enters_short true w =

@@ -77,7 +77,11 @@ carried_short (events.Submit (jobs.Read s c)) h e =
     omega (arith, four_words (codes "submit") (codes "read") (decimal s) (decimal c), long_short s h.0, word_short c h.1.1)
 carried_short (events.Submit (jobs.Write s c t)) h e =
     omega (arith, five_words (codes "submit") (codes "write") (decimal s) (decimal c) (hex8 t), long_short s h.0, word_short c h.1.1, hex_short t)
-carried_short (events.Submit job) h e = cc
+carried_short (events.Submit (jobs.Barrier s c t)) h e =
+    omega (arith, five_words (codes "submit") (codes "barrier") (decimal s) (decimal c) (hex8 t), long_short s h.0, word_short c h.1.1, hex_short t)
+carried_short (events.Submit jobs.Flush) h e = omega arith
+carried_short (events.Submit (jobs.Discard s c)) h e =
+    omega (arith, four_words (codes "submit") (codes "discard") (decimal s) (decimal c), long_short s h.0, word_short c h.1.1)
 carried_short (events.Front n) h e = omega (arith, two_words (codes "front") (decimal n), word_short n h)
 carried_short (events.Back n) h e = omega (arith, two_words (codes "back") (decimal n), word_short n h)
 carried_short (events.Job k n) h e = omega (arith, three_words (codes "job") (decimal k) (decimal n), word_short k h.0, word_short n h.1)

@@ -5,13 +5,13 @@ ghost use Rattle.blk_io.specs.Disk.{HasLength, attached_of};
 ghost use Rattle.schedule_text.specs.Event.{is_number};
 ghost use Rattle.schedule_text.specs.declared.event.Event.{Event};
 ghost use Rattle.vbd_model.specs.World.{start_of};
-ghost use Rattle.vbd_model.specs.Kind.{AreOf, AreOfSoFar, Makes, MakesSoFar, is_carried, is_carried_job, are_carried};
+ghost use Rattle.vbd_model.specs.Kind.{AreOf, AreOfSoFar, Makes, MakesSoFar, is_carried, are_carried};
 ghost use Rattle.vbd_model.specs.Leads.{Goes, moment};
 ghost use Rattle.schedule_run.specs.Outcome.{Outside, HasCarried, IsServed, content_of};
 ghost use Rattle.schedule_run.specs.Lawful.{EventLeaves};
 
 use crate::split::Split;
-use blk_base::{Config, Job, OutOfMemory};
+use blk_base::{Config, OutOfMemory};
 use blk_io::SectorDisk;
 use schedule_text::{Event, RecordStop, Recorder};
 use std::alloc::Global;
@@ -133,15 +133,13 @@ pub fn can_serve(config: &Config) -> bool
 }
 
 /// Whether an event is one that the machine carries out yet, with the numbers of the grammar: a
-/// submission of a read or a write, moves of the front, of the back or of a job, rounds,
-/// settling, a look, a close of an end, a spurious event, a word that a hostile hand overwrites, and
-/// a dump.
+/// submission, moves of the front, of the back or of a job, rounds, settling, a look, a close of an
+/// end, a spurious event, a word that a hostile hand overwrites, and a dump.
 pub fn can_carry_out(event: &Event) -> bool
     ensures { result ≡ is_carried event.now }
 {
     match *event {
-        Event::Submit(Job::Read { .. } | Job::Write { .. }) => true,
-        Event::Submit(_) => false,
+        Event::Submit(_) => true,
         Event::Front(n) | Event::Back(n) | Event::Turn(n) => is_number(n),
         Event::Job { number, moves } => is_number(number) && is_number(moves),
         Event::Settle | Event::Look | Event::Notify(_) | Event::Close(_) | Event::Dump => true,

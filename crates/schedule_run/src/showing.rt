@@ -249,6 +249,8 @@ fn back_line(told: BackTold, answer: &BackAnswer) -> Line
 {
     match told {
         BackTold::Effect { id, index } => effect_line(id, index, answer),
+        BackTold::Flushed { id } => Line::Flushed { id },
+        BackTold::Trimmed { id } => Line::Trimmed { id },
         BackTold::Fault { id, index } => Line::Fault { id, index },
         BackTold::Reply { id, status } => Line::Reply { id, status },
     }

@@ -4,7 +4,7 @@ ghost use Rattle.blk_io.specs.Disk.{HasLength, attached_of};
 ghost use Rattle.image_disk.specs.Image.{image_seen};
 ghost use Rattle.schedule_text.specs.declared.line.Detail.TheVariants.{Lines};
 ghost use Rattle.schedule_text.specs.declared.event.Event.TheVariants.{Settle, Submit, Look};
-ghost use Rattle.vbd_model.specs.Kind.{are_carried, is_carried_job};
+ghost use Rattle.vbd_model.specs.Kind.{are_carried};
 ghost use Rattle.schedule_run.specs.Outcome.{outside, content_of};
 ghost use Rattle.schedule_run.specs.Lawful.{HasLawfulReport, IsLawful};
 
@@ -27,7 +27,6 @@ fn writes_a_sector<D: SectorDisk, R: Recorder>(
     recorder: &mut R,
 ) -> Result<(), RecordStop>
     requires carried { are_carried config ≡ true }
-    requires transfer { is_carried_job write ≡ true }
     requires attached { attached_of (D.seen disk.old) ≡ Some config.sectors }
     requires sectors { HasLength (content_of (outside (D.seen disk.old) (R.seen recorder.old))) config.sectors }
     ensures { OnOk result (HasLawfulReport config (Settle ∷ Submit write ∷ Settle ∷ Look ∷ [])
@@ -53,7 +52,6 @@ fn lists_a_write(
     disk: &mut MemoryDisk,
 ) -> Result<LineList, RecordStop>
     requires carried { are_carried config ≡ true }
-    requires transfer { is_carried_job write ≡ true }
     requires attached { attached_of (image_seen disk.old) ≡ Some config.sectors }
     requires sectors { length disk.old.content ≡ config.sectors }
     ensures { IfOk result (λ list. IsLawful config Lines (write ∷ []) (Some disk.old.content) (Some disk.new.content) list.lines.items) }
@@ -492,8 +490,9 @@ fn a_machine_carries_out_events_and_counts_them(rt: HostRuntime) -> Result<(), F
     let read = Job::Read { sector: 0, count };
     let discard = Job::Discard { sector: 0, count };
     assert_eq!(rt; can_carry_out(&Event::Submit(read)), true);
-    assert_eq!(rt; can_carry_out(&Event::Submit(discard)), false);
-    assert_eq!(rt; can_carry_out(&Event::Submit(Job::Flush)), false);
+    assert_eq!(rt; can_carry_out(&Event::Submit(discard)), true);
+    assert_eq!(rt; can_carry_out(&Event::Submit(Job::Flush)), true);
+    assert_eq!(rt; can_carry_out(&Event::Suspend), false);
     assert_eq!(rt; can_carry_out(&Event::Turn(1000001)), false);
     assert_eq!(rt; can_carry_out(&Event::Close(End::Back)), true);
     Ok(())
@@ -623,5 +622,72 @@ fn a_dump_shows_each_page_of_the_ring(rt: HostRuntime) -> Result<(), Fail> {
     let schedule = "settle\npoke 5 1023 9\ndump\n";
     let sink = report_shaped(alloc, Abi::X64, 2, schedule, zeros(alloc)?)?;
     assert!(rt; sink.bytes().ends_with(b"word 5 1023 00000009\nend\n"));
+    Ok(())
+}
+
+#[test]
+fn a_barrier_stands_between_jobs_that_are_moved_against_their_order(
+    rt: HostRuntime,
+) -> Result<(), Fail> {
+    let alloc = rt.alloc();
+    let schedule =
+        "settle\nsubmit write 0 1 00000001\nsubmit barrier 1 1 00000002\nsubmit write 2 1 00000003\nfront 1000\nback 1000\njob 3 1000\njob 2 1000\njob 1 1000\njob 3 1000\njob 2 1000\njob 3 1000\nback 1000\nsettle\n";
+    let sink = report(alloc, schedule, zeros(alloc)?, Detail::Lines)?;
+    assert_eq!(rt;
+        sink.bytes(),
+        b"begin 64 0 0 0 0 rw 8 lines\nready\nquiet\nsubmit 1 write 0 1 00000001\nsubmit 2 barrier 1 1 00000002\nsubmit 3 write 2 1 00000003\neffect 1 0\neffect 2 0\neffect 3 0\nreply 1 ok\nreply 2 ok\nreply 3 ok\nanswer 1 ok\nanswer 2 ok\nanswer 3 ok\nquiet\nend\n".as_slice()
+    );
+    Ok(())
+}
+
+#[test]
+fn a_discarded_sector_reads_as_zeros(rt: HostRuntime) -> Result<(), Fail> {
+    let alloc = rt.alloc();
+    let schedule =
+        "settle\nsubmit write 0 2 00000005\nsettle\nsubmit discard 0 1\nsettle\nsubmit read 0 2\nsettle\n";
+    let sink = report(alloc, schedule, zeros(alloc)?, Detail::Lines)?;
+    assert_eq!(rt;
+        sink.bytes().ends_with(
+            b"\nsubmit 2 discard 0 1\ntrimmed 2\nreply 2 ok\nanswer 2 ok\nquiet\nsubmit 3 read 0 2\neffect 3 0 fill 00000000\neffect 3 1 fill 00000006\nreply 3 ok\nanswer 3 ok\ndata 3 0 fill 00000000\ndata 3 1 fill 00000006\nquiet\nend\n"
+        ),
+        true
+    );
+    Ok(())
+}
+
+#[test]
+fn a_discard_and_a_barrier_out_of_range_are_refused_and_a_flush_is_served(
+    rt: HostRuntime,
+) -> Result<(), Fail> {
+    let alloc = rt.alloc();
+    let schedule =
+        "settle\nsubmit discard 7 2\nsubmit barrier 0 89 00000000\nsubmit flush\nsettle\n";
+    let sink = report(alloc, schedule, zeros(alloc)?, Detail::Lines)?;
+    assert_eq!(rt;
+        sink.bytes(),
+        b"begin 64 0 0 0 0 rw 8 lines\nready\nquiet\nrefuse range\nrefuse range\nsubmit 1 flush\nflushed 1\nreply 1 ok\nanswer 1 ok\nquiet\nend\n".as_slice()
+    );
+    Ok(())
+}
+
+#[test]
+fn a_flush_and_a_discard_that_the_disk_fails_are_answered_with_an_error(
+    rt: HostRuntime,
+) -> Result<(), Fail> {
+    let alloc = rt.alloc();
+    let listed = ListedCalls {
+        attaches: Vec::new(alloc),
+        reads: Vec::new(alloc),
+        writes: Vec::new(alloc),
+        flushes: [1].to_vec(alloc)?,
+        trims: [1].to_vec(alloc)?,
+    };
+    let disk = FailsAtCalls::new(zeros(alloc)?, listed);
+    let schedule = "settle\nsubmit flush\nsettle\nsubmit discard 0 8\nsettle\n";
+    let sink = report(alloc, schedule, disk, Detail::Lines)?;
+    assert_eq!(rt;
+        sink.bytes(),
+        b"begin 64 0 0 0 0 rw 8 lines\nready\nquiet\nsubmit 1 flush\nfault 1 0\nreply 1 error\nanswer 1 error\nquiet\nsubmit 2 discard 0 8\nfault 2 0\nreply 2 error\nanswer 2 error\nquiet\nend\n".as_slice()
+    );
     Ok(())
 }

@@ -76,6 +76,8 @@ one_silent l e = simp e
 back_told_silent : (t : Option BackTold) (a : BackAnswer) → echo_of (back_lines t a) ≡ []
 back_told_silent None a = refl
 back_told_silent (Some (back_told.Effect id index)) a = one_silent (effect_line id index a) (effect_silent id index a)
+back_told_silent (Some (back_told.Flushed id)) a = refl
+back_told_silent (Some (back_told.Trimmed id)) a = refl
 back_told_silent (Some (back_told.Fault id index)) a = refl
 back_told_silent (Some (back_told.Reply id status)) a = refl
 

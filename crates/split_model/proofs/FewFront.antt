@@ -28,9 +28,9 @@ use Rattle.blk_front.specs.declared.told.Refusal.{Refusal}
 use Rattle.blk_front.specs.declared.told.Refusal.TheVariants as refusal
 use Rattle.blk_front.specs.declared.told.Told.TheVariants as told
 use Rattle.blk_front.specs.Pool.{taking}
-use Rattle.blk_front.specs.Request.{is_write, has_data, words_in, frames_for}
+use Rattle.blk_front.specs.Request.{is_write, named_of, has_data, words_in, frames_for}
 use Rattle.blk_front.specs.View.{View, next_request}
-use Rattle.blk_front.specs.Step.{at, broken, ring_granted, ring_left, looked, issue_stage, data_stage, granted, loop_step, found_at, issued, taken, response_at, is_mapped, ended, revoked, sector_told, data_step, step_at, step_of}
+use Rattle.blk_front.specs.Step.{at, broken, ring_granted, ring_left, looked, begun, data_stage, granted, loop_step, found_at, issued, taken, response_at, is_mapped, ended, revoked, sector_told, data_step, step_at, step_of}
 use Rattle.blk_front.specs.State.{in_state, enters}
 use Rattle.blk_front.specs.Submit.{is_ready, ending_of, unfinished, wish_of, request_with, submit_with, submit_one, submit_of}
 use Rattle.split_model.proofs.States.{enters_cases}
@@ -76,9 +76,12 @@ looked_owed n v word otherwise h =
     (refl, λ short. short, omega arith)
     (either (word == v.ring.cons) n v otherwise (record v { seen = word; stage = stage.Loop }) h (refl, λ short. short, omega arith))
 
-issue_owed : (way : Transfer) → ending_of (issue_stage way) ≤ 0
-issue_owed transfer.Read = omega arith
-issue_owed (transfer.Write tag) = omega arith
+begun_owed : (v : View) (r : Request) (way : Transfer) → Owed 0 v (begun v r way)
+begun_owed v r transfer.Read = goes_to 0 v (stage.GrantFence 0) (omega arith)
+begun_owed v r (transfer.Write tag) = goes_to 0 v (stage.Data 1) (omega arith)
+begun_owed v r (transfer.Barrier tag) = goes_to 0 v (stage.Data 1) (omega arith)
+begun_owed v r transfer.Flush = (refl, λ short. short, omega arith)
+begun_owed v r (transfer.Discard sectors) = (refl, λ short. short, omega arith)
 
 data_stage_owed : (r : Option Request) (n : ℕ) → ending_of (data_stage r n) ≤ 0
 data_stage_owed None n = omega arith
@@ -89,7 +92,7 @@ granted_owed v None place here = stays (stage.GrantFlags place) v here
 granted_owed v (Some r) place here = either (nat_lt (place + 1) (length r.frames.items)) 0 v _ _ (refl, λ short. short, omega arith) (refl, λ short. short, omega arith)
 
 loop_owed : (v : View) (r : Option Request) (x : FrontAnswer) → v.stage ≡ stage.Loop → Owed 0 v (loop_step v r x)
-loop_owed v (Some r) x here = goes_to 0 v (issue_stage r.transfer) (issue_owed r.transfer)
+loop_owed v (Some r) x here = begun_owed v r r.transfer
 loop_owed v None (answer.Word word) here =
     either (responses_of v.ring v.seen == 0) 0 v (looked v word (record v { seen = word; stage = stage.StoreEvent })) (at (stage.ResponseHigh word) v)
     (looked_owed 0 v word (record v { seen = word; stage = stage.StoreEvent }) (refl, λ short. short, omega arith)) (goes_to 0 v (stage.ResponseHigh word) (omega arith))
@@ -184,17 +187,20 @@ found_in requests (Some place) found e = by_place (slice_get requests place) ref
     by_place None s same = absurd (none-some found same)
     by_place (Some r) s same = let whole : (place, r) ≡ found = same_Some (place, r) found same in subst (λ (f : ℕ × Request). slice_get requests f.0 ≡ Some f.1) whole s
 
+either_modest : (b : Bool) (x y : View) → IsModest x → IsModest y → IsModest (if b then x else y)
+either_modest true x y p q = p
+either_modest false x y p q = q
+
 taken_modest : (v : View) (place : ℕ) (r : Request) (status : Status) → slice_get v.requests place ≡ Some r → IsModest v → IsModest (taken v place r status)
 taken_modest v place r status here m =
     let within : place < length v.requests = slice_get_within v.requests place r here in
     let shorter = length-remove v.requests place within in
     let room = m.room in
-    record {
-      order = m.order;
-      room = omega arith;
-      short = All-append IsShort (take place v.requests) (drop (suc place) v.requests) (All-take IsShort place v.requests m.short) (All-drop IsShort (suc place) v.requests m.short);
-      ending = let same = get_or_from_slice_get v.requests place r r here in subst IsShort same (All-get_or IsShort v.requests place r within m.short);
-    }
+    let rest = All-append IsShort (take place v.requests) (drop (suc place) v.requests) (All-take IsShort place v.requests m.short) (All-drop IsShort (suc place) v.requests m.short) in
+    let one = let same = get_or_from_slice_get v.requests place r r here in subst IsShort same (All-get_or IsShort v.requests place r within m.short) in
+    either_modest (length r.frames.items == 0) _ _
+    (record { order = m.order; room = omega arith; short = rest; ending = m.ending })
+    (record { order = m.order; room = omega arith; short = rest; ending = one })
 
 response_modest : (v : View) (response : Result Response ℕ) (low : ℕ) (found : Option (ℕ × Request)) → ((f : ℕ × Request) → found ≡ Some f → slice_get v.requests f.0 ≡ Some f.1) → IsModest v → IsModest (response_at v response low found)
 response_modest v response low None is m = owed_modest 0 v (broken low v) (omega arith) (omega arith) (refl, λ short. short, omega arith) m
@@ -216,7 +222,7 @@ step_modest v x m = by_stage v.stage x refl
 -- whatever state it enters
 in_state_owed : (s : FrontState) (v : View) → Owed (ending_of v.stage) v (in_state s v)
 in_state_owed (state.Agreed order) v = (refl, λ short. short, omega arith)
-in_state_owed state.Connected v = (refl, λ short. short, omega arith)
+in_state_owed (state.Connected offers) v = (refl, λ short. short, omega arith)
 in_state_owed state.Closing v = (refl, λ short. short, omega arith)
 in_state_owed state.Leaving v = (refl, λ short. short, omega arith)
 in_state_owed state.Closed v = (refl, λ short. short, omega arith)
@@ -241,7 +247,7 @@ accepted_modest v wish (Some frames) few room m = record {
 
 wish_modest : (v : View) (wish : Option Wish) → IsModest v → IsModest (submit_one v wish).1
 wish_modest v None m = m
-wish_modest v (Some wish) m = by_tests (is_write wish.transfer && v.read_only) (nat_lt v.sectors (wish.sector + wish.count)) (nat_lt 11 (frames_for wish.count)) (nat_le (entries_of v.shape.order) (unfinished v)) refl refl
+wish_modest v (Some wish) m = by_tests (is_write wish.transfer && v.read_only) (nat_lt v.sectors (wish.sector + named_of wish.transfer wish.count)) (nat_lt 11 (frames_for wish.count)) (nat_le (entries_of v.shape.order) (unfinished v)) refl refl
   where
     frames : Option (List ℕ × List Bool)
     frames = taking (frames_for wish.count) v.pool []
@@ -261,7 +267,7 @@ wish_modest v (Some wish) m = by_tests (is_write wish.transfer && v.read_only) (
 
 pub submit_modest : (v : View) (job : Job) → IsModest v → IsModest (submit_of v job).1
 submit_modest v job m =
-    let unless_unready = if not (is_ready v.stage) then (Err refusal.NotReady, v) else submit_one v (wish_of job) in
+    let unless_unready = if not (is_ready v.stage) then (Err refusal.NotReady, v) else submit_one v (wish_of v.offers job) in
     either_submit (v.last == 4294967295) (Err refusal.Spent, v) (if v.closing then (Err refusal.Closing, v) else unless_unready) m
     (either_submit v.closing (Err refusal.Closing, v) unless_unready m
-    (either_submit (not (is_ready v.stage)) (Err refusal.NotReady, v) (submit_one v (wish_of job)) m (wish_modest v (wish_of job) m)))
+    (either_submit (not (is_ready v.stage)) (Err refusal.NotReady, v) (submit_one v (wish_of v.offers job)) m (wish_modest v (wish_of v.offers job) m)))

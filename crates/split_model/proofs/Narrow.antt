@@ -9,7 +9,7 @@ use Rattle.blk_front.specs.declared.told.Refusal.{Refusal}
 use Rattle.blk_front.specs.declared.told.Refusal.TheVariants as refusal
 use Rattle.blk_front.specs.declared.request.Wish.{Wish}
 use Rattle.blk_front.specs.Pool.{taking}
-use Rattle.blk_front.specs.Request.{is_write, frames_for}
+use Rattle.blk_front.specs.Request.{is_write, named_of, frames_for}
 use Rattle.blk_front.specs.View.{View}
 use Rattle.blk_front.specs.Submit.{is_ready, unfinished, wish_of, submit_with, submit_one, submit_of}
 use Rattle.split_model.specs.World.{World}
@@ -32,18 +32,18 @@ wish_shape v (Some wish) =
     let frames = taking (frames_for wish.count) v.pool [] in
     let unless_full = if nat_le (entries_of v.shape.order) (unfinished v) then (Err refusal.Full, v) else submit_with v wish frames in
     let unless_long = if nat_lt 11 (frames_for wish.count) then (Err refusal.Long, v) else unless_full in
-    either (is_write wish.transfer && v.read_only) (Err refusal.ReadOnly, v) (if nat_lt v.sectors (wish.sector + wish.count) then (Err refusal.Range, v) else unless_long) v.shape refl
-    (either (nat_lt v.sectors (wish.sector + wish.count)) (Err refusal.Range, v) unless_long v.shape refl
+    either (is_write wish.transfer && v.read_only) (Err refusal.ReadOnly, v) (if nat_lt v.sectors (wish.sector + named_of wish.transfer wish.count) then (Err refusal.Range, v) else unless_long) v.shape refl
+    (either (nat_lt v.sectors (wish.sector + named_of wish.transfer wish.count)) (Err refusal.Range, v) unless_long v.shape refl
     (either (nat_lt 11 (frames_for wish.count)) (Err refusal.Long, v) unless_full v.shape refl
     (either (nat_le (entries_of v.shape.order) (unfinished v)) (Err refusal.Full, v) (submit_with v wish frames) v.shape refl (with_frames v wish frames))))
 
 -- a submission leaves the shape
 pub submit_shape : (v : View) (job : Job) → (submit_of v job).1.shape ≡ v.shape
 submit_shape v job =
-    let unless_unready = if not (is_ready v.stage) then (Err refusal.NotReady, v) else submit_one v (wish_of job) in
+    let unless_unready = if not (is_ready v.stage) then (Err refusal.NotReady, v) else submit_one v (wish_of v.offers job) in
     either (v.last == 4294967295) (Err refusal.Spent, v) (if v.closing then (Err refusal.Closing, v) else unless_unready) v.shape refl
     (either v.closing (Err refusal.Closing, v) unless_unready v.shape refl
-    (either (not (is_ready v.stage)) (Err refusal.NotReady, v) (submit_one v (wish_of job)) v.shape refl (wish_shape v (wish_of job))))
+    (either (not (is_ready v.stage)) (Err refusal.NotReady, v) (submit_one v (wish_of v.offers job)) v.shape refl (wish_shape v (wish_of v.offers job))))
 
 abbrev IsNarrower : World → World → Type 0
 IsNarrower w v = v.front.shape.order ≤ w.front.shape.order

@@ -1,6 +1,7 @@
 -- What is true of the machine at every moment stays true, and then each ask may be carried out.
 use Rattle.std.proofs.Common.{◌≡◌, ℕ, ◌+◌, ◌<◌, ◌≤◌, ◌^◌, List, [], ◌∷◌, length, refl, sym, ap, ◌∙◌, arith}
 use Rattle.std.specs.Prelude.{Option, Some, None, Result, Ok, Err}
+use Rattle.std.proofs.lemmas.Option.{none-some}
 use Rattle.std.proofs.lemmas.List.Elements.{All-nil, All-contains}
 use Rattle.blk_base.specs.Options.{Options}
 use Rattle.blk_base.specs.declared.config.Job.{Job}
@@ -188,7 +189,7 @@ safe_halt w why safe = safe_back_as w (halts why w.back) safe (halted_hands why 
 safe_attach : (w : World) (shape : Shape) (grefs : List ℕ) (port : ℕ) → IsSafe w → IsSafe (happens w (BackAttaches shape grefs port))
 safe_attach w shape grefs port safe =
     attach_cases (λ b shown. IsSafe (record { front = w.front; back = b; under = w.under })) w shape grefs port
-    (λ may layout. safe_back_as w (attached shape grefs port w.back) safe (ap (λ (s : BackStage). hands_at s w.back) (sym (attaches_waiting shape grefs w.back may))) refl refl)
+    (λ may layout says. safe_back_as w (attached shape grefs port w.back) safe (ap (λ (s : BackStage). hands_at s w.back) (sym (attaches_waiting shape grefs w.back may))) refl refl)
     (safe_back_as w w.back safe refl refl refl)
 
 -- a submission
@@ -282,8 +283,8 @@ job_may_at h attached sectors hands (back_ask.SetKey path text) own held names w
 job_may_at h attached sectors hands (back_ask.Watch path) own held names within disk made few = absurd own
 job_may_at h attached sectors hands (back_ask.DiskRead sector) own held names within disk made few = rw disk within
 job_may_at h attached sectors hands (back_ask.DiskWrite sector words) own held names within disk made few = rw disk within
-job_may_at h attached sectors hands back_ask.Flush own held names within disk made few = absurd own
-job_may_at h attached sectors hands (back_ask.Trim sector count) own held names within disk made few = absurd own
+job_may_at h attached sectors hands back_ask.Flush own held names within disk made few = λ none. none-some sectors (sym none ∙ disk)
+job_may_at h attached sectors hands (back_ask.Trim sector count) own held names within disk made few = rw disk within
 
 pub job_may : (h : Hypervisor) (attached : Option ℕ) (sectors : ℕ) (hands : List Mapping) (v : back.View) (k : ℕ) → AreHeld h.grants hands → Names hands (job_ask_of v k) → StaysInPageAndDisk sectors (job_ask_of v k) → attached ≡ Some sectors → h.grants.made + 1 < 2 ^ 64 → length hands ≤ 529 → BackMay h attached (job_ask_of v k)
 job_may h attached sectors hands v k held names within disk made few = job_may_at h attached sectors hands (job_ask_of v k) (jobs_of v k) held names within disk made few

@@ -8,6 +8,7 @@ use Rattle.blk_base.specs.declared.ask.FrontAsk.{FrontAsk}
 use Rattle.blk_base.specs.declared.ask.FrontAsk.TheVariants as front_ask
 use Rattle.blk_base.specs.declared.ask.BackAsk.{BackAsk}
 use Rattle.blk_base.specs.declared.ask.BackAsk.TheVariants as back_ask
+use Rattle.blk_base.specs.declared.ask.BackAnswer.TheVariants.{Done, DiskFailed}
 use Rattle.blk_base.specs.declared.moves.BackMover.{BackMover}
 use Rattle.blk_base.specs.declared.moves.BackMover.TheVariants as back_mover
 use Rattle.blk_base.specs.declared.moves.Move.{Move}
@@ -31,7 +32,7 @@ use Rattle.blk_front.specs.Ask as front_ends
 use Rattle.back_jobs.specs.declared.stage.Stage.{Stage as JobStage}
 use Rattle.back_jobs.specs.declared.stage.Stage.TheVariants as job_stage
 use Rattle.back_jobs.specs.Task as task
-use Rattle.back_jobs.specs.Jobs.{asked, work_of, ask_job}
+use Rattle.back_jobs.specs.Jobs.{asked, work_of, waits, ask_job}
 use Rattle.blk_back.specs.declared.stage.Reply.{Reply}
 use Rattle.blk_back.specs.declared.stage.Stage.{Stage as BackStage}
 use Rattle.blk_back.specs.declared.stage.Stage.TheVariants as back_stage
@@ -53,12 +54,15 @@ either_fronts : (c : ChannelState) (b : Bool) (x y : FrontAsk) → IsFronts c x 
 either_fronts c true x y p q = p
 either_fronts c false x y p q = q
 
-issue_fronts : (c : ChannelState) (r : Request) (way : Transfer) → IsFronts c (front_ends.issue_ask r way)
-issue_fronts c r transfer.Read = tt
-issue_fronts c r (transfer.Write tag) = tt
+issue_fronts : (c : ChannelState) (v : front.View) (r : Request) (way : Transfer) → IsFronts c (front_ends.issue_ask v r way)
+issue_fronts c v r transfer.Read = tt
+issue_fronts c v r (transfer.Write tag) = tt
+issue_fronts c v r (transfer.Barrier tag) = tt
+issue_fronts c v r transfer.Flush = tt
+issue_fronts c v r (transfer.Discard sectors) = tt
 
 loop_fronts : (c : ChannelState) (v : front.View) (r : Option Request) → IsFronts c (front_ends.loop_ask v r)
-loop_fronts c v (Some r) = issue_fronts c r r.transfer
+loop_fronts c v (Some r) = issue_fronts c v r r.transfer
 loop_fronts c v None = either_fronts c (v.asleep || front_ends.is_through v) front_ask.Wait _ tt (either_fronts c (responses_of v.ring v.seen == 0) (front_ask.Read front.ring_frame 2) (front_ask.Read (front.slot_frame v.shape v.ring.cons 0) (front.slot_word v.shape v.ring.cons 0)) tt tt)
 
 issue_data_fronts : (c : ChannelState) (r : Option Request) (n : ℕ) → IsFronts c (front_ends.data_ask r n)
@@ -242,7 +246,7 @@ back_answered_at h (back_ask.Trim sector count) o a own e = absurd own
 pub back_answered : (h : Hypervisor) (v : back.View) (o : Outcome) (a : BackAct) → back_act h back_mover.Back (back_ends.ask_of v) o ≡ Some a → back_ends.IsAnswer (back_ends.ask_of v) a.answer
 back_answered h v o a e = back_answered_at h (back_ends.ask_of v) o a (backs_of v) e
 
--- what a job asks: memory, mappings and sectors
+-- what a job asks: memory, mappings and the disk
 abbrev pub IsJobs : BackAsk → Type 0
 IsJobs back_ask.Fence = ⊥
 IsJobs (back_ask.Bind p) = ⊥
@@ -251,8 +255,6 @@ IsJobs back_ask.ClosePort = ⊥
 IsJobs (back_ask.GetKey path) = ⊥
 IsJobs (back_ask.SetKey path text) = ⊥
 IsJobs (back_ask.Watch path) = ⊥
-IsJobs back_ask.Flush = ⊥
-IsJobs (back_ask.Trim sector count) = ⊥
 IsJobs ask = Unit {0}
 
 map_jobs : (rest : List Segment) (writes : Bool) → IsJobs (task.map_ask rest writes)
@@ -267,18 +269,21 @@ jobs_at (job_stage.DiskRead m) t = tt
 jobs_at (job_stage.WriteWord m k) t = tt
 jobs_at (job_stage.Unmap m) t = tt
 jobs_at (job_stage.GiveUp m) t = tt
+jobs_at job_stage.Flush t = tt
+jobs_at (job_stage.Trim count) t = tt
 jobs_at (job_stage.Done status) t = tt
 
-jobs_asked : (t : Option task.Work) → IsJobs (asked t)
-jobs_asked None = tt
-jobs_asked (Some t) = jobs_at t.stage t
+jobs_asked : (held : Bool) (t : Option task.Work) → IsJobs (asked held t)
+jobs_asked held None = tt
+jobs_asked true (Some t) = tt
+jobs_asked false (Some t) = jobs_at t.stage t
 
 jobs_if : (halted : Bool) (ask : BackAsk) → IsJobs ask → IsJobs (if halted then back_ask.Wait else ask)
 jobs_if true ask own = tt
 jobs_if false ask own = own
 
 pub jobs_of : (v : back.View) (k : ℕ) → IsJobs (job_ask_of v k)
-jobs_of v k = jobs_if (is_some v.halted) (ask_job v.jobs k) (jobs_asked (work_of v.jobs.works k))
+jobs_of v k = jobs_if (is_some v.halted) (ask_job v.jobs k) (jobs_asked (waits v.jobs.works k) (work_of v.jobs.works k))
 
 abbrev AnswersJob : BackAsk → BackAct → Type 0
 AnswersJob ask a = task.IsAnswer ask a.answer
@@ -292,10 +297,11 @@ job_read h sector shown (Gave words) a e = of_back (AnswersJob (back_ask.DiskRea
 job_read h sector shown Failed a e = of_back (AnswersJob (back_ask.DiskRead sector)) _ a tt e
 job_read h sector shown Took a e = absurd (none-some a e)
 
-job_write : (h : Hypervisor) (sector : ℕ) (words : List ℕ) (shown : Move) (o : Outcome) (a : BackAct) → disk_act h shown o ≡ Some a → task.IsAnswer (back_ask.DiskWrite sector words) a.answer
-job_write h sector words shown Took a e = of_back (AnswersJob (back_ask.DiskWrite sector words)) _ a tt e
-job_write h sector words shown Failed a e = of_back (AnswersJob (back_ask.DiskWrite sector words)) _ a tt e
-job_write h sector words shown (Gave other) a e = absurd (none-some a e)
+-- a call of the disk that gives no words is done, or failed
+job_call : (ask : BackAsk) (h : Hypervisor) (shown : Move) (o : Outcome) (a : BackAct) → task.IsAnswer ask Done → task.IsAnswer ask DiskFailed → disk_act h shown o ≡ Some a → task.IsAnswer ask a.answer
+job_call ask h shown Took a done failed e = of_back (AnswersJob ask) _ a done e
+job_call ask h shown Failed a done failed e = of_back (AnswersJob ask) _ a failed e
+job_call ask h shown (Gave other) a done failed e = absurd (none-some a e)
 
 job_answered_at : (h : Hypervisor) (k : ℕ) (ask : BackAsk) (o : Outcome) (a : BackAct) → IsJobs ask → back_act h (back_mover.Job k) ask o ≡ Some a → task.IsAnswer ask a.answer
 job_answered_at h k back_ask.Wait o a own e = absurd (none-some a e)
@@ -311,9 +317,9 @@ job_answered_at h k (back_ask.GetKey path) o a own e = absurd own
 job_answered_at h k (back_ask.SetKey path text) o a own e = absurd own
 job_answered_at h k (back_ask.Watch path) o a own e = absurd own
 job_answered_at h k (back_ask.DiskRead sector) o a own e = job_read h sector _ o a e
-job_answered_at h k (back_ask.DiskWrite sector words) o a own e = job_write h sector words _ o a e
-job_answered_at h k back_ask.Flush o a own e = absurd own
-job_answered_at h k (back_ask.Trim sector count) o a own e = absurd own
+job_answered_at h k (back_ask.DiskWrite sector words) o a own e = job_call (back_ask.DiskWrite sector words) h _ o a tt tt e
+job_answered_at h k back_ask.Flush o a own e = job_call back_ask.Flush h _ o a tt tt e
+job_answered_at h k (back_ask.Trim sector count) o a own e = job_call (back_ask.Trim sector count) h _ o a tt tt e
 
 -- a job is answered what its ask allows
 pub job_answered : (h : Hypervisor) (v : back.View) (k : ℕ) (o : Outcome) (a : BackAct) → back_act h (back_mover.Job k) (job_ask_of v k) o ≡ Some a → task.IsAnswer (job_ask_of v k) a.answer

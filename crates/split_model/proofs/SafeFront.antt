@@ -25,10 +25,10 @@ use Rattle.blk_front.specs.declared.told.Refusal.TheVariants as refusal
 use Rattle.blk_front.specs.declared.request.Wish.{Wish}
 use Rattle.blk_front.specs.declared.told.Told.TheVariants as told
 use Rattle.blk_front.specs.Pool.{taking}
-use Rattle.blk_front.specs.Request.{is_write, has_data, words_in, frames_for}
+use Rattle.blk_front.specs.Request.{is_write, named_of, has_data, words_in, frames_for}
 use Rattle.blk_front.specs.View.{View, next_request}
 use Rattle.blk_front.specs.Ask.{ask_at}
-use Rattle.blk_front.specs.Step.{at, broken, looked, issue_stage, data_stage, granted, loop_step, issued, response_at, is_mapped, ring_left, ended, revoked, sector_told, data_step, step_at, step_of}
+use Rattle.blk_front.specs.Step.{at, broken, looked, begun, data_stage, granted, loop_step, issued, response_at, is_mapped, ring_left, ended, revoked, sector_told, data_step, step_at, step_of}
 use Rattle.blk_front.specs.State.{in_state, enters}
 use Rattle.blk_front.specs.Submit.{is_ready, unfinished, wish_of, submit_with, submit_one, submit_of}
 use Rattle.split_model.specs.Safe.{IsPorted}
@@ -68,9 +68,12 @@ looked_fits v word otherwise c h =
     either (nat_lt (distance_of v.ring.cons v.ring.prod) (distance_of v.ring.cons word)) (broken word v) (if word == v.ring.cons then otherwise else record v { seen = word; stage = stage.Loop }) v.sectors c (tt, refl)
     (either (word == v.ring.cons) otherwise (record v { seen = word; stage = stage.Loop }) v.sectors c h (tt, refl))
 
-issue_fits : (way : Transfer) (c : ChannelState) → IsPorted (issue_stage way) c
-issue_fits transfer.Read c = tt
-issue_fits (transfer.Write tag) c = tt
+begun_fits : (v : View) (r : Request) (way : Transfer) (c : ChannelState) → Fits v.sectors c (begun v r way)
+begun_fits v r transfer.Read c = (tt, refl)
+begun_fits v r (transfer.Write tag) c = (tt, refl)
+begun_fits v r (transfer.Barrier tag) c = (tt, refl)
+begun_fits v r transfer.Flush c = (tt, refl)
+begun_fits v r (transfer.Discard sectors) c = (tt, refl)
 
 data_stage_fits : (r : Option Request) (n : ℕ) (c : ChannelState) → IsPorted (data_stage r n) c
 data_stage_fits None n c = tt
@@ -81,7 +84,7 @@ granted_fits v None place c here = stays (stage.GrantFlags place) v c here tt
 granted_fits v (Some r) place c here = either (nat_lt (place + 1) (length r.frames.items)) _ _ v.sectors c (tt, refl) (tt, refl)
 
 loop_fits : (v : View) (r : Option Request) (x : FrontAnswer) (c : ChannelState) → v.stage ≡ stage.Loop → Fits v.sectors c (loop_step v r x)
-loop_fits v (Some r) x c here = (issue_fits r.transfer c, refl)
+loop_fits v (Some r) x c here = begun_fits v r r.transfer c
 loop_fits v None (answer.Word word) c here =
     either (responses_of v.ring v.seen == 0) (looked v word (record v { seen = word; stage = stage.StoreEvent })) (at (stage.ResponseHigh word) v) v.sectors c
     (looked_fits v word (record v { seen = word; stage = stage.StoreEvent }) c (tt, refl)) (tt, refl)
@@ -91,7 +94,7 @@ loop_fits v None x c here = stays stage.Loop v c here tt
 response_fits : (v : View) (response : Result Response ℕ) (low : ℕ) (found : Option (ℕ × Request)) (c : ChannelState) → Fits v.sectors c (response_at v response low found)
 response_fits v response low None c = (tt, refl)
 response_fits v (Err word) low (Some found) c = (tt, refl)
-response_fits v (Ok response) low (Some found) c = (tt, refl)
+response_fits v (Ok response) low (Some found) c = either (length found.1.frames.items == 0) _ _ v.sectors c (tt, refl) (tt, refl)
 
 ended_fits : (v : View) (e : Ending) (c : ChannelState) → Fits v.sectors c (ended e v)
 ended_fits v e c = either (has_data e.request.transfer e.status) _ _ v.sectors c (tt, refl) (tt, refl)
@@ -164,7 +167,7 @@ pub record IsEntered (v x : View) : Type 0 where
 
 in_state_kept : (s : FrontState) (v : View) → IsEntered v (in_state s v)
 in_state_kept (state.Agreed order) v = record { ported = λ c p. p; sectors = refl; told = refl }
-in_state_kept state.Connected v = record { ported = λ c p. tt; sectors = refl; told = refl }
+in_state_kept (state.Connected offers) v = record { ported = λ c p. tt; sectors = refl; told = refl }
 in_state_kept state.Closing v = record { ported = λ c p. p; sectors = refl; told = refl }
 in_state_kept state.Leaving v = record { ported = λ c p. tt; sectors = refl; told = refl }
 in_state_kept state.Closed v = record { ported = λ c p. tt; sectors = refl; told = refl }
@@ -196,14 +199,14 @@ submit_wish v (Some wish) =
     let frames = taking (frames_for wish.count) v.pool [] in
     let unless_full = if nat_le (entries_of v.shape.order) (unfinished v) then (Err refusal.Full, v) else submit_with v wish frames in
     let unless_long = if nat_lt 11 (frames_for wish.count) then (Err refusal.Long, v) else unless_full in
-    either_submit (is_write wish.transfer && v.read_only) v (Err refusal.ReadOnly, v) (if nat_lt v.sectors (wish.sector + wish.count) then (Err refusal.Range, v) else unless_long) (undisturbed v)
-    (either_submit (nat_lt v.sectors (wish.sector + wish.count)) v (Err refusal.Range, v) unless_long (undisturbed v)
+    either_submit (is_write wish.transfer && v.read_only) v (Err refusal.ReadOnly, v) (if nat_lt v.sectors (wish.sector + named_of wish.transfer wish.count) then (Err refusal.Range, v) else unless_long) (undisturbed v)
+    (either_submit (nat_lt v.sectors (wish.sector + named_of wish.transfer wish.count)) v (Err refusal.Range, v) unless_long (undisturbed v)
     (either_submit (nat_lt 11 (frames_for wish.count)) v (Err refusal.Long, v) unless_full (undisturbed v)
     (either_submit (nat_le (entries_of v.shape.order) (unfinished v)) v (Err refusal.Full, v) (submit_with v wish frames) (undisturbed v) (submit_with_frames v wish frames))))
 
 pub submit_kept : (v : View) (job : Job) → IsUndisturbed v (submit_of v job).1
 submit_kept v job =
-    let unless_unready = if not (is_ready v.stage) then (Err refusal.NotReady, v) else submit_one v (wish_of job) in
+    let unless_unready = if not (is_ready v.stage) then (Err refusal.NotReady, v) else submit_one v (wish_of v.offers job) in
     either_submit (v.last == 4294967295) v (Err refusal.Spent, v) (if v.closing then (Err refusal.Closing, v) else unless_unready) (undisturbed v)
     (either_submit v.closing v (Err refusal.Closing, v) unless_unready (undisturbed v)
-    (either_submit (not (is_ready v.stage)) v (Err refusal.NotReady, v) (submit_one v (wish_of job)) (undisturbed v) (submit_wish v (wish_of job))))
+    (either_submit (not (is_ready v.stage)) v (Err refusal.NotReady, v) (submit_one v (wish_of v.offers job)) (undisturbed v) (submit_wish v (wish_of v.offers job))))

@@ -19,10 +19,12 @@ use Rattle.blk_front.specs.declared.stage.Ending.{Ending}
 use Rattle.blk_front.specs.declared.state.FrontState.{FrontState}
 use Rattle.blk_front.specs.declared.state.FrontState.TheVariants as state
 use Rattle.blk_front.specs.declared.request.Request.{Request}
+use Rattle.blk_front.specs.declared.request.Transfer.{Transfer}
+use Rattle.blk_front.specs.declared.request.Transfer.TheVariants as transfer
 use Rattle.blk_front.specs.declared.told.Told.TheVariants as told
 use Rattle.blk_front.specs.Request.{has_data, words_in}
 use Rattle.blk_front.specs.View.{View, next_request}
-use Rattle.blk_front.specs.Step.{at, broken, ring_left, looked, granted, loop_step, issued, response_at, is_mapped, ended, revoked, sector_told, data_step, step_at, step_of}
+use Rattle.blk_front.specs.Step.{at, broken, ring_left, looked, begun, granted, loop_step, issued, response_at, is_mapped, ended, revoked, sector_told, data_step, step_at, step_of}
 use Rattle.blk_front.specs.State.{is_unmade, may_enter, in_state}
 use Rattle.blk_back.specs.declared.stage.Stage.{Stage as BackStage}
 use Rattle.blk_back.specs.declared.stage.Stage.TheVariants as back_stage
@@ -40,8 +42,15 @@ looked_shape v word otherwise h =
     either (nat_lt (distance_of v.ring.cons v.ring.prod) (distance_of v.ring.cons word)) (broken word v) (if word == v.ring.cons then otherwise else record v { seen = word; stage = stage.Loop }) v.shape refl
     (either (word == v.ring.cons) otherwise (record v { seen = word; stage = stage.Loop }) v.shape h refl)
 
+begun_shape : (v : View) (r : Request) (way : Transfer) → (begun v r way).shape ≡ v.shape
+begun_shape v r transfer.Read = refl
+begun_shape v r (transfer.Write tag) = refl
+begun_shape v r (transfer.Barrier tag) = refl
+begun_shape v r transfer.Flush = refl
+begun_shape v r (transfer.Discard sectors) = refl
+
 loop_shape : (v : View) (r : Option Request) (x : FrontAnswer) → (loop_step v r x).shape ≡ v.shape
-loop_shape v (Some r) x = refl
+loop_shape v (Some r) x = begun_shape v r r.transfer
 loop_shape v None (answer.Word word) =
     either (responses_of v.ring v.seen == 0) (looked v word (record v { seen = word; stage = stage.StoreEvent })) (at (stage.ResponseHigh word) v) v.shape
     (looked_shape v word (record v { seen = word; stage = stage.StoreEvent }) refl) refl
@@ -55,7 +64,7 @@ granted_shape v (Some r) place = either (nat_lt (place + 1) (length r.frames.ite
 response_shape : (v : View) (response : Result Response ℕ) (low : ℕ) (found : Option (ℕ × Request)) → (response_at v response low found).shape ≡ v.shape
 response_shape v response low None = refl
 response_shape v (Err word) low (Some found) = refl
-response_shape v (Ok response) low (Some found) = refl
+response_shape v (Ok response) low (Some found) = either (length found.1.frames.items == 0) _ _ v.shape refl refl
 
 ended_shape : (v : View) (e : Ending) → (ended e v).shape ≡ v.shape
 ended_shape v e = either (has_data e.request.transfer e.status) _ _ v.shape refl refl
@@ -111,7 +120,7 @@ agreed_order false order wished may = absurd (true≢false (sym may))
 -- a state that it enters leaves it, but for an order that is agreed, which is no greater
 pub entered_order : (s : FrontState) (v : View) → may_enter s v ≡ true → (in_state s v).shape.order ≤ v.shape.order
 entered_order (state.Agreed order) v may = agreed_order (is_unmade v.stage) order v.shape.order may
-entered_order state.Connected v may = omega arith
+entered_order (state.Connected offers) v may = omega arith
 entered_order state.Closing v may = omega arith
 entered_order state.Leaving v may = omega arith
 entered_order state.Closed v may = omega arith

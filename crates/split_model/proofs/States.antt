@@ -28,7 +28,7 @@ enter_lines_are P s v all = enters_cases (λ (w : front.View) (shown : List Line
 
 -- each line of a state is of this kind, where one is
 pub state_lines_are : (P : Line → Type 0) (s : FrontState) → P lines.Ready → P lines.Closing → P lines.Closed → ((word : ℕ) → P (lines.Broken word)) → AllByRecursion P (state_lines s)
-state_lines_are P state.Connected ready closing closed broken = (ready, tt)
+state_lines_are P (state.Connected offers) ready closing closed broken = (ready, tt)
 state_lines_are P state.Closing ready closing closed broken = (closing, tt)
 state_lines_are P (state.Agreed order) ready closing closed broken = tt
 state_lines_are P state.Leaving ready closing closed broken = tt

@@ -49,7 +49,7 @@ tight_happens w BackMoves t = back_tight w (back_turn w Took) t
 tight_happens w (JobMoves number outcome) t = job_tight w number (job_turn w number outcome) t
 tight_happens w (Negotiates at move) t = record { front = t.front; back = t.back }
 tight_happens w (FrontEnters state) t = record { front = entered_modest state w.front t.front; back = t.back }
-tight_happens w (BackAttaches shape grefs port) t = record { front = t.front; back = attach_cases (λ v shown. HasRoom v) w shape grefs port (λ may layout. attached_room shape grefs port w.back may t.back) t.back }
+tight_happens w (BackAttaches shape grefs port) t = record { front = t.front; back = attach_cases (λ v shown. HasRoom v) w shape grefs port (λ may layout says. attached_room shape grefs port w.back may t.back) t.back }
 tight_happens w (BackHalts why) t = record { front = t.front; back = halted_room why w.back t.back }
 tight_happens w (Submits job) t = record { front = submit_modest w.front job t.front; back = t.back }
 tight_happens w (Notifies at) t = record { front = t.front; back = t.back }

@@ -29,7 +29,7 @@ use Rattle.blk_back.specs.View as back
 use Rattle.blk_back.specs.Ask as back_ask
 use Rattle.blk_back.specs.Step as back_step
 use Rattle.split_model.specs.World.{World}
-use Rattle.split_model.specs.Keys.{KeyMove, layout_path, is_layout, negotiated, negotiated_lines}
+use Rattle.split_model.specs.Keys.{KeyMove, layout_path, is_layout, said_by, says_served, negotiated, negotiated_lines}
 use Rattle.split_model.specs.Shown.{front_lines, back_lines, halt_lines, state_lines, refusal_word}
 
 -- a move of the front, of the back, or of the job of a number with what the disk answers it; what an end does with the keys; a state that its negotiation has the front enter, the terms of its front that the back takes as it reads the key for the layout, and a reason for which its negotiation has it halt; a submission; a spurious event at an end's bound port; a word of the guest's memory overwritten by a hostile hand; a look at the words of the ring, at whether all is quiet, with what was found, and one when the rounds are over
@@ -119,7 +119,7 @@ ring_lines pages place (suc count) = word_lines place (word_of pages (2 + place 
 abbrev pub enter_lines : FrontState → front.View → List Line
 enter_lines s v = if front_state.may_enter s v then state_lines s else []
 
--- the back reads the key for the layout, and takes these terms: the layout is the one that the key names
+-- the back reads the key for the layout, and takes these terms: the layout is the one that the key names, and the back's own keys say what it serves
 abbrev pub layout_text : World → Option (List ℕ)
 layout_text w = key_of w.under.keys.keys layout_path
 
@@ -127,7 +127,7 @@ abbrev pub layout_read : World → Shown
 layout_read w = moves.GetKey mover.Back layout_path (layout_text w)
 
 abbrev pub attaches_at : World → Shape → List ℕ → Bool
-attaches_at w shape grefs = back_step.may_attach shape grefs w.back && is_layout shape.abi (layout_text w)
+attaches_at w shape grefs = back_step.may_attach shape grefs w.back && is_layout shape.abi (layout_text w) && (let b : back.View = w.back in says_served (said_by w.under.keys) b.jobs.info)
 
 abbrev pub happens : World → Happening → World
 happens w FrontMoves = front_after w (front_turn w)

@@ -1,5 +1,5 @@
 -- What an end does with the keys of both (`io/xenbus.h`), what that makes of the directory, and the lines that it shows.
-use Rattle.std.specs.Prelude.{ℕ, Bool, true, false, not, ◌&&◌, ◌||◌, List, [], ◌∷◌, Option, Some, None, if◌then◌else◌, codes}
+use Rattle.std.specs.Prelude.{ℕ, Bool, true, false, not, ◌&&◌, ◌||◌, List, [], ◌∷◌, Option, Some, None, if◌then◌else◌, ◌==◌, codes}
 use Rattle.std.specs.Str.{bytes_eq}
 use Rattle.blk_base.specs.declared.operation.Abi.{Abi}
 use Rattle.blk_base.specs.declared.operation.Abi.TheVariants.{X64, X32}
@@ -16,6 +16,9 @@ use Rattle.hypervisor.specs.Act.{is_own_path}
 use Rattle.blk_back.specs.declared.stage.Stage.{Stage}
 use Rattle.blk_back.specs.declared.stage.Stage.TheVariants as stage
 use Rattle.blk_back.specs.Ask.{is_led}
+use Rattle.segment_list.specs.declared.verdict.DiskInfo.{DiskInfo}
+use Rattle.report_rules.specs.declared.published.Serving.{Serving}
+use Rattle.report_rules.specs.Published.{is_offer, serving}
 
 -- it reads a key, sets one, watches a path, or takes the watch that fired first
 pub data KeyMove : Type 0 where
@@ -41,21 +44,47 @@ is_layout X32 None = false
 is_layout X64 (Some text) = bytes_eq text (codes "x86_64-abi")
 is_layout X32 (Some text) = bytes_eq text (codes "x86_32-abi")
 
--- the back's keys for what it offers beside reads and writes (`io/blkif.h`), and what they say where it offers nothing
+-- the back's keys for what it serves beside reads and writes (`io/blkif.h`), and that for persistent grants, which it doesn't offer
+abbrev pub barrier_path : List ℕ
+barrier_path = codes "/local/domain/0/backend/vbd/1/51712/feature-barrier"
+
+abbrev pub flush_path : List ℕ
+flush_path = codes "/local/domain/0/backend/vbd/1/51712/feature-flush-cache"
+
+abbrev pub discard_path : List ℕ
+discard_path = codes "/local/domain/0/backend/vbd/1/51712/feature-discard"
+
+abbrev pub indirect_path : List ℕ
+indirect_path = codes "/local/domain/0/backend/vbd/1/51712/feature-max-indirect-segments"
+
 abbrev pub names_feature : List ℕ → Bool
-names_feature path =
-    bytes_eq path (codes "/local/domain/0/backend/vbd/1/51712/feature-barrier")
-    || bytes_eq path (codes "/local/domain/0/backend/vbd/1/51712/feature-flush-cache")
-    || bytes_eq path (codes "/local/domain/0/backend/vbd/1/51712/feature-discard")
-    || bytes_eq path (codes "/local/domain/0/backend/vbd/1/51712/feature-max-indirect-segments")
-    || bytes_eq path (codes "/local/domain/0/backend/vbd/1/51712/feature-persistent")
+names_feature path = bytes_eq path barrier_path || bytes_eq path flush_path || bytes_eq path discard_path || bytes_eq path indirect_path
+
+abbrev pub names_persistent : List ℕ → Bool
+names_persistent path = bytes_eq path (codes "/local/domain/0/backend/vbd/1/51712/feature-persistent")
 
 abbrev pub is_zero_text : List ℕ → Bool
 is_zero_text text = bytes_eq text (codes "0")
 
--- an end sets keys under its own directory alone, and no feature is offered yet
+-- what the back's keys say that it serves; a key that isn't there offers nothing
+abbrev pub offers : Option (List ℕ) → Bool
+offers None = false
+offers (Some text) = is_offer text
+
+abbrev pub said_by : Directory → Serving
+said_by d = serving (offers (key_of d.keys barrier_path)) (offers (key_of d.keys flush_path)) (offers (key_of d.keys discard_path)) (offers (key_of d.keys indirect_path))
+
+-- the disk that the back publishes has exactly that
+abbrev pub is_like : Bool → Bool → Bool
+is_like true b = b
+is_like false b = not b
+
+abbrev pub says_served : Serving → DiskInfo → Bool
+says_served s info = is_like s.barrier info.barrier && is_like s.flush info.flush && is_like s.discard info.discard && is_like s.indirect (not (info.max_indirect == 0))
+
+-- an end sets keys under its own directory alone, and offers no persistent grants
 abbrev pub may_set : End → (path text : List ℕ) → Bool
-may_set at path text = is_own_path at path && (not (names_feature path) || is_zero_text text)
+may_set at path text = is_own_path at path && (not (names_persistent path) || is_zero_text text)
 
 -- the back is between two entries and two replies, each up to the end of its push: within one it makes no other move
 abbrev pub is_between : Stage → Bool
@@ -68,15 +97,16 @@ is_between (stage.ResponseEvent old) = false
 is_between stage.Send = false
 is_between s = true
 
--- the move reads the key for the layout
-abbrev pub reads_layout : KeyMove → Bool
-reads_layout (Gets path) = names_layout path
-reads_layout move = false
+-- the move reads the key for the layout, or sets one for a feature
+abbrev pub is_early : KeyMove → Bool
+is_early (Gets path) = names_layout path
+is_early (Sets path text) = names_feature path
+is_early move = false
 
--- an end may turn to its keys, as the back stands: the back reads the key for the layout only while it waits for the terms of its front
+-- an end may turn to its keys, as the back stands: the back sets the keys for its features, and reads the one for the layout, only while it waits for the terms of its front
 abbrev pub may_negotiate : Stage → End → KeyMove → Bool
 may_negotiate s end.Front move = true
-may_negotiate s end.Back move = is_between s && (not (reads_layout move) || is_led s)
+may_negotiate s end.Back move = is_between s && (not (is_early move) || is_led s)
 
 abbrev pub keys_after : End → KeyMove → Directory → Directory
 keys_after at (Gets path) d = d

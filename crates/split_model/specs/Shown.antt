@@ -27,7 +27,7 @@ front_lines (Some (front_told.Broken word)) = lines.Broken word ∷ []
 
 -- the line of a state that the front enters; an order that is agreed and leaving show none
 abbrev pub state_lines : FrontState → List Line
-state_lines state.Connected = lines.Ready ∷ []
+state_lines (state.Connected offers) = lines.Ready ∷ []
 state_lines state.Closing = lines.Closing ∷ []
 state_lines (state.Agreed order) = []
 state_lines state.Leaving = []
@@ -42,6 +42,8 @@ effect_line id index answer = lines.Effect id index
 abbrev pub back_lines : Option BackTold → BackAnswer → List Line
 back_lines None answer = []
 back_lines (Some (back_told.Effect id index)) answer = effect_line id index answer ∷ []
+back_lines (Some (back_told.Flushed id)) answer = lines.Flushed id ∷ []
+back_lines (Some (back_told.Trimmed id)) answer = lines.Trimmed id ∷ []
 back_lines (Some (back_told.Fault id index)) answer = lines.Fault id index ∷ []
 back_lines (Some (back_told.Reply id status)) answer = lines.Reply id status ∷ []
 

@@ -4,7 +4,7 @@ ghost use Rattle.blk_back.specs.Ask.{StaysInPage};
 ghost use Rattle.blk_back.specs.Hands.{hands_of};
 ghost use Rattle.back_jobs.specs.Hands.{Names, HandsAfter};
 ghost use Rattle.vbd_back.specs.declared.turn.Turn.TheVariants as turn;
-ghost use Rattle.vbd_back.specs.View.{start_of};
+ghost use Rattle.vbd_back.specs.View.{start_of, offer};
 ghost use Rattle.vbd_back.specs.Ask.{ask_of, IsAnswer};
 ghost use Rattle.vbd_back.specs.Step.{step_of, closes, is_plain};
 ghost use Rattle.vbd_back.specs.Turn.{turn_of};
@@ -20,15 +20,20 @@ use std::alloc::Global;
 use std::marker::Model;
 use xenbus_state::{BackBus, DiskFacts, Features};
 
-// What it offers beside reads and writes: nothing, and rings of up to 16 pages.
-const OFFER: Features = Features {
-    barrier: false,
-    flush: false,
-    discard: false,
-    persistent: false,
-    indirect: 0,
-    order: 4,
-};
+// What it offers beside reads and writes: barriers, flushes and discards where the disk may be written,
+// and rings of up to 16 pages.
+fn offer(read_only: bool) -> Features
+    ensures { result ≡ offer read_only }
+{
+    Features {
+        barrier: !read_only,
+        flush: !read_only,
+        discard: !read_only,
+        persistent: false,
+        indirect: 0,
+        order: 4,
+    }
+}
 
 /// The back end of a block device of one ring, which it serves as its front connects, and gives up as
 /// its front is gone (`io/blkif.h`). Its jobs move apart from it. After `new` it takes no memory.
@@ -57,7 +62,7 @@ impl Backend {
         ensures { IfOk result (λ backend. backend ≡ start_of config.now) }
     {
         let ring = Back::new(alloc, config)?;
-        let bus = BackBus::new(OFFER, DiskFacts::of(config));
+        let bus = BackBus::new(offer(config.read_only), DiskFacts::of(config));
         let turn = turn_of(&bus, &ring);
         let key = Key::of(&bus.ask());
         Ok(Backend {

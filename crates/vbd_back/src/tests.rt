@@ -129,12 +129,12 @@ fn watched(backend: &mut Backend) -> Result<(), OutOfMemory> {
 // It publishes what it offers.
 fn offer(rt: &impl Abort, backend: &mut Backend) -> Result<(), OutOfMemory> {
     for (path, text) in [
-        ("/local/domain/0/backend/vbd/1/51712/feature-barrier", "0"),
+        ("/local/domain/0/backend/vbd/1/51712/feature-barrier", "1"),
         (
             "/local/domain/0/backend/vbd/1/51712/feature-flush-cache",
-            "0",
+            "1",
         ),
-        ("/local/domain/0/backend/vbd/1/51712/feature-discard", "0"),
+        ("/local/domain/0/backend/vbd/1/51712/feature-discard", "1"),
         (
             "/local/domain/0/backend/vbd/1/51712/feature-persistent",
             "0",

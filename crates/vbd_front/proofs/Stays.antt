@@ -18,7 +18,7 @@ use Rattle.blk_front.specs.declared.stage.Stage.TheVariants as stage
 use Rattle.blk_front.specs.declared.told.Told.TheVariants as told
 use Rattle.blk_front.specs.View.{View, next_request}
 use Rattle.blk_front.specs.Submit.{is_connected}
-use Rattle.blk_front.specs.Step.{broken, looked, issue_stage, data_stage, granted, loop_step, issued, response_at, is_mapped, at, ring_left, entry_of, finished, ended, revoked, sector_told, data_step, step_at}
+use Rattle.blk_front.specs.Step.{broken, looked, begun, entered, data_stage, granted, loop_step, issued, response_at, is_mapped, at, ring_left, finished, ended, revoked, sector_told, data_step, step_at}
 
 abbrev IsMade : View → Type 0
 IsMade v = is_connected v.stage ≡ true
@@ -36,12 +36,15 @@ looked_stays v word otherwise p =
     either (nat_lt (distance_of v.ring.cons v.ring.prod) (distance_of v.ring.cons word)) (broken word v) (if word == v.ring.cons then otherwise else record v { seen = word; stage = stage.Loop }) refl
     (either (word == v.ring.cons) otherwise (record v { seen = word; stage = stage.Loop }) p refl)
 
-issue_stays : (way : Transfer) → is_connected (issue_stage way) ≡ true
-issue_stays transfer.Read = refl
-issue_stays (transfer.Write tag) = refl
+begun_stays : (v : View) (r : Request) (way : Transfer) → IsMade (begun v r way)
+begun_stays v r transfer.Read = refl
+begun_stays v r (transfer.Write tag) = refl
+begun_stays v r (transfer.Barrier tag) = refl
+begun_stays v r transfer.Flush = refl
+begun_stays v r (transfer.Discard sectors) = refl
 
 loop_stays : (v : View) (next : Option Request) (a : FrontAnswer) → IsMade v → IsMade (loop_step v next a)
-loop_stays v (Some r) a h = issue_stays r.transfer
+loop_stays v (Some r) a h = begun_stays v r r.transfer
 loop_stays v None (answer.Word word) h =
     either (responses_of v.ring v.seen == 0) (looked v word (record v { seen = word; stage = stage.StoreEvent })) (at (stage.ResponseHigh word) v)
     (looked_stays v word (record v { seen = word; stage = stage.StoreEvent }) refl) refl
@@ -50,7 +53,7 @@ loop_stays v None a h = h
 response_stays : (v : View) (response : Result Response ℕ) (low : ℕ) (found : Option (ℕ × Request)) → IsMade (response_at v response low found)
 response_stays v response low None = refl
 response_stays v (Err word) low (Some found) = refl
-response_stays v (Ok response) low (Some found) = refl
+response_stays v (Ok response) low (Some found) = either (length found.1.frames.items == 0) _ _ refl refl
 
 -- a word of data was written, a frame granted, a grant ended, and a word of data read
 data_stage_stays : (next : Option Request) (n : ℕ) → is_connected (data_stage next n) ≡ true
@@ -59,7 +62,7 @@ data_stage_stays (Some r) n = staged (nat_lt (n + 1) (words_in r)) (stage.Data (
 
 granted_stays : (v : View) (next : Option Request) (place : ℕ) → IsMade v → IsMade (granted next place v)
 granted_stays v None place h = h
-granted_stays v (Some r) place h = either (nat_lt (place + 1) (length r.frames.items)) (at (stage.GrantFrame (place + 1)) v) (record v { stage = stage.Slot 0; entry = entry_of v.shape.abi r }) refl refl
+granted_stays v (Some r) place h = either (nat_lt (place + 1) (length r.frames.items)) (at (stage.GrantFrame (place + 1)) v) (entered v r (stage.Slot 0)) refl refl
 
 revoked_stays : (v : View) (ending : Option Ending) (place : ℕ) → IsMade v → IsMade (revoked ending place v)
 revoked_stays v None place h = h

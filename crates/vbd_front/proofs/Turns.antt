@@ -80,12 +80,15 @@ read_of_ring : (ending : Option Ending) (n : ℕ) → IsOfRing (ring.read_ask en
 read_of_ring None n = tt
 read_of_ring (Some e) n = tt
 
-issue_of_ring : (r : Request) (way : Transfer) → IsOfRing (ring.issue_ask r way)
-issue_of_ring r (transfer.Write tag) = tt
-issue_of_ring r transfer.Read = tt
+issue_of_ring : (v : Ring) (r : Request) (way : Transfer) → IsOfRing (ring.issue_ask v r way)
+issue_of_ring v r (transfer.Write tag) = tt
+issue_of_ring v r (transfer.Barrier tag) = tt
+issue_of_ring v r transfer.Read = tt
+issue_of_ring v r transfer.Flush = tt
+issue_of_ring v r (transfer.Discard sectors) = tt
 
 loop_of_ring : (v : Ring) (next : Option Request) → IsOfRing (ring.loop_ask v next)
-loop_of_ring v (Some r) = issue_of_ring r r.transfer
+loop_of_ring v (Some r) = issue_of_ring v r r.transfer
 loop_of_ring v None =
     let read = if responses_of v.ring v.seen == 0 then ask.Read ring_frame 2 else ask.Read (slot_frame v.shape v.ring.cons 0) (slot_word v.shape v.ring.cons 0) in
     either (v.asleep || ring.is_through v) ask.Wait read tt (either (responses_of v.ring v.seen == 0) (ask.Read ring_frame 2) (ask.Read (slot_frame v.shape v.ring.cons 0) (slot_word v.shape v.ring.cons 0)) tt tt)

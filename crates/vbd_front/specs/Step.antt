@@ -6,6 +6,7 @@ use Rattle.blk_front.specs.declared.stage.Stage.{Stage}
 use Rattle.blk_front.specs.declared.stage.Stage.TheVariants as stage
 use Rattle.blk_front.specs.declared.state.FrontState.{FrontState}
 use Rattle.blk_front.specs.declared.state.FrontState.TheVariants as state
+use Rattle.blk_front.specs.declared.state.Offers.{Offers}
 use Rattle.blk_front.specs.View as ring
 use Rattle.blk_front.specs.Step as step_ring
 use Rattle.blk_front.specs.State.{may_enter, enters}
@@ -37,41 +38,45 @@ bus_after v a = bus_told (is_unoccupied v.ring) v.bus a
 abbrev pub news_of : View → FrontAnswer → Option FrontNews
 news_of v a = bus.news_of v.bus (is_unoccupied v.ring) a
 
--- the states that the end of the ring enters: the one that the negotiation comes to; where the ring is made next its order is agreed, and where its grants are ended next, since the back is gone, it leaves
-abbrev pub state_of_news : FrontNews → FrontState
-state_of_news news.Ready = state.Connected
-state_of_news news.Closing = state.Closing
-state_of_news news.Closed = state.Closed
-state_of_news (news.Broken word) = state.Broken word
+-- what the back serves beside reads and writes, as the negotiation read it
+abbrev pub offers_of : FrontView → Offers
+offers_of v = record { barrier = v.features.barrier; flush = v.features.flush; discard = v.features.discard }
 
-abbrev pub states_of_news : Option FrontNews → List FrontState
-states_of_news None = []
-states_of_news (Some n) = state_of_news n ∷ []
+-- the states that the end of the ring enters: the one that the negotiation comes to; where the ring is made next its order is agreed, and where its grants are ended next, since the back is gone, it leaves
+abbrev pub state_of_news : Offers → FrontNews → FrontState
+state_of_news offers news.Ready = state.Connected offers
+state_of_news offers news.Closing = state.Closing
+state_of_news offers news.Closed = state.Closed
+state_of_news offers (news.Broken word) = state.Broken word
+
+abbrev pub states_of_news : Offers → Option FrontNews → List FrontState
+states_of_news offers None = []
+states_of_news offers (Some n) = state_of_news offers n ∷ []
 
 abbrev pub states_due : FrontBusAsk → (order : ℕ) → List FrontState
 states_due (bus_ask.WriteRingWord word) order = state.Agreed order ∷ []
 states_due (bus_ask.EndGrant page) order = state.Leaving ∷ []
 states_due ask order = []
 
-abbrev pub states_entered : Option FrontNews → FrontBusAsk → (order : ℕ) → List FrontState
-states_entered n due order = states_of_news n ++ states_due due order
+abbrev pub states_entered : Offers → Option FrontNews → FrontBusAsk → (order : ℕ) → List FrontState
+states_entered offers n due order = states_of_news offers n ++ states_due due order
 
 abbrev pub all_entered : List FrontState → ring.View → ring.View
 all_entered [] r = r
 all_entered (s ∷ rest) r = all_entered rest (enters s r)
 
 -- it is told where the end of the ring entered its state
-abbrev pub news_told : Option FrontNews → ring.View → Option FrontNews
-news_told None r = None
-news_told (Some n) r = if may_enter (state_of_news n) r then Some n else None
+abbrev pub news_told : Offers → Option FrontNews → ring.View → Option FrontNews
+news_told offers None r = None
+news_told offers (Some n) r = if may_enter (state_of_news offers n) r then Some n else None
 
 -- the states that the end of the ring enters at an answer to the negotiation
 abbrev pub states_after : View → FrontAnswer → List FrontState
-states_after v a = states_entered (news_of v a) (bus_asks.ask_of (bus_after v a) (is_unoccupied v.ring)) (ring_order (bus_after v a))
+states_after v a = states_entered (offers_of (bus_after v a)) (news_of v a) (bus_asks.ask_of (bus_after v a) (is_unoccupied v.ring)) (ring_order (bus_after v a))
 
 -- the negotiation was answered
 abbrev pub spoken : View → FrontAnswer → View
-spoken v a = record { ring = all_entered (states_after v a) v.ring; bus = bus_after v a; news = news_told (news_of v a) v.ring }
+spoken v a = record { ring = all_entered (states_after v a) v.ring; bus = bus_after v a; news = news_told (offers_of (bus_after v a)) (news_of v a) v.ring }
 
 -- a waiting front took its watch: it reads the other end's state next, unless the ring is broken
 abbrev pub woken : (broken idle : Bool) → FrontView → FrontAnswer → FrontView
@@ -118,4 +123,4 @@ step_of v a = step_at (bus_ask_of v) v a
 
 -- the front was asked to close
 abbrev pub closes : View → View
-closes v = record { ring = enters state.Closing v.ring; bus = closed v.bus; news = news_told (Some news.Closing) v.ring }
+closes v = record { ring = enters state.Closing v.ring; bus = closed v.bus; news = news_told (offers_of v.bus) (Some news.Closing) v.ring }

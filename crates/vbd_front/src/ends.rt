@@ -133,8 +133,7 @@ impl Ends {
     {
         let idle = self.is_unoccupied();
         let news = news::tell(&mut self.bus, idle, answer);
-        let order = self.bus.ring_order();
-        self.news = news::enter(&mut self.ring, news, &self.bus.ask(idle), order);
+        self.news = news::enter(&mut self.ring, news, &self.bus.ask(idle), &self.bus);
     }
 
     // The ring's end has moved.
@@ -164,7 +163,7 @@ impl Ends {
     {
         let _ = self.bus.close();
         let news = Some(FrontNews::Closing);
-        self.news = news::enter(&mut self.ring, news, &FrontBusAsk::Wait, 0);
+        self.news = news::enter(&mut self.ring, news, &FrontBusAsk::Wait, &self.bus);
     }
 
     /// Hands the ring's end a request.

@@ -2,10 +2,11 @@
 ghost use Rattle.std.specs.Prelude.{◌≡◌};
 ghost use Rattle.xenbus_state.specs.FrontAsk.{ask_of, IsAnswer};
 ghost use Rattle.xenbus_state.specs.FrontStep.{news_of};
-ghost use Rattle.vbd_front.specs.Step.{bus_told, state_of_news, states_entered, all_entered, news_told, followed, waited, IsHeard};
+ghost use Rattle.xenbus_state.specs.FrontView.{ring_order};
+ghost use Rattle.vbd_front.specs.Step.{bus_told, offers_of, state_of_news, states_entered, all_entered, news_told, followed, waited, IsHeard};
 
 use blk_base::FrontAnswer;
-use blk_front::{Front, FrontState, Stage};
+use blk_front::{Front, FrontState, Offers, Stage};
 use xenbus_state::{FrontBus, FrontBusAsk, FrontNews};
 
 /// Tells the negotiation the answer to what it asks, and that there are no grants to end beside those
@@ -22,25 +23,37 @@ pub fn tell(bus: &mut FrontBus, idle: bool, answer: &FrontAnswer) -> Option<Fron
     news
 }
 
-/// The ring's end enters the state that the negotiation comes to; where the negotiation has the ring
-/// made next this order is agreed, and where it ends the ring's grants next the ring's end leaves.
-/// What of it is to be told.
+/// What the back serves beside reads and writes, as the negotiation read it.
+pub fn offers(bus: &FrontBus) -> Offers
+    ensures { result ≡ offers_of bus.now }
+{
+    let features = bus.features();
+    Offers {
+        barrier: features.barrier,
+        flush: features.flush,
+        discard: features.discard,
+    }
+}
+
+/// The ring's end enters the state that the negotiation comes to, with what it read of the back; where
+/// the negotiation has the ring made next the order is agreed, and where it ends the ring's grants next
+/// the ring's end leaves. What of it is to be told.
 pub fn enter(
     ring: &mut Front,
     news: Option<FrontNews>,
     next: &FrontBusAsk,
-    order: u32,
+    bus: &FrontBus,
 ) -> Option<FrontNews>
-    ensures ring { ring.new ≡ all_entered (states_entered news next.now order) ring.old }
-    ensures told { result ≡ news_told news ring.old }
+    ensures ring { ring.new ≡ all_entered (states_entered (offers_of bus.now) news next.now (ring_order bus.now)) ring.old }
+    ensures told { result ≡ news_told (offers_of bus.now) news ring.old }
 {
     let told = match news {
-        Some(news) if ring.enter(state_of(news)) => Some(news),
+        Some(news) if ring.enter(state_of(offers(bus), news)) => Some(news),
         _ => None,
     };
     match next {
         FrontBusAsk::WriteRingWord(_) => {
-            ring.enter(FrontState::Agreed(order));
+            ring.enter(FrontState::Agreed(bus.ring_order()));
         }
         FrontBusAsk::EndGrant(_) => {
             ring.enter(FrontState::Leaving);
@@ -51,11 +64,11 @@ pub fn enter(
 }
 
 /// The state that the ring's end enters where this happens.
-pub fn state_of(news: FrontNews) -> FrontState
-    ensures { result ≡ state_of_news news }
+pub fn state_of(offers: Offers, news: FrontNews) -> FrontState
+    ensures { result ≡ state_of_news offers news }
 {
     match news {
-        FrontNews::Ready => FrontState::Connected,
+        FrontNews::Ready => FrontState::Connected(offers),
         FrontNews::Closing => FrontState::Closing,
         FrontNews::Closed => FrontState::Closed,
         FrontNews::Broken(word) => FrontState::Broken(word),

@@ -6,6 +6,8 @@ use Rattle.blk_base.specs.declared.config.Job.{Job}
 use Rattle.blk_base.specs.declared.parts.End.{End}
 use Rattle.blk_base.specs.declared.parts.End.TheVariants as end
 use Rattle.schedule_text.specs.declared.line.Line.{Line}
+use Rattle.segment_list.specs.declared.verdict.DiskInfo.{DiskInfo}
+use Rattle.key_directory.specs.Directory.{Directory}
 use Rattle.hypervisor.specs.Hypervisor.{Hypervisor}
 use Rattle.xen_pages.specs.Pages.{with_word}
 use Rattle.hypervisor.specs.Act.{BackAct, Outcome, with_pages}
@@ -14,11 +16,12 @@ use Rattle.blk_front.specs.declared.request.Wish.{Wish}
 use Rattle.blk_front.specs.declared.told.Refusal.{Refusal}
 use Rattle.blk_front.specs.declared.told.Refusal.TheVariants as refusal
 use Rattle.blk_front.specs.Pool.{taking}
-use Rattle.blk_front.specs.Request.{is_write, frames_for}
+use Rattle.blk_front.specs.Request.{is_write, named_of, frames_for}
 use Rattle.blk_front.specs.View.{View}
 use Rattle.blk_front.specs.Ask.{is_through}
 use Rattle.blk_front.specs.Submit.{is_ready, unfinished, wish_of, submit_with, submit_one, submit_of}
 use Rattle.blk_back.specs.Step.{job_ask_of}
+use Rattle.blk_back.proofs.Hands.{job_step_info}
 use Rattle.vbd_front.specs.View.{is_broken}
 use Rattle.line_text.proofs.Both.{both_true}
 use Rattle.split_model.specs.World as rings
@@ -34,7 +37,7 @@ use Rattle.vbd_back.specs.View.{offer}
 use Rattle.split_model.proofs.Overwriting.{poke_cases}
 use Rattle.vbd_model.specs.World.{World, start_of}
 use Rattle.vbd_model.specs.Happening.{Happening, FrontMoves, BackMoves, JobMoves, Closes, Submits, Notifies, Pokes, Dumps, Looks, Settles, happens, after}
-use Rattle.vbd_model.specs.Fit.{FrontOrdered, IsUnbound, has_terms, IsFit}
+use Rattle.vbd_model.specs.Fit.{FrontOrdered, IsUnbound, has_terms, IsOffered, SaysKey, SaidAt, IsFit}
 use Rattle.vbd_laws.proofs.FitChannels.{IsUnported, job_leaves, notified}
 use Rattle.vbd_laws.proofs.FitFront.{fit_front_moves, fit_front_closes}
 use Rattle.vbd_laws.proofs.FitBackShares.{Terms, terms_in}
@@ -46,13 +49,15 @@ fit_start config = record {
   layout = refl;
   ordered = refl;
   offers = refl;
+  published = record { barrier = refl; flush = refl; discard = refl; indirect = refl };
+  said = tt;
   front = (refl, refl, refl);
   closing = λ whole. refl;
   through = λ e. absurd (cc);
   back = (refl, refl);
   held = (refl, refl);
   pages = refl;
-  sound = back_starts offer (facts_of config);
+  sound = back_starts (offer config.read_only) (facts_of config);
   halted = refl;
   terms = λ has. absurd (true≢false (sym has));
   unported = λ none. refl;
@@ -72,6 +77,8 @@ record IsLike (w : World) (r : rings.World) : Type 0 where
   back : r.back.stage ≡ w.rings.back.stage
   halted : r.back.halted ≡ w.rings.back.halted
   terms : terms_in r.back ≡ terms_in w.rings.back
+  info : r.back.jobs.info ≡ w.rings.back.jobs.info
+  keys : r.under.keys ≡ w.rings.under.keys
 
 fit_rings : (w : World) (r : rings.World) → IsFit w → IsSafe r → IsLike w r → IsUnported r.under.channels → IsUnbound w.rings.back.stage r.under.channels → IsFit (with_rings w r)
 fit_rings w r fit safe like unported unbound = record {
@@ -79,6 +86,8 @@ fit_rings w r fit safe like unported unbound = record {
   layout = ap (λ (s : Shape). s.abi) like.shape ∙ fit.layout;
   ordered = subst (λ (s : Shape). FrontOrdered w.front.stage w.front s.order) (sym like.shape) fit.ordered;
   offers = fit.offers;
+  published = subst (λ (i : DiskInfo). IsOffered i w.back.features) (sym like.info) fit.published;
+  said = subst (λ (d : Directory). SaidAt (SaysKey d w.back.features w.back.disk) w.back.stage) (sym like.keys) fit.said;
   front = rw like.front fit.front;
   closing = λ whole. like.closing ∙ fit.closing (ap is_broken (sym like.front) ∙ whole);
   through = λ e whole. like.through (fit.through e (ap is_broken (sym like.front) ∙ whole));
@@ -99,7 +108,7 @@ fit_job : (w : World) (k : ℕ) (outcome : Outcome) (act : Option BackAct) → I
 fit_job w k outcome None fit e safe = fit
 fit_job w k outcome (Some a) fit e safe =
     let same = job_leaves w.rings.under k (job_ask_of w.rings.back k) outcome a (jobs_of w.rings.back k) e in
-    fit_rings w (ring.job_after w.rings k (Some a)) fit safe (record { front = refl; shape = refl; closing = refl; through = λ is. is; back = refl; halted = refl; terms = refl }) (rw same.0 fit.unported) (rw same.0 fit.unbound)
+    fit_rings w (ring.job_after w.rings k (Some a)) fit safe (record { front = refl; shape = refl; closing = refl; through = λ is. is; back = refl; halted = refl; terms = refl; info = job_step_info w.rings.back k a.answer; keys = same.1 }) (rw same.0 fit.unported) (rw same.0 fit.unbound)
 
 -- a submission leaves whether the front closes, and one that closes takes none
 either_closing : (b c : Bool) (x y : Result ℕ Refusal × View) → x.1.closing ≡ c → y.1.closing ≡ c → (if b then x else y).1.closing ≡ c
@@ -114,19 +123,19 @@ closing_one : (v : View) (wish : Option Wish) → (submit_one v wish).1.closing 
 closing_one v None = refl
 closing_one v (Some wish) =
     either_closing (is_write wish.transfer && v.read_only) v.closing _ _ refl
-    (either_closing (nat_lt v.sectors (wish.sector + wish.count)) v.closing _ _ refl
+    (either_closing (nat_lt v.sectors (wish.sector + named_of wish.transfer wish.count)) v.closing _ _ refl
     (either_closing (nat_lt 11 (frames_for wish.count)) v.closing _ _ refl
     (either_closing (nat_le (entries_of v.shape.order) (unfinished v)) v.closing _ _ refl (closing_with v wish (taking (frames_for wish.count) v.pool [])))))
 
 closing_submit : (v : View) (job : Job) → (submit_of v job).1.closing ≡ v.closing
 closing_submit v job =
-    either_closing (v.last == 4294967295) v.closing _ _ refl (either_closing v.closing v.closing _ _ refl (either_closing (not (is_ready v.stage)) v.closing _ _ refl (closing_one v (wish_of job))))
+    either_closing (v.last == 4294967295) v.closing _ _ refl (either_closing v.closing v.closing _ _ refl (either_closing (not (is_ready v.stage)) v.closing _ _ refl (closing_one v (wish_of v.offers job))))
 
 through_submit : (v : View) (job : Job) → is_through v ≡ true → is_through (submit_of v job).1 ≡ true
 through_submit v job through = by_test (v.last == 4294967295) v.closing (both_true v.closing (length v.requests == 0) through).0
   where
     by_test : (b c : Bool) → c ≡ true
-        → is_through (if b then (Err refusal.Spent, v) else (if c then (Err refusal.Closing, v) else (if not (is_ready v.stage) then (Err refusal.NotReady, v) else submit_one v (wish_of job)))).1 ≡ true
+        → is_through (if b then (Err refusal.Spent, v) else (if c then (Err refusal.Closing, v) else (if not (is_ready v.stage) then (Err refusal.NotReady, v) else submit_one v (wish_of v.offers job)))).1 ≡ true
     by_test true c closing = through
     by_test false true closing = through
     by_test false false closing = absurd (true≢false (sym closing))
@@ -134,12 +143,12 @@ through_submit v job through = by_test (v.last == 4294967295) v.closing (both_tr
 fit_submit : (w : World) (job : Job) → IsFit w → IsFit (happens w (Submits job))
 fit_submit w job fit =
     fit_rings w (ring.happens w.rings (ring.Submits job)) fit (safe_happens w.rings (ring.Submits job) fit.safe)
-    (record { front = (submit_kept w.rings.front job).stage; shape = submit_shape w.rings.front job; closing = closing_submit w.rings.front job; through = through_submit w.rings.front job; back = refl; halted = refl; terms = refl }) fit.unported fit.unbound
+    (record { front = (submit_kept w.rings.front job).stage; shape = submit_shape w.rings.front job; closing = closing_submit w.rings.front job; through = through_submit w.rings.front job; back = refl; halted = refl; terms = refl; info = refl; keys = refl }) fit.unported fit.unbound
 
 fit_notify : (w : World) (at : End) → IsFit w → IsFit (happens w (Notifies at))
 fit_notify w at fit =
     let channels = notified at w.rings.back.stage w.rings.under.channels fit.unported fit.unbound in
-    fit_rings w (ring.happens w.rings (ring.Notifies at)) fit (safe_happens w.rings (ring.Notifies at) fit.safe) (record { front = refl; shape = refl; closing = refl; through = λ is. is; back = refl; halted = refl; terms = refl }) channels.0 channels.1
+    fit_rings w (ring.happens w.rings (ring.Notifies at)) fit (safe_happens w.rings (ring.Notifies at) fit.safe) (record { front = refl; shape = refl; closing = refl; through = λ is. is; back = refl; halted = refl; terms = refl; info = refl; keys = refl }) channels.0 channels.1
 
 -- the rings over this
 abbrev with_under : rings.World → Hypervisor → rings.World
@@ -148,7 +157,7 @@ with_under r under = record { front = r.front; back = r.back; under = under }
 fit_poke : (w : World) (frame word value : ℕ) → IsFit w → IsFit (happens w (Pokes frame word value))
 fit_poke w frame word value fit =
     poke_cases (λ (under : Hypervisor) (shown : List Line). IsSafe (with_under w.rings under) → IsFit (with_rings w (with_under w.rings under))) w.rings.under frame word value
-    (λ framed worded safe. fit_rings w (with_under w.rings (with_pages w.rings.under (with_word w.rings.under.pages frame word value))) fit safe (record { front = refl; shape = refl; closing = refl; through = λ is. is; back = refl; halted = refl; terms = refl }) fit.unported fit.unbound) (λ safe. fit) (safe_happens w.rings (ring.Pokes frame word value) fit.safe)
+    (λ framed worded safe. fit_rings w (with_under w.rings (with_pages w.rings.under (with_word w.rings.under.pages frame word value))) fit safe (record { front = refl; shape = refl; closing = refl; through = λ is. is; back = refl; halted = refl; terms = refl; info = refl; keys = refl }) fit.unported fit.unbound) (λ safe. fit) (safe_happens w.rings (ring.Pokes frame word value) fit.safe)
 
 -- whatever happens
 pub fit_happens : (w : World) (h : Happening) → IsFit w → IsFit (happens w h)

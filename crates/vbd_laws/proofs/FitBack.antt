@@ -1,39 +1,59 @@
 -- The machine stays fit as the back moves, and as it is asked to close.
-use Rattle.std.proofs.Common.{◌≡◌, Bool, true, false, List, [], ◌∷◌, if◌then◌else◌, refl, sym, ap, ◌∙◌, subst}
+use Rattle.std.proofs.Common.{◌≡◌, Bool, true, false, true≢false, ◌&&◌, List, [], ◌∷◌, if◌then◌else◌, refl, sym, ap, ◌∙◌, subst}
 use Rattle.std.specs.Prelude.{Option, Some, None}
 use Rattle.line_text.proofs.Both.{both_true}
 use Rattle.blk_base.specs.declared.parts.End.TheVariants as end
 use Rattle.blk_base.specs.declared.ask.BackAsk.{BackAsk}
 use Rattle.blk_base.specs.declared.ask.BackAsk.TheVariants as back_ask
 use Rattle.blk_base.specs.declared.ask.BackAnswer.{BackAnswer}
+use Rattle.blk_base.specs.declared.ask.BackAnswer.TheVariants as answer
 use Rattle.blk_base.specs.declared.moves.BackMover.TheVariants as back_mover
+use Rattle.segment_list.specs.declared.verdict.DiskInfo.{DiskInfo}
+use Rattle.key_directory.specs.Directory.{Directory}
 use Rattle.hypervisor.specs.Act.{BackAct, Took, back_act}
 use Rattle.blk_back.specs.Ask as back_ring
 use Rattle.blk_back.specs.View as ends
 use Rattle.blk_front.specs.View as front_ends
 use Rattle.blk_back.specs.declared.stage.Stage.{Stage as Ring}
 use Rattle.blk_back.specs.Step.{giving_up}
+use Rattle.blk_back.proofs.Hands.{step_info}
 use Rattle.back_jobs.specs.Jobs.{first_mapping}
+use Rattle.xenbus_state.specs.declared.keys.BackKey.{BackKey}
+use Rattle.xenbus_state.specs.declared.values.KeyValue.{KeyValue}
+use Rattle.xenbus_state.specs.declared.state.BusState.TheVariants as state
+use Rattle.xenbus_state.specs.declared.stage.BackStage.{BackStage}
+use Rattle.xenbus_state.specs.declared.stage.BackStage.TheVariants as stage
+use Rattle.xenbus_state.specs.declared.back.BackBusAsk.{BackBusAsk}
+use Rattle.xenbus_state.specs.declared.back.BackBusAsk.TheVariants as back_bus
 use Rattle.xenbus_state.specs.declared.table.BackHalt.{BackHalt}
+use Rattle.xenbus_state.specs.Values.{back_value}
+use Rattle.xenbus_state.specs.Programs.{next_feature}
 use Rattle.xenbus_state.specs.BackView.{BackView, is_halting, unplugged}
-use Rattle.xenbus_state.specs.BackStep.{step_of}
+use Rattle.xenbus_state.specs.BackAsk.{says_closing_at, says_closing, ask_at, IsAnswer}
+use Rattle.xenbus_state.specs.BackStep.{at, after_feature, step_at, step_of}
 use Rattle.split_model.specs.World as rings
+use Rattle.split_model.specs.Keys.{negotiated}
 use Rattle.split_model.specs.Happening as ring
 use Rattle.split_model.specs.Safe.{IsSafe}
 use Rattle.split_model.proofs.Safe.{safe_after}
+use Rattle.split_model.proofs.Keys.{back_stays, backs_no_key}
 use Rattle.split_model.proofs.SafeAnswers.{back_answered, backs_of}
 use Rattle.split_model.proofs.States.{halts_cases}
 use Rattle.split_model.proofs.Shapes.{attaches_waiting}
+use Rattle.vbd_back.specs.View.{offer}
 use Rattle.vbd_back.specs.View as back_view
 use Rattle.vbd_back.specs.Ask as back
 use Rattle.vbd_back.specs.Step as back_step
 use Rattle.vbd_model.specs.World.{World, backend_of}
 use Rattle.vbd_model.specs.Happening.{back_key, back_does, back_turn, back_bus_after, halted_at, reasons_of, attaches, happens, BackMoves, Closes}
-use Rattle.vbd_model.specs.Fit.{FrontOrdered, IsUnbound, IsFit}
-use Rattle.vbd_laws.proofs.FitBackBus.{BackFits, BackShares, spoken_fits}
-use Rattle.vbd_laws.proofs.FitBackMoves.{ring_fits, wait_fits, features_told, features_settled, features_moved, features_waited}
+use Rattle.vbd_model.specs.Fit.{FrontOrdered, BackGoesWith, IsUnbound, IsOffered, SaysKey, SaidBefore, SaidAt, IsFit}
+use Rattle.vbd_laws.proofs.FitBackBus.{BackFits, BackShares, told_at, spoken_fits}
+use Rattle.vbd_laws.proofs.FitBackKept.{Facts, facts_in, is_publishing, facts_settled, facts_moved, facts_closed, past_settled, past_moved, stage_closed}
+use Rattle.vbd_laws.proofs.FitBackMoves.{ring_fits, wait_fits}
+use Rattle.vbd_laws.proofs.FitSaid.{watched_says, asked_keeps, said_kept, said_past, said_next, set_says}
+use Rattle.vbd_laws.proofs.KeysSet.{back_may_set}
 use Rattle.vbd_laws.proofs.FitBackShares.{spoken_shares, moved_shares, waited_shares, closed_shares}
-use Rattle.vbd_laws.proofs.MovesAttached.{halted_only, all_halt, not_led, taken}
+use Rattle.vbd_laws.proofs.MovesAttached.{halted_only, all_halt, asks_layout, not_led, taken}
 use Rattle.vbd_laws.proofs.FitChannels.{IsUnported, past_unbound, unported_back, unbound_back}
 use Rattle.vbd_laws.proofs.FitBackRing.{gives_past, given, unbound_past}
 use Rattle.vbd_laws.proofs.MovesTurns.{back_asks, back_says, back_learns, back_takes, back_cases, back_speaks, back_told}
@@ -48,14 +68,26 @@ back_fits w fit = record { goes = fit.back; held = fit.held; halted = fit.halted
 back_shares : (w : World) → IsFit w → BackShares w.back w.rings.back
 back_shares w fit = record { pages = fit.pages; sound = fit.sound; terms = fit.terms }
 
+-- what the back offers and serves is as it was, and what its keys say of that
+abbrev Says : World → Directory → BackKey → Type 0
+Says w d k = SaysKey d w.back.features w.back.disk k
+
+record Offers (w : World) (r : rings.World) (u : BackView) : Type 0 where
+  facts : facts_in u ≡ facts_in w.back
+  info : r.back.jobs.info ≡ w.rings.back.jobs.info
+  said : SaidAt (Says w r.under.keys) u.stage
+
 -- the back's negotiation was told something; the front stands as it did
-fit_back : (w : World) (r : rings.World) (u : BackView) → IsFit w → IsSafe r → u.features ≡ w.back.features → BackFits u r.back → BackShares u r.back → r.front ≡ w.rings.front
+fit_back : (w : World) (r : rings.World) (u : BackView) → IsFit w → IsSafe r → Offers w r u → BackFits u r.back → BackShares u r.back → r.front ≡ w.rings.front
     → IsUnported r.under.channels → IsUnbound r.back.stage r.under.channels → IsFit (with_back w r u)
-fit_back w r u fit safe features fits shares same unported unbound = record {
+fit_back w r u fit safe offers fits shares same unported unbound = record {
   safe = safe;
   layout = ap (λ (f : front_ends.View). f.shape.abi) same ∙ fit.layout;
   ordered = subst (λ (f : front_ends.View). FrontOrdered w.front.stage w.front f.shape.order) (sym same) fit.ordered;
-  offers = features ∙ fit.offers;
+  offers = ap (λ (t : Facts). t.0) offers.facts ∙ (fit.offers ∙ sym (ap (λ (t : Facts). offer t.1.read_only) offers.facts));
+  published =
+      subst (λ (t : Facts). IsOffered r.back.jobs.info t.0) (sym offers.facts) (subst (λ (i : DiskInfo). IsOffered i w.back.features) (sym offers.info) fit.published);
+  said = subst (λ (t : Facts). SaidAt (SaysKey r.under.keys t.0 t.1) u.stage) (sym offers.facts) offers.said;
   front = rw same fit.front;
   closing = rw same fit.closing;
   through = rw same fit.through;
@@ -80,15 +112,23 @@ halted_unbound (Some why) w fit =
     halts_cases (λ (x : ends.View). IsUnbound x.stage w.rings.under.channels) (back_step.ring_halt why) w.rings.back (λ here. past_unbound _ w.rings.under.channels (unbound_past w.rings.back.pages))
     (λ here. past_unbound _ w.rings.under.channels (gives_past (giving_up (first_mapping w.rings.back.jobs.works)) (given (first_mapping w.rings.back.jobs.works)))) fit.unbound
 
+halted_info : (reason : Option BackHalt) (r : ends.View) → (halted_only reason r).jobs.info ≡ r.jobs.info
+halted_info None r = refl
+halted_info (Some why) r = halts_cases (λ (x : ends.View). x.jobs.info ≡ r.jobs.info) (back_step.ring_halt why) r (λ here. refl) (λ here. refl) refl
+
+-- the keys after what its negotiation asks of them
+abbrev keys_after : World → Directory
+keys_after w = negotiated w.rings.back.stage end.Back (back_key (back_asks w)) w.rings.under.keys
+
 -- the keys alone change, and the end of the ring halts or doesn't
-fit_keys : (w : World) (reason : Option BackHalt) (u : BackView) → IsFit w → u.features ≡ w.back.features → BackFits u (halted_only reason w.rings.back) → BackShares u (halted_only reason w.rings.back)
+fit_keys : (w : World) (reason : Option BackHalt) (u : BackView) → IsFit w → facts_in u ≡ facts_in w.back → SaidAt (Says w (keys_after w)) u.stage → BackFits u (halted_only reason w.rings.back) → BackShares u (halted_only reason w.rings.back)
     → IsFit (with_back w (ring.after (back_says w (reasons_of reason)) w.rings) u)
-fit_keys w reason u fit features fits shares =
+fit_keys w reason u fit facts said fits shares =
     let keyed : rings.World = ring.happens w.rings (ring.Negotiates end.Back (back_key (back_asks w))) in
     let halted = all_halt reason keyed in
     subst (λ (r : rings.World). IsFit (with_back w r u)) (sym halted)
     (fit_back w (record keyed { back = halted_only reason w.rings.back }) u fit
-    (subst (λ (r : rings.World). IsSafe r) halted (safe_after (back_says w (reasons_of reason)) w.rings fit.safe)) features fits shares refl fit.unported (halted_unbound reason w fit))
+    (subst (λ (r : rings.World). IsSafe r) halted (safe_after (back_says w (reasons_of reason)) w.rings fit.safe)) (record { facts = facts; info = halted_info reason w.rings.back; said = said }) fits shares refl fit.unported (halted_unbound reason w fit))
 
 -- what an answer makes of both where the end of the ring is led so
 abbrev Led : World → BackAct → Type 0
@@ -101,16 +141,73 @@ led w a fit moves e =
     let told = back_told w.rings.under (back_asks w) a says e in
     (spoken_fits w.back w.rings.back a.answer (back_fits w fit) (back_shares w fit) says told, spoken_shares w.back w.rings.back a.answer (back_fits w fit) (back_shares w fit) says told)
 
+-- it publishes a feature, whose key says so then; or all have been published
+never : (b : Bool) → (b && false) ≡ false
+never true = refl
+never false = refl
+
+asks_publishing : (w : World) (k : BackKey) → w.back.stage ≡ stage.Publish k → (says_closing w.back ≡ false) × (back_asks w ≡ back_bus.SetKey k (back_value w.back.features w.back.disk k))
+asks_publishing w k here =
+    let on : says_closing w.back ≡ false = ap (λ (b : BackStage). w.back.unplugged && says_closing_at b w.back.state) here ∙ never w.back.unplugged in
+    (on, ap (λ (c : Bool). if c then back_bus.SetState state.Closing else ask_at w.back.stage w.back) on ∙ ap (λ (b : BackStage). ask_at b w.back) here)
+
+next_settled : (k : Option BackKey) (r : Ring) (v : BackView) → (let u : BackView = back_step.settled r (at (after_feature k) v) in u.stage) ≡ after_feature k
+next_settled (Some k) r v = refl
+next_settled None r v = refl
+
+told_done : (k : BackKey) (value : KeyValue) (x : BackAnswer) → IsAnswer (back_bus.SetKey k value) x → x ≡ answer.Done
+told_done k value answer.Done allowed = refl
+told_done k value x allowed = absurd allowed
+
+publish_says : (w : World) (a : BackAct) (r : Ring) (k : BackKey) → IsFit w → w.back.stage ≡ stage.Publish k → IsAnswer (back_asks w) a.answer
+    → SaidAt (Says w (keys_after w)) (let u : BackView = back_step.settled r (step_of w.back a.answer) in u.stage)
+publish_says w a r k fit here allowed =
+    let asks = asks_publishing w k here in
+    let goes : BackGoesWith (stage.Publish k) w.back.state w.rings.back.stage = subst (λ (b : BackStage). BackGoesWith b w.back.state w.rings.back.stage) here fit.back in
+    let done = told_done k (back_value w.back.features w.back.disk k) a.answer (subst (λ (b : BackBusAsk). IsAnswer b a.answer) asks.1 allowed) in
+    let told : step_of w.back a.answer ≡ at (after_feature (next_feature k)) w.back =
+    told_at w.back a.answer asks.0 ∙ (ap (λ (b : BackStage). step_at b w.back a.answer) here ∙ ap (λ (x : BackAnswer). step_at (stage.Publish k) w.back x) done) in
+    let later : (let u : BackView = back_step.settled r (step_of w.back a.answer) in u.stage) ≡ after_feature (next_feature k) =
+    ap (λ (v : BackView). let u : BackView = back_step.settled r v in u.stage) told ∙ next_settled (next_feature k) r w.back in
+    let said : SaidBefore (Says w (keys_after w)) k = said_kept (Says w w.rings.under.keys) (Says w (keys_after w)) (asked_keeps w.back w.rings.back.stage w.rings.under.keys) (stage.Publish k)
+    (subst (λ (b : BackStage). SaidAt (Says w w.rings.under.keys) b) here fit.said) in
+    let is : Says w (keys_after w) k = subst (λ (b : BackBusAsk). Says w (negotiated w.rings.back.stage end.Back (back_key b) w.rings.under.keys) k) (sym asks.1)
+    (set_says w.back.features w.back.disk w.rings.back.stage w.rings.under.keys k goes.1 (back_may_set w.back k fit.offers)) in
+    subst (λ (b : BackStage). SaidAt (Says w (keys_after w)) b) (sym later) (said_next (Says w (keys_after w)) k said is)
+
+-- once all are published they stay said
+keys_said : (w : World) (u : BackView) → IsFit w → is_publishing w.back.stage ≡ false → is_publishing u.stage ≡ false → SaidAt (Says w (keys_after w)) u.stage
+keys_said w u fit past later = said_past (Says w w.rings.under.keys) (Says w (keys_after w)) (asked_keeps w.back w.rings.back.stage w.rings.under.keys) w.back.stage u.stage past later fit.said
+
+spoken_says : (w : World) (a : BackAct) (r : Ring) → IsFit w → IsAnswer (back_asks w) a.answer → SaidAt (Says w (keys_after w)) (let u : BackView = back_step.settled r (step_of w.back a.answer) in u.stage)
+spoken_says w a r fit allowed = by_stage w.back.stage refl
+  where
+    by_stage : (b : BackStage) → w.back.stage ≡ b → SaidAt (Says w (keys_after w)) (let u : BackView = back_step.settled r (step_of w.back a.answer) in u.stage)
+    by_stage (stage.Publish k) here = publish_says w a r k fit here allowed
+    by_stage b here = let past = ap is_publishing here in keys_said w (back_step.settled r (step_of w.back a.answer)) fit past (past_settled r w.back a.answer past)
+
+-- its negotiation doesn't publish where it leaves the move to its end of the ring
+quiet_past : (w : World) → IsFit w → back.bus_moves (back_asks w) w.rings.back.stage ≡ false → is_publishing w.back.stage ≡ false
+quiet_past w fit quiet = by_stage w.back.stage refl
+  where
+    by_stage : (b : BackStage) → w.back.stage ≡ b → is_publishing b ≡ false
+    by_stage (stage.Publish k) here =
+        let goes : BackGoesWith (stage.Publish k) w.back.state w.rings.back.stage = subst (λ (b : BackStage). BackGoesWith b w.back.state w.rings.back.stage) here fit.back in
+        let asks = (asks_publishing w k here).1 in
+        absurd (true≢false (sym (ap (λ (b : BackBusAsk). back.bus_moves b w.rings.back.stage) asks ∙ ap back.is_between goes.1) ∙ quiet))
+    by_stage b here = refl
+
 -- its negotiation speaks
 fit_says : (w : World) (a : BackAct) → IsFit w → back_turn w ≡ Some a → back.bus_moves (back_asks w) w.rings.back.stage ≡ true → attaches w (back_learns w) ≡ false
     → FitAfter w a (back_says w (halted_at w (back_turn w))) (back.key_ask (back_asks w)) (λ x. back_step.spoken (backend_of w) x)
 fit_says w a fit turn moves untaken e =
     let reason : Option BackHalt = back_step.halt_of (backend_of w) a.answer in
-    let plain = not_led w a (record { turn = turn; moves = moves }) untaken in
+    let plain = not_led w a fit (record { turn = turn; moves = moves }) untaken in
     let both = led w a fit moves e in
     subst (λ (act : Option BackAct). IsFit (with_back w (ring.after (back_says w (halted_at w act)) w.rings) (back_step.spoken (backend_of w) a.answer).bus)) (sym turn)
     (subst (λ (y : ends.View). IsFit (with_back w (ring.after (back_says w (reasons_of reason)) w.rings) (back_step.settled y.stage (step_of w.back a.answer)))) (sym plain)
-    (fit_keys w reason (back_step.settled (halted_only reason w.rings.back).stage (step_of w.back a.answer)) fit (features_settled _ (halted_only reason w.rings.back).stage (step_of w.back a.answer) ∙ features_told w.back a.answer)
+    (fit_keys w reason (back_step.settled (halted_only reason w.rings.back).stage (step_of w.back a.answer)) fit (facts_settled (halted_only reason w.rings.back).stage w.back a.answer)
+    (spoken_says w a (halted_only reason w.rings.back).stage fit (back_told w.rings.under (back_asks w) a (both_true (back.speaks (back_asks w)) (back.is_between w.rings.back.stage) moves).0 e))
     (subst (λ (y : ends.View). BackFits (back_step.settled y.stage (step_of w.back a.answer)) y) plain both.0)
     (subst (λ (y : ends.View). BackShares (back_step.settled y.stage (step_of w.back a.answer)) y) plain both.1)))
 
@@ -121,25 +218,40 @@ fit_takes w a fit turn moves takes e =
     let took = taken w a (record { turn = turn; moves = moves }) takes in
     let both = led w a fit moves e in
     let y : ends.View = back_step.ring_led (back_step.halt_of (backend_of w) a.answer) (back_step.reads_layout (back_asks w)) (step_of w.back a.answer) w.rings.back in
-    let waits = attaches_waiting (back_step.shape_read (back_learns w)) (back_learns w).grefs w.rings.back (both_true _ _ took.goes).0 in
+    let past : is_publishing w.back.stage ≡ false = ap is_publishing (asks_layout w.back took.reads).1 in
+    let waits = attaches_waiting (back_step.shape_read (back_learns w)) (back_learns w).grefs w.rings.back (both_true _ _ (both_true _ _ took.goes).0).0 in
     subst (λ (r : rings.World). IsFit (with_back w r (back_step.spoken (backend_of w) a.answer).bus)) (sym took.after)
     (fit_back w (record w.rings { back = y }) (back_step.spoken (backend_of w) a.answer).bus fit
     (subst (λ (r : rings.World). IsSafe r) took.after (safe_after (back_takes (back_learns w)) w.rings fit.safe))
-    (features_settled _ y.stage (step_of w.back a.answer) ∙ features_told w.back a.answer) both.0 both.1 refl fit.unported
+    (record {
+      facts = facts_settled y.stage w.back a.answer;
+      info = ap (λ (t : ends.View). t.jobs.info) took.led;
+      said = said_past (Says w w.rings.under.keys) (Says w w.rings.under.keys) (λ k is. is) w.back.stage _ past (past_settled y.stage w.back a.answer past) fit.said;
+    }) both.0 both.1 refl fit.unported
     (subst (λ (t : ends.View). IsUnbound t.stage w.rings.under.channels) (sym took.led) (subst (λ (s : Ring). IsUnbound s w.rings.under.channels) waits fit.unbound)))
 
--- its end of the ring moves
+-- its end of the ring moves, and asks for no key
+own_keys : (w : World) (a : BackAct) (k : BackKey) → Says w w.rings.under.keys k → back_act w.rings.under back_mover.Back (back_ring.ask_of w.rings.back) Took ≡ Some a → Says w a.under.keys k
+own_keys w a k is e =
+    back_stays (λ (d : Directory). Says w d k) (λ at d says. watched_says w.back.features w.back.disk k d at _ says) w.rings.under back_mover.Back (back_ring.ask_of w.rings.back) Took a
+    (backs_no_key (back_ring.ask_of w.rings.back) (backs_of w.rings.back)) is e
+
 fit_moves : (w : World) (a : BackAct) → IsFit w → back.bus_moves (back_asks w) w.rings.back.stage ≡ false → back.ring_moves (back_asks w) w.rings.back.stage ≡ true
     → FitAfter w a (ring.BackMoves ∷ []) (back_ring.ask_of w.rings.back) (λ x. back_step.ring_step true (back_asks w) (backend_of w) x)
 fit_moves w a fit quiet moves e =
     let moved : ring.after (ring.BackMoves ∷ []) w.rings ≡ ring.back_after w.rings (Some a) = ap (λ (act : Option BackAct). ring.back_after w.rings act) e in
     let v : back_view.View = back_step.ring_step true (back_asks w) (backend_of w) a.answer in
     let told = back_answered w.rings.under w.rings.back Took a e in
+    let past = quiet_past w fit quiet in
     let fits = ring_fits w.back w.rings.back a.answer (back_fits w fit) (back_shares w fit) quiet moves told in
     let shares = moved_shares w.back w.rings.back a.answer (back_fits w fit) (back_shares w fit) moves told in
     subst (λ (r : rings.World). IsFit (with_back w r v.bus)) (sym moved)
     (fit_back w (ring.back_after w.rings (Some a)) v.bus fit (subst (λ (r : rings.World). IsSafe r) moved (safe_after (ring.BackMoves ∷ []) w.rings fit.safe))
-    (features_moved (back_asks w) v.ring w.back a.answer) (record { goes = fits.goes; held = fits.held; halted = fits.halted }) (record { pages = shares.pages; sound = shares.sound; terms = λ has on. let have = shares.terms has on in record { shape = have.shape; grefs = have.grefs; port = have.port } }) refl
+    (record {
+      facts = facts_moved true (back_asks w) (backend_of w) a.answer;
+      info = step_info w.rings.back a.answer;
+      said = said_past (Says w w.rings.under.keys) (Says w a.under.keys) (λ k is. own_keys w a k is e) w.back.stage _ past (past_moved true (back_asks w) (backend_of w) a.answer past) fit.said;
+    }) (record { goes = fits.goes; held = fits.held; halted = fits.halted }) (record { pages = shares.pages; sound = shares.sound; terms = λ has on. let have = shares.terms has on in record { shape = have.shape; grefs = have.grefs; port = have.port } }) refl
     (unported_back w.rings.under (back_ring.ask_of w.rings.back) Took a (backs_of w.rings.back) fit.unported e)
     (unbound_back w.rings.back w.rings.under Took a fit.unbound e))
 
@@ -147,7 +259,8 @@ fit_moves w a fit quiet moves e =
 fit_waits : (w : World) (a : BackAct) → IsFit w → back.bus_moves (back_asks w) w.rings.back.stage ≡ false → back.ring_moves (back_asks w) w.rings.back.stage ≡ false
     → FitAfter w a (back_says w []) back_ask.Wait (λ x. back_step.ring_step false (back_asks w) (backend_of w) x)
 fit_waits w a fit quiet still e =
-    fit_keys w None (back_step.waited (back_asks w) w.back a.answer) fit (features_waited (back_asks w) w.back a.answer) (wait_fits w.back w.rings.back a.answer (back_fits w fit) still) (waited_shares w.back w.rings.back a.answer (back_shares w fit))
+    fit_keys w None (back_step.waited (back_asks w) w.back a.answer) fit (facts_moved false (back_asks w) (backend_of w) a.answer)
+    (let past = quiet_past w fit quiet in keys_said w (back_step.waited (back_asks w) w.back a.answer) fit past (past_moved false (back_asks w) (backend_of w) a.answer past)) (wait_fits w.back w.rings.back a.answer (back_fits w fit) still) (waited_shares w.back w.rings.back a.answer (back_shares w fit))
 
 fit_act : (w : World) (a : BackAct) → IsFit w → back_turn w ≡ Some a → IsFit (with_back w (ring.after (back_does w) w.rings) (back_bus_after w (Some a)))
 fit_act w a fit turn = back_cases (FitAfter w a) w (fit_says w a fit turn) (fit_takes w a fit turn) (fit_moves w a fit) (fit_waits w a fit) turn
@@ -161,7 +274,7 @@ fit_none w fit turn =
     back_cases (FitStill w) w (λ moves untaken e. absurd (back_speaks w.rings.under (back_asks w) (both_true (back.speaks (back_asks w)) (back.is_between w.rings.back.stage) moves).0 e))
     (λ moves takes e. absurd (back_speaks w.rings.under (back_asks w) (both_true (back.speaks (back_asks w)) (back.is_between w.rings.back.stage) moves).0 e))
     (λ quiet moves e. subst (λ (act : Option BackAct). IsFit (with_back w (ring.back_after w.rings act) w.back)) (sym e) fit)
-    (λ quiet still e. fit_keys w None w.back fit refl (back_fits w fit) (back_shares w fit)) turn
+    (λ quiet still e. let past = quiet_past w fit quiet in fit_keys w None w.back fit refl (keys_said w w.back fit past past) (back_fits w fit) (back_shares w fit)) turn
 
 fit_turn : (w : World) (act : Option BackAct) → IsFit w → back_turn w ≡ act → IsFit (with_back w (ring.after (back_does w) w.rings) (back_bus_after w act))
 fit_turn w None fit e = fit_none w fit e
@@ -173,12 +286,9 @@ fit_back_moves w fit = fit_turn w (back_turn w) fit refl
 
 -- and a close
 pub fit_back_closes : (w : World) → IsFit w → IsFit (happens w (Closes end.Back))
-fit_back_closes w fit = fit_back w w.rings (unplugged w.back) fit fit.safe (by_features (is_halting w.back.stage)) (by_fits (is_halting w.back.stage)) (closed_shares w.back w.rings.back (back_shares w fit)) refl fit.unported fit.unbound
+fit_back_closes w fit = fit_back w w.rings (unplugged w.back) fit fit.safe
+    (record { facts = facts_closed w.back; info = refl; said = subst (λ (b : BackStage). SaidAt (Says w w.rings.under.keys) b) (sym (stage_closed w.back)) fit.said }) (by_fits (is_halting w.back.stage)) (closed_shares w.back w.rings.back (back_shares w fit)) refl fit.unported fit.unbound
   where
-    by_features : (c : Bool) → (let v : BackView = w.back in if c then v else record v { unplugged = true }).features ≡ w.back.features
-    by_features true = refl
-    by_features false = refl
-
     by_fits : (c : Bool) → BackFits (let v : BackView = w.back in if c then v else record v { unplugged = true }) w.rings.back
     by_fits true = back_fits w fit
     by_fits false = record { goes = fit.back; held = fit.held; halted = fit.halted }

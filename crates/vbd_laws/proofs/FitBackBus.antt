@@ -15,6 +15,7 @@ use Rattle.blk_back.specs.View as ends
 use Rattle.blk_back.specs.Step.{give_up, giving_up as ring_giving_up, unbound, halts_at as ring_halts_at, may_halt, halts, may_attach, attached, attaches}
 use Rattle.back_jobs.specs.Jobs.{first_mapping}
 use Rattle.xenbus_state.specs.declared.keys.BackKey.{BackKey}
+use Rattle.xenbus_state.specs.declared.keys.BackKey.TheVariants as back_key
 use Rattle.xenbus_state.specs.declared.keys.FrontKey.{FrontKey}
 use Rattle.xenbus_state.specs.declared.keys.FrontKey.TheVariants as key
 use Rattle.xenbus_state.specs.declared.state.BusState.{BusState}
@@ -198,7 +199,7 @@ acted_fits action.Connect v r suits here reads h same = record { goes = connects
 acted_fits (action.Halt reason) v r suits here reads h same = halt_fits reason v r (reads_between v.state r.stage reads) same h.held
 
 -- a key before the last one is read
-abbrev IsEarly : BackStage → Type 0
+abbrev pub IsEarly : BackStage → Type 0
 IsEarly (stage.ReadKey key.FeaturePersistent) = ⊥
 IsEarly (stage.ReadKey k) = Unit {0}
 IsEarly b = ⊥
@@ -213,6 +214,7 @@ Follows k v u = IsEarly u.stage
 pub record Reads (k : FrontKey) (v u : BackView) : Type 0 where
   pub own : u.state ≡ v.state
   pub features : u.features ≡ v.features
+  pub disk : u.disk ≡ v.disk
   pub pages : u.pages ≡ v.pages
   pub bound : u.bound ≡ v.bound
   pub next : Follows k v u
@@ -233,26 +235,26 @@ reads_abi P with None all halts = halts
 reads_abi P with (Some a) all halts = all a
 
 pub reads_key : (P : Option BackView → Type 0) (k : FrontKey) (text : Option (List ℕ)) (v : BackView) → ((u : BackView) → Reads k v u → P (Some u)) → P None → P (key_read k text v)
-reads_key P key.RingPageOrder None v all halts = all _ (record { own = refl; features = refl; pages = refl; bound = refl; next = tt })
+reads_key P key.RingPageOrder None v all halts = all _ (record { own = refl; features = refl; disk = refl; pages = refl; bound = refl; next = tt })
 reads_key P key.RingPageOrder (Some text) v all halts =
-    reads_number P (with_order v (key.RingRefOf 0)) (order_of (number_of text)) (λ n. all _ (record { own = refl; features = refl; pages = refl; bound = refl; next = tt })) halts
+    reads_number P (with_order v (key.RingRefOf 0)) (order_of (number_of text)) (λ n. all _ (record { own = refl; features = refl; disk = refl; pages = refl; bound = refl; next = tt })) halts
 reads_key P (key.RingRefOf page) None v all halts = by_order (v.terms.order == 0)
   where
     by_order : (one : Bool) → P (if one then Some (record v { stage = stage.ReadKey key.RingRef }) else None)
-    by_order true = all _ (record { own = refl; features = refl; pages = refl; bound = refl; next = tt })
+    by_order true = all _ (record { own = refl; features = refl; disk = refl; pages = refl; bound = refl; next = tt })
     by_order false = halts
 reads_key P (key.RingRefOf page) (Some text) v all halts =
-    reads_number P (with_gref v (after_page v.terms.order page)) (number_of text) (λ n. all _ (record { own = refl; features = refl; pages = refl; bound = refl; next = early_page v.terms.order page })) halts
+    reads_number P (with_gref v (after_page v.terms.order page)) (number_of text) (λ n. all _ (record { own = refl; features = refl; disk = refl; pages = refl; bound = refl; next = early_page v.terms.order page })) halts
 reads_key P key.RingRef None v all halts = halts
 reads_key P key.RingRef (Some text) v all halts =
-    reads_number P (with_gref v key.EventChannel) (number_of text) (λ n. all _ (record { own = refl; features = refl; pages = refl; bound = refl; next = tt })) halts
+    reads_number P (with_gref v key.EventChannel) (number_of text) (λ n. all _ (record { own = refl; features = refl; disk = refl; pages = refl; bound = refl; next = tt })) halts
 reads_key P key.EventChannel None v all halts = halts
 reads_key P key.EventChannel (Some text) v all halts =
-    reads_number P (with_port v) (number_of text) (λ n. all _ (record { own = refl; features = refl; pages = refl; bound = refl; next = tt })) halts
+    reads_number P (with_port v) (number_of text) (λ n. all _ (record { own = refl; features = refl; disk = refl; pages = refl; bound = refl; next = tt })) halts
 reads_key P key.Protocol text v all halts =
-    reads_abi P (with_layout v) (layout_read text) (λ a. all _ (record { own = refl; features = refl; pages = refl; bound = refl; next = (refl, refl, refl) })) halts
+    reads_abi P (with_layout v) (layout_read text) (λ a. all _ (record { own = refl; features = refl; disk = refl; pages = refl; bound = refl; next = (refl, refl, refl) })) halts
 reads_key P key.FeaturePersistent text v all halts =
-    reads_number P (with_persistent v) (count_read text) (λ n. all _ (record { own = refl; features = refl; pages = refl; bound = refl; next = (refl, refl, refl, refl) })) halts
+    reads_number P (with_persistent v) (count_read text) (λ n. all _ (record { own = refl; features = refl; disk = refl; pages = refl; bound = refl; next = (refl, refl, refl, refl) })) halts
 
 -- where the end of the ring stands as this is read or mapped next
 abbrev NextAt : BackStage → Ring → Type 0
@@ -365,9 +367,10 @@ offered_fits : (next : Option BackKey) (v : BackView) (r : ends.View) → v.stat
 offered_fits (Some k) v r is here h served = record { goes = (is, here); held = h.held; halted = served }
 offered_fits None v r is here h served = record { goes = (is, here); held = h.held; halted = served }
 
-fact_fits : (next : Option BackKey) (v : BackView) (r : ends.View) → v.state ≡ state.InitWait → r.stage ≡ ring.Loop → BackFits v r → is_some r.halted ≡ false → BackFits (settled r.stage (at (after_fact next) v)) r
-fact_fits (Some k) v r is here h served = record { goes = (is, here); held = h.held; halted = served }
-fact_fits None v r is here h served = record { goes = (is, here); held = h.held; halted = served }
+fact_fits : (k : BackKey) (v : BackView) (r : ends.View) → v.state ≡ state.InitWait → r.stage ≡ ring.Loop → BackFits v r → is_some r.halted ≡ false → BackFits (settled r.stage (at (after_fact (next_fact k)) v)) r
+fact_fits back_key.Sectors v r is here h served = record { goes = (is, here, tt); held = h.held; halted = served }
+fact_fits back_key.SectorSize v r is here h served = record { goes = (is, here, tt); held = h.held; halted = served }
+fact_fits k v r is here h served = record { goes = (is, here); held = h.held; halted = served }
 
 -- the other end's key was read, or its own was set
 heard_fits : (b : BackStage) (v : BackView) (r : ends.View) (x : BackAnswer) → v.stage ≡ b → BackGoesWith b v.state r.stage → BackFits v r → BackShares v r → speaks (ask_at b v) ≡ true → IsAnswer (ask_at b v) x → Heard b v r x
@@ -381,7 +384,7 @@ heard_fits stage.Watch v r answer.Done here goes h shares says allowed = record 
 heard_fits stage.ReadState v r (answer.Key text) here goes h shares says allowed =
     acted_fits (back_action v.state v.unplugged (state_read text)) v r (action_suits v.state v.unplugged (state_read text)) here goes h shares.pages
 heard_fits (stage.ReadKey k) v r (answer.Key text) here goes h shares says allowed = key_fits k text v r goes h shares (subst (λ (b : BackStage). IsPlaced b v) here shares.sound.placed) (h.halted ∙ ap is_halting here)
-heard_fits (stage.PublishFact k) v r answer.Done here goes h shares says allowed = fact_fits (next_fact k) v r goes.0 goes.1 h (h.halted ∙ ap is_halting here)
+heard_fits (stage.PublishFact k) v r answer.Done here goes h shares says allowed = fact_fits k v r goes.0 goes.1 h (h.halted ∙ ap is_halting here)
 heard_fits (stage.Publish k) v r x here goes h shares says allowed = absurd allowed
 heard_fits (stage.WriteState own) v r x here goes h shares says allowed = absurd allowed
 heard_fits stage.Watch v r x here goes h shares says allowed = absurd allowed

@@ -18,22 +18,17 @@ use Rattle.xenbus_state.specs.declared.state.BusState.{BusState}
 use Rattle.xenbus_state.specs.declared.state.BusState.TheVariants as state
 use Rattle.xenbus_state.specs.declared.stage.BackStage.{BackStage}
 use Rattle.xenbus_state.specs.declared.stage.BackStage.TheVariants as stage
-use Rattle.xenbus_state.specs.declared.back.BackBusAsk.{BackBusAsk}
 use Rattle.xenbus_state.specs.declared.back.BackBusAsk.TheVariants as bus_ask
-use Rattle.xenbus_state.specs.declared.table.BackAction.{BackAction}
-use Rattle.xenbus_state.specs.declared.table.BackAction.TheVariants as action
-use Rattle.xenbus_state.specs.States.{state_read}
-use Rattle.xenbus_state.specs.Tables.{back_action}
 use Rattle.xenbus_state.specs.BackView.{BackView, is_halting, halted, stopped}
 use Rattle.xenbus_state.specs.BackAsk.{says_closing_at, says_closing, unmap_ask, ask_at, ask_of}
-use Rattle.xenbus_state.specs.BackStep.{at, last_state, giving_up, other_pages, acted, kept_or_halted, step_at, step_of}
+use Rattle.xenbus_state.specs.BackStep.{at, last_state, giving_up, other_pages, step_at, step_of}
 use Rattle.xenbus_state.specs.BackSound.{IsPlaced}
 use Rattle.split_model.proofs.States.{is_unbound}
 use Rattle.vbd_back.specs.Ask.{is_between, bus_moves, ring_moves}
 use Rattle.vbd_back.specs.Step.{bus_halted, settled_at, settled, caught_up, woken, followed, waited}
 use Rattle.vbd_model.specs.Fit.{is_serving, BackRests, BackReads, IsGivingUp, IsUnmapping, BackGoesWith, BackHolds, has_terms, HaveTerms}
 use Rattle.vbd_laws.proofs.FitBackRing.{Serves, gives_up, serves_step, given, watched_step}
-use Rattle.vbd_laws.proofs.FitBackBus.{BackFits, BackShares, told_at, is_ended, last_goes, last_halts, ends_fit, unbound_fits, waits_reading, reads_key}
+use Rattle.vbd_laws.proofs.FitBackBus.{BackFits, BackShares, told_at, is_ended, last_goes, last_halts, ends_fit, unbound_fits, waits_reading}
 
 -- an end of the ring that serves holds its pages and its port, and leaves the move to no one
 serving_holds : (s : Ring) (order pages : ℕ) (binds : Bool) → is_serving s ≡ true → pages ≡ 2 ^ order → binds ≡ true → BackHolds s order pages binds
@@ -195,7 +190,7 @@ bind_fits : (v : BackView) (r : ends.View) (x : BackAnswer) → v.stage ≡ stag
 bind_fits v r answer.Done here on own held none shared allowed =
     let told = told_at v answer.Done on ∙ ap (λ (b : BackStage). step_at b v answer.Done) here in
     let x : ends.View = ring_step_at ring.Bind r answer.Done in
-    subst (λ (t : BackView). BackFits (caught_up x t) x) (sym told) (subst (λ (u : BackView). BackFits u x) (sym (goes_on x _ none refl)) (record { goes = (own, refl); held = (held.0, refl); halted = none }))
+    subst (λ (t : BackView). BackFits (caught_up x t) x) (sym told) (subst (λ (u : BackView). BackFits u x) (sym (goes_on x _ none refl)) (record { goes = (own, refl, tt); held = (held.0, refl); halted = none }))
 bind_fits v r answer.BindRefused here on own held none shared allowed =
     let told : step_of v answer.BindRefused ≡ halted v = told_at v answer.BindRefused on ∙ ap (λ (b : BackStage). step_at b v answer.BindRefused) here in
     let x : ends.View = ring_step_at ring.Bind r answer.BindRefused in
@@ -363,65 +358,3 @@ wait_fits v r x h still = by_test (says_closing v) refl
     by_test : (c : Bool) → says_closing v ≡ c → BackFits (waited (ask_of v) v x) r
     by_test true is = rw is h
     by_test false on = rw on (begun v.stage refl on h.goes (rw on at still))
-
--- an answer leaves what the back offers
-features_acted : (act : BackAction) (v : BackView) → (acted act v).features ≡ v.features
-features_acted action.Nothing v = refl
-features_acted action.Connect v = refl
-features_acted (action.Halt reason) v = refl
-
-features_at : (b : BackStage) (v : BackView) (x : BackAnswer) → (step_at b v x).features ≡ v.features
-features_at (stage.Publish k) v answer.Done = refl
-features_at (stage.WriteState s) v answer.Done = refl
-features_at stage.Watch v answer.Done = refl
-features_at stage.Rest v (answer.Watched path) = refl
-features_at stage.ReadState v (answer.Key text) = features_acted (back_action v.state v.unplugged (state_read text)) v
-features_at (stage.ReadKey k) v (answer.Key text) = reads_key (λ (o : Option BackView). (kept_or_halted o v).features ≡ v.features) k text v (λ u reads. reads.features) refl
-features_at stage.MapPage v (answer.Mapped page) = refl
-features_at stage.MapPage v (answer.MapRefused status) = refl
-features_at stage.Bind v answer.Done = refl
-features_at stage.Bind v answer.BindRefused = refl
-features_at (stage.PublishFact k) v answer.Done = refl
-features_at stage.UnmapOthers v answer.Done = refl
-features_at stage.UnmapPage v answer.Done = refl
-features_at stage.ClosePort v answer.Done = refl
-features_at b v x = refl
-
-pub features_told : (v : BackView) (x : BackAnswer) → (step_of v x).features ≡ v.features
-features_told v x = by_test (says_closing v)
-  where
-    by_test : (c : Bool) → (if c then record v { state = state.Closing } else step_at v.stage v x).features ≡ v.features
-    by_test true = refl
-    by_test false = features_at v.stage v x
-
-pub features_settled : (b : BackStage) (s : Ring) (v : BackView) → (settled_at b s v).features ≡ v.features
-features_settled stage.UnmapOthers (ring.GiveUp m) v = refl
-features_settled stage.UnmapOthers s v = features_told v answer.Done
-features_settled b s v = refl
-
-features_woken : (v : BackView) (x : BackAnswer) → (woken v x).features ≡ v.features
-features_woken v (answer.Watched path) = features_told v (answer.Watched path)
-features_woken v x = refl
-
-features_followed : (b : BackBusAsk) (v : BackView) (x : BackAnswer) → (followed b v x).features ≡ v.features
-features_followed (bus_ask.Map gref) v x = features_told v x
-features_followed (bus_ask.Bind port) v x = features_told v x
-features_followed (bus_ask.Unmap m) v x = features_told v answer.Done
-features_followed bus_ask.ClosePort v x = features_told v x
-features_followed bus_ask.Wait v x = features_woken v x
-features_followed b v x = refl
-
-pub features_moved : (b : BackBusAsk) (r : ends.View) (v : BackView) (x : BackAnswer) → (caught_up r (followed b v x)).features ≡ v.features
-features_moved b r v x = features_settled _ r.stage _ ∙ (by_halt r.halted (followed b v x) ∙ features_followed b v x)
-  where
-    by_test : (c : Bool) (u : BackView) → (if c then u else halted u).features ≡ u.features
-    by_test true u = refl
-    by_test false u = refl
-
-    by_halt : (h : Option Halt) (u : BackView) → (bus_halted h u).features ≡ u.features
-    by_halt None u = refl
-    by_halt (Some why) u = by_test (is_halting u.stage) u
-
-pub features_waited : (b : BackBusAsk) (v : BackView) (x : BackAnswer) → (waited b v x).features ≡ v.features
-features_waited bus_ask.Wait v x = features_woken v x
-features_waited b v x = refl

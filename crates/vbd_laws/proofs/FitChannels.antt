@@ -200,6 +200,8 @@ job_leaves h k (back_ask.Map gref mode) o a own e = of_back (Leaves h) _ a (map_
 job_leaves h k (back_ask.Unmap m) o a own e = of_back (Leaves h) _ a (refl, refl) e
 job_leaves h k (back_ask.DiskRead sector) o a own e = of_read (Leaves h) h _ o a (under_leaves h) e
 job_leaves h k (back_ask.DiskWrite sector words) o a own e = of_disk (Leaves h) h _ o a (under_leaves h) e
+job_leaves h k back_ask.Flush o a own e = of_disk (Leaves h) h _ o a (under_leaves h) e
+job_leaves h k (back_ask.Trim sector count) o a own e = of_disk (Leaves h) h _ o a (under_leaves h) e
 job_leaves h k ask o a own e = absurd own
 
 -- a spurious event comes at a bound port alone

@@ -5,15 +5,18 @@ use Rattle.blk_base.specs.declared.parts.End.TheVariants as end
 use Rattle.blk_base.specs.declared.ask.FrontAsk.{FrontAsk}
 use Rattle.blk_base.specs.declared.ask.FrontAsk.TheVariants as front_ask
 use Rattle.blk_base.specs.declared.ask.FrontAnswer.{FrontAnswer}
+use Rattle.key_directory.specs.Directory.{Directory}
 use Rattle.hypervisor.specs.Act.{FrontAct, front_act}
 use Rattle.blk_front.specs.declared.state.FrontState.{FrontState}
 use Rattle.blk_front.specs.declared.state.FrontState.TheVariants as enter
+use Rattle.blk_front.specs.declared.state.Offers.{Offers}
 use Rattle.blk_front.specs.State.{in_state, enters}
 use Rattle.blk_front.specs.View as ends
 use Rattle.ring_words.specs.Shape.{Shape}
 use Rattle.split_model.proofs.Shapes.{step_shape}
 use Rattle.split_model.proofs.States.{enters_cases}
 use Rattle.blk_front.specs.Ask as front_ring
+use Rattle.xenbus_state.specs.declared.keys.BackKey.{BackKey}
 use Rattle.xenbus_state.specs.declared.front.FrontNews.{FrontNews}
 use Rattle.xenbus_state.specs.FrontView.{FrontView, ring_order, closed}
 use Rattle.xenbus_state.specs.FrontAsk as bus_asks
@@ -21,19 +24,21 @@ use Rattle.split_model.specs.World as rings
 use Rattle.split_model.specs.Happening as ring
 use Rattle.split_model.specs.Safe.{IsSafe}
 use Rattle.split_model.proofs.Safe.{safe_after}
-use Rattle.split_model.proofs.SafeAnswers.{front_answered, fronts_at}
+use Rattle.split_model.proofs.Keys.{front_stays}
+use Rattle.split_model.proofs.SafeAnswers.{front_answered, fronts_at, fronts_no_key}
 use Rattle.vbd_front.specs.View as front_view
 use Rattle.vbd_front.specs.Ask as front
 use Rattle.vbd_front.specs.Step as front_step
 use Rattle.vbd_model.specs.World.{World, frontend_of}
 use Rattle.vbd_model.specs.Happening.{front_key, front_does, front_turn, front_bus_after, entered_at, closes_does, happens, FrontMoves, Closes}
-use Rattle.vbd_model.specs.Fit.{IsUnbound, IsFit}
+use Rattle.vbd_model.specs.Fit.{IsUnbound, SaysKey, IsFit}
 use Rattle.vbd_laws.proofs.FitFrontBus.{FrontFits, unoccupied}
 use Rattle.vbd_laws.proofs.FitFrontSpoken.{spoken_settles}
 use Rattle.vbd_laws.proofs.FitFrontMoves.{ring_fits, wait_fits}
 use Rattle.vbd_laws.proofs.FitFrontClose.{close_fits}
 use Rattle.vbd_laws.proofs.FitFrontTerms.{Terms, same_terms, terms_told, terms_followed, terms_waited, terms_closed}
 use Rattle.vbd_laws.proofs.FitChannels.{IsUnported, unported_front, unbound_front}
+use Rattle.vbd_laws.proofs.FitSaid.{watched_says, front_keeps, said_kept}
 use Rattle.vbd_laws.proofs.MovesTurns.{front_asks, front_says, front_cases, front_speaks, front_told}
 
 -- the machine with this of the rings, and of the front's negotiation
@@ -49,7 +54,7 @@ enters_abi s f = enters_cases (λ (x : ends.View) shown. x.shape.abi ≡ f.shape
   where
     by_state : (s : FrontState) → (in_state s f).shape.abi ≡ f.shape.abi
     by_state (enter.Agreed order) = refl
-    by_state enter.Connected = refl
+    by_state (enter.Connected offers) = refl
     by_state enter.Closing = refl
     by_state enter.Leaving = refl
     by_state enter.Closed = refl
@@ -59,14 +64,20 @@ all_abi : (states : List FrontState) (f : ends.View) → (front_step.all_entered
 all_abi [] f = refl
 all_abi (s ∷ states) f = all_abi states (enters s f) ∙ enters_abi s f
 
+-- what the back's keys say of what it serves they say over these keys
+abbrev KeepsSaid : World → Directory → Type 0
+KeepsSaid w d = (k : BackKey) → SaysKey w.rings.under.keys w.back.features w.back.disk k → SaysKey d w.back.features w.back.disk k
+
 -- the front's negotiation was told something, and its end of the ring was left to it; the back stands as it did
-fit_front : (w : World) (r : rings.World) (u : FrontView) → IsFit w → IsSafe r → Terms w.front u → r.front.shape.abi ≡ w.rings.front.shape.abi → FrontFits u r.front → r.back ≡ w.rings.back
+fit_front : (w : World) (r : rings.World) (u : FrontView) → IsFit w → IsSafe r → KeepsSaid w r.under.keys → Terms w.front u → r.front.shape.abi ≡ w.rings.front.shape.abi → FrontFits u r.front → r.back ≡ w.rings.back
     → IsUnported r.under.channels → IsUnbound w.rings.back.stage r.under.channels → IsFit (with_front w r u)
-fit_front w r u fit safe terms abi fits same unported unbound = record {
+fit_front w r u fit safe says terms abi fits same unported unbound = record {
   safe = safe;
   layout = abi ∙ (fit.layout ∙ sym terms.abi);
   ordered = fits.ordered;
   offers = fit.offers;
+  published = rw same fit.published;
+  said = said_kept _ _ says w.back.stage fit.said;
   front = fits.goes;
   closing = fits.closing;
   through = fits.through;
@@ -85,9 +96,10 @@ pub all_enter : (states : List FrontState) (r : rings.World) → ring.after (map
 all_enter [] r = refl
 all_enter (s ∷ states) r = all_enter states (ring.happens r (ring.FrontEnters s))
 
-entered_both : (news : Option FrontNews) (due : List FrontState) (f : ends.View) → front_step.all_entered (front_step.states_of_news news ++ due) f ≡ front_step.all_entered due (front_step.all_entered (front_step.states_of_news news) f)
-entered_both None due f = refl
-entered_both (Some n) due f = refl
+entered_both : (offers : Offers) (news : Option FrontNews) (due : List FrontState) (f : ends.View)
+    → front_step.all_entered (front_step.states_of_news offers news ++ due) f ≡ front_step.all_entered due (front_step.all_entered (front_step.states_of_news offers news) f)
+entered_both offers None due f = refl
+entered_both offers (Some n) due f = refl
 
 spoken_fits : (w : World) (x : FrontAnswer) → IsFit w → front.speaks (front_asks w) ≡ true → bus_asks.IsAnswer (front_asks w) x
     → FrontFits (front_step.bus_after (frontend_of w) x) (front_step.all_entered (front_step.states_after (frontend_of w) x) w.rings.front)
@@ -95,8 +107,8 @@ spoken_fits w x fit says allowed =
     let idle : Bool = front_view.is_unoccupied w.rings.front in
     let u : FrontView = front_step.bus_after (frontend_of w) x in
     subst (λ (f : ends.View). FrontFits u f)
-    (sym (entered_both (front_step.news_of (frontend_of w) x) (front_step.states_due (bus_asks.ask_of u idle) (ring_order u)) w.rings.front))
-    (spoken_settles w.front w.rings.front x idle (unoccupied w.rings.front) (front_fits w fit) says allowed)
+    (sym (entered_both (front_step.offers_of u) (front_step.news_of (frontend_of w) x) (front_step.states_due (bus_asks.ask_of u idle) (ring_order u)) w.rings.front))
+    (spoken_settles (front_step.offers_of u) w.front w.rings.front x idle (unoccupied w.rings.front) (front_fits w fit) says allowed)
 
 -- what the front's move makes of the machine, by what it is to the ring's machine, what it asked and what an answer makes of it
 abbrev FitAfter : World → FrontAct → List ring.Happening → FrontAsk → (FrontAnswer → front_view.View) → Type 0
@@ -109,7 +121,8 @@ fit_keys w states u fit terms fits =
     let entered = all_enter states keyed in
     subst (λ (r : rings.World). IsFit (with_front w r u)) (sym entered)
     (fit_front w (record keyed { front = front_step.all_entered states w.rings.front }) u fit
-    (subst (λ (r : rings.World). IsSafe r) entered (safe_after (front_says w states) w.rings fit.safe)) terms (all_abi states w.rings.front) fits refl fit.unported fit.unbound)
+    (subst (λ (r : rings.World). IsSafe r) entered (safe_after (front_says w states) w.rings fit.safe))
+    (λ k is. front_keeps w.back.features w.back.disk w.rings.under.keys k w.rings.back.stage (front_asks w) is) terms (all_abi states w.rings.front) fits refl fit.unported fit.unbound)
 
 -- its negotiation speaks
 fit_says : (w : World) (a : FrontAct) → IsFit w → front_turn w ≡ Some a → front.speaks (front_asks w) ≡ true
@@ -119,7 +132,13 @@ fit_says w a fit turn says e =
     (fit_keys w (front_step.states_after (frontend_of w) a.answer) (front_step.bus_after (frontend_of w) a.answer) fit (terms_told w.front (front_view.is_unoccupied w.rings.front) a.answer)
     (spoken_fits w a.answer fit says (front_told w.rings.under (front_asks w) a says e)))
 
--- its end of the ring moves
+-- its end of the ring moves, and asks for no key
+own_keys : (w : World) (a : FrontAct) (k : BackKey) → SaysKey w.rings.under.keys w.back.features w.back.disk k → front_act w.rings.under (front_ring.ask_of w.rings.front) ≡ Some a
+    → SaysKey a.under.keys w.back.features w.back.disk k
+own_keys w a k is e =
+    front_stays (λ (d : Directory). SaysKey d w.back.features w.back.disk k) (λ at d says. watched_says w.back.features w.back.disk k d at _ says) w.rings.under (front_ring.ask_of w.rings.front) a
+    (fronts_no_key w.rings.front) is e
+
 fit_moves : (w : World) (a : FrontAct) → IsFit w → front.speaks (front_asks w) ≡ false → front.ring_moves (front_asks w) w.rings.front.stage ≡ true
     → FitAfter w a (ring.FrontMoves ∷ []) (front_ring.ask_of w.rings.front) (λ x. front_step.ring_step true (front_asks w) (frontend_of w) x)
 fit_moves w a fit quiet moves e =
@@ -128,7 +147,7 @@ fit_moves w a fit quiet moves e =
     let v : front_view.View = front_step.ring_step true (front_asks w) (frontend_of w) a.answer in
     let fits = ring_fits w.front w.rings.front a.answer (front_fits w fit) quiet moves (front_answered w.rings.under w.rings.front a e) in
     subst (λ (r : rings.World). IsFit (with_front w r v.bus)) (sym moved)
-    (fit_front w (ring.front_after w.rings (Some a)) v.bus fit (subst (λ (r : rings.World). IsSafe r) moved (safe_after (ring.FrontMoves ∷ []) w.rings fit.safe))
+    (fit_front w (ring.front_after w.rings (Some a)) v.bus fit (subst (λ (r : rings.World). IsSafe r) moved (safe_after (ring.FrontMoves ∷ []) w.rings fit.safe)) (λ k is. own_keys w a k is e)
     (terms_followed (front_asks w) v.ring.stage w.front (front_view.is_unoccupied w.rings.front) a.answer)
     (ap (λ (s : Shape). s.abi) (step_shape w.rings.front a.answer)) (record { goes = fits.goes; closing = fits.closing; through = fits.through; ordered = fits.ordered }) refl
     (unported_front w.rings.under w.rings.under.channels (front_ring.ask_of w.rings.front) a own fit.unported e)
@@ -165,5 +184,5 @@ fit_front_moves w fit = fit_turn w (front_turn w) fit refl
 -- and a close
 pub fit_front_closes : (w : World) → IsFit w → IsFit (happens w (Closes end.Front))
 fit_front_closes w fit =
-    fit_front w (ring.after (closes_does end.Front) w.rings) (closed w.front) fit (safe_after (closes_does end.Front) w.rings fit.safe) (terms_closed w.front)
+    fit_front w (ring.after (closes_does end.Front) w.rings) (closed w.front) fit (safe_after (closes_does end.Front) w.rings fit.safe) (λ k is. is) (terms_closed w.front)
     (enters_abi enter.Closing w.rings.front) (close_fits w.front w.rings.front (front_fits w fit)) refl fit.unported fit.unbound

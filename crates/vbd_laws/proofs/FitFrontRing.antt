@@ -18,7 +18,7 @@ use Rattle.blk_front.specs.declared.request.Transfer.{Transfer}
 use Rattle.blk_front.specs.declared.request.Transfer.TheVariants as transfer
 use Rattle.blk_front.specs.Request.{has_data, words_in}
 use Rattle.blk_front.specs.View.{View, next_request}
-use Rattle.blk_front.specs.Step.{at, broken, looked, issue_stage, data_stage, granted, loop_step, found_at, issued, response_at, is_mapped, ended, revoked, ring_granted, ring_left, sector_told, data_step, step_at, step_of}
+use Rattle.blk_front.specs.Step.{at, broken, looked, begun, data_stage, granted, loop_step, found_at, issued, response_at, is_mapped, ended, revoked, ring_granted, ring_left, sector_told, data_step, step_at, step_of}
 use Rattle.blk_front.specs.declared.told.Told.TheVariants as told
 use Rattle.blk_front.specs.Ask.{is_through}
 use Rattle.blk_front.specs.Submit.{is_ready}
@@ -60,9 +60,12 @@ looked_steps s v word otherwise h =
     either (nat_lt (distance_of v.ring.cons v.ring.prod) (distance_of v.ring.cons word)) s v (broken word v) (if word == v.ring.cons then otherwise else record v { seen = word; stage = stage.Loop }) (broken_steps s v word)
     (either (word == v.ring.cons) s v otherwise (record v { seen = word; stage = stage.Loop }) h (refl, λ none. none, λ up. refl))
 
-issue_up : (way : Transfer) → is_up (issue_stage way) ≡ true
-issue_up transfer.Read = refl
-issue_up (transfer.Write tag) = refl
+begun_steps : (v : View) (r : Request) (way : Transfer) → Steps stage.Loop v (begun v r way)
+begun_steps v r transfer.Read = (refl, λ none. none, λ up. refl)
+begun_steps v r (transfer.Write tag) = (refl, λ none. none, λ up. refl)
+begun_steps v r (transfer.Barrier tag) = (refl, λ none. none, λ up. refl)
+begun_steps v r transfer.Flush = (refl, λ none. none, λ up. refl)
+begun_steps v r (transfer.Discard sectors) = (refl, λ none. none, λ up. refl)
 
 data_stage_up : (r : Option Request) (n : ℕ) → is_up (data_stage r n) ≡ true
 data_stage_up None n = refl
@@ -73,7 +76,7 @@ granted_steps v None place here = stays (stage.GrantFlags place) v here
 granted_steps v (Some r) place here = either (nat_lt (place + 1) (length r.frames.items)) (stage.GrantFlags place) v _ _ (refl, λ none. none, λ up. refl) (refl, λ none. none, λ up. refl)
 
 loop_steps : (v : View) (r : Option Request) (x : FrontAnswer) → v.stage ≡ stage.Loop → Steps stage.Loop v (loop_step v r x)
-loop_steps v (Some r) x here = goes_to stage.Loop v (issue_stage r.transfer) (issue_up r.transfer)
+loop_steps v (Some r) x here = begun_steps v r r.transfer
 loop_steps v None (answer.Word word) here =
     either (responses_of v.ring v.seen == 0) stage.Loop v (looked v word (record v { seen = word; stage = stage.StoreEvent })) (at (stage.ResponseHigh word) v)
     (looked_steps stage.Loop v word (record v { seen = word; stage = stage.StoreEvent }) (refl, λ none. none, λ up. refl)) (refl, λ none. none, λ up. refl)
@@ -96,7 +99,9 @@ none_issued v id none = by_found (issued v id) refl
 response_steps : (s : Stage) (v : View) (response : Result Response ℕ) (low : ℕ) (found : Option (ℕ × Request)) → (length v.requests ≡ 0 → found ≡ None) → Steps s v (response_at v response low found)
 response_steps s v response low None unless = broken_steps s v low
 response_steps s v (Err word) low (Some found) unless = broken_steps s v word
-response_steps s v (Ok response) low (Some found) unless = (refl, λ none. absurd (none-some found (sym (unless none))), λ up. refl)
+response_steps s v (Ok response) low (Some found) unless =
+    let only : length v.requests ≡ 0 → ⊥ = λ none. none-some found (sym (unless none)) in
+    either (length found.1.frames.items == 0) s v _ _ (refl, λ none. absurd (only none), λ up. refl) (refl, λ none. absurd (only none), λ up. refl)
 
 ended_steps : (s : Stage) (v : View) (e : Ending) → Steps s v (ended e v)
 ended_steps s v e = either (has_data e.request.transfer e.status) s v _ _ (refl, λ none. none, λ up. refl) (refl, λ none. none, λ up. refl)

@@ -7,6 +7,7 @@ use Rattle.blk_base.specs.declared.ask.FrontAnswer.TheVariants as answer
 use Rattle.blk_front.specs.declared.stage.Stage.{Stage as Ring}
 use Rattle.blk_front.specs.declared.stage.Stage.TheVariants as ring
 use Rattle.blk_front.specs.declared.state.FrontState.TheVariants as enter
+use Rattle.blk_front.specs.declared.state.Offers.{Offers}
 use Rattle.blk_front.specs.View as ends
 use Rattle.blk_front.specs.State.{is_open, is_bare, enters}
 use Rattle.xenbus_state.specs.declared.keys.BackKey.{BackKey}
@@ -82,9 +83,9 @@ breaks word v f opened ordered =
     subst (λ (x : ends.View). FrontFits (broken word v) x) (sym entered) (record { goes = refl; closing = λ whole. absurd (true≢false whole); through = λ e whole. absurd (true≢false whole); ordered = ordered })
 
 -- both begin to close
-begun : (P : ends.View → Type 0) (c : Bool) (f : ends.View) → f.closing ≡ c → is_open f.stage ≡ true → P (record f { closing = true }) → P (all_entered (states_of_news (closing_news c)) f)
-begun P true f closing opened holds = let same : record f { closing = true } ≡ f = ap (λ (c : Bool). record f { closing = c }) (sym closing) in subst P same holds
-begun P false f closing opened holds = let entered : enters enter.Closing f ≡ record f { closing = true } = rw (closing, opened) refl in subst P (sym entered) holds
+begun : (offers : Offers) (P : ends.View → Type 0) (c : Bool) (f : ends.View) → f.closing ≡ c → is_open f.stage ≡ true → P (record f { closing = true }) → P (all_entered (states_of_news offers (closing_news c)) f)
+begun offers P true f closing opened holds = let same : record f { closing = true } ≡ f = ap (λ (c : Bool). record f { closing = c }) (sym closing) in subst P same holds
+begun offers P false f closing opened holds = let entered : enters enter.Closing f ≡ record f { closing = true } = rw (closing, opened) refl in subst P (sym entered) holds
 
 -- and fit, as before, at a stage that the close leaves
 pub begun_fits : (v u : FrontView) (f : ends.View) → is_open f.stage ≡ true → FrontGoesWith u.stage u f.stage → u.closing ≡ true → u.state ≡ v.state → FrontOrdered u.stage u f.shape.order → FrontFits v f
@@ -97,9 +98,9 @@ begun_fits v u f opened goes closing own ordered h = record {
 }
 
 -- the back's state was read
-acted_settles : (act : FrontAction) (v : FrontView) (f : ends.View) (idle : Bool) → SuitsFront v.state act → LeavesIdle idle act → (idle ≡ true → IsUnoccupied f) → FrontFits v f → FrontRests v.state v.gone v.port f.stage
-    → RestsOrdered v.state v.port v.order (ring_order v) f.shape.order → Settles idle (acted act v) (all_entered (states_of_news (action_news act v.closing)) f)
-acted_settles act v f idle suits leaves free h rests ordered = by_act act suits leaves
+acted_settles : (offers : Offers) (act : FrontAction) (v : FrontView) (f : ends.View) (idle : Bool) → SuitsFront v.state act → LeavesIdle idle act → (idle ≡ true → IsUnoccupied f) → FrontFits v f → FrontRests v.state v.gone v.port f.stage
+    → RestsOrdered v.state v.port v.order (ring_order v) f.shape.order → Settles idle (acted act v) (all_entered (states_of_news offers (action_news act v.closing)) f)
+acted_settles offers act v f idle suits leaves free h rests ordered = by_act act suits leaves
   where
     opened : is_open f.stage ≡ true
     opened = rests_open v.state v.gone v.port f.stage rests
@@ -124,33 +125,33 @@ acted_settles act v f idle suits leaves free h rests ordered = by_act act suits 
     gone state.Connected was port is g p e rests = rested (rw (is, p) rests)
     gone own was port is g p e rests = absurd rests
 
-    by_act : (act : FrontAction) → SuitsFront v.state act → LeavesIdle idle act → Settles idle (acted act v) (all_entered (states_of_news (action_news act v.closing)) f)
+    by_act : (act : FrontAction) → SuitsFront v.state act → LeavesIdle idle act → Settles idle (acted act v) (all_entered (states_of_news offers (action_news act v.closing)) f)
     by_act action.Nothing suits leaves = settles_rest idle (acted action.Nothing v) f refl still rests (fits_at v (acted action.Nothing v) f (inl rests) refl refl ordered h)
     by_act action.Publish suits leaves = fits_at v (acted action.Publish v) f (let here = rw suits at rests in (suits, here.0, here.1)) refl refl (rw suits at ordered) h
     by_act action.Connect suits leaves = fits_at v (acted action.Connect v) f (let here = rw suits at rests in (suits, here.0, here.1)) refl refl (rw suits at ordered) h
     by_act action.Close suits leaves =
-        begun (λ (x : ends.View). Settles idle (acted action.Close v) x) v.closing f same_closing opened
+        begun offers (λ (x : ends.View). Settles idle (acted action.Close v) x) v.closing f same_closing opened
         (settles_rest idle (acted action.Close v) (record f { closing = true }) refl still rests (begun_fits v (acted action.Close v) f opened (inl rests) refl refl ordered h))
     by_act action.CloseAndConnect suits leaves =
-        begun (λ (x : ends.View). Settles idle (acted action.CloseAndConnect v) x) v.closing f same_closing opened
+        begun offers (λ (x : ends.View). Settles idle (acted action.CloseAndConnect v) x) v.closing f same_closing opened
         (begun_fits v (acted action.CloseAndConnect v) f opened (let here = rw suits at rests in (suits, here.0, here.1)) refl refl (rw suits at ordered) h)
-    by_act action.Leave suits leaves = begun (λ (x : ends.View). Settles idle (acted action.Leave v) x) v.closing f same_closing opened (gone v.state v.gone v.port refl refl refl leaves rests)
+    by_act action.Leave suits leaves = begun offers (λ (x : ends.View). Settles idle (acted action.Leave v) x) v.closing f same_closing opened (gone v.state v.gone v.port refl refl refl leaves rests)
     by_act (action.Break word) suits leaves = breaks word v f opened (rests_ordered v.state v.gone v.port f.stage v.order (ring_order v) f.shape.order rests ordered)
 
 -- a key of the back was read
-feature_settles : (k : BackKey) (n : Option ℕ) (v : FrontView) (f : ends.View) (idle : Bool) → v.state ≡ state.Initialising → f.stage ≡ ring.RingWord 0 → v.port ≡ None → f.shape.order ≡ v.order → FrontFits v f
-    → Settles idle (feature_step k n v) (all_entered (states_of_news (read_news n)) f)
-feature_settles k None v f idle own here port wished h = breaks 9 v f (ap is_open here) (rw port tt)
-feature_settles k (Some n) v f idle own here port wished h = by_next (next_feature k)
+feature_settles : (offers : Offers) (k : BackKey) (n : Option ℕ) (v : FrontView) (f : ends.View) (idle : Bool) → v.state ≡ state.Initialising → f.stage ≡ ring.RingWord 0 → v.port ≡ None → f.shape.order ≡ v.order → FrontFits v f
+    → Settles idle (feature_step k n v) (all_entered (states_of_news offers (read_news n)) f)
+feature_settles offers k None v f idle own here port wished h = breaks 9 v f (ap is_open here) (rw port tt)
+feature_settles offers k (Some n) v f idle own here port wished h = by_next (next_feature k)
   where
     by_next : (next : Option BackKey) → Settles idle (record (feature_step k (Some n) v) { stage = after_feature next }) f
     by_next (Some k) = fits_at v _ f (own, here, port) refl refl wished h
     by_next None = settles_begun _ f refl own port here wished h.closing
 
-fact_settles : (k : BackKey) (n : Option ℕ) (v : FrontView) (f : ends.View) (idle : Bool) → v.state ≡ state.Initialised → f.stage ≡ ring.Initialised → IsSome v.port → OpenOrdered v.port (ring_order v) f.shape.order → FrontFits v f
-    → Settles idle (fact_step k n v) (all_entered (states_of_news (read_news n)) f)
-fact_settles k None v f idle own here port ordered h = breaks 9 v f (ap is_open here) ordered
-fact_settles k (Some n) v f idle own here port ordered h = by_next (next_fact k)
+fact_settles : (offers : Offers) (k : BackKey) (n : Option ℕ) (v : FrontView) (f : ends.View) (idle : Bool) → v.state ≡ state.Initialised → f.stage ≡ ring.Initialised → IsSome v.port → OpenOrdered v.port (ring_order v) f.shape.order → FrontFits v f
+    → Settles idle (fact_step k n v) (all_entered (states_of_news offers (read_news n)) f)
+fact_settles offers k None v f idle own here port ordered h = breaks 9 v f (ap is_open here) ordered
+fact_settles offers k (Some n) v f idle own here port ordered h = by_next (next_fact k)
   where
     by_next : (next : Option BackKey) → Settles idle (record (fact_step k (Some n) v) { stage = after_fact next }) f
     by_next (Some k) = fits_at v _ f (own, here, port) refl refl ordered h
@@ -162,12 +163,12 @@ published_settles (Some k) v f idle own here port ordered h = fits_at v _ f (own
 published_settles None v f idle own here port ordered h = fits_at v _ f (own, here, port) refl refl ordered h
 
 -- its own state was written
-connects_settles : (v : FrontView) (f : ends.View) (idle : Bool) → f.stage ≡ ring.Initialised → IsSome v.port → OpenOrdered v.port (ring_order v) f.shape.order → FrontFits v f
-    → Settles idle (record v { state = state.Connected; stage = stage.Rest }) (enters enter.Connected f)
-connects_settles v f idle here port ordered h =
-    let entered : enters enter.Connected f ≡ record f { stage = ring.Loop } = rw here refl in
+connects_settles : (offers : Offers) (v : FrontView) (f : ends.View) (idle : Bool) → f.stage ≡ ring.Initialised → IsSome v.port → OpenOrdered v.port (ring_order v) f.shape.order → FrontFits v f
+    → Settles idle (record v { state = state.Connected; stage = stage.Rest }) (enters (enter.Connected offers) f)
+connects_settles offers v f idle here port ordered h =
+    let entered : enters (enter.Connected offers) f ≡ record f { offers = offers; stage = ring.Loop } = rw here refl in
     subst (λ (x : ends.View). Settles idle (record v { state = state.Connected; stage = stage.Rest }) x) (sym entered)
-    (settles_rest idle (record v { state = state.Connected; stage = stage.Rest }) (record f { stage = ring.Loop }) refl (λ e. refl) (refl, port)
+    (settles_rest idle (record v { state = state.Connected; stage = stage.Rest }) (record f { offers = offers; stage = ring.Loop }) refl (λ e. refl) (refl, port)
     (record { goes = inl (refl, port); closing = λ whole. h.closing (rw here refl); through = λ e whole. absurd (cc); ordered = ordered }))
 
 bare_whole : (r : Ring) → is_bare r ≡ true → is_broken r ≡ false
@@ -185,47 +186,47 @@ closes_settles v f idle own bare ordered h =
     (record { goes = (refl, refl, closing); closing = λ e. h.closing whole; through = λ e. absurd (cc); ordered = ordered })
 
 -- what was begun was answered
-abbrev Told : FrontStage → FrontView → ends.View → FrontAnswer → Bool → Type 0
-Told d v f x idle = Settles idle (step_at d (at d v) idle x) (all_entered (states_of_news (news_at d (at d v) idle x)) f)
+abbrev Told : Offers → FrontStage → FrontView → ends.View → FrontAnswer → Bool → Type 0
+Told offers d v f x idle = Settles idle (step_at d (at d v) idle x) (all_entered (states_of_news offers (news_at d (at d v) idle x)) f)
 
-told_settles : (d : FrontStage) (v : FrontView) (f : ends.View) (x : FrontAnswer) (idle : Bool) → (idle ≡ true → IsUnoccupied f) → FrontFits (at d v) f → speaks (ask_at d v) ≡ true → IsAnswer (ask_at d v) x
-    → Told d v f x idle
-told_settles stage.Start v f answer.Done idle free h says allowed =
+told_settles : (offers : Offers) (d : FrontStage) (v : FrontView) (f : ends.View) (x : FrontAnswer) (idle : Bool) → (idle ≡ true → IsUnoccupied f) → FrontFits (at d v) f → speaks (ask_at d v) ≡ true → IsAnswer (ask_at d v) x
+    → Told offers d v f x idle
+told_settles offers stage.Start v f answer.Done idle free h says allowed =
     let goes = h.goes in
     let rests : FrontRests v.state v.gone v.port f.stage = rw goes.0 (goes.1, goes.2) in
     settles_rest idle (at stage.Rest v) f refl (λ e. ap is_still goes.1) rests (fits_at (at stage.Start v) (at stage.Rest v) f (inl rests) refl refl (rw goes.0 h.ordered) h)
-told_settles stage.ReadState v f (answer.Key text) idle free h says allowed =
-    acted_settles (front_action v.state v.closing idle (state_read text)) (at stage.ReadState v) f idle (action_suits v.state v.closing idle (state_read text))
+told_settles offers stage.ReadState v f (answer.Key text) idle free h says allowed =
+    acted_settles offers (front_action v.state v.closing idle (state_read text)) (at stage.ReadState v) f idle (action_suits v.state v.closing idle (state_read text))
     (action_leaves v.state v.closing idle (state_read text)) free h h.goes h.ordered
-told_settles (stage.ReadFeature k) v f (answer.Key text) idle free h says allowed =
-    let goes = h.goes in feature_settles k (count_read text) (at (stage.ReadFeature k) v) f idle goes.0 goes.1 goes.2 h.ordered h
-told_settles (stage.Publish k) v f answer.Done idle free h says allowed =
+told_settles offers (stage.ReadFeature k) v f (answer.Key text) idle free h says allowed =
+    let goes = h.goes in feature_settles offers k (count_read text) (at (stage.ReadFeature k) v) f idle goes.0 goes.1 goes.2 h.ordered h
+told_settles offers (stage.Publish k) v f answer.Done idle free h says allowed =
     let goes = h.goes in published_settles (next_published (ring_order v) k) (at (stage.Publish k) v) f idle goes.0 goes.1 goes.2 h.ordered h
-told_settles (stage.ReadFact k) v f (answer.Key text) idle free h says allowed =
-    let goes = h.goes in fact_settles k (fact_read k text) (at (stage.ReadFact k) v) f idle goes.0 goes.1 goes.2 h.ordered h
-told_settles (stage.WriteState state.Initialised) v f answer.Done idle free h says allowed =
+told_settles offers (stage.ReadFact k) v f (answer.Key text) idle free h says allowed =
+    let goes = h.goes in fact_settles offers k (fact_read k text) (at (stage.ReadFact k) v) f idle goes.0 goes.1 goes.2 h.ordered h
+told_settles offers (stage.WriteState state.Initialised) v f answer.Done idle free h says allowed =
     let goes = h.goes in
     let u : FrontView = record v { state = state.Initialised; stage = stage.Rest } in
     settles_rest idle u f refl (λ e. ap is_still goes.1) (goes.1, goes.2) (record { goes = inl (goes.1, goes.2); closing = h.closing; through = λ e. absurd (cc); ordered = h.ordered })
-told_settles (stage.WriteState state.Connected) v f answer.Done idle free h says allowed =
-    let goes = h.goes in connects_settles (at (stage.WriteState state.Connected) v) f idle goes.1 goes.2 h.ordered h
-told_settles (stage.WriteState state.Closed) v f answer.Done idle free h says allowed =
+told_settles offers (stage.WriteState state.Connected) v f answer.Done idle free h says allowed =
+    let goes = h.goes in connects_settles offers (at (stage.WriteState state.Connected) v) f idle goes.1 goes.2 h.ordered h
+told_settles offers (stage.WriteState state.Closed) v f answer.Done idle free h says allowed =
     let goes = h.goes in closes_settles (at (stage.WriteState state.Closed) v) f idle goes.0 goes.1 h.ordered h
-told_settles (stage.WriteState own) v f answer.Done idle free h says allowed = absurd h.goes
-told_settles stage.Start v f x idle free h says allowed = absurd allowed
-told_settles stage.ReadState v f x idle free h says allowed = absurd allowed
-told_settles (stage.ReadFeature k) v f x idle free h says allowed = absurd allowed
-told_settles (stage.Publish k) v f x idle free h says allowed = absurd allowed
-told_settles (stage.ReadFact k) v f x idle free h says allowed = absurd allowed
-told_settles (stage.WriteState own) v f x idle free h says allowed = absurd allowed
-told_settles d v f x idle free h says allowed = absurd (true≢false (sym says))
+told_settles offers (stage.WriteState own) v f answer.Done idle free h says allowed = absurd h.goes
+told_settles offers stage.Start v f x idle free h says allowed = absurd allowed
+told_settles offers stage.ReadState v f x idle free h says allowed = absurd allowed
+told_settles offers (stage.ReadFeature k) v f x idle free h says allowed = absurd allowed
+told_settles offers (stage.Publish k) v f x idle free h says allowed = absurd allowed
+told_settles offers (stage.ReadFact k) v f x idle free h says allowed = absurd allowed
+told_settles offers (stage.WriteState own) v f x idle free h says allowed = absurd allowed
+told_settles offers d v f x idle free h says allowed = absurd (true≢false (sym says))
 
 -- a closing front without unfinished requests says that it closes
-says_settles : (v : FrontView) (f : ends.View) (x : FrontAnswer) (idle : Bool) → v.closing ≡ true → idle ≡ true → IsUnoccupied f → FrontFits v f → OpenOrdered v.port (ring_order v) f.shape.order
-    → FrontRests state.Closing false v.port f.stage → IsAnswer (ask_at (stage.WriteState state.Closing) v) x → Told (stage.WriteState state.Closing) v f x idle
-says_settles v f answer.Done idle closing is_idle free h ordered rests allowed =
+says_settles : (offers : Offers) (v : FrontView) (f : ends.View) (x : FrontAnswer) (idle : Bool) → v.closing ≡ true → idle ≡ true → IsUnoccupied f → FrontFits v f → OpenOrdered v.port (ring_order v) f.shape.order
+    → FrontRests state.Closing false v.port f.stage → IsAnswer (ask_at (stage.WriteState state.Closing) v) x → Told offers (stage.WriteState state.Closing) v f x idle
+says_settles offers v f answer.Done idle closing is_idle free h ordered rests allowed =
     settles_closing idle (record v { state = state.Closing; stage = stage.Rest }) f refl refl closing is_idle free (h.closing free.whole ∙ closing) ordered rests
-says_settles v f x idle closing is_idle free h ordered rests allowed = absurd allowed
+says_settles offers v f x idle closing is_idle free h ordered rests allowed = absurd allowed
 
 -- a front that rests goes with a whole end of the ring where nothing of a request is left
 pub whole_rests : (v : FrontView) (f : ends.View) → v.stage ≡ stage.Rest → is_broken f.stage ≡ false → FrontFits v f → FrontRests v.state v.gone v.port f.stage
@@ -237,16 +238,16 @@ whole_ordered v f here whole h =
     rests_ordered v.state v.gone v.port f.stage v.order (ring_order v) f.shape.order (whole_rests v f here whole h) ordered
 
 -- the negotiation was answered
-pub spoken_settles : (v : FrontView) (f : ends.View) (x : FrontAnswer) (idle : Bool) → (idle ≡ true → IsUnoccupied f) → FrontFits v f → speaks (ask_of v idle) ≡ true → IsAnswer (ask_of v idle) x
-    → Settles idle (step_of v idle x) (all_entered (states_of_news (news_of v idle x)) f)
-spoken_settles v f x idle free h =
-    due_cases (λ (d : FrontStage). speaks (ask_at d v) ≡ true → IsAnswer (ask_at d v) x → Told d v f x idle) v idle (told_settles v.stage v f x idle free h)
+pub spoken_settles : (offers : Offers) (v : FrontView) (f : ends.View) (x : FrontAnswer) (idle : Bool) → (idle ≡ true → IsUnoccupied f) → FrontFits v f → speaks (ask_of v idle) ≡ true → IsAnswer (ask_of v idle) x
+    → Settles idle (step_of v idle x) (all_entered (states_of_news offers (news_of v idle x)) f)
+spoken_settles offers v f x idle free h =
+    due_cases (λ (d : FrontStage). speaks (ask_at d v) ≡ true → IsAnswer (ask_at d v) x → Told offers d v f x idle) v idle (told_settles offers v.stage v f x idle free h)
     (λ here closing is_idle.
     let is = free is_idle in
-    closing_cases (λ (d : FrontStage). speaks (ask_at d v) ≡ true → IsAnswer (ask_at d v) x → Told d v f x idle) v f.stage is.still (whole_rests v f here is.whole h)
-    (λ rests says. says_settles v f x idle closing is_idle is h (whole_ordered v f here is.whole h) rests) (λ own ending. leaves v.gone v.port))
+    closing_cases (λ (d : FrontStage). speaks (ask_at d v) ≡ true → IsAnswer (ask_at d v) x → Told offers d v f x idle) v f.stage is.still (whole_rests v f here is.whole h)
+    (λ rests says. says_settles offers v f x idle closing is_idle is h (whole_ordered v f here is.whole h) rests) (λ own ending. leaves v.gone v.port))
   where
-    leaves : (gone : Bool) (port : Option ℕ) → speaks (ask_at (leaving gone port) v) ≡ true → IsAnswer (ask_at (leaving gone port) v) x → Told (leaving gone port) v f x idle
+    leaves : (gone : Bool) (port : Option ℕ) → speaks (ask_at (leaving gone port) v) ≡ true → IsAnswer (ask_at (leaving gone port) v) x → Told offers (leaving gone port) v f x idle
     leaves false port says allowed = absurd (true≢false (sym says))
     leaves true None says allowed = absurd (true≢false (sym says))
     leaves true (Some p) says allowed = absurd (true≢false (sym says))

@@ -1,4 +1,4 @@
--- An answer leaves the front's layout and order.
+-- An answer leaves the front's layout and order, and one that says no more than that a thing is done leaves the features that it read.
 use Rattle.std.proofs.Common.{◌≡◌, ℕ, Bool, true, false, if◌then◌else◌, refl, ◌∙◌}
 use Rattle.std.specs.Prelude.{Option, Some, None, ◌||◌}
 use Rattle.blk_base.specs.declared.ask.FrontAnswer.{FrontAnswer}
@@ -66,6 +66,22 @@ terms_told v idle x = let told = terms_step v idle x in let last = settled_terms
     settled_terms : (a : FrontBusAsk) (u : FrontView) → Terms u (settled_at a idle u)
     settled_terms ask.EndOtherGrants u = terms_step u idle answer.Done
     settled_terms a u = same_terms u
+
+-- told that a thing is done
+features_done : (s : FrontStage) (v : FrontView) (idle : Bool) → (step_at s v idle answer.Done).features ≡ v.features
+features_done (stage.WriteState s) v idle = refl
+features_done stage.ClosePort v idle = refl
+features_done s v idle = refl
+
+pub features_told : (v : FrontView) (idle : Bool) → (bus_told idle v answer.Done).features ≡ v.features
+features_told v idle = settled_features (ask_of u idle) u ∙ features_done (due v idle) (at (due v idle) v) idle
+  where
+    u : FrontView
+    u = step_of v idle answer.Done
+
+    settled_features : (a : FrontBusAsk) (u : FrontView) → (settled_at a idle u).features ≡ u.features
+    settled_features ask.EndOtherGrants u = features_done (due u idle) (at (due u idle) u) idle
+    settled_features a u = refl
 
 terms_woken : (broken : Bool) (v : FrontView) (idle : Bool) (x : FrontAnswer) → Terms v (woken broken idle v x)
 terms_woken false v idle (answer.Watched path) = terms_told v idle (answer.Watched path)

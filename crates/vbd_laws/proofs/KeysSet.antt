@@ -1,5 +1,5 @@
--- Each key that a negotiation sets it may set: it lies under the end's own directory, and no feature is offered.
-use Rattle.std.proofs.Common.{◌≡◌, ℕ, Bool, true, false, true≢false, if◌then◌else◌, List, [], ◌∷◌, inl, inr, refl, sym, ap, ◌∙◌, arith, decimal}
+-- Each key that a negotiation sets it may set: it lies under the end's own directory, and no persistent grants are offered.
+use Rattle.std.proofs.Common.{◌≡◌, ℕ, Bool, true, false, true≢false, not, ◌||◌, if◌then◌else◌, List, [], ◌∷◌, inl, inr, refl, sym, ap, ◌∙◌, arith, decimal}
 use Rattle.std.specs.Prelude.{Option, Some, None, ◌⊎◌}
 use Rattle.line_text.proofs.Both.{both_true}
 use Rattle.std.proofs.lemmas.Fmt.{decimal_digit}
@@ -31,7 +31,8 @@ use Rattle.xenbus_state.specs.FrontView.{FrontView, terms_of}
 use Rattle.xenbus_state.specs.BackView.{BackView}
 use Rattle.xenbus_state.specs.FrontAsk as front_bus
 use Rattle.xenbus_state.specs.BackAsk as back_bus
-use Rattle.split_model.specs.Keys.{may_set, is_between, is_zero_text}
+use Rattle.blk_back.specs.Ask.{is_led}
+use Rattle.split_model.specs.Keys.{KeyMove, may_set, is_between, is_early, may_negotiate, is_zero_text}
 use Rattle.split_model.specs.Safe.{IsPorted}
 use Rattle.vbd_front.specs.Ask as front
 use Rattle.vbd_back.specs.Ask as back
@@ -54,12 +55,12 @@ front_may_set v front_key.FeaturePersistent = refl
 nothing : is_zero_text (decimal 0) ≡ true
 nothing = rw (decimal_digit 0 (omega arith)) refl
 
-pub back_may_set : (v : BackView) (k : BackKey) → v.features ≡ offer → may_set end.Back (path_under end.Back (back_name k)) (text_of (back_value v.features v.disk k)) ≡ true
-back_may_set v back_key.FeatureBarrier offers = rw offers nothing
-back_may_set v back_key.FeatureFlushCache offers = rw offers nothing
-back_may_set v back_key.FeatureDiscard offers = rw offers nothing
+pub back_may_set : (v : BackView) (k : BackKey) → v.features ≡ offer v.disk.read_only → may_set end.Back (path_under end.Back (back_name k)) (text_of (back_value v.features v.disk k)) ≡ true
 back_may_set v back_key.FeaturePersistent offers = rw offers nothing
-back_may_set v back_key.FeatureMaxIndirectSegments offers = rw offers nothing
+back_may_set v back_key.FeatureBarrier offers = refl
+back_may_set v back_key.FeatureFlushCache offers = refl
+back_may_set v back_key.FeatureDiscard offers = refl
+back_may_set v back_key.FeatureMaxIndirectSegments offers = refl
 back_may_set v back_key.MaxRingPageOrder offers = refl
 back_may_set v back_key.Sectors offers = refl
 back_may_set v back_key.SectorSize offers = refl
@@ -94,13 +95,13 @@ unmap_sets v = by_pages v.pages
     by_pages [] = tt
     by_pages (page ∷ pages) = tt
 
-back_sets_at : (b : BackStage) (v : BackView) → v.features ≡ offer → BackMaySet (back_bus.ask_at b v)
+back_sets_at : (b : BackStage) (v : BackView) → v.features ≡ offer v.disk.read_only → BackMaySet (back_bus.ask_at b v)
 back_sets_at (back_stage.Publish key) v offers = back_may_set v key offers
 back_sets_at (back_stage.PublishFact key) v offers = back_may_set v key offers
 back_sets_at back_stage.UnmapPage v offers = unmap_sets v
 back_sets_at b v offers = tt
 
-pub back_sets : (v : BackView) → v.features ≡ offer → BackMaySet (back_bus.ask_of v)
+pub back_sets : (v : BackView) → v.features ≡ offer v.disk.read_only → BackMaySet (back_bus.ask_of v)
 back_sets v offers = by_test (back_bus.says_closing v)
   where
     by_test : (c : Bool) → BackMaySet (if c then back_ask.SetState state.Closing else back_bus.ask_at v.stage v)
@@ -226,6 +227,14 @@ unpast_between r before = absurd (true≢false before)
 pub back_unpending : (v : BackView) (r : BackRing) (c : ChannelState) → BackGoesWith v.stage v.state r → IsUnbound r c
     → back.speaks (back_bus.ask_of v) ≡ false → back.ring_moves (back_bus.ask_of v) r ≡ false → (c.back_pending ≡ false) × (is_between r ≡ true)
 back_unpending v r c goes unbound quiet still = let before = unpast v r goes quiet still in (unpast_unpending r c before unbound, unpast_between r before)
+
+-- where it is between two steps it may turn to its keys, early ones as it waits for the terms of its front
+pub may_turn : (move : KeyMove) (s : BackRing) → is_between s ≡ true → (is_early move ≡ true → is_led s ≡ true) → may_negotiate s end.Back move ≡ true
+may_turn move s between led = rw between (by_early (is_early move) led)
+  where
+    by_early : (early : Bool) → (early ≡ true → is_led s ≡ true) → (not early || is_led s) ≡ true
+    by_early true waits = waits refl
+    by_early false waits = refl
 
 -- where its negotiation speaks it may turn to its keys
 pub back_turns : (a : BackBusAsk) (r : BackRing) → back.bus_moves a r ≡ true → is_between r ≡ true

@@ -15,6 +15,7 @@ use Rattle.hypervisor.specs.Act.{BackAct, Took, back_act}
 use Rattle.blk_back.specs.View as ends
 use Rattle.blk_back.specs.Step as ring_step
 use Rattle.xenbus_state.specs.declared.keys.FrontKey.TheVariants as key
+use Rattle.xenbus_state.specs.declared.offer.Features.{Features}
 use Rattle.xenbus_state.specs.declared.state.BusState.TheVariants as state
 use Rattle.xenbus_state.specs.declared.stage.BackStage.{BackStage}
 use Rattle.xenbus_state.specs.declared.stage.BackStage.TheVariants as stage
@@ -29,12 +30,15 @@ use Rattle.split_model.specs.World as rings
 use Rattle.split_model.specs.Keys.{is_layout}
 use Rattle.split_model.specs.Happening as ring
 use Rattle.split_model.proofs.SafeActs.{of_back}
+use Rattle.split_model.proofs.Attaching.{SaysServed}
 use Rattle.vbd_back.specs.Ask as back
 use Rattle.vbd_back.specs.Step as back_step
 use Rattle.vbd_model.specs.World.{World, backend_of}
+use Rattle.vbd_model.specs.Fit.{SaysKey, SaidAt, IsFit}
 use Rattle.vbd_model.specs.Happening.{back_turn, halted_at, reasons_of, back_bus_after, is_none, attaches}
 use Rattle.vbd_laws.proofs.FitBackBus.{told_at}
 use Rattle.vbd_laws.proofs.FitBackShares.{IsAlike, settled_alike}
+use Rattle.vbd_laws.proofs.FitSaid.{served_said}
 use Rattle.vbd_laws.proofs.MovesTurns.{back_asks, back_learns, back_takes}
 
 -- it reads the layout: the key is read now
@@ -112,9 +116,15 @@ layout_named w a said reads none =
     ap (λ (c : Bool). if c then None else halt_at w.back.stage w.back a.answer) asks.0 ∙ (ap (λ (b : BackStage). halt_at b w.back a.answer) asks.1 ∙ ap (λ (x : BackAnswer). halt_at (stage.ReadKey key.Protocol) w.back x) told) in
     subst (λ (u : BackView). is_layout u.terms.abi (ring.layout_text w.rings) ≡ true) (sym stepped) (named (ring.layout_text w.rings) w.back (sym halts ∙ none))
 
+-- the back's keys say what it serves by then
+serves_said : (w : World) → IsFit w → back_step.reads_layout (back_asks w) ≡ true → SaysServed w.rings
+serves_said w fit reads =
+    served_said w.rings.under.keys w.back.features w.back.disk w.rings.back.jobs.info fit.published (ap (λ (f : Features). f.indirect) fit.offers)
+    (subst (λ (b : BackStage). SaidAt (SaysKey w.rings.under.keys w.back.features w.back.disk) b) (asks_layout w.back reads).1 fit.said)
+
 -- what it may take
 abbrev TestOf : World → (moves reads none : Bool) → Shape → List ℕ → Bool
-TestOf w moves reads none shape grefs = moves && reads && none && (ring_step.may_attach shape grefs w.rings.back && is_layout shape.abi (ring.layout_text w.rings))
+TestOf w moves reads none shape grefs = moves && reads && none && ring.attaches_at w.rings shape grefs
 
 abbrev Test : World → BackAct → (moves reads none : Bool) → Bool
 Test w a moves reads none = let u : BackView = step_of w.back a.answer in TestOf w moves reads none (back_step.shape_read u) u.grefs
@@ -130,16 +140,17 @@ test_is w a said =
     ∙ ap (λ (grefs : List ℕ). TestOf w true reads (is_none (reasons_of (halt_of w.back a.answer))) (back_step.shape_read u) grefs) (learns w a said).grefs))
 
 -- no terms are taken: its end of the ring halts, or goes on as it was
-pub not_led : (w : World) (a : BackAct) → IsSaid w a → attaches w (back_learns w) ≡ false
+pub not_led : (w : World) (a : BackAct) → IsFit w → IsSaid w a → attaches w (back_learns w) ≡ false
     → back_step.ring_led (halt_of w.back a.answer) (back_step.reads_layout (back_asks w)) (step_of w.back a.answer) w.rings.back ≡ halted_only (halt_of w.back a.answer) w.rings.back
-not_led w a said untaken = by_cases (halt_of w.back a.answer) (back_step.reads_layout (back_asks w)) refl refl
+not_led w a fit said untaken = by_cases (halt_of w.back a.answer) (back_step.reads_layout (back_asks w)) refl refl
   where
     u : BackView
     u = step_of w.back a.answer
 
-    unfit : (may layout : Bool) → layout ≡ true → (may && layout) ≡ false → may ≡ false
-    unfit true layout named none = absurd (true≢false (sym named ∙ none))
-    unfit false layout named none = refl
+    unfit : (may layout served : Bool) → layout ≡ true → served ≡ true → (may && layout && served) ≡ false → may ≡ false
+    unfit true true served named says none = absurd (true≢false (sym says ∙ none))
+    unfit true false served named says none = absurd (true≢false (sym named))
+    unfit false layout served named says none = refl
 
     by_cases : (halt : Option BackHalt) (reads : Bool) → halt_of w.back a.answer ≡ halt → back_step.reads_layout (back_asks w) ≡ reads → back_step.ring_led halt reads u w.rings.back ≡ halted_only halt w.rings.back
     by_cases (Some why) reads e f = refl
@@ -147,7 +158,7 @@ not_led w a said untaken = by_cases (halt_of w.back a.answer) (back_step.reads_l
     by_cases None true e f =
         let layout = layout_named w a said f e in
         let test = sym (test_is w a said) ∙ untaken in
-        let may = unfit (ring_step.may_attach (back_step.shape_read u) u.grefs w.rings.back) (is_layout u.terms.abi (ring.layout_text w.rings)) layout (rw (f, e) at test) in
+        let may = unfit (ring_step.may_attach (back_step.shape_read u) u.grefs w.rings.back) (is_layout u.terms.abi (ring.layout_text w.rings)) _ layout (serves_said w fit f) (rw (f, e) at test) in
         rw may refl
 
 -- terms are taken, and no halt is asked for
@@ -158,15 +169,15 @@ pub record IsTaken (w : World) (a : BackAct) : Type 0 where
       ≡ ring_step.attached (back_step.shape_read (back_learns w)) (back_learns w).grefs (back_learns w).terms.port w.rings.back
   pub after : ring.after (back_takes (back_learns w)) w.rings ≡ record w.rings { back = back_step.ring_led (halt_of w.back a.answer) (back_step.reads_layout (back_asks w)) (step_of w.back a.answer) w.rings.back }
 
-all_true : (moves reads none may layout : Bool) → (moves && reads && none && (may && layout)) ≡ true → (reads ≡ true) × (none ≡ true) × ((may && layout) ≡ true)
-all_true true true true may layout all = (refl, refl, all)
-all_true true true false may layout all = absurd (true≢false (sym all))
-all_true true false none may layout all = absurd (true≢false (sym all))
-all_true false reads none may layout all = absurd (true≢false (sym all))
+all_true : (moves reads none fits : Bool) → (moves && reads && none && fits) ≡ true → (reads ≡ true) × (none ≡ true) × (fits ≡ true)
+all_true true true true fits all = (refl, refl, all)
+all_true true true false fits all = absurd (true≢false (sym all))
+all_true true false none fits all = absurd (true≢false (sym all))
+all_true false reads none fits all = absurd (true≢false (sym all))
 
-first_true : (may layout : Bool) → (may && layout) ≡ true → may ≡ true
-first_true true layout both = refl
-first_true false layout both = both
+first_true : (may layout served : Bool) → (may && layout && served) ≡ true → may ≡ true
+first_true true layout served all = refl
+first_true false layout served all = all
 
 no_reason : (halt : Option BackHalt) → is_none (reasons_of halt) ≡ true → halt ≡ None
 no_reason None none = refl
@@ -179,9 +190,9 @@ taken w a said takes =
     let same = learns w a said in
     let shape = same_shape w a said in
     let test = sym (test_is w a said) ∙ takes in
-    let all = all_true true (back_step.reads_layout (back_asks w)) (is_none (reasons_of (halt_of w.back a.answer))) (ring_step.may_attach (back_step.shape_read u) u.grefs w.rings.back) (is_layout (back_step.shape_read u).abi (ring.layout_text w.rings)) test in
+    let all = all_true true (back_step.reads_layout (back_asks w)) (is_none (reasons_of (halt_of w.back a.answer))) (ring.attaches_at w.rings (back_step.shape_read u) u.grefs) test in
     let none = no_reason (halt_of w.back a.answer) all.1 in
-    let may = first_true (ring_step.may_attach (back_step.shape_read u) u.grefs w.rings.back) (is_layout (back_step.shape_read u).abi (ring.layout_text w.rings)) all.2 in
+    let may = first_true (ring_step.may_attach (back_step.shape_read u) u.grefs w.rings.back) (is_layout (back_step.shape_read u).abi (ring.layout_text w.rings)) _ all.2 in
     let goes : ring.attaches_at w.rings (back_step.shape_read b) b.grefs ≡ true =
     ap (λ (s : Shape). ring.attaches_at w.rings s b.grefs) shape ∙ (ap (λ (grefs : List ℕ). ring.attaches_at w.rings (back_step.shape_read u) grefs) same.grefs ∙ all.2) in
     let led = (ap (λ (h : Option BackHalt). back_step.ring_led h (back_step.reads_layout (back_asks w)) u w.rings.back) none

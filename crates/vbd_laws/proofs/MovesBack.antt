@@ -3,6 +3,7 @@ use Rattle.std.proofs.Common.{◌≡◌, ℕ, Bool, true, false, true≢false, i
 use Rattle.std.specs.Prelude.{Option, Some, None}
 use Rattle.std.proofs.lemmas.Option.{none-some}
 use Rattle.blk_base.specs.declared.parts.End.TheVariants as end
+use Rattle.blk_base.specs.declared.parts.Mapping.{Mapping}
 use Rattle.blk_base.specs.declared.ask.BackAsk.{BackAsk}
 use Rattle.blk_base.specs.declared.ask.BackAsk.TheVariants as back_ask
 use Rattle.blk_base.specs.declared.ask.BackAnswer.{BackAnswer}
@@ -23,20 +24,27 @@ use Rattle.blk_back.specs.Ask as back_ring
 use Rattle.line_text.proofs.Both.{both_true}
 use Rattle.xenbus_state.specs.declared.table.BackHalt.{BackHalt}
 use Rattle.xenbus_state.specs.States.{state_number}
-use Rattle.xenbus_state.specs.Keys.{front_name, back_name, path_under}
+use Rattle.xenbus_state.specs.Keys.{back_name, path_under}
 use Rattle.xenbus_state.specs.declared.keys.FrontKey.{FrontKey}
 use Rattle.xenbus_state.specs.declared.keys.FrontKey.TheVariants as key
+use Rattle.xenbus_state.specs.declared.keys.BackKey.{BackKey}
+use Rattle.xenbus_state.specs.declared.keys.BackKey.TheVariants as own_key
+use Rattle.xenbus_state.specs.declared.values.KeyValue.{KeyValue}
+use Rattle.xenbus_state.specs.declared.state.BusState.{BusState}
+use Rattle.xenbus_state.specs.declared.state.BusState.TheVariants as state
+use Rattle.xenbus_state.specs.Programs.{IsFact}
+use Rattle.xenbus_state.specs.BackAsk.{says_closing, unmap_ask, ask_at}
 use Rattle.xenbus_state.specs.declared.stage.BackStage.{BackStage}
 use Rattle.xenbus_state.specs.declared.stage.BackStage.TheVariants as bus_stage
 use Rattle.xenbus_state.specs.BackStep.{step_of}
 use Rattle.blk_back.specs.Ask.{is_led}
 use Rattle.blk_base.specs.declared.moves.Move.{Move as Shown}
-use Rattle.xenbus_state.specs.Values.{text_of}
+use Rattle.xenbus_state.specs.Values.{text_of, back_value}
 use Rattle.xenbus_state.specs.declared.back.BackBusAsk.{BackBusAsk}
 use Rattle.xenbus_state.specs.declared.back.BackBusAsk.TheVariants as back_bus
 use Rattle.xenbus_state.specs.BackView.{BackView}
 use Rattle.split_model.specs.World as rings
-use Rattle.split_model.specs.Keys.{KeyMove, Gets, Sets, TakesWatch, may_set, is_between, reads_layout, may_negotiate, watched_lines, key_lines, keys_after, negotiated, negotiated_lines}
+use Rattle.split_model.specs.Keys.{KeyMove, Sets, TakesWatch, may_set, is_between, is_early, may_negotiate, watched_lines, key_lines, keys_after, negotiated, negotiated_lines}
 use Rattle.split_model.specs.Happening as ring
 use Rattle.split_model.specs.Shown.{back_lines, halt_lines}
 use Rattle.split_model.proofs.SafeActs.{of_back, back_event, back_watch, made_back}
@@ -48,8 +56,8 @@ use Rattle.vbd_model.specs.World.{World, backend_of}
 use Rattle.vbd_model.specs.Happening.{BackMoves, back_key, halted_at, reasons_of, attaches, back_does, back_turn, back_bus_after, DiskGoes}
 use Rattle.vbd_model.specs.Fit.{BackGoesWith, IsFit}
 use Rattle.vbd_laws.specs.Moves.{IsBackMove, IsNoMove}
-use Rattle.vbd_laws.proofs.MovesAttached.{halted_only, all_halt, IsSaid, asks_layout, layout_asked, not_led, taken}
-use Rattle.vbd_laws.proofs.KeysSet.{BackMaySet, back_state_set, back_sets, back_unpending, back_turns}
+use Rattle.vbd_laws.proofs.MovesAttached.{halted_only, all_halt, IsSaid, layout_asked, not_led, taken}
+use Rattle.vbd_laws.proofs.KeysSet.{BackMaySet, back_state_set, back_sets, back_unpending, may_turn, back_turns}
 use Rattle.vbd_laws.proofs.MovesTurns.{back_asks, back_says, back_learns, back_takes, back_cases, quiet_back, waits_quiet, back_speaks}
 use Rattle.vbd_laws.proofs.MovesFront.{still_taken}
 
@@ -98,28 +106,17 @@ back_set : (w : World) (path text : List ℕ) → may_negotiate w.rings.back.sta
     × (ring.lines_at w.rings (ring.Negotiates end.Back (Sets path text)) ≡ lines.Move (moves.SetKey mover.Back path text) ∷ [])
 back_set w path text turn may = let set = sets path text w.rings.under.keys may in turned w (Sets path text) _ _ turn set.0 set.1
 
--- a key that names no layout may be read between two steps, and the layout where it is waited for
-may_read : (k : FrontKey) (s : Stage) → is_between s ≡ true → (k ≡ key.Protocol → is_led s ≡ true) → may_negotiate s end.Back (Gets (path_under end.Front (front_name k))) ≡ true
-may_read key.Protocol s between led = rw (between, led refl) refl
-may_read key.RingPageOrder s between led = rw between refl
-may_read (key.RingRefOf page) s between led = rw between refl
-may_read key.RingRef s between led = rw between refl
-may_read key.EventChannel s between led = rw between refl
-may_read key.FeaturePersistent s between led = rw between refl
-
-may_turn : (move : KeyMove) (s : Stage) → is_between s ≡ true → reads_layout move ≡ false → may_negotiate s end.Back move ≡ true
-may_turn move s between plain = rw (between, plain) refl
-
-keyed : (ask : BackBusAsk) (w : World) (a : BackAct) → is_between w.rings.back.stage ≡ true → (ask ≡ back_bus.GetKey key.Protocol → is_led w.rings.back.stage ≡ true) → BackMaySet ask → back.speaks ask ≡ true
+-- what the negotiation asks of the keys is done
+keyed : (ask : BackBusAsk) (w : World) (a : BackAct) → is_between w.rings.back.stage ≡ true → (is_early (back_key ask) ≡ true → is_led w.rings.back.stage ≡ true) → BackMaySet ask → back.speaks ask ≡ true
     → back_act w.rings.under back_mover.Back (back.key_ask ask) Took ≡ Some a → Keyed w (back_key ask) a
-keyed back_bus.Watch w a between led may is e = of_back (λ (x : BackAct). Keyed w (back_key back_bus.Watch) x) _ a (turned w (back_key back_bus.Watch) _ _ (may_turn (back_key back_bus.Watch) w.rings.back.stage between refl) refl refl) e
-keyed back_bus.GetState w a between led may is e = of_back (λ (x : BackAct). Keyed w (back_key back_bus.GetState) x) _ a (turned w (back_key back_bus.GetState) _ _ (may_turn (back_key back_bus.GetState) w.rings.back.stage between refl) refl refl) e
+keyed back_bus.Watch w a between led may is e = of_back (λ (x : BackAct). Keyed w (back_key back_bus.Watch) x) _ a (turned w (back_key back_bus.Watch) _ _ (may_turn (back_key back_bus.Watch) w.rings.back.stage between led) refl refl) e
+keyed back_bus.GetState w a between led may is e = of_back (λ (x : BackAct). Keyed w (back_key back_bus.GetState) x) _ a (turned w (back_key back_bus.GetState) _ _ (may_turn (back_key back_bus.GetState) w.rings.back.stage between led) refl refl) e
 keyed (back_bus.GetKey k) w a between led may is e =
-    of_back (λ (x : BackAct). Keyed w (back_key (back_bus.GetKey k)) x) _ a (turned w (back_key (back_bus.GetKey k)) _ _ (may_read k w.rings.back.stage between (λ same. led (ap back_bus.GetKey same))) refl refl) e
+    of_back (λ (x : BackAct). Keyed w (back_key (back_bus.GetKey k)) x) _ a (turned w (back_key (back_bus.GetKey k)) _ _ (may_turn (back_key (back_bus.GetKey k)) w.rings.back.stage between led) refl refl) e
 keyed (back_bus.SetKey k value) w a between led may is e =
-    of_back (λ (x : BackAct). Keyed w (back_key (back_bus.SetKey k value)) x) _ a (back_set w (path_under end.Back (back_name k)) (text_of value) (may_turn (Sets (path_under end.Back (back_name k)) (text_of value)) w.rings.back.stage between refl) may) e
+    of_back (λ (x : BackAct). Keyed w (back_key (back_bus.SetKey k value)) x) _ a (back_set w (path_under end.Back (back_name k)) (text_of value) (may_turn (back_key (back_bus.SetKey k value)) w.rings.back.stage between led) may) e
 keyed (back_bus.SetState s) w a between led may is e =
-    of_back (λ (x : BackAct). Keyed w (back_key (back_bus.SetState s)) x) _ a (back_set w back.own_state (decimal (state_number s)) (may_turn (Sets back.own_state (decimal (state_number s))) w.rings.back.stage between refl) (back_state_set (decimal (state_number s)))) e
+    of_back (λ (x : BackAct). Keyed w (back_key (back_bus.SetState s)) x) _ a (back_set w back.own_state (decimal (state_number s)) (may_turn (back_key (back_bus.SetState s)) w.rings.back.stage between led) (back_state_set (decimal (state_number s)))) e
 keyed ask w a between led may is e = absurd (true≢false (sym is))
 
 -- a halt tells nothing, and shows its line
@@ -132,13 +129,13 @@ halted_lines None r = sym (halts_no_more r.back.halted)
 halted_lines (Some why) r = append-nil _
 
 -- the negotiation speaks
-says : (w : World) (a : BackAct) → w.rings.back.told ≡ None → IsSaid w a → attaches w (back_learns w) ≡ false → Keyed w (back_key (back_asks w)) a
+says : (w : World) (a : BackAct) → IsFit w → IsSaid w a → attaches w (back_learns w) ≡ false → Keyed w (back_key (back_asks w)) a
     → Moved w a (back_says w (reasons_of (back_step.halt_of (backend_of w) a.answer))) (back_step.spoken (backend_of w) a.answer)
-says w a told said untaken is =
+says w a fit said untaken is =
     let reason : Option BackHalt = back_step.halt_of (backend_of w) a.answer in
     let halted : back_ends.View = halted_only reason w.rings.back in
-    let quiet : halted.told ≡ None = halted_told reason w.rings.back ∙ told in
-    subst (λ (y : back_ends.View). Moved w a (back_says w (reasons_of reason)) (back_step.heard_by y (backend_of w) a.answer)) (sym (not_led w a said untaken)) (
+    let quiet : halted.told ≡ None = halted_told reason w.rings.back ∙ fit.safe.back_told in
+    subst (λ (y : back_ends.View). Moved w a (back_says w (reasons_of reason)) (back_step.heard_by y (backend_of w) a.answer)) (sym (not_led w a fit said untaken)) (
       ap (λ (r : rings.World). ring.after (map ring.BackHalts (reasons_of reason)) r) is.0 ∙ (all_halt reason (over w a.under) ∙ ap (λ (b : back_ends.View). record (over w a.under) { back = b }) (quiet_ring halted quiet)),
       ap (λ (ls : List Line). ls ++ ring.lines_of (map ring.BackHalts (reasons_of reason)) (ring.happens w.rings (ring.Negotiates end.Back (back_key (back_asks w))))) is.1
           ∙ ap (λ (ls : List Line). lines.Move a.shown ∷ ls) (halted_lines reason _ ∙ sym (ap (λ t. back_lines t a.answer ++ halt_lines w.rings.back.halted halted.halted) quiet)),
@@ -170,7 +167,7 @@ takes : (w : World) (a : BackAct) (next : Option (List ℕ)) → w.rings.back.to
     → back_watched w.rings.under next ≡ Some a → Moved w a (ring.Negotiates end.Back TakesWatch ∷ []) (back_step.ring_step false (back_asks w) (backend_of w) a.answer)
 takes w a None told between first e = absurd (none-some a e)
 takes w a (Some path) told between first e =
-    let is = turned w TakesWatch _ _ (may_turn TakesWatch w.rings.back.stage between refl) refl (ap (λ (n : Option (List ℕ)). watched_lines end.Back n) first) in
+    let is = turned w TakesWatch _ _ (may_turn TakesWatch w.rings.back.stage between (λ early. absurd (true≢false (sym early)))) refl (ap (λ (n : Option (List ℕ)). watched_lines end.Back n) first) in
     of_back (λ (x : BackAct). Moved w x (ring.Negotiates end.Back TakesWatch ∷ []) (back_step.ring_step false (back_asks w) (backend_of w) x.answer)) (back_watch w.rings.under path) a (
       is.0 ∙ ap (λ (b : back_ends.View). record (over w (back_watch w.rings.under path).under) { back = b }) (quiet_ring w.rings.back told),
       ap (λ (ls : List Line). ls ++ []) is.1
@@ -198,20 +195,46 @@ waited w a fit quiet still e =
 pub back_sets_asked : (w : World) → IsFit w → BackMaySet (back_asks w)
 back_sets_asked w fit = back_sets w.back fit.offers
 
--- the layout is read while the end of the ring waits for it
-waits_for_layout : (w : World) → IsFit w → back_asks w ≡ back_bus.GetKey key.Protocol → is_led w.rings.back.stage ≡ true
-waits_for_layout w fit asked =
-    let here = (asks_layout w.back (ap back_step.reads_layout asked)).1 in
-    let goes : BackGoesWith (bus_stage.ReadKey key.Protocol) w.back.state w.rings.back.stage = subst (λ (b : BackStage). BackGoesWith b w.back.state w.rings.back.stage) here fit.back in
-    ap is_led goes.1
+-- its features are published, and the layout is read, while the end of the ring waits for the terms of its front
+unmap_late : (pages : List Mapping) → is_early (back_key (unmap_ask pages)) ≡ false
+unmap_late [] = refl
+unmap_late (page ∷ pages) = refl
+
+fact_late : (k : BackKey) (value : KeyValue) → IsFact k → is_early (back_key (back_bus.SetKey k value)) ≡ false
+fact_late own_key.Sectors value is = refl
+fact_late own_key.SectorSize value is = refl
+fact_late own_key.Info value is = refl
+fact_late k value is = absurd is
+
+read_led : (k : FrontKey) (own : BusState) (r : Stage) → BackGoesWith (bus_stage.ReadKey k) own r → is_early (back_key (back_bus.GetKey k)) ≡ true → is_led r ≡ true
+read_led key.Protocol own r goes early = ap is_led goes.1
+read_led key.RingPageOrder own r goes early = absurd (true≢false (sym early))
+read_led (key.RingRefOf page) own r goes early = absurd (true≢false (sym early))
+read_led key.RingRef own r goes early = absurd (true≢false (sym early))
+read_led key.EventChannel own r goes early = absurd (true≢false (sym early))
+read_led key.FeaturePersistent own r goes early = absurd (true≢false (sym early))
+
+led_at : (b : BackStage) (v : BackView) (r : Stage) → BackGoesWith b v.state r → is_early (back_key (ask_at b v)) ≡ true → is_led r ≡ true
+led_at (bus_stage.Publish k) v r goes early = ap is_led goes.1
+led_at (bus_stage.ReadKey k) v r goes early = read_led k v.state r goes early
+led_at (bus_stage.PublishFact k) v r goes early = absurd (true≢false (sym early ∙ fact_late k (back_value v.features v.disk k) goes.2))
+led_at bus_stage.UnmapPage v r goes early = absurd (true≢false (sym early ∙ unmap_late v.pages))
+led_at b v r goes early = absurd (true≢false (sym early))
+
+waits_early : (w : World) → IsFit w → is_early (back_key (back_asks w)) ≡ true → is_led w.rings.back.stage ≡ true
+waits_early w fit = by_test (says_closing w.back)
+  where
+    by_test : (c : Bool) → is_early (back_key (if c then back_bus.SetState state.Closing else ask_at w.back.stage w.back)) ≡ true → is_led w.rings.back.stage ≡ true
+    by_test true early = absurd (true≢false (sym early))
+    by_test false early = led_at w.back.stage w.back w.rings.back.stage fit.back early
 
 goes : (w : World) (a : BackAct) → IsFit w → back_turn w ≡ Some a → Moved w a (back_does w) (back_step.step_of (backend_of w) a.answer)
 goes w a fit turn =
     back_cases (Moves w a) w
     (λ does untaken e.
     subst (λ (act : Option BackAct). Moved w a (back_says w (halted_at w act)) (back_step.spoken (backend_of w) a.answer)) (sym turn)
-    (says w a fit.safe.back_told (record { turn = turn; moves = does }) untaken
-    (keyed (back_asks w) w a (back_turns (back_asks w) w.rings.back.stage does) (waits_for_layout w fit) (back_sets_asked w fit) (both_true (back.speaks (back_asks w)) (back.is_between w.rings.back.stage) does).0 e)))
+    (says w a fit (record { turn = turn; moves = does }) untaken
+    (keyed (back_asks w) w a (back_turns (back_asks w) w.rings.back.stage does) (waits_early w fit) (back_sets_asked w fit) (both_true (back.speaks (back_asks w)) (back.is_between w.rings.back.stage) does).0 e)))
     (attached w a fit.safe.back_told turn) (λ quiet does. moved w a) (waited w a fit) turn
 
 -- no disk is called
@@ -251,7 +274,7 @@ unwatched h (Some path) e = absurd (none-some _ (sym e))
 takes_none : (w : World) → is_between w.rings.back.stage ≡ true → watch_next w.rings.under end.Back ≡ None
     → (ring.after (ring.Negotiates end.Back TakesWatch ∷ []) w.rings ≡ w.rings) × (ring.lines_of (ring.Negotiates end.Back TakesWatch ∷ []) w.rings ≡ [])
 takes_none w between none =
-    let may = turns w.rings.back.stage TakesWatch w.rings.under.keys (may_turn TakesWatch w.rings.back.stage between refl) in (
+    let may = turns w.rings.back.stage TakesWatch w.rings.under.keys (may_turn TakesWatch w.rings.back.stage between (λ early. absurd (true≢false (sym early)))) in (
       ap (λ (d : Directory). over w (with_keys w.rings.under d)) (may.0 ∙ still_taken w.rings.under.keys end.Back none),
       ap (λ (ls : List Line). ls ++ []) (may.1 ∙ ap (λ (n : Option (List ℕ)). watched_lines end.Back n) none),
     )

@@ -21,6 +21,7 @@ use Rattle.blk_front.specs.View as front_ends
 use Rattle.blk_front.specs.Ask as front_ring
 use Rattle.blk_front.specs.declared.state.FrontState.{FrontState}
 use Rattle.blk_front.specs.declared.state.FrontState.TheVariants as enter
+use Rattle.blk_front.specs.declared.state.Offers.{Offers}
 use Rattle.blk_front.specs.State.{may_enter, enters}
 use Rattle.xenbus_state.specs.declared.front.FrontNews.{FrontNews}
 use Rattle.xenbus_state.specs.declared.front.FrontNews.TheVariants as news
@@ -42,7 +43,7 @@ use Rattle.vbd_front.specs.Ask as front
 use Rattle.vbd_front.specs.Step as front_step
 use Rattle.vbd_model.specs.World.{World, frontend_of}
 use Rattle.vbd_model.specs.Happening.{FrontMoves, front_key, entered_at, front_does, front_turn, front_bus_after, DiskGoes}
-use Rattle.vbd_model.specs.News.{news_lines}
+use Rattle.vbd_model.specs.News.{news_line, news_lines}
 use Rattle.vbd_model.specs.Fit.{IsFit}
 use Rattle.vbd_laws.specs.Moves.{IsFrontMove, IsClose, IsNoMove}
 use Rattle.vbd_laws.proofs.FitFront.{front_fits, all_enter}
@@ -116,15 +117,21 @@ due_lines (front_bus.EndGrant page) order r = by_test (may_enter enter.Leaving r
     by_test false = refl
 due_lines due order r = refl
 
-entered_lines : (news : Option FrontNews) (due : FrontBusAsk) (order : ℕ) (r : rings.World)
-    → ring.lines_of (map ring.FrontEnters (front_step.states_entered news due order)) r ≡ news_lines (front_step.news_told news r.front)
-entered_lines None due order r = due_lines due order r
-entered_lines (Some n) due order r =
-    let s : FrontState = front_step.state_of_news n in
+stated_line : (offers : Offers) (n : FrontNews) → state_lines (front_step.state_of_news offers n) ≡ news_line n ∷ []
+stated_line offers news.Ready = refl
+stated_line offers news.Closing = refl
+stated_line offers news.Closed = refl
+stated_line offers (news.Broken word) = refl
+
+entered_lines : (offers : Offers) (news : Option FrontNews) (due : FrontBusAsk) (order : ℕ) (r : rings.World)
+    → ring.lines_of (map ring.FrontEnters (front_step.states_entered offers news due order)) r ≡ news_lines (front_step.news_told offers news r.front)
+entered_lines offers None due order r = due_lines due order r
+entered_lines offers (Some n) due order r =
+    let s : FrontState = front_step.state_of_news offers n in
     ap (λ (ls : List Line). ring.enter_lines s r.front ++ ls) (due_lines due order (ring.happens r (ring.FrontEnters s))) ∙ (append-nil (ring.enter_lines s r.front) ∙ by_test (may_enter s r.front))
   where
-    by_test : (b : Bool) → (if b then state_lines (front_step.state_of_news n) else []) ≡ news_lines (if b then Some n else None)
-    by_test true = refl
+    by_test : (b : Bool) → (if b then state_lines (front_step.state_of_news offers n) else []) ≡ news_lines (if b then Some n else None)
+    by_test true = stated_line offers n
     by_test false = refl
 
 -- the negotiation speaks
@@ -133,12 +140,14 @@ says : (w : World) (a : FrontAct) → w.rings.front.told ≡ None → Keyed w (f
 says w a told is =
     let states : List FrontState = front_step.states_after (frontend_of w) a.answer in
     let quiet : (front_step.all_entered states w.rings.front).told ≡ None = entered_told states w.rings.front ∙ told in
-    let due : FrontBusAsk = bus_asks.ask_of (front_step.bus_after (frontend_of w) a.answer) (front_view.is_unoccupied w.rings.front) in (
+    let u : FrontView = front_step.bus_after (frontend_of w) a.answer in
+    let offers : Offers = front_step.offers_of u in
+    let due : FrontBusAsk = bus_asks.ask_of u (front_view.is_unoccupied w.rings.front) in (
       ap (λ (r : rings.World). ring.after (map ring.FrontEnters states) r) is.0
           ∙ (all_enter states (over w a.under) ∙ ap (λ (f : front_ends.View). record (over w a.under) { front = f }) (quiet_ring (front_step.all_entered states w.rings.front) quiet)),
       ap (λ (ls : List Line). ls ++ ring.lines_of (map ring.FrontEnters states) (ring.happens w.rings (ring.Negotiates end.Front (front_key (front_asks w))))) is.1
-          ∙ ap (λ (ls : List Line). lines.Move a.shown ∷ ls) (entered_lines (front_step.news_of (frontend_of w) a.answer) due (ring_order (front_step.bus_after (frontend_of w) a.answer)) _
-          ∙ sym (ap (λ t. front_lines t ++ news_lines (front_step.news_told (front_step.news_of (frontend_of w) a.answer) w.rings.front)) quiet)),
+          ∙ ap (λ (ls : List Line). lines.Move a.shown ∷ ls) (entered_lines offers (front_step.news_of (frontend_of w) a.answer) due (ring_order u) _
+          ∙ sym (ap (λ t. front_lines t ++ news_lines (front_step.news_told offers (front_step.news_of (frontend_of w) a.answer) w.rings.front)) quiet)),
     )
 
 -- its end of the ring moves

@@ -165,18 +165,28 @@ begins_now w x fit says e =
     u : FrontView
     u = step_of w.front idle x
 
--- a front that begins its ring has read all that its back offers
-read_all : (s : FrontStage) (own : BusState) (r f : Features) (e d : DiskFacts) → is_begun s ≡ true → FrontRead s own r f e d → r ≡ f
-read_all (stage.RingWord word) own r f e d begun read = read
-read_all s own r f e d begun read = absurd (true≢false (sym begun))
+-- a front that begins its ring, or connects, has read all that its back offers
+abbrev has_read : FrontStage → Bool
+has_read (stage.RingWord word) = true
+has_read (stage.WriteState state.Connected) = true
+has_read s = false
+
+begun_read : (s : FrontStage) → is_begun s ≡ true → has_read s ≡ true
+begun_read (stage.RingWord word) begun = refl
+begun_read s begun = absurd (true≢false (sym begun))
+
+read_all : (s : FrontStage) (own : BusState) (r f : Features) (e d : DiskFacts) → has_read s ≡ true → FrontRead s own r f e d → r ≡ f
+read_all (stage.RingWord word) own r f e d has read = read
+read_all (stage.WriteState state.Connected) own r f e d has read = read.0
+read_all s own r f e d has read = absurd (true≢false (sym has))
 
 abbrev HasOffer : Negotiation → Type 0
-HasOffer n = is_begun n.front.stage ≡ true → n.front.features ≡ n.back.features
+HasOffer n = has_read n.front.stage ≡ true → n.front.features ≡ n.back.features
 
-pub offer_read : (n : Negotiation) → Reached n → HasOffer n
+offer_read : (n : Negotiation) → Reached n → HasOffer n
 offer_read n j =
     let h = run_holds j.run in
-    subst HasOffer j.stands (λ begun. read_all _ _ _ _ _ _ begun h.front.read ∙ sym h.back.offer)
+    subst HasOffer j.stands (λ has. read_all _ _ _ _ _ _ has h.front.read ∙ sym h.back.offer)
 
 -- so the order that is agreed is the one that it wished
 no_less : (wished offered : ℕ) → wished ≤ 4 → offered ≡ 4 → min wished offered ≡ wished
@@ -196,7 +206,7 @@ agreed_is w a fit j speaks turn says e =
       keys = a.under.keys;
     })) says (front_goes w a fit whole j turn)
     in
-    let features : u.features ≡ offer = offer_read _ reached (begun_now u idle e) ∙ fit.offers in
+    let features : u.features ≡ offer w.back.disk.read_only = offer_read _ reached (begun_read u.stage (begun_now u idle e)) ∙ fit.offers in
     let terms = terms_told w.front idle a.answer in
     let few : u.order ≤ 4 = subst (λ (n : ℕ). n ≤ 4) (sym terms.order) speaks.order in
     no_less u.order u.features.order few (ap (λ (f : Features). f.order) features) ∙ (terms.order ∙ sym is.wished)
@@ -211,7 +221,7 @@ keeps_order s f same = enters_cases (λ (x : ends.View) shown. x.shape.order ≡
   where
     by_state : (s : FrontState) → IsSame s f.shape.order → (in_state s f).shape.order ≡ f.shape.order
     by_state (enter.Agreed order) same = same
-    by_state enter.Connected same = refl
+    by_state (enter.Connected offers) same = refl
     by_state enter.Closing same = refl
     by_state enter.Leaving same = refl
     by_state enter.Closed same = refl
@@ -240,6 +250,15 @@ leaving_writes true (Some p) own e = absurd (cc)
 closing_writes : (s : BusState) (v : FrontView) (own : BusState) → closing_stage s v ≡ stage.WriteState own → 5 ≤ state_number own
 closing_writes state.Closing v own e = leaving_writes v.gone v.port own e
 closing_writes s v own e = let same : state.Closing ≡ own = cc in subst (λ (s : BusState). 5 ≤ state_number s) same (omega arith)
+
+-- so one that connects knows what its back serves
+connecting : (v : FrontView) (idle : Bool) → due v idle ≡ stage.WriteState state.Connected → v.stage ≡ stage.WriteState state.Connected
+connecting v idle =
+    due_cases (λ (d : FrontStage). d ≡ stage.WriteState state.Connected → v.stage ≡ stage.WriteState state.Connected) v idle (λ e. e)
+    (λ here closing is_idle e. absurd (let late = closing_writes v.state v state.Connected e in omega arith))
+
+pub connects_knowing : (n : Negotiation) (idle : Bool) → Reached n → due n.front idle ≡ stage.WriteState state.Connected → n.front.features ≡ n.back.features
+connects_knowing n idle j e = offer_read n j (ap has_read (connecting n.front idle e))
 
 step_late : (v : FrontView) (r : Ring) (idle : Bool) (x : FrontAnswer) → FrontGoesWith v.stage v r → IsLate v → IsLate (step_of v idle x)
 step_late v r idle x goes late =

@@ -166,7 +166,7 @@ enter_early w fits unbound (s ∷ states) r timely early =
   where
     by_state : (s : FrontState) → IsTimely w s → is_early (in_state s r).stage ≡ true
     by_state (entered.Agreed order) now = early
-    by_state entered.Connected now = absurd (unconnected w.back.stage w.back.state w.rings.back.stage unbound fits now)
+    by_state (entered.Connected offers) now = absurd (unconnected w.back.stage w.back.state w.rings.back.stage unbound fits now.0)
     by_state entered.Closing now = early
     by_state entered.Leaving now = absurd (not_halted w.back w.rings.back.stage unbound fits now)
     by_state entered.Closed now = refl

@@ -136,13 +136,16 @@ either_view : (b : Bool) (x y : ring.View) → is_broken x.stage ≡ false → i
 either_view true x y p q = p
 either_view false x y p q = q
 
-issue_whole : (way : Transfer) → is_broken (ring_step.issue_stage way) ≡ false
-issue_whole transfer.Read = refl
-issue_whole (transfer.Write tag) = refl
+begun_whole : (r : ring.View) (q : Request) (way : Transfer) → is_broken (ring_step.begun r q way).stage ≡ false
+begun_whole r q transfer.Read = refl
+begun_whole r q (transfer.Write tag) = refl
+begun_whole r q (transfer.Barrier tag) = refl
+begun_whole r q transfer.Flush = refl
+begun_whole r q (transfer.Discard sectors) = refl
 
 loop_whole : (r : ring.View) (next : Option Request) (path : List ℕ) → is_broken r.stage ≡ false → is_broken (ring_step.loop_step r next (answer.Watched path)).stage ≡ false
 loop_whole r None path p = p
-loop_whole r (Some q) path p = issue_whole q.transfer
+loop_whole r (Some q) path p = begun_whole r q q.transfer
 
 data_whole : (next : Option Request) (n : ℕ) → is_broken (ring_step.data_stage next n) ≡ false
 data_whole None n = refl

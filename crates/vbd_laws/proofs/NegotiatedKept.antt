@@ -4,11 +4,13 @@ use Rattle.std.specs.Prelude.{Option, Some, None, IsSome, is_some}
 use Rattle.std.specs.List.{AllByRecursion}
 use Rattle.blk_base.specs.declared.parts.Mapping.{Mapping}
 use Rattle.blk_base.specs.declared.ask.FrontAnswer.{FrontAnswer}
+use Rattle.blk_base.specs.declared.ask.FrontAnswer.TheVariants as answer
 use Rattle.hypervisor.specs.Act.{FrontAct, front_act}
 use Rattle.blk_front.specs.declared.stage.Stage.{Stage as FrontRing}
 use Rattle.blk_front.specs.declared.stage.Stage.TheVariants as front_ring
 use Rattle.blk_front.specs.declared.state.FrontState.{FrontState}
 use Rattle.blk_front.specs.declared.state.FrontState.TheVariants as entered
+use Rattle.blk_front.specs.declared.state.Offers.{Offers}
 use Rattle.blk_front.specs.Submit.{is_connected, is_ready}
 use Rattle.blk_front.specs.State.{is_made}
 use Rattle.xenbus_state.specs.declared.state.BusState.{BusState}
@@ -17,6 +19,7 @@ use Rattle.xenbus_state.specs.declared.stage.FrontStage.{FrontStage}
 use Rattle.xenbus_state.specs.declared.stage.FrontStage.TheVariants as bus
 use Rattle.xenbus_state.specs.declared.stage.BackStage.{BackStage}
 use Rattle.xenbus_state.specs.declared.stage.BackStage.TheVariants as back_bus
+use Rattle.xenbus_state.specs.declared.offer.Features.{Features}
 use Rattle.xenbus_state.specs.declared.front.FrontBusAsk.{FrontBusAsk}
 use Rattle.xenbus_state.specs.declared.front.FrontBusAsk.TheVariants as front_ask
 use Rattle.xenbus_state.specs.declared.front.FrontNews.{FrontNews}
@@ -28,7 +31,7 @@ use Rattle.xenbus_state.specs.FrontAsk as front_asks
 use Rattle.xenbus_state.specs.FrontStep.{news_of}
 use Rattle.xenbus_state.specs.BackView.{BackView}
 use Rattle.xenbus_state.specs.BackAsk.{says_closing, unmap_ask, ask_at, ask_of}
-use Rattle.negotiation_laws.specs.Negotiation.{Negotiation}
+use Rattle.negotiation_laws.specs.Negotiation.{Negotiation, front_answered}
 use Rattle.negotiation_laws.specs.Laws.{IsLeaving, IsHalted}
 use Rattle.negotiation_laws.proofs.Granting.{maps_after_grants, connects_to_connected}
 use Rattle.vbd_front.specs.View as front_view
@@ -37,10 +40,12 @@ use Rattle.vbd_front.specs.Step as front_step
 use Rattle.vbd_model.specs.World.{World, frontend_of}
 use Rattle.vbd_model.specs.Happening.{front_turn}
 use Rattle.vbd_model.specs.Fit.{IsEndingPage, FrontRests, FrontGoesWith, IsFit}
+use Rattle.vbd_laws.proofs.FitFrontTerms.{features_told}
 use Rattle.vbd_laws.proofs.ServedFront as fronts
 use Rattle.vbd_laws.proofs.ServedFront.{IsNewsAt, news_is}
 use Rattle.vbd_laws.proofs.NegotiatedRun.{Reached, Joined, negotiation_of, breaks_at, leaves_at}
 use Rattle.vbd_laws.proofs.NegotiatedFront.{front_goes, Told, keys_told, closing_unoccupied}
+use Rattle.vbd_laws.proofs.NegotiatedAgreed.{connects_knowing}
 
 -- a ring that passed a test which none fails to pass that is being made is made
 connected_by : (test : FrontRing → Bool) → ((k : ℕ) → test (front_ring.RingWord k) ≡ false) → ((page : ℕ) → test (front_ring.RingFrame page) ≡ false) → ((page : ℕ) → test (front_ring.RingFence page) ≡ false)
@@ -150,10 +155,14 @@ finds_now w gref fit speaks j asks =
       made = port_connected w.front.stage w.front w.rings.front.stage fit.front (subst (λ (p : Option ℕ). IsSome p) (sym port) refl);
     }
 
--- when the front's end of the ring enters a state: it is connected to a connected back, and leaves and is closed after the back; it is never broken
+-- what the front takes a back of these features to serve
+abbrev pub offered : Features → Offers
+offered f = record { barrier = f.barrier; flush = f.flush; discard = f.discard }
+
+-- when the front's end of the ring enters a state: it is connected to a connected back, whose offers it knows, and leaves and is closed after the back; it is never broken
 abbrev pub IsTimely : World → FrontState → Type 0
 IsTimely w (entered.Agreed order) = Unit {0}
-IsTimely w entered.Connected = bus_connected w.back.state ≡ true
+IsTimely w (entered.Connected offers) = (bus_connected w.back.state ≡ true) × (offers ≡ offered w.back.features)
 IsTimely w entered.Closing = Unit {0}
 IsTimely w entered.Leaving = IsHalted w.back
 IsTimely w entered.Closed = IsHalted w.back
@@ -183,15 +192,21 @@ module _ (w : World) (a : FrontAct) (fit : IsFit w) (whole : front_view.is_broke
       let breaks = breaks_at (negotiation_of w) idle 0 word j (subst (λ (x : FrontAnswer). news_of w.front idle x ≡ Some (news.Broken word)) told.answer e) in
       true≢false (sym (closing_unoccupied w fit whole breaks.1) ∙ breaks.0)
 
-  news_timely : (n : Option FrontNews) → news_of w.front idle a.answer ≡ n → IsNewsAt (front_asks.due w.front idle) n → AllByRecursion (IsTimely w) (front_step.states_of_news n)
+  abbrev after : FrontView
+  after = front_step.bus_after (frontend_of w) a.answer
+
+  knows : front_asks.due w.front idle ≡ bus.WriteState state.Connected → front_step.offers_of after ≡ offered w.back.features
+  knows here =
+      let done : a.answer ≡ answer.Done = told.answer ∙ ap (λ (s : FrontStage). front_answered (front_asks.ask_at s w.front) 0 w.rings.under.keys) here in
+      ap (λ (x : FrontAnswer). front_step.offers_of (front_step.bus_after (frontend_of w) x)) done
+      ∙ ap offered (features_told w.front idle ∙ connects_knowing (negotiation_of w) idle j here)
+
+  news_timely : (n : Option FrontNews) → news_of w.front idle a.answer ≡ n → IsNewsAt (front_asks.due w.front idle) n → AllByRecursion (IsTimely w) (front_step.states_of_news (front_step.offers_of after) n)
   news_timely None e is = tt
-  news_timely (Some news.Ready) e is = (connects_at (negotiation_of w) idle j (ap (λ (s : FrontStage). front_asks.ask_at s w.front) is), tt)
+  news_timely (Some news.Ready) e is = ((connects_at (negotiation_of w) idle j (ap (λ (s : FrontStage). front_asks.ask_at s w.front) is), knows is), tt)
   news_timely (Some news.Closing) e is = (tt, tt)
   news_timely (Some news.Closed) e is = (leaves_at (negotiation_of w) idle j (subst IsLeaving (sym (ap (λ (s : FrontStage). front_asks.ask_at s w.front) is)) tt), tt)
   news_timely (Some (news.Broken word)) e is = absurd (breaks_not word e)
-
-  abbrev after : FrontView
-  after = front_step.bus_after (frontend_of w) a.answer
 
   reached : Reached (record { front = after; back = w.back; keys = a.under.keys })
   reached =
@@ -205,5 +220,5 @@ module _ (w : World) (a : FrontAct) (fit : IsFit w) (whole : front_view.is_broke
 
   pub states_timely : AllByRecursion (IsTimely w) (front_step.states_after (frontend_of w) a.answer)
   states_timely =
-      both_all (IsTimely w) (front_step.states_of_news (news_of w.front idle a.answer)) (front_step.states_due (front_asks.ask_of after idle) (ring_order after))
+      both_all (IsTimely w) (front_step.states_of_news (front_step.offers_of after) (news_of w.front idle a.answer)) (front_step.states_due (front_asks.ask_of after idle) (ring_order after))
       (news_timely (news_of w.front idle a.answer) refl (news_is w.front idle a.answer)) (due_timely (front_asks.ask_of after idle) (ring_order after) refl)

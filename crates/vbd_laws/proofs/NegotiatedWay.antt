@@ -256,7 +256,7 @@ module _ (w : World) (a : BackAct) (fit : IsFit w) (speaks : fronts.Speaks w.fro
   before_back halts =
       back_cases Goes w
       (λ says untaken reach halts e.
-      let plain = not_led w a (record { turn = turn; moves = says }) untaken in
+      let plain = not_led w a fit (record { turn = turn; moves = says }) untaken in
       let reached = reach (rw says refl) (key_given w.rings.under (back_asks w) a e) in
       let spoken = (both_true (back.speaks (back_asks w)) (back.is_between w.rings.back.stage) says).0 in
       subst (λ (y : ring_view.View). IsOnItsWay (back_to w a (to_led y))) (sym plain)

@@ -1,5 +1,5 @@
 -- What the back's negotiation says is of the grammar: its disk has sectors of 64 bits, it reads the reference of one of 16 pages, and what it reads has 32 bits.
-use Rattle.std.proofs.Common.{◌≡◌, sym, subst, ℕ, zero, suc, ◌+◌, ◌-◌, ◌*◌, ◌&&◌, ◌++◌, All, ◌^◌, ◌<◌, ◌≤◌, ◌==◌, Bool, true, false, List, [], ◌∷◌, length, refl, arith, if◌then◌else◌}
+use Rattle.std.proofs.Common.{◌≡◌, sym, subst, ℕ, zero, suc, ◌+◌, ◌-◌, ◌*◌, ◌&&◌, ◌++◌, All, ◌^◌, ◌<◌, ◌≤◌, ◌==◌, Bool, true, false, not, List, [], ◌∷◌, length, refl, arith, if◌then◌else◌}
 use Rattle.std.specs.Prelude.{Option, Some, None, nat_lt, nat_le}
 use Rattle.std.specs.List.{AllByRecursion}
 use Rattle.std.specs.Option.{option_map}
@@ -21,7 +21,6 @@ use Rattle.xenbus_state.specs.declared.stage.BackStage.{BackStage}
 use Rattle.xenbus_state.specs.declared.stage.BackStage.TheVariants as bus
 use Rattle.xenbus_state.specs.declared.table.BackAction.{BackAction}
 use Rattle.xenbus_state.specs.declared.table.BackAction.TheVariants as action
-use Rattle.xenbus_state.specs.declared.back.BackBusAsk.{BackBusAsk}
 use Rattle.xenbus_state.specs.declared.back.BackBusAsk.TheVariants as back_ask
 use Rattle.xenbus_state.specs.declared.table.BackHalt.{BackHalt}
 use Rattle.xenbus_state.specs.declared.table.BackHalt.TheVariants as bus_halt
@@ -38,15 +37,13 @@ use Rattle.xenbus_state.specs.BackAsk.{says_closing, unmap_ask, ask_at, ask_of}
 use Rattle.xenbus_state.specs.BackStep.{acted, action_halt, kept_or_halted, key_halt, halt_at, halt_of, after_state, giving_up, other_pages, after_feature, after_fact, step_at, step_of}
 use Rattle.xenbus_state.proofs.Powers.{few_pages}
 use Rattle.line_text.specs.Texts.{is_key_name}
-use Rattle.blk_back.specs.declared.told.Halt.{Halt}
-use Rattle.blk_back.specs.declared.stage.Stage.{Stage as BackRing}
-use Rattle.blk_back.specs.declared.stage.Stage.TheVariants as ring
 use Rattle.machine_pipeline.specs.Allowed.{IsSpelled, IsSaid, AreSaid}
-use Rattle.vbd_back.specs.View.{View, offer}
+use Rattle.vbd_back.specs.View.{offer}
 use Rattle.vbd_back.specs.Ask as back
 use Rattle.vbd_back.specs.Step as back_step
 use Rattle.vbd_model.specs.World.{World, backend_of}
 use Rattle.vbd_model.specs.Happening.{back_key as key_move, back_turn, back_bus_after}
+use Rattle.vbd_laws.proofs.FitBackKept.{step_is}
 use Rattle.vbd_laws.proofs.NegotiatedBack.{IsGiven}
 use Rattle.vbd_laws.proofs.ServedTexts.{few_states, page_name, state_name, ring_name, order_name, port_name, layout_name, persistent_name, number_text, page_path, front_state_path, back_state_path, back_path, ring_path, order_path, port_path, layout_path, persistent_path, flag_text, state_text}
 
@@ -205,44 +202,6 @@ stopped_speaks v h = by_test (is_halting v.stage)
     by_test true = h
     by_test false = at_speaks bus.UnmapOthers v tt h
 
--- what the negotiation becomes in a move of the back: what it is told, and a halt, keep this
-module _ (P : BackView → Type 0) (told : (v : BackView) (a : BackAnswer) → P v → P (step_of v a)) (stops : (v : BackView) → P v → P (stopped v)) where
-  settled_is : (s : BackStage) (r : BackRing) (v : BackView) → P v → P (back_step.settled_at s r v)
-  settled_is bus.UnmapOthers (ring.GiveUp m) v p = p
-  settled_is bus.UnmapOthers r v p = told v answer.Done p
-  settled_is s r v p = p
-
-  halted_is : (why : Option Halt) (v : BackView) → P v → P (back_step.bus_halted why v)
-  halted_is None v p = p
-  halted_is (Some why) v p = stops v p
-
-  woken_is : (v : BackView) (a : BackAnswer) → P v → P (back_step.woken v a)
-  woken_is v (answer.Watched path) p = told v (answer.Watched path) p
-  woken_is v a p = p
-
-  followed_is : (b : BackBusAsk) (v : BackView) (a : BackAnswer) → P v → P (back_step.followed b v a)
-  followed_is (back_ask.Map gref) v a p = told v a p
-  followed_is (back_ask.Bind port) v a p = told v a p
-  followed_is (back_ask.Unmap m) v a p = told v answer.Done p
-  followed_is back_ask.ClosePort v a p = told v a p
-  followed_is back_ask.Wait v a p = woken_is v a p
-  followed_is b v a p = p
-
-  waited_is : (b : BackBusAsk) (v : BackView) (a : BackAnswer) → P v → P (back_step.waited b v a)
-  waited_is back_ask.Wait v a p = woken_is v a p
-  waited_is b v a p = p
-
-  ring_is : (moves : Bool) (b : BackBusAsk) (x : View) (a : BackAnswer) → P x.bus → (let y : View = back_step.ring_step moves b x a in P y.bus)
-  ring_is true b x a p = settled_is _ _ _ (halted_is _ _ (followed_is b x.bus a p))
-  ring_is false b x a p = waited_is b x.bus a p
-
-  step_is : (x : View) (a : BackAnswer) → P x.bus → (let y : View = back_step.step_of x a in P y.bus)
-  step_is x a p = by_test (back.bus_moves (back.bus_ask_of x) x.ring.stage) (back.bus_ask_of x)
-    where
-      by_test : (moves : Bool) (b : BackBusAsk) → (let y : View = if moves then back_step.spoken x a else back_step.ring_step (back.ring_moves b x.ring.stage) b x a in P y.bus)
-      by_test true b = settled_is _ _ _ (told x.bus a p)
-      by_test false b = ring_is (back.ring_moves b x.ring.stage) b x a p
-
 -- a move of the back
 pub back_speaks : (w : World) → Speaks w.back → Speaks (back_bus_after w (back_turn w))
 back_speaks w h = by_act (back_turn w)
@@ -273,13 +232,13 @@ info_text : (read_only : Bool) → (if read_only then 4 else 0) < 2 ^ 64
 info_text true = omega arith
 info_text false = omega arith
 
-value_spelled : (k : BackKey) (f : Features) (d : DiskFacts) → f ≡ offer → d.sectors < 2 ^ 64 → IsSpelled (key_move (back_ask.SetKey k (back_value f d k)))
+value_spelled : (k : BackKey) (f : Features) (d : DiskFacts) → f ≡ offer d.read_only → d.sectors < 2 ^ 64 → IsSpelled (key_move (back_ask.SetKey k (back_value f d k)))
 value_spelled k f d e few = subst (λ (g : Features). IsSpelled (key_move (back_ask.SetKey k (back_value g d k)))) (sym e) (by_key k)
   where
-    by_key : (k : BackKey) → IsSpelled (key_move (back_ask.SetKey k (back_value offer d k)))
-    by_key back_key.FeatureBarrier = (back_path back_key.FeatureBarrier, flag_text false)
-    by_key back_key.FeatureFlushCache = (back_path back_key.FeatureFlushCache, flag_text false)
-    by_key back_key.FeatureDiscard = (back_path back_key.FeatureDiscard, flag_text false)
+    by_key : (k : BackKey) → IsSpelled (key_move (back_ask.SetKey k (back_value (offer d.read_only) d k)))
+    by_key back_key.FeatureBarrier = (back_path back_key.FeatureBarrier, flag_text (not d.read_only))
+    by_key back_key.FeatureFlushCache = (back_path back_key.FeatureFlushCache, flag_text (not d.read_only))
+    by_key back_key.FeatureDiscard = (back_path back_key.FeatureDiscard, flag_text (not d.read_only))
     by_key back_key.FeaturePersistent = (back_path back_key.FeaturePersistent, flag_text false)
     by_key back_key.FeatureMaxIndirectSegments = (back_path back_key.FeatureMaxIndirectSegments, number_text 0 (omega arith))
     by_key back_key.MaxRingPageOrder = (back_path back_key.MaxRingPageOrder, number_text 4 (omega arith))
@@ -299,7 +258,7 @@ unmap_spelled : (pages : List Mapping) → IsSpelled (key_move (unmap_ask pages)
 unmap_spelled [] = tt
 unmap_spelled (page ∷ pages) = tt
 
-at_spelled : (s : BackStage) (v : BackView) → v.features ≡ offer → v.disk.sectors < 2 ^ 64 → IsPlain s → IsSpelled (key_move (ask_at s v))
+at_spelled : (s : BackStage) (v : BackView) → v.features ≡ offer v.disk.read_only → v.disk.sectors < 2 ^ 64 → IsPlain s → IsSpelled (key_move (ask_at s v))
 at_spelled (bus.Publish k) v e few p = value_spelled k v.features v.disk e few
 at_spelled (bus.WriteState s) v e few p = (back_state_path, state_text s)
 at_spelled bus.Watch v e few p = front_state_path
@@ -309,14 +268,14 @@ at_spelled (bus.PublishFact k) v e few p = value_spelled k v.features v.disk e f
 at_spelled bus.UnmapPage v e few p = unmap_spelled v.pages
 at_spelled s v e few p = tt
 
-asked_spelled : (v : BackView) → v.features ≡ offer → Speaks v → IsSpelled (key_move (ask_of v))
+asked_spelled : (v : BackView) → v.features ≡ offer v.disk.read_only → Speaks v → IsSpelled (key_move (ask_of v))
 asked_spelled v e h = by_test (says_closing v)
   where
     by_test : (b : Bool) → IsSpelled (key_move (if b then back_ask.SetState state.Closing else ask_at v.stage v))
     by_test true = (back_state_path, state_text state.Closing)
     by_test false = at_spelled v.stage v e h.sectors h.stage
 
-pub back_spelled : (w : World) → w.back.features ≡ offer → Speaks w.back → IsSpelled (key_move (back.bus_ask_of (backend_of w)))
+pub back_spelled : (w : World) → w.back.features ≡ offer w.back.disk.read_only → Speaks w.back → IsSpelled (key_move (back.bus_ask_of (backend_of w)))
 back_spelled w e h = asked_spelled w.back e h
 
 -- a halt that it makes of what it read is a line of the grammar

@@ -23,6 +23,7 @@ use Rattle.blk_front.specs.declared.stage.Stage.{Stage as FrontRing}
 use Rattle.blk_front.specs.declared.stage.Stage.TheVariants as front_ring
 use Rattle.blk_front.specs.declared.state.FrontState.{FrontState}
 use Rattle.blk_front.specs.declared.state.FrontState.TheVariants as entered
+use Rattle.blk_front.specs.declared.state.Offers.{Offers}
 use Rattle.blk_front.specs.View as front_ends
 use Rattle.blk_front.specs.Ask.{is_through}
 use Rattle.blk_front.specs.State.{is_made}
@@ -179,7 +180,11 @@ moves_made w fit j moves halted = by_kind (made_or_making (front_asks w) w.rings
 -- the front enters its states when the machine of the ring allows it
 enters_when : (w : World) (v : rings.World) (n : ℕ) → IsFit w → v.back ≡ w.rings.back → v.front.shape.order ≡ n → (s : FrontState) → IsTimely w s → IsWord n s → MayEnter v s
 enters_when w v n fit same own (entered.Agreed order) timely is = is ∙ sym own
-enters_when w v n fit same own entered.Connected timely is = tt
+enters_when w v n fit same own (entered.Connected offers) timely is = record {
+  barrier = ap (λ (o : Offers). o.barrier) timely.1 ∙ (sym fit.published.barrier ∙ sym (ap (λ (b : ring_view.View). b.jobs.info.barrier) same));
+  flush = ap (λ (o : Offers). o.flush) timely.1 ∙ (sym fit.published.flush ∙ sym (ap (λ (b : ring_view.View). b.jobs.info.flush) same));
+  discard = ap (λ (o : Offers). o.discard) timely.1 ∙ (sym fit.published.discard ∙ sym (ap (λ (b : ring_view.View). b.jobs.info.discard) same));
+}
 enters_when w v n fit same own entered.Closing timely is = tt
 enters_when w v n fit same own entered.Leaving timely is =
     let fits = subst (λ (s : BackStage). BackGoesWith s w.back.state w.rings.back.stage) timely.stage fit.back in

@@ -11,6 +11,7 @@ use Rattle.schedule_text.specs.Range.{AreOptions}
 use Rattle.line_text.proofs.Both.{both_true}
 use Rattle.blk_front.specs.declared.state.FrontState.{FrontState}
 use Rattle.blk_front.specs.declared.state.FrontState.TheVariants as enter
+use Rattle.blk_front.specs.declared.state.Offers.{Offers}
 use Rattle.blk_front.specs.Submit.{is_connected}
 use Rattle.xenbus_state.specs.States.{state_number}
 use Rattle.xenbus_state.specs.declared.stage.FrontStage.{FrontStage}
@@ -67,7 +68,7 @@ IsWord n s = Unit {0}
 stated_is : (n : ℕ) (s : FrontState) (w : rings.World) → w.front.shape.order ≡ n → IsWord n s → ring_allowed.IsStated w s
 stated_is n (enter.Agreed order) w own is = is ∙ sym own
 stated_is n (enter.Broken word) w own is = is
-stated_is n enter.Connected w own is = tt
+stated_is n (enter.Connected offers) w own is = tt
 stated_is n enter.Closing w own is = tt
 stated_is n enter.Leaving w own is = tt
 stated_is n enter.Closed w own is = tt
@@ -89,12 +90,13 @@ due_words n (front_ask.WriteRingWord word) order agrees = (agrees refl, tt)
 due_words n (front_ask.EndGrant page) order agrees = (tt, tt)
 due_words n b order agrees = tt
 
-news_words : (n : ℕ) (s : FrontStage) (news_of : Option FrontNews) (b : FrontBusAsk) (order : ℕ) → IsNewsAt s news_of → (begins b ≡ true → order ≡ n) → AllByRecursion (IsWord n) (front_step.states_entered news_of b order)
-news_words n s None b order is agrees = due_words n b order agrees
-news_words n s (Some news.Ready) b order is agrees = (tt, due_words n b order agrees)
-news_words n s (Some news.Closing) b order is agrees = (tt, due_words n b order agrees)
-news_words n s (Some news.Closed) b order is agrees = (tt, due_words n b order agrees)
-news_words n s (Some (news.Broken word)) b order is agrees = (is, due_words n b order agrees)
+news_words : (n : ℕ) (s : FrontStage) (offers : Offers) (news_of : Option FrontNews) (b : FrontBusAsk) (order : ℕ) → IsNewsAt s news_of → (begins b ≡ true → order ≡ n)
+    → AllByRecursion (IsWord n) (front_step.states_entered offers news_of b order)
+news_words n s offers None b order is agrees = due_words n b order agrees
+news_words n s offers (Some news.Ready) b order is agrees = (tt, due_words n b order agrees)
+news_words n s offers (Some news.Closing) b order is agrees = (tt, due_words n b order agrees)
+news_words n s offers (Some news.Closed) b order is agrees = (tt, due_words n b order agrees)
+news_words n s offers (Some (news.Broken word)) b order is agrees = (is, due_words n b order agrees)
 
 -- a front that begins its ring has made none, and has written no state, so the back hasn't mapped it: the order is the one that the front wished
 unmade : {A : Type 0} (w : World) → Begins w.front w.rings.front.stage w.rings.front.shape.order → is_connected w.rings.front.stage ≡ true → A
@@ -117,7 +119,7 @@ pub entered_words : (w : World) (act : Option FrontAct) → Stands w → front_t
 entered_words w None stands turn says = tt
 entered_words w (Some a) stands turn says =
     let idle : Bool = front_view.is_unoccupied w.rings.front in
-    news_words w.rings.front.shape.order (due w.front idle) (front_step.news_of (frontend_of w) a.answer) (ask_of (front_step.bus_after (frontend_of w) a.answer) idle)
+    news_words w.rings.front.shape.order (due w.front idle) (front_step.offers_of (front_step.bus_after (frontend_of w) a.answer)) (front_step.news_of (frontend_of w) a.answer) (ask_of (front_step.bus_after (frontend_of w) a.answer) idle)
     (ring_order (front_step.bus_after (frontend_of w) a.answer)) (news_is w.front idle a.answer) (agrees_now w a stands turn says)
 
 front_possible : (w : World) → Stands w → ring_allowed.ArePossible (front_does w) w.rings
@@ -187,7 +189,7 @@ pub joined_start : (config : Options) → AreOptions config → Joined (start_of
 joined_start config are = record {
   run = record {
     front = let w : World = start_of config in w.front;
-    offer = back_view.offer;
+    offer = back_view.offer config.read_only;
     facts = let w : World = start_of config in w.back.disk;
     happenings = [];
     within = record { order = are.0; indirect = omega arith; offered = omega arith; sectors = are.4 };

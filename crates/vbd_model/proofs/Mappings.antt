@@ -1,20 +1,19 @@
 -- How many mappings what happens comes to: a move of the back one of its own and those of a job that it begins, and nothing else any.
-use Rattle.std.proofs.Common.{◌≡◌, ℕ, zero, suc, ◌+◌, ◌≤◌, Bool, true, false, if◌then◌else◌, cond, List, [], ◌∷◌, ◌++◌, length, take, refl, sym, ap, ◌∙◌, subst, arith}
-use Rattle.std.specs.Prelude.{Option, Some, None, Result, Ok, Err, is_some, position, sum_by, map, min, ◌==◌, nat_le, nat_lt, remove}
+use Rattle.std.proofs.Common.{◌≡◌, ℕ, zero, suc, ◌+◌, ◌≤◌, Bool, true, false, if◌then◌else◌, cond, List, [], ◌∷◌, ◌++◌, length, take, refl, ap, ◌∙◌, arith}
+use Rattle.std.specs.Prelude.{Option, Some, None, Result, Ok, Err, is_some, position, sum_by, map, ◌==◌, nat_le}
 use Rattle.std.proofs.lemmas.Bool.Decides.{nat_tests}
 use Rattle.std.proofs.lemmas.List.{length-take}
 use Rattle.std.proofs.lemmas.List.Sums.{sum_by-cons, sum_by-append, sum_by-remove}
 use Rattle.std.proofs.lemmas.List.Quantifiers.{position-Some}
 use Rattle.std.proofs.lemmas.Option.{none-some}
+use Rattle.blk_base.specs.declared.operation.Status.TheVariants.{Error}
 use Rattle.blk_base.specs.declared.parts.Mapping.{Mapping}
+use Rattle.blk_base.specs.declared.operation.Status.TheVariants.{Error}
 use Rattle.blk_base.specs.declared.parts.Mode.{Mode}
-use Rattle.blk_base.specs.declared.parts.End.{End}
 use Rattle.blk_base.specs.declared.parts.End.TheVariants as end
-use Rattle.blk_base.specs.declared.ask.BackAsk.{BackAsk}
 use Rattle.blk_base.specs.declared.ask.BackAsk.TheVariants as back_ask
 use Rattle.blk_base.specs.declared.ask.BackAnswer.{BackAnswer}
 use Rattle.blk_base.specs.declared.ask.BackAnswer.TheVariants as answer
-use Rattle.blk_base.specs.declared.moves.BackMover.{BackMover}
 use Rattle.blk_base.specs.declared.moves.BackMover.TheVariants as back_mover
 use Rattle.blk_layout.specs.declared.segment.Segment.{Segment}
 use Rattle.blk_layout.specs.declared.request.RawRequest.{RawRequest}
@@ -35,21 +34,20 @@ use Rattle.back_jobs.specs.declared.stage.Stage.{Stage as JobStage}
 use Rattle.back_jobs.specs.declared.stage.Stage.TheVariants as job_stage
 use Rattle.back_jobs.specs.Task as task
 use Rattle.back_jobs.specs.Task.{Work}
-use Rattle.back_jobs.specs.Jobs.{asked, place_of, work_at, work_of, told_at, removed_at, is_done, behind_mapping, mapping_at}
+use Rattle.back_jobs.specs.Jobs.{asked, waits, place_of, work_at, work_of, told_at, removed_at, is_done, behind_mapping, mapping_at}
 use Rattle.back_jobs.proofs.Hands.{place_among}
 use Rattle.ring_words.specs.Shape.{Shape, entry_words_of}
-use Rattle.ring_words.specs.Ring.{requests_of, overruns, notifies}
+use Rattle.ring_words.specs.Ring.{requests_of, overruns}
 use Rattle.blk_layout.specs.Entry.{request_of}
 use Rattle.blk_back.specs.declared.stage.Reply.{Reply}
 use Rattle.blk_back.specs.declared.stage.Stage.{Stage}
 use Rattle.blk_back.specs.declared.stage.Stage.TheVariants as stage
 use Rattle.blk_back.specs.declared.told.Halt.{Halt}
-use Rattle.blk_back.specs.declared.told.Halt.TheVariants as halt
 use Rattle.blk_back.specs.View.{View}
 use Rattle.blk_front.specs.Ask as front_asks
 use Rattle.blk_back.specs.Ask as back_asks
 use Rattle.blk_back.specs.Ask.{next_reply}
-use Rattle.blk_back.specs.Step.{at, give_up, halts, may_attach, attached, overrun, looked, loop_step, fetched, fetch_step, step_at, step_of, job_step, job_ask_of, next_number}
+use Rattle.blk_back.specs.Step.{at, halts, overrun, looked, loop_step, fetched, fetch_step, step_at, next_number}
 use Rattle.split_model.proofs.SafeActs.{made_back, made_front, of_back}
 use Rattle.split_model.proofs.States.{halts_cases}
 use Rattle.split_model.proofs.Attaching.{attach_cases}
@@ -60,7 +58,7 @@ use Rattle.xenbus_state.specs.declared.back.BackBusAsk.{BackBusAsk}
 use Rattle.vbd_back.specs.Ask as backend_asks
 use Rattle.vbd_back.specs.Step as back_step
 use Rattle.vbd_model.specs.World.{World, backend_of}
-use Rattle.vbd_model.specs.Happening.{Happening, FrontMoves, BackMoves, JobMoves, Closes, Submits, Notifies, Pokes, Dumps, Looks, Settles, does, happens, attaches, back_negotiates, back_halts, back_key, back_bus_after, back_turn, halted_at, is_backs_ring}
+use Rattle.vbd_model.specs.Happening.{BackMoves, JobMoves, does, happens, attaches, back_negotiates, back_halts, back_key, back_bus_after, back_turn, halted_at, is_backs_ring}
 use Rattle.vbd_model.specs.Mappings.{is_mapping, maps_left, mappings_in, mappings_of}
 
 -- A job. What it maps is left to it no more.
@@ -119,6 +117,12 @@ act_left h k (job_stage.DiskRead m) t (Gave words) a e = of_back (IsLeft h (job_
 act_left h k (job_stage.WriteWord m n) t o a e = of_back (IsLeft h (job_stage.WriteWord m n) t) _ a (let less = write_left t m n in omega arith) e
 act_left h k (job_stage.Unmap m) t o a e = of_back (IsLeft h (job_stage.Unmap m) t) _ a (let less = segment_left t t.rest in omega arith) e
 act_left h k (job_stage.GiveUp m) t o a e = of_back (IsLeft h (job_stage.GiveUp m) t) _ a (omega arith) e
+act_left h k job_stage.Flush t Took a e = of_back (IsLeft h job_stage.Flush t) _ a (omega arith) e
+act_left h k job_stage.Flush t Failed a e = of_back (IsLeft h job_stage.Flush t) _ a (omega arith) e
+act_left h k job_stage.Flush t (Gave words) a e = absurd (none-some a e)
+act_left h k (job_stage.Trim count) t Took a e = of_back (IsLeft h (job_stage.Trim count) t) _ a (omega arith) e
+act_left h k (job_stage.Trim count) t Failed a e = of_back (IsLeft h (job_stage.Trim count) t) _ a (omega arith) e
+act_left h k (job_stage.Trim count) t (Gave words) a e = absurd (none-some a e)
 act_left h k (job_stage.Done status) t o a e = absurd (none-some a e)
 
 -- among all that are held
@@ -131,10 +135,11 @@ between_left front rest t =
     let one = sum_by-cons maps_left t rest in
     omega arith
 
-told_left : (h : Hypervisor) (k : ℕ) (works : List Work) (place : Option ℕ) (found : Option Work) (o : Outcome) (a : BackAct) → work_at works place ≡ found → back_act h (back_mover.Job k) (asked found) o ≡ Some a → a.under.grants.made + all_left (told_at works place found a.answer) ≤ h.grants.made + all_left works
-told_left h k works place None o a found e = absurd (none-some a e)
-told_left h k works None (Some t) o a found e = absurd (none-some t found)
-told_left h k works (Some place) (Some t) o a found e =
+told_left : (h : Hypervisor) (k : ℕ) (works : List Work) (place : Option ℕ) (held : Bool) (found : Option Work) (o : Outcome) (a : BackAct) → work_at works place ≡ found → back_act h (back_mover.Job k) (asked held found) o ≡ Some a → a.under.grants.made + all_left (told_at works place found a.answer) ≤ h.grants.made + all_left works
+told_left h k works place held None o a found e = absurd (none-some a e)
+told_left h k works place true (Some t) o a found e = absurd (none-some a e)
+told_left h k works None false (Some t) o a found e = absurd (none-some t found)
+told_left h k works (Some place) false (Some t) o a found e =
     let r = place_among works place t found in
     let one = act_left h k t.stage t o a e in
     let before = ap all_left r.is ∙ between_left r.front r.rest t in
@@ -145,9 +150,9 @@ job_left : (w : rings.World) (k : ℕ) (o : Outcome) (act : Option BackAct) → 
 job_left w k o None e = omega arith
 job_left w k o (Some a) e = by_halt (is_some w.back.halted) e
   where
-    by_halt : (b : Bool) → back_act w.under (back_mover.Job k) (if b then back_ask.Wait else asked (work_of w.back.jobs.works k)) o ≡ Some a → mappings_in (ring.job_after w k (Some a)) ≤ mappings_in w
+    by_halt : (b : Bool) → back_act w.under (back_mover.Job k) (if b then back_ask.Wait else asked (waits w.back.jobs.works k) (work_of w.back.jobs.works k)) o ≡ Some a → mappings_in (ring.job_after w k (Some a)) ≤ mappings_in w
     by_halt true asks = absurd (none-some a asks)
-    by_halt false asks = told_left w.under k w.back.jobs.works (place_of w.back.jobs.works k) (work_of w.back.jobs.works k) o a refl asks
+    by_halt false asks = told_left w.under k w.back.jobs.works (place_of w.back.jobs.works k) (waits w.back.jobs.works k) (work_of w.back.jobs.works k) o a refl asks
 
 -- The back. A job that it begins has 11 segments at most.
 transfer_left : (number size : ℕ) (writes : Bool) (k : Kind) (count sector : ℕ) (request : RawRequest) (segments : List Segment) (info : DiskInfo) (plan : Plan) → transfer_verdict k count sector segments info ≡ verdict.Serve plan → maps_left (task.moving number request size writes sector (take count segments)) ≤ 12
@@ -160,7 +165,11 @@ transfer_left number size writes k count sector request segments info plan serve
 served_left : (number size op count device id sector : ℕ) (segments : List Segment) (info : DiskInfo) (plan : Plan) → verdict_of (raw.Direct op count device id sector segments) info ≡ verdict.Serve plan → maps_left (task.served number (raw.Direct op count device id sector segments) size) ≤ 12
 served_left number size zero count device id sector segments info plan served = transfer_left number size false kind.Read count sector (raw.Direct 0 count device id sector segments) segments info plan served
 served_left number size (suc zero) count device id sector segments info plan served = transfer_left number size true kind.Write count sector (raw.Direct 1 count device id sector segments) segments info plan served
-served_left number size (suc (suc op)) count device id sector segments info plan served = let other : nat_le (suc (suc op)) 1 ≡ false = grind (arith, nat_tests) in rw other (omega arith)
+served_left number size (suc (suc zero)) count device id sector segments info plan served = transfer_left number size true kind.Barrier count sector (raw.Direct 2 count device id sector segments) segments info plan served
+served_left number size (suc (suc (suc op))) count device id sector segments info plan served =
+    let request : RawRequest = raw.Direct (suc (suc (suc op))) count device id sector segments in
+    let other : nat_le (suc (suc (suc op))) 2 ≡ false = grind (arith, nat_tests) in
+    rw other (either_left (suc (suc (suc op)) == 3) (task.frameless number request size sector job_stage.Flush) (task.ended number request size (job_stage.Done Error)) 12 (omega arith) (omega arith))
 
 begun_left : (number size : ℕ) (request : RawRequest) (info : DiskInfo) (v : Verdict) → verdict_of request info ≡ v → maps_left (task.begun number request size v) ≤ 12
 begun_left number size (raw.Direct op count device id sector segments) info (verdict.Serve plan) e = served_left number size op count device id sector segments info plan e
@@ -250,7 +259,7 @@ halted_left : (why : Halt) (v : View) → all_left (halts why v).jobs.works ≤ 
 halted_left why v = halts_cases (λ x. all_left x.jobs.works ≤ all_left v.jobs.works) why v (λ here. omega arith) (λ here. behind_left v.jobs.works) (omega arith)
 
 attached_left : (w : rings.World) (shape : Shape) (grefs : List ℕ) (port : ℕ) → mappings_in (ring.happens w (ring.BackAttaches shape grefs port)) ≤ mappings_in w
-attached_left w shape grefs port = attach_cases (λ b shown. w.under.grants.made + all_left b.jobs.works ≤ mappings_in w) w shape grefs port (λ may named. omega arith) (omega arith)
+attached_left w shape grefs port = attach_cases (λ b shown. w.under.grants.made + all_left b.jobs.works ≤ mappings_in w) w shape grefs port (λ may named says. omega arith) (omega arith)
 
 overwritten_left : (b : Bool) (w : rings.World) (x : Hypervisor) → x.grants ≡ w.under.grants → mappings_in (record { front = w.front; back = w.back; under = if b then x else w.under }) ≤ mappings_in w
 overwritten_left true w x same = let made = ap (λ (t : GrantTable). t.made) same in omega arith

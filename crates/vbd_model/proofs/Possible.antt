@@ -1,15 +1,15 @@
 -- The happenings that events make are possible ones.
-use Rattle.std.proofs.Common.{◌≡◌, ℕ, zero, suc, inl, inr, Bool, true, List, [], ◌∷◌, ◌++◌, sym, subst, arith, true≢false}
+use Rattle.std.proofs.Common.{◌≡◌, ℕ, zero, suc, inl, inr, Bool, true, List, [], ◌∷◌, ◌++◌, sym, subst, arith}
 use Rattle.std.specs.Prelude.{replicate}
 use Rattle.blk_base.specs.declared.config.Job.{Job}
 use Rattle.blk_base.specs.declared.config.Job.TheVariants as jobs
 use Rattle.schedule_text.specs.declared.event.Event.{Event}
 use Rattle.schedule_text.specs.declared.event.Event.TheVariants as events
 use Rattle.schedule_text.specs.Range.{JobHasWidths}
-use Rattle.machine_pipeline.specs.Allowed.{IsTransfer}
+use Rattle.machine_pipeline.specs.Allowed.{IsServable}
 use Rattle.vbd_model.specs.World.{World, is_quiet}
 use Rattle.vbd_model.specs.Happening.{Happening, FrontMoves, BackMoves, Closes, Submits, Notifies, Pokes, Dumps, Looks, Settles, happens, after}
-use Rattle.vbd_model.specs.Kind.{is_carried, is_carried_job, Makes, MakesSoFar, AreJobMoves, AreEachJobs, round_start, IsBeginning, IsRoundSoFar, AreRounds, never, settle_bound, AreRoundsSoFar, IsSettling, IsSettlingSoFar, AreOf, AreOfSoFar, AreOfAll}
+use Rattle.vbd_model.specs.Kind.{is_carried, Makes, MakesSoFar, AreJobMoves, AreEachJobs, round_start, IsBeginning, IsRoundSoFar, AreRounds, never, settle_bound, AreRoundsSoFar, IsSettling, IsSettlingSoFar, AreOf, AreOfSoFar, AreOfAll}
 use Rattle.vbd_model.specs.Possible.{IsPossible, ArePossible}
 
 -- what is possible after what is, and the first part of it
@@ -82,18 +82,20 @@ settling_so_far_possible : (w : World) (hs : List Happening) → IsSettlingSoFar
 settling_so_far_possible w hs (inl r) = rounds_so_far_possible is_quiet (settle_bound w) w hs r
 settling_so_far_possible w hs (inr s) = settling_possible w hs s
 
--- a submission that is carried out is a read or a write of some sectors
-some_sectors : (job : Job) → is_carried_job job ≡ true → JobHasWidths job → IsTransfer job
-some_sectors (jobs.Read sector count) carried widths = let some = widths.1 in omega arith
-some_sectors (jobs.Write sector count tag) carried widths = (let some = widths.1 in omega arith, widths.2)
-some_sectors job carried widths = absurd (true≢false (sym carried))
+-- a submission is of some sectors, or a flush
+some_sectors : (job : Job) → JobHasWidths job → IsServable job
+some_sectors (jobs.Read sector count) widths = let some = widths.1 in omega arith
+some_sectors (jobs.Write sector count tag) widths = (let some = widths.1 in omega arith, widths.2)
+some_sectors (jobs.Barrier sector count tag) widths = (let some = widths.1 in omega arith, widths.2)
+some_sectors jobs.Flush widths = tt
+some_sectors (jobs.Discard sector count) widths = let some = widths.1 in omega arith
 
 -- this alone happens
 only : (h : Happening) (w : World) (hs : List Happening) → IsPossible w h → hs ≡ h ∷ [] → ArePossible hs w
 only h w hs may all = as_possible hs (h ∷ []) w all (may, tt)
 
 made_possible : (e : Event) (w : World) (hs : List Happening) → is_carried e ≡ true → Makes e w hs → ArePossible hs w
-made_possible (events.Submit job) w hs carried k = only (Submits job) w hs (some_sectors job carried k.1) k.0
+made_possible (events.Submit job) w hs carried k = only (Submits job) w hs (some_sectors job k.1) k.0
 made_possible (events.Front n) w hs carried k = as_possible hs (replicate n FrontMoves) w k (fronts_possible n w)
 made_possible (events.Back n) w hs carried k = as_possible hs (replicate n BackMoves) w k (backs_possible n w)
 made_possible (events.Job number n) w hs carried k = jobs_possible number hs w k.0

@@ -1,5 +1,8 @@
 -- What is true of the machine at every moment: each end's negotiation and its end of the ring go together, and no event is pending at an end whose port isn't bound.
 use Rattle.std.specs.Prelude.{◌≡◌, ℕ, ◌^◌, ◌<◌, ◌⊎◌, Bool, true, false, [], length, Option, Some, None, IsSome, is_some}
+use Rattle.blk_base.specs.declared.parts.End.TheVariants as end
+use Rattle.segment_list.specs.declared.verdict.DiskInfo.{DiskInfo}
+use Rattle.key_directory.specs.Directory.{Directory, key_of}
 use Rattle.event_channel.specs.Channels.{ChannelState, is_bound}
 use Rattle.blk_front.specs.declared.stage.Stage.{Stage as FrontRing}
 use Rattle.blk_front.specs.declared.stage.Stage.TheVariants as front_ring
@@ -16,6 +19,13 @@ use Rattle.xenbus_state.specs.declared.stage.FrontStage.TheVariants as front
 use Rattle.xenbus_state.specs.declared.stage.BackStage.{BackStage}
 use Rattle.xenbus_state.specs.declared.stage.BackStage.TheVariants as back
 use Rattle.xenbus_state.specs.declared.keys.FrontKey.TheVariants as front_key
+use Rattle.xenbus_state.specs.declared.keys.BackKey.{BackKey}
+use Rattle.xenbus_state.specs.declared.keys.BackKey.TheVariants as back_key
+use Rattle.xenbus_state.specs.declared.offer.Features.{Features}
+use Rattle.xenbus_state.specs.declared.offer.DiskFacts.{DiskFacts}
+use Rattle.xenbus_state.specs.Keys.{back_name, path_under}
+use Rattle.xenbus_state.specs.Values.{text_of, back_value}
+use Rattle.xenbus_state.specs.Programs.{IsFact}
 use Rattle.xenbus_state.specs.FrontView.{FrontView, ring_order}
 use Rattle.xenbus_state.specs.BackView.{BackView, is_halting}
 use Rattle.xenbus_state.specs.BackSound.{IsSound}
@@ -137,7 +147,7 @@ BackGoesWith (back.ReadKey front_key.FeaturePersistent) s r = (s ≡ state.InitW
 BackGoesWith (back.ReadKey k) s r = (s ≡ state.InitWait) × (r ≡ back_ring.InitWait)
 BackGoesWith back.MapPage s r = (s ≡ state.InitWait) × (r ≡ back_ring.MapRing)
 BackGoesWith back.Bind s r = (s ≡ state.InitWait) × (r ≡ back_ring.Bind)
-BackGoesWith (back.PublishFact key) s r = (s ≡ state.InitWait) × (r ≡ back_ring.Loop)
+BackGoesWith (back.PublishFact key) s r = (s ≡ state.InitWait) × (r ≡ back_ring.Loop) × IsFact key
 BackGoesWith back.UnmapOthers s r = IsGivingUp r
 BackGoesWith back.UnmapPage s r = IsUnmapping r
 BackGoesWith back.ClosePort s r = r ≡ back_ring.ClosePort
@@ -165,6 +175,36 @@ pub record HaveTerms (r : ends.View) (v : BackView) : Type 0 where
   pub grefs : r.grefs ≡ v.grefs
   pub port : r.port ≡ v.terms.port
 
+-- the disk as the end of the ring publishes it has what the negotiation offers
+pub record IsOffered (info : DiskInfo) (f : Features) : Type 0 where
+  pub barrier : info.barrier ≡ f.barrier
+  pub flush : info.flush ≡ f.flush
+  pub discard : info.discard ≡ f.discard
+  pub indirect : info.max_indirect ≡ f.indirect
+
+-- the back's key says what a back that offers this has to say by it
+abbrev pub SaysKey : Directory → Features → DiskFacts → BackKey → Type 0
+SaysKey d f disk k = key_of d.keys (path_under end.Back (back_name k)) ≡ Some (text_of (back_value f disk k))
+
+-- the keys for what it serves say so: those before the key at hand while it publishes, then all
+pub record IsServiceSaid (says : BackKey → Type 0) : Type 0 where
+  pub barrier : says back_key.FeatureBarrier
+  pub flush : says back_key.FeatureFlushCache
+  pub discard : says back_key.FeatureDiscard
+  pub indirect : says back_key.FeatureMaxIndirectSegments
+
+abbrev pub SaidBefore : (says : BackKey → Type 0) → BackKey → Type 0
+SaidBefore says back_key.FeatureBarrier = Unit {0}
+SaidBefore says back_key.FeatureFlushCache = says back_key.FeatureBarrier
+SaidBefore says back_key.FeatureDiscard = says back_key.FeatureBarrier × says back_key.FeatureFlushCache
+SaidBefore says back_key.FeaturePersistent = says back_key.FeatureBarrier × says back_key.FeatureFlushCache × says back_key.FeatureDiscard
+SaidBefore says back_key.FeatureMaxIndirectSegments = says back_key.FeatureBarrier × says back_key.FeatureFlushCache × says back_key.FeatureDiscard
+SaidBefore says k = IsServiceSaid says
+
+abbrev pub SaidAt : (says : BackKey → Type 0) → BackStage → Type 0
+SaidAt says (back.Publish k) = SaidBefore says k
+SaidAt says b = IsServiceSaid says
+
 -- no port is bound, and no event is pending at the back, before it binds
 abbrev pub IsUnbound : BackRing → ChannelState → Type 0
 IsUnbound back_ring.InitWait c = (is_bound c ≡ false) × (c.back_pending ≡ false)
@@ -172,12 +212,14 @@ IsUnbound back_ring.MapRing c = (is_bound c ≡ false) × (c.back_pending ≡ fa
 IsUnbound back_ring.Bind c = (is_bound c ≡ false) × (c.back_pending ≡ false)
 IsUnbound r c = Unit {0}
 
--- the machine is safe, and so is the back's negotiation; each negotiation goes with its end of the ring, closes and halts with it, and a front that wrote Closing has no request left; both know the shape of the ring, the references of its pages and the port, and the back offers what it offers; and no event is pending where no port is made, or none is bound yet
+-- the machine is safe, and so is the back's negotiation; each negotiation goes with its end of the ring, closes and halts with it, and a front that wrote Closing has no request left; both know the shape of the ring, the references of its pages and the port; the back offers what it offers, its end of the ring serves that, and its keys say so; and no event is pending where no port is made, or none is bound yet
 pub record IsFit (w : World) : Type 0 where
   pub safe : IsSafe w.rings
   pub layout : w.rings.front.shape.abi ≡ w.front.abi
   pub ordered : FrontOrdered w.front.stage w.front w.rings.front.shape.order
-  pub offers : w.back.features ≡ offer
+  pub offers : w.back.features ≡ offer w.back.disk.read_only
+  pub published : IsOffered w.rings.back.jobs.info w.back.features
+  pub said : SaidAt (SaysKey w.rings.under.keys w.back.features w.back.disk) w.back.stage
   pub front : FrontGoesWith w.front.stage w.front w.rings.front.stage
   pub closing : is_broken w.rings.front.stage ≡ false → w.rings.front.closing ≡ w.front.closing
   pub through : w.front.state ≡ state.Closing → is_broken w.rings.front.stage ≡ false → is_through w.rings.front ≡ true

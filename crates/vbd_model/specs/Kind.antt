@@ -1,8 +1,6 @@
 -- The happenings that an event of a schedule makes.
 use Rattle.std.specs.Prelude.{◌≡◌, ℕ, zero, suc, ◌+◌, ◌*◌, ◌^◌, ◌≤◌, ◌<◌, ◌⊎◌, Bool, true, false, ◌&&◌, List, [], ◌∷◌, ◌++◌, replicate, length, Some, None, ◌==◌}
 use Rattle.blk_base.specs.Options.{Options}
-use Rattle.blk_base.specs.declared.config.Job.{Job}
-use Rattle.blk_base.specs.declared.config.Job.TheVariants as jobs
 use Rattle.hypervisor.specs.Act.{Outcome, IsGiven}
 use Rattle.schedule_text.specs.Event.{is_number}
 use Rattle.schedule_text.specs.Range.{JobHasWidths}
@@ -18,15 +16,9 @@ use Rattle.vbd_model.specs.Happening.{Happening, FrontMoves, BackMoves, JobMoves
 abbrev pub are_carried : Options → Bool
 are_carried o = (o.persistent == 0) && (o.indirect == 0)
 
--- a read or a write, the only submissions that are carried out yet
-abbrev pub is_carried_job : Job → Bool
-is_carried_job (jobs.Read sector count) = true
-is_carried_job (jobs.Write sector count tag) = true
-is_carried_job job = false
-
 -- the events that are carried out yet, with the numbers of the grammar
 abbrev pub is_carried : Event → Bool
-is_carried (events.Submit job) = is_carried_job job
+is_carried (events.Submit job) = true
 is_carried (events.Front n) = is_number n
 is_carried (events.Back n) = is_number n
 is_carried (events.Job number n) = is_number number && is_number n

@@ -1,7 +1,7 @@
 // The job of a request that was fetched, before its first move.
 ghost use Rattle.std.specs.Prelude.{◌≡◌, ◌≤◌, length, take};
-ghost use Rattle.back_jobs.specs.Task.{first_of, IsDoneStage, id_of, response_op, served, moving, ended};
-ghost use Rattle.back_jobs.specs.Sound.{AreMovable};
+ghost use Rattle.back_jobs.specs.Task.{first_of, IsDoneStage, id_of, response_op, served, moving, ended, frameless};
+ghost use Rattle.back_jobs.specs.Sound.{AreMovable, IsFrameless};
 ghost use Rattle.segment_list.specs.declared.verdict.Plan.{Plan};
 ghost use Rattle.segment_list.specs.Verdict.{verdict_of, transfer_verdict};
 ghost use Rattle.segment_list.specs.declared.verdict.Kind.{Kind};
@@ -26,19 +26,21 @@ pub(super) fn served(number: u64, request: &RawRequest, info: &DiskInfo) -> Task
             segments,
             ..
         } => {
-            if *op == 0 {
-                transfer(number, request, info, false, *count, *sector, segments)
-            } else if *op == 1 {
-                transfer(number, request, info, true, *count, *sector, segments)
+            if *op <= 2 {
+                let writes = *op != 0;
+                transfer(number, request, info, writes, *count, *sector, segments)
+            } else if *op == 3 {
+                frameless(number, request, info.sectors, *sector, Stage::Flush)
             } else {
                 ended(number, request, info.sectors, Stage::Done(Status::Error))
             }
         }
-        RawRequest::Discard { .. } => ended(
+        RawRequest::Discard { sector, count, .. } => frameless(
             number,
             request,
             info.sectors,
-            Stage::Done(Status::Error),
+            *sector,
+            Stage::Trim(*count),
         ),
         RawRequest::Indirect { .. } => ended(
             number,
@@ -108,13 +110,21 @@ pub(super) fn ended(number: u64, request: &RawRequest, size: u64, stage: Stage) 
     requires { IsDoneStage stage }
     ensures { result ≡ ended number request.now size stage }
 {
+    frameless(number, request, size, 0, stage)
+}
+
+// A job that moves no sectors between frames and the disk.
+fn frameless(number: u64, request: &RawRequest, size: u64, disk: u64, stage: Stage) -> Task
+    requires { IsFrameless stage disk size }
+    ensures { result ≡ frameless number request.now size disk stage }
+{
     Task {
         number,
         id: id_of(request),
         op: response_op(request),
         writes: false,
         size,
-        disk: 0,
+        disk,
         moved: 0,
         rest: ArrayVec::new(),
         within: 0,

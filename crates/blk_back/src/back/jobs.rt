@@ -111,10 +111,10 @@ impl Back {
 fn told_effect(effect: Effect) -> BackTold
     ensures { Some result ≡ told_effect (Some effect) }
 {
-    let Effect { id, index, failed } = effect;
-    if failed {
-        BackTold::Fault { id, index }
-    } else {
-        BackTold::Effect { id, index }
+    match effect {
+        Effect::Moved { id, index } => BackTold::Effect { id, index },
+        Effect::Flushed { id } => BackTold::Flushed { id },
+        Effect::Trimmed { id } => BackTold::Trimmed { id },
+        Effect::Failed { id, index } => BackTold::Fault { id, index },
     }
 }

@@ -23,7 +23,10 @@ impl Front {
         if may {
             match state {
                 FrontState::Agreed(order) => self.agree(order),
-                FrontState::Connected => self.stage = Stage::Loop,
+                FrontState::Connected(offers) => {
+                    self.offers = offers;
+                    self.stage = Stage::Loop;
+                }
                 FrontState::Closing => self.closing = true,
                 FrontState::Leaving => self.stage = Stage::RingRead(0),
                 FrontState::Closed => self.stage = Stage::Closed,
@@ -54,7 +57,7 @@ impl Front {
             FrontState::Agreed(order) => {
                 matches!(self.stage, Stage::RingWord(0)) && order <= self.order
             }
-            FrontState::Connected => matches!(self.stage, Stage::Initialised),
+            FrontState::Connected(_) => matches!(self.stage, Stage::Initialised),
             FrontState::Closing => !self.closing && open,
             FrontState::Leaving => {
                 self.is_through() && matches!(self.stage, Stage::Initialised | Stage::Loop)

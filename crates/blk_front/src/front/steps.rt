@@ -5,8 +5,10 @@ ghost use Rattle.blk_front.specs.declared.stage.Stage.TheVariants as stage;
 ghost use Rattle.blk_front.specs.View.{next_request};
 ghost use Rattle.blk_front.specs.Ask.{loop_ask, IsAnswer};
 ghost use Rattle.blk_front.specs.Sound.{AreAscending};
-ghost use Rattle.blk_front.specs.Step.{step_at, loop_step, loop_word, looked, broken, found_at, issued, taken, response_step, end_step, exchanged, ring_read, ring_ended, ended, finished, pushed, entry_request, data_step, issue_stage, IsTaking, IsRevoking, IsEndingStage};
+ghost use Rattle.blk_front.specs.Step.{step_at, loop_step, loop_word, looked, broken, found_at, issued, taken, response_step, end_step, exchanged, ring_read, ring_ended, ended, finished, pushed, data_step, begun, IsTaking, IsRevoking, IsEndingStage};
 ghost use Rattle.blk_front.specs.Request.{IsShaped};
+ghost use Rattle.blk_front.specs.Entry.{entry_request};
+ghost use Rattle.blk_layout.specs.declared.request.RawRequest.TheVariants.{Discard};
 ghost use Rattle.ring_words.specs.Shape.{entry_words_of};
 ghost use Rattle.blk_layout.specs.Entry.{raw_of};
 ghost use Rattle.blk_front.specs.declared.request.Request.{Request};
@@ -54,10 +56,28 @@ impl Front {
         ensures { self.new ≡ loop_step self.old (next_request self.old) answer.now }
     {
         match (self.next_request(), answer) {
-            (Some(r), _) => self.stage = begun(r.transfer),
+            (Some(_), _) => self.issued_first(),
             (None, FrontAnswer::Word(word)) => self.read_in_loop(*word),
             (None, FrontAnswer::Event) => self.asleep = false,
             _ => {}
+        }
+    }
+
+    // The first word of the request that is issued next was written.
+    fn issued_first(&mut self)
+        requires { self.old.stage ≡ stage.Loop }
+        ensures { IfSome (next_request self.old) (λ r. self.new ≡ begun self.old r r.transfer) }
+    {
+        let Some(r) = self.next_request() else {
+            return;
+        };
+        match r.transfer {
+            Transfer::Write(_) | Transfer::Barrier(_) => self.stage = Stage::Data(1),
+            Transfer::Read => self.stage = Stage::GrantFence(0),
+            Transfer::Flush | Transfer::Discard(_) => {
+                self.entry = request_words(self.abi, &wire(r));
+                self.stage = Stage::Slot(1);
+            }
         }
     }
 
@@ -244,8 +264,14 @@ impl Front {
     {
         self.ring.consume();
         let request = self.requests.remove(place);
-        self.ending = Some(Ending { request, status });
-        self.stage = Stage::GrantRead(0);
+        if request.frames.is_empty() {
+            let id = request.number;
+            self.stage = Stage::Loop;
+            self.told = Some(Told::Answer { id, status });
+        } else {
+            self.ending = Some(Ending { request, status });
+            self.stage = Stage::GrantRead(0);
+        }
     }
 
     /// The flags of a grant's entry were read.
@@ -377,24 +403,17 @@ fn place_of(requests: &[Request], id: u64) -> Option<usize>
         .ok()
 }
 
-// What a front does after it began a request.
-fn begun(transfer: Transfer) -> Stage
-    ensures { result ≡ issue_stage transfer }
-{
-    match transfer {
-        Transfer::Write(_) => Stage::Data(1),
-        Transfer::Read => Stage::GrantFence(0),
-    }
-}
-
 // The request as its entry has it.
-fn wire(r: &Request) -> Wire
+pub(super) fn wire(r: &Request) -> Wire
     requires { IsShaped r.now }
     ensures { raw_of result ≡ entry_request r.now }
 {
     let op = match r.transfer {
         Transfer::Read => DirectOp::Read,
         Transfer::Write(_) => DirectOp::Write,
+        Transfer::Barrier(_) => DirectOp::Barrier,
+        Transfer::Flush => DirectOp::Flush,
+        Transfer::Discard(sectors) => return discard(r, sectors),
     };
     Wire::Direct {
         op,
@@ -403,5 +422,18 @@ fn wire(r: &Request) -> Wire
         id: u64::from(r.number),
         sector: r.sector,
         segments: r.segments(),
+    }
+}
+
+// A discard as its entry has it, which isn't secure.
+fn discard(r: &Request, sectors: u32) -> Wire
+    ensures { raw_of result ≡ Discard 0 51712 r.now.number r.now.sector sectors }
+{
+    Wire::Discard {
+        flag: 0,
+        device: 51712,
+        id: u64::from(r.number),
+        sector: r.sector,
+        count: u64::from(sectors),
     }
 }

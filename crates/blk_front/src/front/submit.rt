@@ -1,9 +1,9 @@
 // What the front is handed, and what it tells.
-ghost use Rattle.std.specs.Prelude.{◌≡◌, ◌≤◌, ◌<◌, ◌+◌, ◌*◌, ◌==◌, if◌then◌else◌, true, [], None, All, length, sum_by, is_some, option_map, IfSome};
+ghost use Rattle.std.specs.Prelude.{◌≡◌, ◌≤◌, ◌<◌, ◌+◌, ◌*◌, ◌==◌, if◌then◌else◌, true, false, [], None, All, length, sum_by, is_some, option_map, IfSome};
 ghost use Rattle.ring_words.specs.Shape.{entries_of};
 ghost use Rattle.arrayvec.specs.ArrayVec.{array_vec_len};
 ghost use Rattle.blk_front.specs.declared.request.Request.{Request};
-ghost use Rattle.blk_front.specs.Request.{IsShaped, frames_for};
+ghost use Rattle.blk_front.specs.Request.{IsShaped, IsCounted, is_moving, frames_for};
 ghost use Rattle.blk_front.specs.Ask.{ask_of};
 ghost use Rattle.blk_front.specs.Submit.{submit_of, submit_one, is_ready, is_connected, is_initialised, is_idle, wish_of, accepted, unfinished, ending_of, ending_sectors, sectors_owed, is_wait};
 ghost use Rattle.blk_front.specs.Pool.{taking};
@@ -12,6 +12,7 @@ use super::Front;
 use crate::pool::{Pool, PoolFrame};
 use crate::request::{MAX_SEGMENTS, Request, Transfer, Wish, frames_for};
 use crate::stage::Stage;
+use crate::state::Offers;
 use crate::told::{Refusal, Told};
 use arrayvec::ArrayVec;
 use blk_base::{Endpoint, FrontAsk, Job};
@@ -32,13 +33,13 @@ impl Front {
         if !is_ready(self.stage) {
             return Err(Refusal::NotReady);
         }
-        let Some(wish) = wish_of(&job) else {
+        let Some(wish) = wish_of(self.offers, &job) else {
             return Err(Refusal::Unsupported);
         };
-        if self.read_only && matches!(wish.transfer, Transfer::Write(_)) {
+        if self.read_only && matches!(wish.transfer, Transfer::Write(_) | Transfer::Barrier(_)) {
             return Err(Refusal::ReadOnly);
         }
-        let count = u64::from(wish.count);
+        let count = u64::from(wish.transfer.named(wish.count));
         if count > self.sectors || wish.sector > self.sectors - count {
             return Err(Refusal::Range);
         }
@@ -61,8 +62,7 @@ impl Front {
         requires spent { self.old.last < 4294967295 }
         requires ready { is_ready self.old.stage ≡ true }
         requires room { unfinished self.old < entries_of self.old.shape.order }
-        requires some { 1 ≤ wish.count }
-        requires few { wish.count ≤ 88 }
+        requires counted { IsCounted wish.transfer wish.count }
         requires frames { array_vec_len frames ≡ frames_for wish.count }
         ensures number { result ≡ self.old.last + 1 }
         ensures front { self.new ≡ accepted self.old wish (frames.items, pool) }
@@ -227,10 +227,11 @@ fn is_ready(stage: Stage) -> bool
     }
 }
 
-// The sectors of a read or a write, and which way they go.
-fn wish_of(job: &Job) -> Option<Wish>
-    ensures value { result ≡ wish_of job.now }
-    ensures some { IfSome result (λ wish. 1 ≤ wish.count) }
+// The sectors of a request, and what is done with them; `None` where the back doesn't serve it.
+fn wish_of(offers: Offers, job: &Job) -> Option<Wish>
+    ensures value { result ≡ wish_of offers job.now }
+    ensures some { IfSome result (λ wish. is_moving wish.transfer ≡ true → 1 ≤ wish.count) }
+    ensures none { IfSome result (λ wish. is_moving wish.transfer ≡ false → wish.count ≡ 0) }
 {
     match *job {
         Job::Read { sector, count } => Some(Wish {
@@ -242,6 +243,21 @@ fn wish_of(job: &Job) -> Option<Wish>
             sector,
             count: count.get(),
             transfer: Transfer::Write(tag),
+        }),
+        Job::Barrier { sector, count, tag } if offers.barrier => Some(Wish {
+            sector,
+            count: count.get(),
+            transfer: Transfer::Barrier(tag),
+        }),
+        Job::Flush if offers.flush => Some(Wish {
+            sector: 0,
+            count: 0,
+            transfer: Transfer::Flush,
+        }),
+        Job::Discard { sector, count } if offers.discard => Some(Wish {
+            sector,
+            count: 0,
+            transfer: Transfer::Discard(count.get()),
         }),
         _ => None,
     }

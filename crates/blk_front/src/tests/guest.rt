@@ -2,11 +2,18 @@
 ghost use Rattle.std.specs.Prelude.{◌≤◌, IfSome};
 ghost use Rattle.blk_front.specs.Ask.{IsAnswer};
 
-use crate::{Front, FrontState, Told};
+use crate::{Front, FrontState, Offers, Told};
 use blk_base::{Abi, Config, Endpoint, FrontAnswer, FrontAsk, Job, SectorCount};
 use std::alloc::Global;
 use std::process::Abort;
 use std::test::Fail;
+
+/// A back that serves reads and writes alone.
+pub const NOTHING: Offers = Offers {
+    barrier: false,
+    flush: false,
+    discard: false,
+};
 
 /// The words of frames 0 to 63.
 #[derive(Drop)]
@@ -202,7 +209,7 @@ pub fn connect_after(
 ) -> Result<(), Fail> {
     quiet_moves(rt, front, memory, moves)?;
     asks(rt, front, memory, &[FrontAsk::NewPort])?;
-    assert!(rt; front.enter(FrontState::Connected));
+    assert!(rt; front.enter(FrontState::Connected(NOTHING)));
     Ok(())
 }
 

@@ -1,5 +1,5 @@
 // What is done at an ask of the back or of one of its jobs.
-ghost use Rattle.std.specs.Prelude.{◌≡◌, ◌<◌, IfSome, IfOk, OnOk, OnErr, Some};
+ghost use Rattle.std.specs.Prelude.{◌≡◌, ◌≢◌, ◌<◌, IfSome, IfOk, OnOk, OnErr, Some, None};
 ghost use Rattle.blk_base.specs.declared.parts.Mode.TheVariants.{ReadWrite};
 ghost use Rattle.blk_io.specs.Disk.{IsIn, AreIn, attached_of};
 ghost use Rattle.xen_pages.specs.Pages.{word_of, with_word};
@@ -290,7 +290,7 @@ fn write_disk<D: SectorDisk>(sector: u64, words: &SectorWords, disk: &mut D) -> 
 
 // What was written so far is made stable.
 fn flush_disk<D: SectorDisk>(disk: &mut D) -> BackAnswer<'static>
-    requires { IsIn (attached_of (D.seen disk.old)) 0 }
+    requires { attached_of (D.seen disk.old) ≢ None }
     ensures acted { (under : Hypervisor) (shown : Move) → Some (result, shown) ≡ back_seen (disk_act under shown (outcome_told result)) }
     ensures under { (under : Hypervisor) (shown : Move) → back_under under (disk_act under shown (outcome_told result)) ≡ under }
     ensures given { IsGiven (outcome_told result) }

@@ -4,8 +4,8 @@ use Rattle.back_jobs.specs.Jobs.{Held}
 use Rattle.back_jobs.proofs.Hands.{named_in}
 use Rattle.back_jobs.proofs.jobs.Jobs.ask.Goals as goal
 
-pub returns-in-Some-clause-names : goal.returns-in-Some-clause-names
-returns-in-Some-clause-names c =
+pub returns-in-Some-2-clause-names : goal.returns-in-Some-2-clause-names
+returns-in-Some-2-clause-names c =
     let works = c.self.inside.tasks.items in
     let same : works ≡ c.args.self.now.works = ap (λ (h : Held). h.works) c.self.view_is in
     let here = slice_get_read works (length works) c.in-Some.place c.index.result.now refl (rw same c.in-Some.ensures.within) c.index.ensures in

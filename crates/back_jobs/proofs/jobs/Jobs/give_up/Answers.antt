@@ -1,5 +1,5 @@
 use Rattle.std.proofs.Common.{◌≡◌, true, [], ap, sym, subst, ◌∙◌, arith}
-use Rattle.back_jobs.specs.Sound.{AreAscending, done_place, done_numbers}
+use Rattle.back_jobs.specs.Sound.{AreAscending, done_place, done_numbers, ordered_place, barrier_place}
 use Rattle.back_jobs.proofs.Hands.{few_behind}
 use Rattle.back_jobs.proofs.Listed.{none_left}
 use Rattle.back_jobs.proofs.Sizes.{behind_sized}
@@ -11,16 +11,21 @@ invariant_of-self c =
     let works = c.self.inside.tasks.items in
     let left = c.give_up_first-mapping.new.tasks.items in
     let seen : c.as_slice-tasks.result.now ≡ left = c.as_slice-tasks.ensures.value in
-    let none : c.is_empty-self-inside.result ≡ true → left ≡ [] = λ test. none_left left c.is_empty-self-inside.result (rw seen at c.is_empty-self-inside.ensures) test in
-    record {
-      has_room = rw h.capacity c.self.invariant.has_room;
-      sized = rw h.rest (behind_sized c.self.inside.info.sectors works c.self.invariant.sized);
-      has_list_room = rw c.clear.ensures.capacity c.self.invariant.has_list_room;
-      held = rw h.rest (omega (arith, few_behind works));
-      in_order = λ test. subst (λ w. AreAscending w) (sym (none test)) tt;
-      is_listed = λ test. c.clear.ensures.items ∙ sym (ap done_numbers (none test));
-      is_done = c.first_done-self-inside.ensures ∙ ap done_place seen;
-    }
+    let none : c.is_empty-self-inside.result ≡ true → left ≡ [] = λ test. none_left left c.is_empty-self-inside.result (rw seen at c.is_empty-self-inside.ensures) test in (
+      record {
+        has_room = rw h.capacity c.self.invariant.0.has_room;
+        sized = rw h.rest (behind_sized c.self.inside.info.sectors works c.self.invariant.0.sized);
+        has_list_room = rw c.clear.ensures.capacity c.self.invariant.0.has_list_room;
+        held = rw h.rest (omega (arith, few_behind works));
+        in_order = λ test. subst (λ w. AreAscending w) (sym (none test)) tt;
+        is_listed = λ test. c.clear.ensures.items ∙ sym (ap done_numbers (none test));
+        is_done = c.first_done-self-inside.ensures ∙ ap done_place seen;
+      },
+      record {
+        ordered_is = c.first_ordered-self-inside.ensures ∙ ap ordered_place seen;
+        barrier_is = c.first_barrier-self-inside.ensures ∙ ap barrier_place seen;
+      },
+    )
 
 pub returns-clause-no_more : goal.returns-clause-no_more
 returns-clause-no_more c = rw (c.give_up_first-mapping.ensures.rest, ← c.self.view_is) (few_behind c.self.inside.tasks.items)

@@ -15,7 +15,7 @@ pub returns-in-Some-clause-place : goal.returns-in-Some-clause-place
 returns-in-Some-clause-place c =
     let tasks = c.as_slice-tasks.result.now in
     let place = c.in-Some.place in
-    let ordered : AreAscending tasks = rw c.as_slice-tasks.ensures.value (c.self.invariant.in_order (search rules)) in
+    let ordered : AreAscending tasks = rw c.as_slice-tasks.ensures.value (c.self.invariant.0.in_order (search rules)) in
     rw (← c.self.view_is, ← c.as_slice-tasks.ensures.value) (sym (placed tasks c.args.number place (guessed tasks c.args.number place ordered c.in-Some.ensures) c.in-Some.ensures))
 
 pub returns-in-Some-number_at-clause-place : goal.returns-in-Some-number_at-clause-place
@@ -37,7 +37,7 @@ returns-in_default-number_at-clause-place c =
     let tasks = c.as_slice-tasks.result.now in
     let place = c.by_halves-place.result in
     let at : number_at tasks place ≡ Some c.in-Some-number_at.found = search rules in
-    let ordered : AreAscending tasks = rw c.as_slice-tasks.ensures.value (c.self.invariant.in_order (search rules)) in
+    let ordered : AreAscending tasks = rw c.as_slice-tasks.ensures.value (c.self.invariant.0.in_order (search rules)) in
     rw (← c.self.view_is, ← c.as_slice-tasks.ensures.value) (sym (placed_between tasks c.args.number c.in-Some-number_at.found place ordered c.by_halves-place.ensures (numbered tasks place c.in-Some-number_at.found at) c.if-found-number.false))
 
 pub returns-in_default-number_at-2-clause-place : goal.returns-in_default-number_at-2-clause-place

@@ -1,11 +1,14 @@
 use Rattle.std.proofs.Common.{◌≡◌, ◌<◌, ℕ, List, length, vec_capacity, true, false, rules, refl, sym, ap, ◌∙◌, subst, arith}
-use Rattle.std.specs.Prelude.{Some, slice_get, slice_set}
+use Rattle.std.specs.Prelude.{Some, slice_get, slice_set, if◌then◌else◌}
 use Rattle.std.proofs.lemmas.Option.{slice_get_read}
 use Rattle.segment_list.specs.declared.verdict.DiskInfo.{DiskInfo}
 use Rattle.back_jobs.specs.Task.{Work, IsAnswer, ask_of}
-use Rattle.back_jobs.specs.Jobs.{Held, place_of, work_of, tell_job, asked, effect_of}
+use Rattle.back_jobs.specs.Jobs.{Held, place_of, work_of, waits, tell_job, effect_of}
+use Rattle.back_jobs.specs.Sound.{ordered_place, barrier_place}
 use Rattle.back_jobs.proofs.Listed.{kept_rise}
-use Rattle.back_jobs.proofs.Telling.{work_there, told_there, told_kept, told_room}
+use Rattle.back_jobs.proofs.Telling.{unheld, work_there, told_there, told_kept, told_room}
+use Rattle.back_jobs.proofs.Done.{undone}
+use Rattle.back_jobs.proofs.First.{told_first}
 use Rattle.back_jobs.proofs.jobs.Jobs.tell.Goals.{After-is_done}
 use Rattle.back_jobs.proofs.jobs.Jobs.tell.Goals as goal
 
@@ -27,7 +30,7 @@ there : (c : After-is_done) → work_of c.self.inside.tasks.items c.args.number 
 there c = work_there c.self.inside.tasks.items c.args.number c.in_ok-place.place c.index_mut-task.result.now (found c) (here c)
 
 allowed : (c : After-is_done) → IsAnswer (ask_of c.index_mut-task.result.now) c.args.answer.now
-allowed c = subst (λ w. IsAnswer (asked w) c.args.answer.now) (there c) (rw (same c) c.requires)
+allowed c = unheld (waits c.self.inside.tasks.items c.args.number) (work_of c.self.inside.tasks.items c.args.number) c.index_mut-task.result.now c.args.answer.now (there c) (rw (same c) c.requires)
 
 abbrev held : ℕ → DiskInfo → List Work → Held
 held room info works = record { works = works; room = room; info = info }
@@ -41,22 +44,31 @@ effect : (c : After-is_done) → c.effect-effect.result ≡ effect_of (work_of c
 effect c = rw (← same c) (c.effect-effect.ensures ∙ ap (λ w. effect_of w c.args.answer.now) (sym (there c)))
 
 pub note-requires-clause-ascending : goal.note-requires-clause-ascending
-note-requires-clause-ascending c = λ test. kept_rise c.self.inside.tasks.items c.self.inside.finished.items (c.self.invariant.in_order test) (c.self.invariant.is_listed test)
+note-requires-clause-ascending c = λ test. kept_rise c.self.inside.tasks.items c.self.inside.finished.items (c.self.invariant.0.in_order test) (c.self.invariant.0.is_listed test)
 
 pub note-requires-clause-has_room : goal.note-requires-clause-has_room
 note-requires-clause-has_room c =
     let w = (goal.at.note-requires-clause-has_room c).After-is_done in
-    λ test. told_room c.self.inside.ascending c.self.inside.finished.items c.self.inside.done c.self.inside.room c.self.inside.tasks.cap (vec_capacity c.self.inside.finished) c.self.inside.info.sectors c.self.inside.tasks.items c.in_ok-place.place c.index_mut-task.result.now c.args.answer.now c.self.invariant (here w) (allowed w) test
+    λ test. told_room c.self.inside.ascending c.self.inside.finished.items c.self.inside.done c.self.inside.room c.self.inside.tasks.cap (vec_capacity c.self.inside.finished) c.self.inside.info.sectors c.self.inside.tasks.items c.in_ok-place.place c.index_mut-task.result.now c.args.answer.now c.self.invariant.0 (here w) (allowed w) test
 
 pub invariant_of-self : goal.invariant_of-self
 invariant_of-self c =
-    let w = (goal.at.invariant_of-self c).After-is_done in
-    told_kept c.self.inside.ascending c.self.inside.finished.items c.note.new.numbers.items c.self.inside.done c.min-self-inside.result c.self.inside.room c.self.inside.tasks.cap (vec_capacity c.self.inside.finished) (vec_capacity c.note.new.numbers) c.self.inside.info.sectors c.self.inside.tasks.items c.in_ok-place.place c.number.result c.index_mut-task.result.now c.tell.new.self c.args.answer.now true c.self.invariant (here w) (allowed w) c.tell.ensures (sym c.if-is_done.true ∙ c.is_done.ensures) c.min-self-inside.ensures c.number.ensures c.note.ensures.items c.note.ensures.capacity
+    let w = (goal.at.invariant_of-self c).After-is_done in (
+      told_kept c.self.inside.ascending c.self.inside.finished.items c.note.new.numbers.items c.self.inside.done c.min-self-inside.result c.self.inside.room c.self.inside.tasks.cap (vec_capacity c.self.inside.finished) (vec_capacity c.note.new.numbers) c.self.inside.info.sectors c.self.inside.tasks.items c.in_ok-place.place c.number.result c.index_mut-task.result.now c.tell.new.self c.args.answer.now true c.self.invariant.0 (here w) (allowed w) c.tell.ensures (sym c.if-is_done.true ∙ c.is_done.ensures) c.min-self-inside.ensures c.number.ensures c.note.ensures.items c.note.ensures.capacity,
+      told_first c.self.inside.tasks.items c.in_ok-place.place c.index_mut-task.result.now c.tell.new.self c.args.answer.now c.self.inside.ordered c.self.inside.barrier c.ordered_after-self-inside.result c.barrier_after-self-inside.result
+          c.is_ordered-ordered.result c.is_barrier-barrier.result true c.self.invariant.1 (here w) (undone c.index_mut-task.result.now c.args.answer.now (allowed w)) c.tell.ensures (sym c.if-is_done.true ∙ c.is_done.ensures)
+          c.is_ordered-ordered.ensures c.is_barrier-barrier.ensures
+          (c.ordered_after-self-inside.ensures ∙ ap (λ (l : List Work). if c.is_ordered-ordered.result then ordered_place l else c.self.inside.ordered) c.as_slice.ensures.value)
+          (c.barrier_after-self-inside.ensures ∙ ap (λ (l : List Work). if c.is_barrier-barrier.result then barrier_place l else c.self.inside.barrier) c.as_slice-then-is_done.ensures.value),
+    )
 
 pub invariant_of-self-else-is_done : goal.invariant_of-self-else-is_done
 invariant_of-self-else-is_done c =
-    let w = (goal.at.invariant_of-self-else-is_done c).After-is_done in
-    told_kept c.self.inside.ascending c.self.inside.finished.items c.self.inside.finished.items c.self.inside.done c.self.inside.done c.self.inside.room c.self.inside.tasks.cap (vec_capacity c.self.inside.finished) (vec_capacity c.self.inside.finished) c.self.inside.info.sectors c.self.inside.tasks.items c.in_ok-place.place c.tell.new.self.number c.index_mut-task.result.now c.tell.new.self c.args.answer.now false c.self.invariant (here w) (allowed w) c.tell.ensures (sym c.if-is_done.false ∙ c.is_done.ensures) refl refl (λ test. refl) (omega arith)
+    let w = (goal.at.invariant_of-self-else-is_done c).After-is_done in (
+      told_kept c.self.inside.ascending c.self.inside.finished.items c.self.inside.finished.items c.self.inside.done c.self.inside.done c.self.inside.room c.self.inside.tasks.cap (vec_capacity c.self.inside.finished) (vec_capacity c.self.inside.finished) c.self.inside.info.sectors c.self.inside.tasks.items c.in_ok-place.place c.tell.new.self.number c.index_mut-task.result.now c.tell.new.self c.args.answer.now false c.self.invariant.0 (here w) (allowed w) c.tell.ensures (sym c.if-is_done.false ∙ c.is_done.ensures) refl refl (λ test. refl) (omega arith),
+      told_first c.self.inside.tasks.items c.in_ok-place.place c.index_mut-task.result.now c.tell.new.self c.args.answer.now c.self.inside.ordered c.self.inside.barrier c.self.inside.ordered c.self.inside.barrier
+          false false false c.self.invariant.1 (here w) (undone c.index_mut-task.result.now c.args.answer.now (allowed w)) c.tell.ensures (sym c.if-is_done.false ∙ c.is_done.ensures) refl refl refl refl,
+    )
 
 pub returns-then-is_done-clause-told : goal.returns-then-is_done-clause-told
 returns-then-is_done-clause-told c = told (goal.at.returns-then-is_done-clause-told c).After-is_done

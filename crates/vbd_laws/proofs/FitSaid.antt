@@ -1,0 +1,170 @@
+-- What the back's keys say of what it serves (`io/blkif.h`): what is said stays said, and each key is said as it is published.
+use Rattle.std.proofs.Common.{◌≡◌, ◌∙◌, ap, sym, subst, ℕ, Bool, true, false, true≢false, ◌&&◌, not, ◌==◌, if◌then◌else◌, List, [], ◌∷◌, refl, arith, decimal}
+use Rattle.std.specs.Prelude.{Option, Some, codes}
+use Rattle.std.proofs.lemmas.Fmt.{decimal_digit}
+use Rattle.blk_base.specs.declared.parts.End.{End}
+use Rattle.blk_base.specs.declared.parts.End.TheVariants as end
+use Rattle.blk_base.specs.declared.parts.Mapping.{Mapping}
+use Rattle.segment_list.specs.declared.verdict.DiskInfo.{DiskInfo}
+use Rattle.key_directory.specs.Directory.{Directory, key_of, written, with_watches}
+use Rattle.key_directory.specs.Watches.{Watches}
+use Rattle.blk_back.specs.declared.stage.Stage.{Stage as BackRing}
+use Rattle.blk_back.specs.declared.stage.Stage.TheVariants as ring
+use Rattle.xenbus_state.specs.declared.keys.BackKey.{BackKey}
+use Rattle.xenbus_state.specs.declared.keys.BackKey.TheVariants as key
+use Rattle.xenbus_state.specs.declared.values.KeyValue.{KeyValue}
+use Rattle.xenbus_state.specs.declared.offer.Features.{Features}
+use Rattle.xenbus_state.specs.declared.offer.DiskFacts.{DiskFacts}
+use Rattle.xenbus_state.specs.declared.state.BusState.TheVariants as state
+use Rattle.xenbus_state.specs.declared.stage.BackStage.{BackStage}
+use Rattle.xenbus_state.specs.declared.stage.BackStage.TheVariants as stage
+use Rattle.xenbus_state.specs.declared.front.FrontBusAsk.{FrontBusAsk}
+use Rattle.xenbus_state.specs.declared.front.FrontBusAsk.TheVariants as front_ask
+use Rattle.xenbus_state.specs.declared.back.BackBusAsk.{BackBusAsk}
+use Rattle.xenbus_state.specs.declared.back.BackBusAsk.TheVariants as back_ask
+use Rattle.xenbus_state.specs.Keys.{front_name, back_name, path_under}
+use Rattle.xenbus_state.specs.States.{state_number}
+use Rattle.xenbus_state.specs.Values.{text_of, flag_of, back_value}
+use Rattle.xenbus_state.specs.Programs.{next_feature}
+use Rattle.xenbus_state.specs.BackView.{BackView}
+use Rattle.xenbus_state.specs.BackAsk.{says_closing, unmap_ask, ask_at, ask_of}
+use Rattle.xenbus_state.specs.BackStep.{after_feature}
+use Rattle.negotiation_laws.proofs.Keys.{back_texts_other, back_texts_state, back_kept, back_said}
+use Rattle.report_rules.specs.Published.{is_offer}
+use Rattle.split_model.specs.Keys.{Sets, may_set, may_negotiate, offers, said_by, is_like, says_served, barrier_path, flush_path, discard_path, indirect_path, keys_after, negotiated}
+use Rattle.vbd_back.specs.Ask as back
+use Rattle.vbd_model.specs.Happening.{front_key, back_key}
+use Rattle.vbd_model.specs.Fit.{IsOffered, SaysKey, IsServiceSaid, SaidBefore, SaidAt}
+use Rattle.vbd_laws.proofs.KeysSet.{may_turn}
+use Rattle.vbd_laws.proofs.FitBackKept.{is_publishing}
+
+either : (P : Directory → Type 0) (b : Bool) (x y : Directory) → P x → P y → P (if b then x else y)
+either P true x y p q = p
+either P false x y p q = q
+
+-- a watch is no key
+pub watched_says : (f : Features) (disk : DiskFacts) (k : BackKey) (d : Directory) (at : End) (w : Watches) → SaysKey d f disk k → SaysKey (with_watches d at w) f disk k
+watched_says f disk k d end.Front w says = says
+watched_says f disk k d end.Back w says = says
+
+-- it sets a key to what it has to say
+abbrev IsOwn : Features → DiskFacts → BackBusAsk → Type 0
+IsOwn f disk (back_ask.SetKey name value) = value ≡ back_value f disk name
+IsOwn f disk a = Unit {0}
+
+-- what an end does with the keys: the front's lie under its own directory, and the back sets each of its own to what it has to say
+module _ (f : Features) (disk : DiskFacts) (d : Directory) (k : BackKey) where
+  abbrev Says : Directory → Type 0
+  Says x = SaysKey x f disk k
+
+  set_keeps : (at : End) (path text : List ℕ) → Says (written d path text) → Says d → Says (keys_after at (Sets path text) d)
+  set_keeps at path text set says = either Says (may_set at path text) (written d path text) d set says
+
+  front_set : (name text : List ℕ) → Says d → Says (keys_after end.Front (Sets (path_under end.Front name) text) d)
+  front_set name text says = set_keeps end.Front (path_under end.Front name) text (ap (λ (texts : BackKey → Option (List ℕ)). texts k) (back_texts_other d.keys name text) ∙ says) says
+
+  pub front_keeps : (s : BackRing) (a : FrontBusAsk) → Says d → Says (negotiated s end.Front (front_key a) d)
+  front_keeps s (front_ask.SetState own) says = front_set (codes "state") (decimal (state_number own)) says
+  front_keeps s (front_ask.SetKey name value) says = front_set (front_name name) (text_of value) says
+  front_keeps s a says = says
+
+  back_moves : (a : BackBusAsk) → IsOwn f disk a → Says d → Says (keys_after end.Back (back_key a) d)
+  back_moves (back_ask.SetKey name value) own says =
+      set_keeps end.Back (path_under end.Back (back_name name)) (text_of value)
+      (subst (λ (v : KeyValue). Says (written d (path_under end.Back (back_name name)) (text_of v))) (sym own) (back_kept d.keys f disk name k says)) says
+  back_moves (back_ask.SetState own_state) own says =
+      let text = decimal (state_number own_state) in
+      set_keeps end.Back back.own_state text (ap (λ (texts : BackKey → Option (List ℕ)). texts k) (back_texts_state d.keys text) ∙ says) says
+  back_moves a own says = says
+
+  back_keeps : (s : BackRing) (a : BackBusAsk) → IsOwn f disk a → Says d → Says (negotiated s end.Back (back_key a) d)
+  back_keeps s a own says = either Says (may_negotiate s end.Back (back_key a)) (keys_after end.Back (back_key a) d) d (back_moves a own says) says
+
+unmap_own : (f : Features) (disk : DiskFacts) (pages : List Mapping) → IsOwn f disk (unmap_ask pages)
+unmap_own f disk [] = tt
+unmap_own f disk (page ∷ pages) = tt
+
+own_at : (b : BackStage) (v : BackView) → IsOwn v.features v.disk (ask_at b v)
+own_at (stage.Publish name) v = refl
+own_at (stage.PublishFact name) v = refl
+own_at stage.UnmapPage v = unmap_own v.features v.disk v.pages
+own_at b v = tt
+
+-- what the back's negotiation does with the keys leaves what they say
+pub asked_keeps : (v : BackView) (s : BackRing) (d : Directory) (k : BackKey) → SaysKey d v.features v.disk k → SaysKey (negotiated s end.Back (back_key (ask_of v)) d) v.features v.disk k
+asked_keeps v s d k = back_keeps v.features v.disk d k s (ask_of v) (by_test (says_closing v))
+  where
+    by_test : (c : Bool) → IsOwn v.features v.disk (if c then back_ask.SetState state.Closing else ask_at v.stage v)
+    by_test true = tt
+    by_test false = own_at v.stage v
+
+-- the keys that are said
+four_kept : (P Q : BackKey → Type 0) → ((k : BackKey) → P k → Q k) → IsServiceSaid P → IsServiceSaid Q
+four_kept P Q keeps said = record { barrier = keeps key.FeatureBarrier said.barrier; flush = keeps key.FeatureFlushCache said.flush; discard = keeps key.FeatureDiscard said.discard; indirect = keeps key.FeatureMaxIndirectSegments said.indirect }
+
+before_kept : (P Q : BackKey → Type 0) → ((k : BackKey) → P k → Q k) → (k : BackKey) → SaidBefore P k → SaidBefore Q k
+before_kept P Q keeps key.FeatureBarrier said = tt
+before_kept P Q keeps key.FeatureFlushCache said = keeps key.FeatureBarrier said
+before_kept P Q keeps key.FeatureDiscard said = (keeps key.FeatureBarrier said.0, keeps key.FeatureFlushCache said.1)
+before_kept P Q keeps key.FeaturePersistent said = (keeps key.FeatureBarrier said.0, keeps key.FeatureFlushCache said.1, keeps key.FeatureDiscard said.2)
+before_kept P Q keeps key.FeatureMaxIndirectSegments said = (keeps key.FeatureBarrier said.0, keeps key.FeatureFlushCache said.1, keeps key.FeatureDiscard said.2)
+before_kept P Q keeps k said = four_kept P Q keeps said
+
+pub said_kept : (P Q : BackKey → Type 0) → ((k : BackKey) → P k → Q k) → (b : BackStage) → SaidAt P b → SaidAt Q b
+said_kept P Q keeps (stage.Publish k) said = before_kept P Q keeps k said
+said_kept P Q keeps b said = four_kept P Q keeps said
+
+said_all : (P : BackKey → Type 0) (b : BackStage) → is_publishing b ≡ false → SaidAt P b → IsServiceSaid P
+said_all P (stage.Publish k) past said = absurd (true≢false past)
+said_all P b past said = said
+
+all_said : (P : BackKey → Type 0) (b : BackStage) → is_publishing b ≡ false → IsServiceSaid P → SaidAt P b
+all_said P (stage.Publish k) past said = absurd (true≢false past)
+all_said P b past said = said
+
+-- once all are said they stay so at each later stage
+pub said_past : (P Q : BackKey → Type 0) → ((k : BackKey) → P k → Q k) → (b c : BackStage) → is_publishing b ≡ false → is_publishing c ≡ false → SaidAt P b → SaidAt Q c
+said_past P Q keeps b c past later said = all_said Q c later (four_kept P Q keeps (said_all P b past said))
+
+-- the next one is said
+pub said_next : (P : BackKey → Type 0) (k : BackKey) → SaidBefore P k → P k → SaidAt P (after_feature (next_feature k))
+said_next P key.FeatureBarrier said is = is
+said_next P key.FeatureFlushCache said is = (said, is)
+said_next P key.FeatureDiscard said is = (said.0, said.1, is)
+said_next P key.FeaturePersistent said is = said
+said_next P key.FeatureMaxIndirectSegments said is = record { barrier = said.0; flush = said.1; discard = said.2; indirect = is }
+said_next P k said is = said
+
+pub set_says : (f : Features) (disk : DiskFacts) (s : BackRing) (d : Directory) (k : BackKey) → s ≡ ring.InitWait → may_set end.Back (path_under end.Back (back_name k)) (text_of (back_value f disk k)) ≡ true
+    → SaysKey (negotiated s end.Back (back_key (back_ask.SetKey k (back_value f disk k))) d) f disk k
+set_says f disk s d k waits may =
+    let turns = may_turn (back_key (back_ask.SetKey k (back_value f disk k))) ring.InitWait refl (λ early. refl) in
+    subst (λ (t : BackRing). SaysKey (negotiated t end.Back (back_key (back_ask.SetKey k (back_value f disk k))) d) f disk k) (sym waits) (rw (turns, may) (back_said d.keys f disk k))
+
+-- then they say what the back's disk has
+flag_offer : (b : Bool) → is_offer (decimal (flag_of b)) ≡ b
+flag_offer true = rw (decimal_digit 1 (omega arith)) refl
+flag_offer false = rw (decimal_digit 0 (omega arith)) refl
+
+like : (b : Bool) → is_like b b ≡ true
+like true = refl
+like false = refl
+
+offered : (text : Option (List ℕ)) (b has : Bool) → text ≡ Some (decimal (flag_of b)) → has ≡ b → is_like (offers text) has ≡ true
+offered text b has says same =
+    subst (λ (o : Option (List ℕ)). is_like (offers o) has ≡ true) (sym says)
+    (subst (λ (c : Bool). is_like (is_offer (decimal (flag_of b))) c ≡ true) (sym same) (subst (λ (c : Bool). is_like c b ≡ true) (sym (flag_offer b)) (like b)))
+
+all_true : (a b c d : Bool) → a ≡ true → b ≡ true → c ≡ true → d ≡ true → (a && b && c && d) ≡ true
+all_true true true true true p q r s = refl
+all_true true true true false p q r s = s
+all_true true true false d p q r s = r
+all_true true false c d p q r s = q
+all_true false b c d p q r s = p
+
+pub served_said : (d : Directory) (f : Features) (disk : DiskFacts) (info : DiskInfo) → IsOffered info f → f.indirect ≡ 0 → IsServiceSaid (SaysKey d f disk) → says_served (said_by d) info ≡ true
+served_said d f disk info is none said =
+    all_true _ _ _ _ (offered (key_of d.keys barrier_path) f.barrier info.barrier said.barrier is.barrier)
+    (offered (key_of d.keys flush_path) f.flush info.flush said.flush is.flush)
+    (offered (key_of d.keys discard_path) f.discard info.discard said.discard is.discard)
+    (offered (key_of d.keys indirect_path) false (not (info.max_indirect == 0)) (said.indirect ∙ ap (λ (n : ℕ). Some (decimal n)) none) (ap (λ (n : ℕ). not (n == 0)) (is.indirect ∙ none)))
