@@ -1,16 +1,16 @@
 /*
  * QEMU's own back of a Xen disk serves a ring in a guest's memory.
  *
- *     serve [--read-only] MEMORY IMAGE 64|32 REFERENCE...
+ *     serve [--read-only] MEMORY IMAGE 64|32 START REFERENCE...
  *
  * MEMORY is a file of 1024 frames of 4096 bytes, the guest's memory, with its grant table in frames 0 and 1; IMAGE is the disk, whole
  * sectors of 512 bytes. Both are mapped, so each is read and written in place, also by whoever else has it mapped. 64 or 32 is the
- * layout of the entries, and the references are those of the ring's pages, which must lie one after another. With --read-only the disk may
- * not be written.
+ * layout of the entries, START the ring's first index, and the references are those of the ring's pages, which must lie one after another.
+ * With --read-only the disk may not be written.
  *
  * Each line `event` on standard input is an event at the back's port. What comes of it is written to standard output, and then `done`:
  *
- *     response INDEX ID OPERATION STATUS    a response stands in the ring, the INDEX-th, from 0
+ *     response INDEX ID OPERATION STATUS    a response stands in the ring, that of this index
  *     notify                                an event was sent to the front
  *     said TEXT                             QEMU reports an error
  *
@@ -23,7 +23,7 @@
 
 #include "guest.h"
 #include "hw/block/xen_blkif.h"
-#include "hw/block/dataplane/xen-block.h"
+#include "plane.h"
 
 #define MOST_PAGES 16
 #define RSP_PROD 2
@@ -73,7 +73,7 @@ static void *mapped_file(const char *name, off_t *length)
     return bytes;
 }
 
-/* Connects QEMU's back to the ring of these references. */
+/* Connects QEMU's back to the ring of these references, which stands at `printed`. */
 static XenBlockDataPlane *connected(XenDevice *device, BlockBackend *disk, const unsigned int references[], unsigned int pages, bool is_64)
 {
     Error *error = NULL;
@@ -82,6 +82,7 @@ static XenBlockDataPlane *connected(XenDevice *device, BlockBackend *disk, const
     if (error) {
         give_up(error->text);
     }
+    take_up_ring(plane, printed);
     ring = (unsigned char *)(guest + guest[2 * references[0] + 1] * FRAME_WORDS);
     entry_bytes = is_64 ? sizeof(blkif_x86_64_request_t) : sizeof(blkif_x86_32_request_t);
     entries = is_64 ? __CONST_RING_SIZE(blkif_x86_64, pages * XC_PAGE_SIZE) : __CONST_RING_SIZE(blkif_x86_32, pages * XC_PAGE_SIZE);
@@ -115,9 +116,9 @@ int main(int count, char **words)
         words++;
         count--;
     }
-    pages = count - 4;
+    pages = count - 5;
     if (pages < 1 || pages > MOST_PAGES || (strcmp(words[3], "64") && strcmp(words[3], "32"))) {
-        give_up("usage: serve [--read-only] MEMORY IMAGE 64|32 REFERENCE...");
+        give_up("usage: serve [--read-only] MEMORY IMAGE 64|32 START REFERENCE...");
     }
     guest = mapped_file(words[1], &length);
     if (length != (off_t)FRAMES * FRAME_WORDS * 4) {
@@ -126,8 +127,9 @@ int main(int count, char **words)
     disk.bytes = mapped_file(words[2], &length);
     disk.length = length - length % SECTOR_BYTES;
     disk.writable = writable;
+    printed = strtoul(words[4], NULL, 10);
     for (int i = 0; i < pages; i++) {
-        references[i] = strtoul(words[4 + i], NULL, 10);
+        references[i] = strtoul(words[5 + i], NULL, 10);
     }
     plane = connected(&device, &disk, references, pages, !strcmp(words[3], "64"));
     serve_events();
