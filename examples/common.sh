@@ -14,11 +14,11 @@ is_current() {
     [ -z "$(find "$top/crates" "$top/crates.txt" -path '*/out' -prune -o -type f -newer "$program" -print | head -n 1)" ]
 }
 
-# run_on_zeros SCHEDULE [WORDS]: runs a schedule on an image of 8 zero sectors, and prints the report
+# run_on_zeros SCHEDULE [WORDS]: runs a schedule on an image of 8 zero sectors, or of as many as `sectors` says, and prints the report
 run_on_zeros() {
     schedule=$1
     shift
-    head -c 4096 /dev/zero >"$room/image"
+    head -c $((512 * ${sectors:-8})) /dev/zero >"$room/image"
     if is_current; then
         "$program" run "$room/image" "$@" <"$schedule"
     else

@@ -19,7 +19,7 @@ use Rattle.back_jobs.proofs.Numbers.{ascends, rises, below_last}
 
 -- some job
 blank : Work
-blank = record { number = 0; id = 0; op = 0; writes = false; size = 0; disk = 0; moved = 0; rest = []; within = 0; words = []; stage = stage.Done Error }
+blank = record { number = 0; id = 0; op = 0; writes = false; size = 0; disk = 0; moved = 0; rest = []; pages = []; named = 0; within = 0; words = []; stage = stage.Done Error }
 
 lower_test : (a b n : ℕ) → a ≤ b → nat_lt b n ≡ true → nat_lt a n ≡ true
 lower_test a b n h test = grind (arith, nat_tests)

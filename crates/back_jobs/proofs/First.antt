@@ -1,7 +1,8 @@
 -- Where the first of some jobs stands, as jobs come, are told answers and go.
-use Rattle.std.proofs.Common.{◌≡◌, ℕ, zero, suc, ◌+◌, ◌-◌, ◌<◌, ◌≤◌, Bool, true, false, cond, List, [], ◌∷◌, ◌++◌, length, take, refl, sym, ap, ◌∙◌, arith}
-use Rattle.std.specs.Prelude.{Some, None, position, unwrap_or, not, ◌&&◌, ◌||◌, nat_lt, ◌==◌, if◌then◌else◌, slice_get, slice_set, slice_index_or, remove}
+use Rattle.std.proofs.Common.{◌≡◌, ℕ, zero, suc, ◌+◌, ◌<◌, ◌≤◌, Bool, true, false, cond, List, [], ◌∷◌, ◌++◌, length, take, refl, sym, ap, ◌∙◌, arith}
+use Rattle.std.specs.Prelude.{Some, None, ◌≢◌, position, unwrap_or, not, ◌&&◌, ◌||◌, nat_lt, ◌==◌, if◌then◌else◌, slice_get, slice_set, slice_index_or, remove}
 use Rattle.std.specs.List.{position_or_len, list_any}
+use Rattle.std.proofs.lemmas.Bool.{false≢true}
 use Rattle.std.proofs.lemmas.Bool.Decides.{nat_tests}
 use Rattle.std.proofs.lemmas.List.Folds.{position_or_len_push}
 use Rattle.std.proofs.lemmas.Option.{slice_get_within, get_or_from_slice_get}
@@ -81,48 +82,72 @@ told_ordered t u a is = ap (λ (op : ℕ). op == 1 || op == 2 || op == 5) (ap (�
 told_barrier : (t u : Work) (a : BackAnswer) → u ≡ step_of t a → is_barrier u ≡ is_barrier t
 told_barrier t u a is = ap (λ (op : ℕ). op == 2) (ap (λ (w : Work). w.op) is ∙ step_op t a)
 
--- what is known of the first ones once a job that wasn't done was told an answer, and is done now or not
-after_told : (p : Work → Bool) (works : List Work) (place first now : ℕ) (u d : Work) (one kind done : Bool) → place < length works → first ≡ position_or_len p works
-    → p (slice_index_or works place d) ≡ (kind && true) → p u ≡ (kind && not done) → one ≡ (done && kind) → now ≡ (if one then position_or_len p (slice_set works place u) else first) → now ≡ position_or_len p (slice_set works place u)
-after_told p works place first now u d one true true within same was is of told = told ∙ ap (λ (b : Bool). if b then position_or_len p (slice_set works place u) else first) of
-after_told p works place first now u d one true false within same was is of told =
-    told ∙ (ap (λ (b : Bool). if b then position_or_len p (slice_set works place u) else first) of ∙ (same ∙ sym (first_set p works place u d within (is ∙ sym was))))
-after_told p works place first now u d one false true within same was is of told =
-    told ∙ (ap (λ (b : Bool). if b then position_or_len p (slice_set works place u) else first) of ∙ (same ∙ sym (first_set p works place u d within (is ∙ sym was))))
-after_told p works place first now u d one false false within same was is of told =
-    told ∙ (ap (λ (b : Bool). if b then position_or_len p (slice_set works place u) else first) of ∙ (same ∙ sym (first_set p works place u d within (is ∙ sym was))))
+over_here : (b c : Bool) (n : ℕ) → c ≡ false → cond (not b) (1 + n) 0 ≢ 0 → cond (not c) (1 + n) 0 ≡ cond (not b) (1 + n) 0
+over_here true c n is other = absurd (other refl)
+over_here false c n is other = ap (λ (b : Bool). cond (not b) (1 + n) 0) is
 
--- a job that is told its last answer, or one before
-pub told_first : (works : List Work) (place : ℕ) (t u : Work) (a : BackAnswer) (ordered barrier now_ordered now_barrier : ℕ) (kind_ordered kind_barrier done : Bool) → AreFirst ordered barrier works → slice_get works place ≡ Some t → is_done t ≡ false → u ≡ step_of t a
-    → done ≡ is_done u → kind_ordered ≡ (done && is_ordered u) → kind_barrier ≡ (done && is_barrier u)
-    → now_ordered ≡ (if kind_ordered then ordered_place (slice_set works place u) else ordered) → now_barrier ≡ (if kind_barrier then barrier_place (slice_set works place u) else barrier)
+over_later : (b : Bool) (n m i : ℕ) → cond (not b) (1 + n) 0 ≢ suc i → (n ≢ i → m ≡ n) → cond (not b) (1 + m) 0 ≡ cond (not b) (1 + n) 0
+over_later true n m i other rest = refl
+over_later false n m i other rest = ap (λ k. 1 + k) (rest (λ e. other (omega (arith, e))))
+
+-- one that isn't the first is another now that doesn't pass
+first_over : (p : Work → Bool) (works : List Work) (i : ℕ) (y : Work) → i < length works → p y ≡ false → position_or_len p works ≢ i → position_or_len p (slice_set works i y) ≡ position_or_len p works
+first_over p [] i y within fails other = absurd (omega arith)
+first_over p (t ∷ works) zero y within fails other = over_here (p t) (p y) (position_or_len p works) fails other
+first_over p (t ∷ works) (suc i) y within fails other = over_later (p t) (position_or_len p works) (position_or_len p (slice_set works i y)) i other (first_over p works i y (omega arith) fails)
+
+no_more : (kind done : Bool) → done ≡ true → (kind && not done) ≡ false
+no_more true done over = ap not over
+no_more false done over = refl
+
+equal_test : (a b : ℕ) → a ≡ b → (a == b) ≡ true
+equal_test a b same = grind (arith, nat_tests)
+
+-- what is known of the first one once a job is done: it is looked for anew where it was that job
+after_end : (p : Work → Bool) (works : List Work) (place first now : ℕ) (u : Work) → place < length works → first ≡ position_or_len p works → p u ≡ false
+    → now ≡ (if first == place then position_or_len p (slice_set works place u) else first) → now ≡ position_or_len p (slice_set works place u)
+after_end p works place first now u within same fails told = by_test (first == place) refl told
+  where
+    by_test : (b : Bool) → (first == place) ≡ b → now ≡ (if b then position_or_len p (slice_set works place u) else first) → now ≡ position_or_len p (slice_set works place u)
+    by_test true test is = is
+    by_test false test is = is ∙ (same ∙ sym (first_over p works place u within fails (λ e. false≢true (sym test ∙ equal_test first place (same ∙ e)))))
+
+-- a job that is told its last answer
+pub ended_first : (works : List Work) (place : ℕ) (t u : Work) (ordered barrier now_ordered now_barrier : ℕ) → AreFirst ordered barrier works → slice_get works place ≡ Some t → is_done u ≡ true
+    → now_ordered ≡ (if ordered == place then ordered_place (slice_set works place u) else ordered) → now_barrier ≡ (if barrier == place then barrier_place (slice_set works place u) else barrier)
     → AreFirst now_ordered now_barrier (slice_set works place u)
-told_first works place t u a ordered barrier now_ordered now_barrier kind_ordered kind_barrier done first here undone is test one_ordered one_barrier of_ordered of_barrier =
+ended_first works place t u ordered barrier now_ordered now_barrier first here over of_ordered of_barrier =
+    let within = slice_get_within works place t here in
+    record {
+      ordered_is = after_end holds_barriers works place ordered now_ordered u within first.ordered_is (no_more (is_ordered u) (is_done u) over) of_ordered;
+      barrier_is = after_end holds_all works place barrier now_barrier u within first.barrier_is (no_more (is_barrier u) (is_done u) over) of_barrier;
+    }
+
+-- a job that is told an answer, and isn't done yet
+pub told_first : (works : List Work) (place : ℕ) (t u : Work) (a : BackAnswer) (ordered barrier : ℕ) → AreFirst ordered barrier works → slice_get works place ≡ Some t → is_done t ≡ false → u ≡ step_of t a → is_done u ≡ false
+    → AreFirst ordered barrier (slice_set works place u)
+told_first works place t u a ordered barrier first here before is after =
     let within = slice_get_within works place t here in
     let at = get_or_from_slice_get works place t t here in
-    let ordered_same = told_ordered t u a is in
-    let barrier_same = told_barrier t u a is in
+    let done_same : is_done u ≡ is_done t = after ∙ sym before in
     record {
-      ordered_is = after_told holds_barriers works place ordered now_ordered u t kind_ordered (is_ordered u) done within first.ordered_is
-          (ap holds_barriers at ∙ (ap (λ (b : Bool). is_ordered t && not b) undone ∙ ap (λ (b : Bool). b && true) (sym ordered_same))) (ap (λ (b : Bool). is_ordered u && not b) (sym test)) one_ordered of_ordered;
-      barrier_is = after_told holds_all works place barrier now_barrier u t kind_barrier (is_barrier u) done within first.barrier_is
-          (ap holds_all at ∙ (ap (λ (b : Bool). is_barrier t && not b) undone ∙ ap (λ (b : Bool). b && true) (sym barrier_same))) (ap (λ (b : Bool). is_barrier u && not b) (sym test)) one_barrier of_barrier;
+      ordered_is = first.ordered_is ∙ sym (first_set holds_barriers works place u t within (rw at (both (told_ordered t u a is) done_same)));
+      barrier_is = first.barrier_is ∙ sym (first_set holds_all works place u t within (rw at (both (told_barrier t u a is) done_same)));
     }
+  where
+    both : {k l d e : Bool} → k ≡ l → d ≡ e → (k && not d) ≡ (l && not e)
+    both p q = cc
 
 -- one that is done is removed
 pub removed_first : (works : List Work) (place : ℕ) (d : Work) (ordered barrier now_ordered now_barrier : ℕ) → place < length works → is_done (slice_index_or works place d) ≡ true → AreFirst ordered barrier works
     → now_ordered ≡ without ordered place → now_barrier ≡ without barrier place → AreFirst now_ordered now_barrier (remove works place)
 removed_first works place d ordered barrier now_ordered now_barrier within over first of_ordered of_barrier = record {
-  ordered_is = of_ordered ∙ (ap (λ n. without n place) first.ordered_is ∙ sym (first_removed holds_barriers works place d within (no_more (is_ordered t) over)));
-  barrier_is = of_barrier ∙ (ap (λ n. without n place) first.barrier_is ∙ sym (first_removed holds_all works place d within (no_more (is_barrier t) over)));
+  ordered_is = of_ordered ∙ (ap (λ n. without n place) first.ordered_is ∙ sym (first_removed holds_barriers works place d within (no_more (is_ordered t) (is_done t) over)));
+  barrier_is = of_barrier ∙ (ap (λ n. without n place) first.barrier_is ∙ sym (first_removed holds_all works place d within (no_more (is_barrier t) (is_done t) over)));
 }
   where
     t : Work
     t = slice_index_or works place d
-
-    no_more : (kind : Bool) → is_done t ≡ true → (kind && not (is_done t)) ≡ false
-    no_more true over = ap not over
-    no_more false over = refl
 
 -- one more is held
 pub began_first : (works : List Work) (t : Work) (ordered barrier now_ordered now_barrier count : ℕ) (one_ordered one_barrier : Bool) → AreFirst ordered barrier works → count ≡ length works

@@ -1,6 +1,6 @@
 -- The mappings in the jobs' hands.
 use Rattle.std.proofs.Common.{◌≡◌, ℕ, ◌+◌, ◌≤◌, Bool, true, false, zero, suc, if◌then◌else◌, cond, List, [], ◌∷◌, ◌++◌, take, length, get_or, refl, sym, ap, ◌∙◌, append_assoc, arith, length-append}
-use Rattle.std.specs.Prelude.{Option, Some, None, Contains, option_to_list, slice_get, slice_set, remove, position, is_some, not, ◌==◌, nat_le}
+use Rattle.std.specs.Prelude.{Option, Some, None, Contains, option_to_list, slice_get, slice_set, remove, position, is_some, not, ◌==◌, nat_le, drop}
 use Rattle.std.proofs.lemmas.Bool.{false≢true}
 use Rattle.std.proofs.lemmas.Option.{none-some, same_Some, slice_get-get_or}
 use Rattle.std.proofs.lemmas.List.{append-nil}
@@ -14,6 +14,7 @@ use Rattle.blk_base.specs.declared.ask.BackAsk.TheVariants as ask
 use Rattle.blk_base.specs.declared.ask.BackAnswer.{BackAnswer}
 use Rattle.blk_base.specs.declared.ask.BackAnswer.TheVariants as answer
 use Rattle.blk_layout.specs.declared.segment.Segment.{Segment}
+use Rattle.blk_layout.specs.Entry.{segment_of}
 use Rattle.blk_layout.specs.declared.request.RawRequest.{RawRequest}
 use Rattle.blk_layout.specs.declared.request.RawRequest.TheVariants.{Direct, Discard, Indirect}
 use Rattle.segment_list.specs.declared.verdict.Verdict.{Verdict}
@@ -21,7 +22,7 @@ use Rattle.segment_list.specs.declared.verdict.Verdict.TheVariants as verdict
 use Rattle.segment_list.specs.Verdict.{verdict_of}
 use Rattle.back_jobs.specs.declared.stage.Stage.{Stage}
 use Rattle.back_jobs.specs.declared.stage.Stage.TheVariants as stage
-use Rattle.back_jobs.specs.Task.{Work, ask_of, ask_at, map_ask, step_of, step_at, sector_stage, next_sector, next_segment, counted, rest_of, last_of, begun, served, moving, ended, frameless, IsAnswer}
+use Rattle.back_jobs.specs.Task.{Work, ask_of, ask_at, map_ask, page_ask, is_copied_out, passes, judged, page_done, paging, step_of, step_at, sector_stage, next_sector, next_segment, counted, first_of, rest_of, last_of, begun, served, moving, ended, frameless, IsAnswer}
 use Rattle.back_jobs.specs.Jobs.{Held, mapping_at, asked, work_at, told_at, removed_at, is_done, is_done_at, first_mapping, behind_mapping, start_job, without_done}
 use Rattle.back_jobs.specs.Hands.{hand_of, hands_in, Names, HasOneMore, HandsAfter}
 
@@ -84,7 +85,24 @@ hand_of_segment : (t : Work) (rest : List Segment) → hand_of (next_segment t r
 hand_of_segment t [] = refl
 hand_of_segment t (s ∷ rest) = refl
 
+page_hands : (pages : List ℕ) (t : Work) (given : BackAnswer) → IsAnswer (page_ask pages) given → HandsAfter (page_ask pages) given [] (hand_of (step_at stage.MapPage t given))
+page_hands [] t given h = absurd h
+page_hands (gref ∷ pages) t (answer.Mapped m) h = alone m
+page_hands (gref ∷ pages) t (answer.MapRefused status) h = refl
+page_hands (gref ∷ pages) t given h = absurd h
+
+-- after a page no mapping is in hand
+hand_judged : (t : Work) → hand_of (judged t) ≡ []
+hand_judged t = either_hand_of (passes t) (record t { within = first_of t.rest; stage = stage.Map }) (record t { stage = stage.Done Error }) [] refl refl
+
+hand_of_page : (t : Work) → hand_of (page_done t) ≡ []
+hand_of_page t = either_hand_of (length t.rest == t.named) (judged t) (record t { pages = drop 1 t.pages; stage = stage.MapPage }) [] (hand_judged t) refl
+
 hand_step_at : (s : Stage) (t : Work) (given : BackAnswer) → IsAnswer (ask_at s t) given → HandsAfter (ask_at s t) given (hand_at s) (hand_of (step_at s t given))
+hand_step_at stage.MapPage t given h = page_hands t.pages t given h
+hand_step_at (stage.PageReference m) t (answer.Word word) h = refl
+hand_step_at (stage.PageSectors m gref) t (answer.Word word) h = either_hand (is_copied_out t (t.rest ++ segment_of gref word ∷ [])) (stage.UnmapPage m) (stage.PageReference m) (m ∷ []) refl refl
+hand_step_at (stage.UnmapPage m) t answer.Done h = rw (hand_of_page t) (alone m)
 hand_step_at stage.Map t given h = map_hands t.rest t given h
 hand_step_at (stage.ReadWord m k) t (answer.Word word) h = either_hand (k == 127) (stage.DiskWrite m) (stage.ReadWord m (k + 1)) (m ∷ []) refl refl
 hand_step_at (stage.DiskWrite m) t answer.Done h = hand_next (counted t) m
@@ -174,7 +192,9 @@ served_hand number (Direct op count device id sector segments) size =
     let other = either_hand_of (op == 3) (frameless number request size sector stage.Flush) (ended number request size (stage.Done Error)) [] refl refl in
     either_hand_of (nat_le op 2) (moving number request size (not (op == 0)) sector (take count segments)) _ [] refl other
 served_hand number (Discard flag device id sector count) size = refl
-served_hand number (Indirect op count device id sector pages) size = refl
+served_hand number (Indirect op count device id sector pages) size =
+    let request : RawRequest = Indirect op count device id sector pages in
+    either_hand_of (nat_le count 960) (paging number request size (not (op == 0)) sector count pages) (ended number request size (stage.Done Error)) [] refl refl
 
 begun_hand : (number : ℕ) (request : RawRequest) (size : ℕ) (v : Verdict) → hand_of (begun number request size v) ≡ []
 begun_hand number request size (verdict.Serve plan) = served_hand number request size

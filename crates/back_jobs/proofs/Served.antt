@@ -17,7 +17,7 @@ use Rattle.segment_list.specs.Verdict.{transfer_verdict, verdict_of}
 use Rattle.segment_list.proofs.Served.{transfer_served}
 use Rattle.back_jobs.specs.Sound.{AreMovable}
 
-movable : (size sector : ℕ) (segments : List Segment) → 0 < length segments → sector + sectors_of segments ≤ size → AllByRecursion IsSound segments → AreMovable size sector segments
+pub movable : (size sector : ℕ) (segments : List Segment) → 0 < length segments → sector + sectors_of segments ≤ size → AllByRecursion IsSound segments → AreMovable size sector segments
 movable size sector [] some fits sound = absurd (omega arith)
 movable size sector (s ∷ rest) some fits sound = (fits, sound)
 

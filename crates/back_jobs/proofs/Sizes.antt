@@ -1,5 +1,5 @@
 -- Every job knows the disk's size, and names only what it may.
-use Rattle.std.proofs.Common.{◌≡◌, ℕ, ◌+◌, Bool, true, false, if◌then◌else◌, cond, List, [], ◌∷◌, ◌++◌, take, refl, sym, ap, ◌∙◌, suc, arith}
+use Rattle.std.proofs.Common.{◌≡◌, ℕ, ◌+◌, Bool, true, false, if◌then◌else◌, cond, List, [], ◌∷◌, ◌++◌, take, drop, length, refl, sym, ap, ◌∙◌, suc, arith}
 use Rattle.std.specs.Prelude.{Option, Some, None, Contains, is_some, not, remove, ◌==◌, nat_le}
 use Rattle.std.proofs.lemmas.Option.{get_or_from_slice_get, slice_get_within}
 use Rattle.std.proofs.lemmas.List.Elements.{All-tail, All-set, All-push, All-append, All-take, All-drop, All-get_or}
@@ -14,7 +14,7 @@ use Rattle.segment_list.specs.declared.verdict.Verdict.{Verdict}
 use Rattle.segment_list.specs.declared.verdict.Verdict.TheVariants as verdict
 use Rattle.back_jobs.specs.declared.stage.Stage.{Stage}
 use Rattle.back_jobs.specs.declared.stage.Stage.TheVariants as stage
-use Rattle.back_jobs.specs.Task.{Work, ask_of, ask_at, map_ask, mode_of, step_of, step_at, sector_stage, next_sector, next_segment, counted, rest_of, last_of, begun, served, moving, ended, frameless}
+use Rattle.back_jobs.specs.Task.{Work, ask_of, ask_at, map_ask, page_ask, passes, judged, page_done, paging, mode_of, step_of, step_at, sector_stage, next_sector, next_segment, counted, first_of, rest_of, last_of, begun, served, moving, ended, frameless}
 use Rattle.back_jobs.specs.Jobs.{mapping_at, work_at, told_at, behind_mapping}
 use Rattle.back_jobs.specs.Sound.{AreSized, IsPlaced, StaysInPageAndDisk}
 use Rattle.back_jobs.specs.Hands.{hand_of, Names}
@@ -36,7 +36,18 @@ next_segment_op : (t : Work) (rest : List Segment) → (next_segment t rest).op 
 next_segment_op t [] = refl
 next_segment_op t (s ∷ rest) = refl
 
+judged_op : (t : Work) → (judged t).op ≡ t.op
+judged_op t = either_op (passes t) (record t { within = first_of t.rest; stage = stage.Map }) (record t { stage = stage.Done Error }) t.op refl refl
+
+page_done_op : (t : Work) → (page_done t).op ≡ t.op
+page_done_op t = either_op (length t.rest == t.named) (judged t) (record t { pages = drop 1 t.pages; stage = stage.MapPage }) t.op (judged_op t) refl
+
 step_op_at : (s : Stage) (t : Work) (given : BackAnswer) → (step_at s t given).op ≡ t.op
+step_op_at stage.MapPage t (answer.Mapped m) = refl
+step_op_at stage.MapPage t (answer.MapRefused status) = refl
+step_op_at (stage.PageReference m) t (answer.Word word) = refl
+step_op_at (stage.PageSectors m gref) t (answer.Word word) = refl
+step_op_at (stage.UnmapPage m) t answer.Done = page_done_op t
 step_op_at stage.Map t (answer.Mapped m) = refl
 step_op_at stage.Map t (answer.MapRefused status) = refl
 step_op_at (stage.ReadWord m k) t (answer.Word word) = refl
@@ -67,7 +78,18 @@ next_segment_has : (t : Work) (rest : List Segment) → Has t.number t.size (nex
 next_segment_has t [] = (refl, refl)
 next_segment_has t (s ∷ rest) = (refl, refl)
 
+judged_has : (t : Work) → Has t.number t.size (judged t)
+judged_has t = either_has (passes t) (record t { within = first_of t.rest; stage = stage.Map }) (record t { stage = stage.Done Error }) t.number t.size (refl, refl) (refl, refl)
+
+page_done_has : (t : Work) → Has t.number t.size (page_done t)
+page_done_has t = either_has (length t.rest == t.named) (judged t) (record t { pages = drop 1 t.pages; stage = stage.MapPage }) t.number t.size (judged_has t) (refl, refl)
+
 step_has : (s : Stage) (t : Work) (given : BackAnswer) → Has t.number t.size (step_at s t given)
+step_has stage.MapPage t (answer.Mapped m) = (refl, refl)
+step_has stage.MapPage t (answer.MapRefused status) = (refl, refl)
+step_has (stage.PageReference m) t (answer.Word word) = (refl, refl)
+step_has (stage.PageSectors m gref) t (answer.Word word) = (refl, refl)
+step_has (stage.UnmapPage m) t answer.Done = page_done_has t
 step_has stage.Map t (answer.Mapped m) = (refl, refl)
 step_has stage.Map t (answer.MapRefused status) = (refl, refl)
 step_has (stage.ReadWord m k) t (answer.Word word) = (refl, refl)
@@ -97,7 +119,9 @@ served_has number (Direct op count device id sector segments) size =
     let other = either_has (op == 3) (frameless number request size sector stage.Flush) (ended number request size (stage.Done Error)) number size (refl, refl) (refl, refl) in
     either_has (nat_le op 2) (moving number request size (not (op == 0)) sector (take count segments)) _ number size (refl, refl) other
 served_has number (Discard flag device id sector count) size = (refl, refl)
-served_has number (Indirect op count device id sector pages) size = (refl, refl)
+served_has number (Indirect op count device id sector pages) size =
+    let request : RawRequest = Indirect op count device id sector pages in
+    either_has (nat_le count 960) (paging number request size (not (op == 0)) sector count pages) (ended number request size (stage.Done Error)) number size (refl, refl) (refl, refl)
 
 -- a job begins with its number and the disk's size
 begun_has : (number : ℕ) (request : RawRequest) (size : ℕ) (v : Verdict) → Has number size (begun number request size v)
@@ -152,7 +176,15 @@ names_map : (size : ℕ) (rest : List Segment) (writes : Bool) → Names [] (map
 names_map size [] writes = tt
 names_map size (s ∷ rest) writes = tt
 
+names_page : (size : ℕ) (pages : List ℕ) → Names [] (page_ask pages)
+names_page size [] = tt
+names_page size (gref ∷ pages) = tt
+
 names_at : (size : ℕ) (s : Stage) (t : Work) → IsPlaced s t → StaysInPageAndDisk size (ask_at s t) → Names (hand_at s) (ask_at s t)
+names_at size stage.MapPage t placed within = names_page size t.pages
+names_at size (stage.PageReference m) t placed within = (only m, within)
+names_at size (stage.PageSectors m gref) t placed within = (only m, within)
+names_at size (stage.UnmapPage m) t placed within = only m
 names_at size stage.Map t placed within = names_map size t.rest t.writes
 names_at size (stage.ReadWord m k) t placed within = (only m, within)
 names_at size (stage.DiskWrite m) t placed within = tt

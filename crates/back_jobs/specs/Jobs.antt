@@ -60,22 +60,24 @@ holds_barriers t = is_ordered t && not (is_done t)
 abbrev pub holds_all : Work → Bool
 holds_all t = is_barrier t && not (is_done t)
 
--- a job waits at its beginning: before its first map, or before its trim
+-- a job waits at its beginning: before its first map, that of a page or of a segment, or before its trim
 abbrev pub is_fresh_at : Stage → ℕ → Bool
+is_fresh_at stage.MapPage moved = true
 is_fresh_at stage.Map moved = moved == 0
 is_fresh_at (stage.Trim count) moved = true
 is_fresh_at s moved = false
 
--- these jobs were fetched before it
+-- a barrier is held up by one that it orders and that is not done (`ordered`), and one that barriers order by a barrier that is not done
 abbrev pub is_held : Work → (ordered barrier : Bool) → Bool
 is_held t ordered barrier = (is_barrier t && ordered) || (is_ordered t && barrier)
 
-abbrev pub is_behind : List Work → Work → Bool
-is_behind earlier t = is_held t (list_any holds_barriers earlier) (list_any holds_all earlier)
+-- jobs that were fetched before it hold it up
+abbrev pub is_held_by : List Work → Work → Bool
+is_held_by earlier t = is_held t (list_any holds_barriers earlier) (list_any holds_all earlier)
 
 -- the job at a place, where it is held, waits for one before it
 abbrev pub waits_at : List Work → Option ℕ → Option Work → Bool
-waits_at works (Some place) (Some t) = is_fresh_at t.stage t.moved && is_behind (take place works) t
+waits_at works (Some place) (Some t) = is_fresh_at t.stage t.moved && is_held_by (take place works) t
 waits_at works place found = false
 
 abbrev pub waits : List Work → ℕ → Bool
@@ -132,6 +134,9 @@ next_after h number = next_in h.works number
 
 -- the mapping in a job's hand
 abbrev pub mapping_at : Stage → Option Mapping
+mapping_at (stage.PageReference m) = Some m
+mapping_at (stage.PageSectors m gref) = Some m
+mapping_at (stage.UnmapPage m) = Some m
 mapping_at (stage.ReadWord m k) = Some m
 mapping_at (stage.DiskWrite m) = Some m
 mapping_at (stage.DiskRead m) = Some m

@@ -1,4 +1,5 @@
 pub mod Task
+pub mod Segments
 pub mod Inside
 pub mod Sound
 pub mod Jobs

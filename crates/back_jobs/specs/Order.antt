@@ -1,8 +1,9 @@
 -- Finding jobs whose numbers ascend, and the lowest that is done.
-use Rattle.std.specs.Prelude.{◌≡◌, ℕ, ◌+◌, ◌-◌, ◌<◌, ◌≤◌, Bool, true, List, [], ◌∷◌, length, Option, Some, None, slice_get, slice_index_or, nat_lt, ◌==◌, if◌then◌else◌}
+use Rattle.std.specs.Prelude.{◌≡◌, ℕ, ◌+◌, ◌-◌, ◌<◌, ◌≤◌, Bool, true, false, List, [], ◌∷◌, length, Option, Some, None, slice_get, slice_index_or, nat_lt, ◌==◌, if◌then◌else◌}
 use Rattle.std.specs.List.{AllWithin}
 use Rattle.std.specs.Option.{option_map}
 use Rattle.back_jobs.specs.Task.{Work}
+use Rattle.back_jobs.specs.Jobs.{holds_barriers, holds_all}
 
 -- the place of the first job whose number isn't below this one; how many there are where there is none
 abbrev pub IsFirstFrom : ℕ → List Work → ℕ → Type 0
@@ -45,3 +46,8 @@ without first removed = if nat_lt removed first then first - 1 else first
 -- the place of the lowest job that is done, once one more is held
 abbrev pub done_with : ℕ → ℕ → Bool → ℕ
 done_with done count is_done = if done == count then (if is_done then count else count + 1) else done
+
+-- a job that barriers wait for, or one that all that barriers order wait for
+abbrev pub holds : Bool → Work → Bool
+holds false t = holds_barriers t
+holds true t = holds_all t

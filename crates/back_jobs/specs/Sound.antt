@@ -2,6 +2,7 @@
 use Rattle.std.specs.Prelude.{◌≡◌, ℕ, ◌+◌, ◌-◌, ◌<◌, ◌≤◌, Bool, true, false, List, [], ◌∷◌, length, map, All}
 use Rattle.std.specs.List.{AllByRecursion, filter, position_or_len}
 use Rattle.blk_base.specs.declared.parts.Mapping.{Mapping}
+use Rattle.blk_base.specs.declared.parts.Mode.TheVariants.{ReadOnly}
 use Rattle.blk_base.specs.declared.ask.BackAsk.{BackAsk}
 use Rattle.blk_base.specs.declared.ask.BackAsk.TheVariants as ask
 use Rattle.blk_layout.specs.declared.segment.Segment.{Segment}
@@ -25,8 +26,16 @@ IsLeft t (s ∷ rest) = (t.disk + sectors_of rest ≤ t.size) × AllByRecursion 
 abbrev pub IsInMode : Mapping → Work → Type 0
 IsInMode m t = m.mode ≡ mode_of t.writes
 
+-- segments are left to be copied, of as many as there is room for
+abbrev pub IsCopying : Work → Type 0
+IsCopying t = (length t.rest < t.named) × (t.named ≤ 960)
+
 -- words go from the frame to the disk in a job that writes, and from the disk to the frame in one that reads
 abbrev pub IsPlaced : Stage → Work → Type 0
+IsPlaced stage.MapPage t = IsCopying t
+IsPlaced (stage.PageReference m) t = IsCopying t × (m.mode ≡ ReadOnly)
+IsPlaced (stage.PageSectors m gref) t = IsCopying t × (m.mode ≡ ReadOnly)
+IsPlaced (stage.UnmapPage m) t = (1 ≤ t.named) × (t.named ≤ 960) × (length t.rest ≤ t.named) × (m.mode ≡ ReadOnly)
 IsPlaced stage.Map t = IsUnderWay t 1 t.rest
 IsPlaced (stage.ReadWord m k) t = (k < 128) × IsUnderWay t 1 t.rest × IsInMode m t × (t.writes ≡ true)
 IsPlaced (stage.DiskWrite m) t = IsUnderWay t 1 t.rest × IsInMode m t × (t.writes ≡ true)

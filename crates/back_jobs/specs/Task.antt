@@ -1,5 +1,6 @@
 -- One job as a machine: what it asks, and what an answer makes of it.
-use Rattle.std.specs.Prelude.{◌≡◌, ℕ, ◌+◌, ◌*◌, ◌%◌, ◌^◌, Bool, true, false, not, List, [], ◌∷◌, take, replicate, slice_index, slice_set, if◌then◌else◌, ◌==◌, nat_le}
+use Rattle.std.specs.Prelude.{◌≡◌, ℕ, ◌+◌, ◌*◌, ◌%◌, ◌^◌, Bool, true, false, not, ◌||◌, List, [], ◌∷◌, ◌++◌, length, take, drop, replicate, slice_index, slice_set, if◌then◌else◌, ◌==◌, nat_le, nat_lt}
+use Rattle.std.specs.List.{list_any}
 use Rattle.blk_base.specs.declared.parts.Mapping.{Mapping}
 use Rattle.blk_base.specs.declared.parts.Mode.{Mode}
 use Rattle.blk_base.specs.declared.parts.Mode.TheVariants.{ReadOnly, ReadWrite}
@@ -11,12 +12,14 @@ use Rattle.blk_base.specs.declared.ask.BackAnswer.TheVariants.{Done, Word, Mappe
 use Rattle.blk_layout.specs.declared.segment.Segment.{Segment}
 use Rattle.blk_layout.specs.declared.request.RawRequest.{RawRequest}
 use Rattle.blk_layout.specs.declared.request.RawRequest.TheVariants.{Direct, Discard, Indirect}
+use Rattle.blk_layout.specs.Entry.{segment_of}
+use Rattle.segment_list.specs.Segments.{fails_test, sectors_of}
 use Rattle.segment_list.specs.declared.verdict.Verdict.{Verdict}
 use Rattle.segment_list.specs.declared.verdict.Verdict.TheVariants as verdict
 use Rattle.back_jobs.specs.declared.stage.Stage.{Stage}
 use Rattle.back_jobs.specs.declared.stage.Stage.TheVariants as stage
 
--- A job: its number; the id and the operation that its response names; whether it writes to the disk; the size of the disk; the disk sector that it comes to next, and how many it moved; the segments that it isn't done with, the present one first; the sector in its frame; the words in hand; what it does.
+-- A job: its number; the id and the operation that its response names; whether it writes to the disk; the size of the disk; the disk sector that it comes to next, and how many it moved; the segments that it isn't done with, the present one first (while they are copied from indirect pages, those that were copied); the references of the indirect pages that it isn't done with, the present one first, and how many segments they name; the sector in its frame; the words in hand; what it does.
 pub record Work : Type 0 where
   pub number : ℕ
   pub id : ℕ
@@ -26,6 +29,8 @@ pub record Work : Type 0 where
   pub disk : ℕ
   pub moved : ℕ
   pub rest : List Segment
+  pub pages : List ℕ
+  pub named : ℕ
   pub within : ℕ
   pub words : List ℕ
   pub stage : Stage
@@ -39,11 +44,24 @@ abbrev pub map_ask : List Segment → Bool → BackAsk
 map_ask [] writes = ask.Wait
 map_ask (s ∷ rest) writes = ask.Map s.gref (mode_of writes)
 
+-- an indirect page is only read
+abbrev pub page_ask : List ℕ → BackAsk
+page_ask [] = ask.Wait
+page_ask (gref ∷ pages) = ask.Map gref ReadOnly
+
+-- the first or the second word of the segment that is copied next: 512 segments lie in a page, two words each (struct blkif_request_segment)
+abbrev pub page_word : Work → ℕ → ℕ
+page_word t k = 2 * (length t.rest % 512) + k
+
 -- 128 words a sector
 abbrev pub word_at : Work → ℕ → ℕ
 word_at t k = t.within * 128 + k
 
 abbrev pub ask_at : Stage → Work → BackAsk
+ask_at stage.MapPage t = page_ask t.pages
+ask_at (stage.PageReference m) t = ask.Read m (page_word t 0)
+ask_at (stage.PageSectors m gref) t = ask.Read m (page_word t 1)
+ask_at (stage.UnmapPage m) t = ask.Unmap m
 ask_at stage.Map t = map_ask t.rest t.writes
 ask_at (stage.ReadWord m k) t = ask.Read m (word_at t k)
 ask_at (stage.DiskWrite m) t = ask.DiskWrite t.disk t.words
@@ -87,6 +105,24 @@ abbrev pub next_segment : Work → List Segment → Work
 next_segment t [] = record t { rest = []; stage = stage.Done Okay }
 next_segment t (s ∷ rest) = record t { rest = s ∷ rest; within = s.first; stage = stage.Map }
 
+-- a segment was copied whole: the next one is, from the same page; the page is given up after the last one of all, and after its own last one
+abbrev pub is_copied_out : Work → List Segment → Bool
+is_copied_out t segments = (length segments == t.named) || (length segments % 512 == 0)
+
+abbrev pub copied : Work → Mapping → List Segment → Work
+copied t m segments = record t { rest = segments; stage = if is_copied_out t segments then stage.UnmapPage m else stage.PageReference m }
+
+-- all segments are copied, and only now they are tested, as those of a READ or a WRITE are: the first one is mapped
+abbrev pub passes : Work → Bool
+passes t = not (list_any fails_test t.rest || nat_lt t.size (t.disk + sectors_of t.rest))
+
+abbrev pub judged : Work → Work
+judged t = if passes t then record t { within = first_of t.rest; stage = stage.Map } else record t { stage = stage.Done Error }
+
+-- a page was given up: the next one is mapped, or all segments are copied
+abbrev pub page_done : Work → Work
+page_done t = if length t.rest == t.named then judged t else record t { pages = drop 1 t.pages; stage = stage.MapPage }
+
 -- the disk took or gave a sector
 abbrev pub counted : Work → Work
 counted t = record t { disk = t.disk + 1; moved = (t.moved + 1) % 2 ^ 32 }
@@ -98,6 +134,11 @@ at_word k (stage.WriteWord m before) = stage.WriteWord m k
 at_word k s = s
 
 abbrev pub step_at : Stage → Work → BackAnswer → Work
+step_at stage.MapPage t (Mapped m) = record t { stage = stage.PageReference m }
+step_at stage.MapPage t (MapRefused status) = record t { stage = stage.Done Error }
+step_at (stage.PageReference m) t (Word word) = record t { stage = stage.PageSectors m word }
+step_at (stage.PageSectors m gref) t (Word word) = copied t m (t.rest ++ segment_of gref word ∷ [])
+step_at (stage.UnmapPage m) t Done = page_done t
 step_at stage.Map t (Mapped m) = record t { stage = sector_stage t.writes m }
 step_at stage.Map t (MapRefused status) = record t { stage = stage.Done Error }
 step_at (stage.ReadWord m k) t (Word word) = record t { words = slice_set t.words k word; stage = if k == 127 then stage.DiskWrite m else stage.ReadWord m (k + 1) }
@@ -167,6 +208,8 @@ frameless number request size sector s = record {
   disk = sector;
   moved = 0;
   rest = [];
+  pages = [];
+  named = 0;
   within = 0;
   words = replicate 128 0;
   stage = s;
@@ -186,12 +229,38 @@ moving number request size writes sector segments = record {
   disk = sector;
   moved = 0;
   rest = segments;
+  pages = [];
+  named = 0;
   within = first_of segments;
   words = replicate 128 0;
   stage = stage.Map;
 }
 
--- a served request: of READ (0), WRITE (1) and WRITE_BARRIER (2) the segments are moved; FLUSH_DISKCACHE (3) flushes the disk and DISCARD trims its sectors; of no other operation is one served that this back publishes
+-- a job that reads or writes the segments that these pages name, once they are copied
+abbrev pub paging : ℕ → RawRequest → ℕ → Bool → ℕ → ℕ → List ℕ → Work
+paging number request size writes sector count pages = record {
+  number = number;
+  id = id_of request;
+  op = response_op request;
+  writes = writes;
+  size = size;
+  disk = sector;
+  moved = 0;
+  rest = [];
+  pages = pages;
+  named = count;
+  within = 0;
+  words = replicate 128 0;
+  stage = stage.MapPage;
+}
+
+-- there is room for the segments of 960 frames
+abbrev pub served_indirect : ℕ → RawRequest → ℕ → (op sector count : ℕ) → List ℕ → Work
+served_indirect number request size op sector count pages =
+    if nat_le count 960 then paging number request size (not (op == 0)) sector count pages
+    else ended number request size (stage.Done Error)
+
+-- a served request: of READ (0), WRITE (1) and WRITE_BARRIER (2) the segments are moved; FLUSH_DISKCACHE (3) flushes the disk and DISCARD trims its sectors; of INDIRECT the segments are copied from its pages first
 abbrev pub served_direct : ℕ → RawRequest → ℕ → ℕ → ℕ → List Segment → Work
 served_direct number request size op sector segments =
     if nat_le op 2 then moving number request size (not (op == 0)) sector segments
@@ -201,7 +270,7 @@ served_direct number request size op sector segments =
 abbrev pub served : ℕ → RawRequest → ℕ → Work
 served number (Direct op count device id sector segments) size = served_direct number (Direct op count device id sector segments) size op sector (take count segments)
 served number (Discard flag device id sector count) size = frameless number (Discard flag device id sector count) size sector (stage.Trim count)
-served number request size = ended number request size (stage.Done Error)
+served number (Indirect op count device id sector pages) size = served_indirect number (Indirect op count device id sector pages) size op sector count pages
 
 -- the job of a request with this verdict
 abbrev pub begun : ℕ → RawRequest → ℕ → Verdict → Work

@@ -1,17 +1,21 @@
 // All jobs of the back.
 ghost use Rattle.std.specs.Prelude.{◌≡◌, ◌<◌, ◌≤◌, ◌+◌, ◌↔◌, Some, IfOk, IfSome, IsSome, IsTrue, length, take, slice_get, vec_capacity, option_and_then};
+ghost use Rattle.std.specs.List.{count_by};
 ghost use Rattle.std.specs.Option.{option_map};
 ghost use Rattle.back_jobs.specs.Task.{IsAnswer, Work};
 ghost use Rattle.back_jobs.specs.Sound.{StaysInPageAndDisk};
 ghost use Rattle.back_jobs.specs.Hands.{hands_in, Names};
-ghost use Rattle.back_jobs.specs.Jobs.{none_held, place_of, work_of, waits_at, is_held, is_behind, ask_job, tell_job, start_job, without_done, first_mapping, behind_mapping, effect_of, done_of, response_of, next_after};
+ghost use Rattle.back_jobs.specs.Segments.{is_paged};
+ghost use Rattle.back_jobs.specs.Jobs.{none_held, place_of, work_of, waits_at, is_held, is_held_by, ask_job, tell_job, start_job, without_done, first_mapping, behind_mapping, effect_of, done_of, response_of, next_after};
 ghost use Rattle.ring_words.specs.Shape.{entries_of};
 
 mod finding;
 mod finished;
 mod order;
+mod rooms;
 
 use crate::effect::Effect;
+use crate::segments::Room;
 use crate::task::Task;
 use blk_base::{BackAnswer, BackAsk, Mapping, OutOfMemory, Status};
 use blk_layout::RawRequest;
@@ -19,8 +23,9 @@ use finding::{
     by_halves, first_above, goes_on_ascending, guess, is_first, next_in, number_at, place_in,
 };
 use finished::{done_with, drop_first, first_done, lowest_done, note};
-use order::{barrier_after, first_barrier, first_ordered, ordered_after, without};
+use order::{first_holding, holding_after, without};
 use ring_words::RingShape;
+use rooms::{give_back, reserve_rooms, rooms_for};
 use segment_list::DiskInfo;
 use std::alloc::Global;
 use std::marker::Model;
@@ -43,11 +48,15 @@ pub struct Jobs {
     // how many jobs are held where there is none.
     ordered: usize,
     barrier: usize,
+    // The rooms for copied segments that no job has: where requests may be indirect there is one for
+    // each job that there is room for.
+    rooms: Vec<Room>,
 }
 
 impl Model for Jobs {
-    ghost use Rattle.std.specs.Prelude.{◌≤◌, vec_capacity};
+    ghost use Rattle.std.specs.Prelude.{length, vec_capacity};
     ghost use Rattle.back_jobs.specs.Jobs.{Held};
+    ghost use Rattle.back_jobs.specs.Segments.{AreShared};
     ghost use Rattle.back_jobs.specs.Sound.{IsKept, AreFirst};
 
     ghost Value = { Held };
@@ -55,7 +64,8 @@ impl Model for Jobs {
     ghost view = { λ j. record { works = j.tasks.items; room = j.room; info = j.info } };
 
     ghost invariant = { λ j. IsKept j.ascending j.finished.items j.done j.room (vec_capacity j.tasks) (vec_capacity j.finished) j.info.sectors j.tasks.items
-        × AreFirst j.ordered j.barrier j.tasks.items };
+        × AreFirst j.ordered j.barrier j.tasks.items
+        × AreShared (length j.rooms.items) (vec_capacity j.rooms) j.room j.info.max_indirect j.tasks.items };
 }
 
 impl Jobs {
@@ -65,6 +75,7 @@ impl Jobs {
         ensures { IfOk result (λ jobs. jobs ≡ none_held (entries_of shape.order) info) }
     {
         let room = shape.entries();
+        let rooms = reserve_rooms(alloc, rooms_for(info.max_indirect, room))?;
         let tasks = Vec::with_capacity(alloc, room as usize)?;
         let finished = Vec::with_capacity(alloc, room as usize)?;
         Ok(Jobs {
@@ -76,6 +87,7 @@ impl Jobs {
             done: 0,
             ordered: 0,
             barrier: 0,
+            rooms,
         })
     }
 
@@ -109,12 +121,12 @@ impl Jobs {
         requires { length self.old.works < self.old.room }
         ensures { self.new ≡ start_job self.old number request.now }
     {
-        let task = Task::begin(number, request, &self.info);
+        let task = Task::begin(number, request, &self.info, &mut self.rooms);
         let is_done = task.is_done();
         let count = self.tasks.len();
         self.done = done_with(self.done, count, is_done);
-        self.ordered = done_with(self.ordered, count, task.holds_barriers());
-        self.barrier = done_with(self.barrier, count, task.holds_all());
+        self.ordered = done_with(self.ordered, count, task.holds(false));
+        self.barrier = done_with(self.barrier, count, task.holds(true));
         self.ascending = goes_on_ascending(self.ascending, self.tasks.as_slice(), number);
         let _ = self.tasks.push(task);
         if is_done {
@@ -122,7 +134,9 @@ impl Jobs {
         }
     }
 
-    /// What the job of a number asks next; `Wait` also where none has it.
+    /// What the job of a number asks next; `Wait` also where none has it, and where it is at its
+    /// beginning and held: a barrier by a write, a barrier or a discard that was fetched before it and
+    /// isn't done, and each of these by such a barrier (`BLKIF_OP_WRITE_BARRIER`).
     #[inline(always)]
     pub fn ask(&self, number: u64) -> BackAsk<'_>
         ensures value { result ≡ ask_job self.now number }
@@ -143,14 +157,14 @@ impl Jobs {
         ensures { result ≡ waits_at self.now.works (Some place) (slice_get self.now.works place) }
     {
         let task = &self.tasks[place];
-        task.is_fresh() && self.is_behind(place, task)
+        task.is_fresh() && self.is_held_by(place, task)
     }
 
     // Whether jobs before this place hold up this one, at its beginning.
     #[inline(never)]
-    fn is_behind(&self, place: usize, task: &Task) -> bool
+    fn is_held_by(&self, place: usize, task: &Task) -> bool
         requires { place ≤ length self.now.works }
-        ensures { result ≡ is_behind (take place self.now.works) task.now }
+        ensures { result ≡ is_held_by (take place self.now.works) task.now }
     {
         let (ordered, barrier) = (self.ordered < place, self.barrier < place);
         is_held(task, ordered, barrier)
@@ -169,11 +183,10 @@ impl Jobs {
         let effect = task.effect(answer);
         task.tell(answer);
         if task.is_done() {
-            let (ordered, barrier) = (task.is_ordered(), task.is_barrier());
             self.done = self.done.min(place);
             note(&mut self.finished, task.number(), self.ascending);
-            self.ordered = ordered_after(self.tasks.as_slice(), self.ordered, ordered);
-            self.barrier = barrier_after(self.tasks.as_slice(), self.barrier, barrier);
+            self.ordered = holding_after(self.tasks.as_slice(), false, self.ordered, place);
+            self.barrier = holding_after(self.tasks.as_slice(), true, self.barrier, place);
         }
         effect
     }
@@ -230,7 +243,9 @@ impl Jobs {
             self.ascending,
             self.finished.as_slice(),
         );
-        task.response()
+        let response = task.response();
+        give_back(&mut self.rooms, task);
+        response
     }
 
     /// Whether another job may be started: fewer are held than there is room for.
@@ -254,13 +269,13 @@ impl Jobs {
         ensures rest { self.new ≡ record self.old { works = behind_mapping self.old.works } }
         ensures no_more { length self.new.works ≤ length self.old.works }
     {
-        let mapping = give_up_first(&mut self.tasks);
+        let mapping = give_up_first(&mut self.tasks, &mut self.rooms);
         let tasks = self.tasks.as_slice();
         // Those that are left no more go on, and are found by a walk.
         self.ascending = tasks.is_empty();
         self.done = first_done(tasks);
-        self.ordered = first_ordered(tasks);
-        self.barrier = first_barrier(tasks);
+        self.ordered = first_holding(tasks, false);
+        self.barrier = first_holding(tasks, true);
         self.finished.clear();
         mapping
     }
@@ -273,16 +288,22 @@ fn is_held(task: &Task, ordered: bool, barrier: bool) -> bool
     (task.is_barrier() && ordered) || (task.is_ordered() && barrier)
 }
 
-// Drops the jobs up to the lowest that has a mapping in its hand, and gives that mapping.
-fn give_up_first(tasks: &mut Vec<Task>) -> Option<Mapping>
+// Drops the jobs up to the lowest that has a mapping in its hand, and gives that mapping; their rooms
+// are spare again.
+fn give_up_first(tasks: &mut Vec<Task>, rooms: &mut Vec<Room>) -> Option<Mapping>
+    requires { length rooms.old.items + count_by is_paged tasks.old.items ≤ vec_capacity rooms.old }
     ensures mapping { result ≡ first_mapping tasks.old.items }
     ensures rest { tasks.new.items ≡ behind_mapping tasks.old.items }
     ensures capacity { vec_capacity tasks.new ≡ vec_capacity tasks.old }
+    ensures rooms { length rooms.new.items + count_by is_paged tasks.new.items ≡ length rooms.old.items + count_by is_paged tasks.old.items }
+    ensures kept { vec_capacity rooms.new ≡ vec_capacity rooms.old }
 {
     while !tasks.is_empty() {
         let task = tasks.remove(0);
-        if let Some(mapping) = task.mapping() {
-            return Some(mapping);
+        let mapping = task.mapping();
+        give_back(rooms, task);
+        if mapping.is_some() {
+            return mapping;
         }
     }
     None

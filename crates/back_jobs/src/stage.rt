@@ -4,6 +4,13 @@ use blk_base::{Mapping, Status};
 /// What a job is doing. Each has exactly one thing to ask next.
 #[derive(Clone, Copy, Debug, PartialEq, Eq)]
 pub enum Stage {
+    /// Maps the indirect page that it comes to next.
+    MapPage,
+    /// Copies a segment of the page: reads its first word, the reference, and then its second one.
+    PageReference(Mapping),
+    PageSectors(Mapping, u32),
+    /// Gives the page up after the last segment that was to be copied from it.
+    UnmapPage(Mapping),
     /// Maps the frame of its next segment.
     Map,
     /// Writes to the disk: reads a sector's words from the frame, the one of this number next, and

@@ -1,24 +1,33 @@
 // One job.
-ghost use Rattle.std.specs.Prelude.{◌≡◌};
-ghost use Rattle.back_jobs.specs.Task.{ask_of, map_ask, step_of, IsAnswer, begun};
+ghost use Rattle.std.specs.Prelude.{◌≡◌, ◌≢◌, ◌<◌, ◌+◌, cond, length, is_some, vec_capacity};
+ghost use Rattle.back_jobs.specs.Task.{ask_of, map_ask, page_ask, page_word, step_of, IsAnswer, begun};
+ghost use Rattle.back_jobs.specs.Segments.{is_paged};
+ghost use Rattle.back_jobs.specs.Order.{holds};
 ghost use Rattle.back_jobs.specs.Sound.{StaysInPageAndDisk};
 ghost use Rattle.back_jobs.specs.Hands.{hand_of, Names};
-ghost use Rattle.back_jobs.specs.Jobs.{is_done, is_fresh_at, is_ordered, is_barrier, holds_barriers, holds_all, response_of, mapping_at, effect_at};
+ghost use Rattle.back_jobs.specs.Jobs.{is_done, is_fresh_at, is_ordered, is_barrier, response_of, mapping_at, effect_at};
 ghost use Rattle.segment_list.specs.Verdict.{verdict_of};
+ghost use Rattle.blk_base.specs.declared.ask.BackAsk.TheVariants as ask;
 
 mod begun;
 mod steps;
 
 use crate::effect::Effect;
+use crate::segments::{Room, SegmentList};
 use crate::stage::Stage;
 use arrayvec::ArrayVec;
 use begun::{ended, served};
 use blk_base::{BackAnswer, BackAsk, Lent, Mapping, Mode, SectorWords, Status};
-use blk_layout::{RawRequest, Segment};
+use blk_layout::RawRequest;
 use segment_list::{DiskInfo, Verdict, check};
 use std::marker::Model;
 
-/// A request that the back fetched, being served.
+/// Segments that an indirect page names, two words each (`struct blkif_request_segment`).
+const PAGE_SEGMENTS: usize = 512;
+
+/// A request that the back fetched, being served. Of an indirect one `pages` are the references of the
+/// pages that it isn't done with, and `named` is how many segments they name; `rest` are the segments
+/// that it isn't done with, or while they are copied those that were.
 #[derive(Drop)]
 pub struct Task {
     number: u64,
@@ -28,14 +37,18 @@ pub struct Task {
     size: u64,
     disk: u64,
     moved: u32,
-    rest: ArrayVec<Segment, 11>,
+    rest: SegmentList,
+    pages: ArrayVec<u32, 8>,
+    named: u32,
     within: u32,
     words: SectorWords,
     stage: Stage,
 }
 
 impl Model for Task {
+    ghost use Rattle.std.specs.Prelude.{◌≡◌};
     ghost use Rattle.back_jobs.specs.Task.{Work};
+    ghost use Rattle.back_jobs.specs.Segments.{is_paged};
     ghost use Rattle.back_jobs.specs.Inside.{view_of};
     ghost use Rattle.back_jobs.specs.Sound.{IsPlaced};
 
@@ -43,17 +56,26 @@ impl Model for Task {
 
     ghost view = { view_of };
 
-    ghost invariant = { λ t. IsPlaced t.stage (view_of t) };
+    ghost invariant = { λ t. IsPlaced t.stage (view_of t) × (t.rest.has_room ≡ is_paged (view_of t)) };
 }
 
 impl Task {
     /// The job of a request that was fetched as the `number`-th, on a disk of this kind: by the
     /// verdict on it, it moves the request's sectors, flushes or trims the disk, or is done at once.
-    pub fn begin(number: u64, request: &RawRequest, info: &DiskInfo) -> Task
-        ensures { result ≡ begun number request.now info.now.sectors (verdict_of request.now info.now) }
+    /// One that copies segments takes one of these rooms for them.
+    pub(crate) fn begin(
+        number: u64,
+        request: &RawRequest,
+        info: &DiskInfo,
+        rooms: &mut Vec<Room>,
+    ) -> Task
+        requires { info.now.max_indirect ≢ 0 → 0 < length rooms.old.items }
+        ensures value { result ≡ begun number request.now info.now.sectors (verdict_of request.now info.now) }
+        ensures rooms { length rooms.new.items + cond (is_paged result) 1 0 ≡ length rooms.old.items }
+        ensures capacity { vec_capacity rooms.new ≡ vec_capacity rooms.old }
     {
         match check(request, info) {
-            Verdict::Serve(_) => served(number, request, info),
+            Verdict::Serve(_) => served(number, request, info, rooms),
             Verdict::Error(_) => ended(number, request, info.sectors, Stage::Done(Status::Error)),
             Verdict::Unsupported => {
                 ended(
@@ -94,12 +116,21 @@ impl Task {
         matches!(self.stage, Stage::Done(_))
     }
 
-    /// Whether it is at its beginning: before its first map, or before its trim.
+    /// The room that its segments were copied into.
+    pub(crate) fn into_room(self) -> Option<Room>
+        ensures { is_some result ≡ is_paged self }
+    {
+        self.rest.into_room()
+    }
+
+    /// Whether it is at its beginning: before its first map, that of a page or of a segment, or before
+    /// its trim.
     #[inline(always)]
     pub fn is_fresh(&self) -> bool
         ensures { result ≡ is_fresh_at self.now.stage self.now.moved }
     {
         match self.stage {
+            Stage::MapPage => true,
             Stage::Map => self.moved == 0,
             Stage::Trim(_) => true,
             _ => false,
@@ -121,18 +152,17 @@ impl Task {
         self.op == 2
     }
 
-    /// Whether a barrier after it waits for it: it is a write, a barrier or a discard, and not done.
-    pub fn holds_barriers(&self) -> bool
-        ensures { result ≡ holds_barriers self.now }
+    /// Whether a barrier after it waits for it: it is a write, a barrier or a discard, and not done. With
+    /// `all`, whether each write, barrier and discard after it does: it is a barrier, and not done.
+    pub fn holds(&self, all: bool) -> bool
+        ensures { result ≡ holds all self.now }
     {
-        self.is_ordered() && !self.is_done()
-    }
-
-    /// Whether each write, barrier and discard after it waits for it: it is a barrier, and not done.
-    pub fn holds_all(&self) -> bool
-        ensures { result ≡ holds_all self.now }
-    {
-        self.is_barrier() && !self.is_done()
+        let orders = if all {
+            self.is_barrier()
+        } else {
+            self.is_ordered()
+        };
+        orders && !self.is_done()
     }
 
     /// Number, id, operation and status where it is done.
@@ -169,13 +199,16 @@ impl Task {
         ensures { result ≡ mapping_at self.now.stage }
     {
         match self.stage {
+            Stage::PageReference(mapping) => Some(mapping),
+            Stage::PageSectors(mapping, _) => Some(mapping),
+            Stage::UnmapPage(mapping) => Some(mapping),
             Stage::ReadWord(mapping, _) => Some(mapping),
             Stage::DiskWrite(mapping) => Some(mapping),
             Stage::DiskRead(mapping) => Some(mapping),
             Stage::WriteWord(mapping, _) => Some(mapping),
             Stage::Unmap(mapping) => Some(mapping),
             Stage::GiveUp(mapping) => Some(mapping),
-            Stage::Map | Stage::Flush | Stage::Trim(_) | Stage::Done(_) => None,
+            Stage::MapPage | Stage::Map | Stage::Flush | Stage::Trim(_) | Stage::Done(_) => None,
         }
     }
 
@@ -187,6 +220,10 @@ impl Task {
         ensures names { Names (hand_of self.now) result }
     {
         match self.stage {
+            Stage::MapPage => self.map_page(),
+            Stage::PageReference(mapping) => self.read_page(mapping, 0),
+            Stage::PageSectors(mapping, _) => self.read_page(mapping, 1),
+            Stage::UnmapPage(mapping) => BackAsk::Unmap(mapping),
             Stage::Map => self.map(),
             Stage::ReadWord(mapping, k) => BackAsk::Read {
                 mapping,
@@ -204,6 +241,35 @@ impl Task {
             Stage::Flush => BackAsk::Flush,
             Stage::Trim(count) => BackAsk::Trim(self.disk, count),
             Stage::Done(_) => BackAsk::Wait,
+        }
+    }
+
+    // Maps the indirect page that it comes to next, which is only read.
+    #[inline(never)]
+    fn map_page(&self) -> BackAsk<'_>
+        ensures value { result ≡ page_ask self.now.pages }
+        ensures within { StaysInPageAndDisk self.now.size result }
+    {
+        match self.pages.as_slice().first() {
+            None => BackAsk::Wait,
+            Some(gref) => BackAsk::Map {
+                gref: *gref,
+                mode: Mode::ReadOnly,
+            },
+        }
+    }
+
+    // Reads the first or the second word of the segment that it copies next.
+    #[inline(never)]
+    fn read_page(&self, mapping: Mapping, k: u32) -> BackAsk<'_>
+        requires { k < 2 }
+        ensures value { result ≡ ask.Read mapping (page_word self.now k) }
+        ensures within { page_word self.now k < 1024 }
+    {
+        let place = (self.rest.as_slice().len() % PAGE_SEGMENTS) as u32;
+        BackAsk::Read {
+            mapping,
+            word: 2 * place + k,
         }
     }
 
@@ -234,8 +300,20 @@ impl Task {
         ensures { self.new ≡ step_of self.old answer.now }
     {
         match (self.stage, answer) {
+            (Stage::MapPage, BackAnswer::Mapped(mapping)) => {
+                self.stage = Stage::PageReference(*mapping);
+            }
+            (Stage::MapPage | Stage::Map, BackAnswer::MapRefused(_)) => {
+                self.stage = Stage::Done(Status::Error);
+            }
+            (Stage::PageReference(mapping), BackAnswer::Word(word)) => {
+                self.stage = Stage::PageSectors(mapping, *word);
+            }
+            (Stage::PageSectors(mapping, gref), BackAnswer::Word(word)) => self.copied(
+                mapping, gref, *word,
+            ),
+            (Stage::UnmapPage(_), BackAnswer::Done) => self.page_done(),
             (Stage::Map, BackAnswer::Mapped(mapping)) => self.begin_sector(*mapping),
-            (Stage::Map, BackAnswer::MapRefused(_)) => self.stage = Stage::Done(Status::Error),
             (Stage::ReadWord(mapping, k), BackAnswer::Word(word)) => self.read_word(
                 mapping, k, *word,
             ),

@@ -17,13 +17,23 @@ fn jobs(alloc: Global) -> Result<Jobs, OutOfMemory> {
 }
 
 fn jobs_offering(alloc: Global, offered: bool) -> Result<Jobs, OutOfMemory> {
+    jobs_on(alloc, 8, offered, 0)
+}
+
+// On a disk of so many sectors, where an indirect request may have so many segments.
+fn jobs_on(
+    alloc: Global,
+    sectors: u64,
+    offered: bool,
+    max_indirect: u32,
+) -> Result<Jobs, OutOfMemory> {
     let info = DiskInfo {
-        sectors: 8,
+        sectors,
         read_only: false,
         barrier: offered,
         flush: offered,
         discard: offered,
-        max_indirect: 0,
+        max_indirect,
     };
     Jobs::reserve(alloc, RingShape::of(Abi::X64, 0), info)
 }
@@ -360,5 +370,86 @@ fn a_barrier_stands_between_the_writes_before_and_after_it(rt: HostRuntime) -> R
     go_on(&rt, &jobs, [false, false, true, true, false]);
     let _ = answer_of(&mut jobs, 3, BackAnswer::MapRefused(-1));
     go_on(&rt, &jobs, [false, false, false, true, true]);
+    Ok(())
+}
+
+// Begins, as job 1, an indirect write of id 5 of so many segments, which pages 40 and on name.
+fn indirect(jobs: &mut Jobs, count: u16)
+    requires { length jobs.old.works < jobs.old.room }
+{
+    let request = RawRequest::Indirect {
+        op: 1,
+        count,
+        device: 51712,
+        id: 5,
+        sector: 0,
+        pages: [40, 41, 42, 43, 44, 45, 46, 47],
+    };
+    jobs.start(1, &request);
+}
+
+// Job 1 maps this page for reading alone, reads both words of its first segments, each word once, and
+// gives it up. Each segment is of frame 24, with these sectors.
+fn copies(rt: &impl Abort, jobs: &mut Jobs, gref: u32, count: u32, sectors: u32) {
+    let mode = Mode::ReadOnly;
+    let mapping = Mapping {
+        number: 9,
+        gref,
+        mode,
+    };
+    assert_eq!(rt; ask(jobs), BackAsk::Map { gref, mode });
+    let _ = answer(jobs, BackAnswer::Mapped(mapping));
+    for k in 0..count {
+        let word = k.wrapping_mul(2);
+        assert_eq!(rt; ask(jobs), BackAsk::Read { mapping, word });
+        let _ = answer(jobs, BackAnswer::Word(24));
+        let word = word.wrapping_add(1);
+        assert_eq!(rt; ask(jobs), BackAsk::Read { mapping, word });
+        let _ = answer(jobs, BackAnswer::Word(sectors));
+    }
+    assert_eq!(rt; done(jobs), None);
+    assert_eq!(rt; ask(jobs), BackAsk::Unmap(mapping));
+    let _ = answer(jobs, BackAnswer::Done);
+}
+
+// Job 1 maps the frame of its first segment.
+fn first_frame(rt: &impl Abort, jobs: &Jobs) {
+    let mode = Mode::ReadOnly;
+    assert_eq!(rt; ask(jobs), BackAsk::Map { gref: 24, mode });
+}
+
+#[test]
+fn segments_are_copied_from_a_page(rt: HostRuntime) -> Result<(), Fail> {
+    let mut jobs = jobs_on(rt.alloc(), 12, false, 12)?;
+    assert!(rt; jobs.has_room());
+    indirect(&mut jobs, 13);
+    assert_eq!(rt; take_done(&mut jobs), Some((1, 5, 1, Status::Error)));
+    assert!(rt; jobs.has_room());
+    indirect(&mut jobs, 12);
+    copies(&rt, &mut jobs, 40, 12, 0);
+    first_frame(&rt, &jobs);
+    Ok(())
+}
+
+#[test]
+fn copied_segments_are_tested_when_all_are_copied(rt: HostRuntime) -> Result<(), Fail> {
+    let mut jobs = jobs_on(rt.alloc(), 12, false, 12)?;
+    for sectors in [0x800, 0x100] {
+        assert!(rt; jobs.has_room());
+        indirect(&mut jobs, 7);
+        copies(&rt, &mut jobs, 40, 7, sectors);
+        assert_eq!(rt; take_done(&mut jobs), Some((1, 5, 1, Status::Error)));
+    }
+    Ok(())
+}
+
+#[test]
+fn a_second_page_goes_on_where_the_first_ends(rt: HostRuntime) -> Result<(), Fail> {
+    let mut jobs = jobs_on(rt.alloc(), 513, false, 960)?;
+    assert!(rt; jobs.has_room());
+    indirect(&mut jobs, 513);
+    copies(&rt, &mut jobs, 40, 512, 0);
+    copies(&rt, &mut jobs, 41, 1, 0);
+    first_frame(&rt, &jobs);
     Ok(())
 }

@@ -1,6 +1,6 @@
 -- The mappings that the back and its jobs hold.
 use Rattle.std.proofs.Common.{◌≡◌, ℕ, ◌+◌, ◌^◌, ◌<◌, ◌≤◌, Bool, true, false, if◌then◌else◌, List, [], ◌∷◌, ◌++◌, length, refl, sym, ap, ◌∙◌, arith, length-append}
-use Rattle.std.specs.Prelude.{Option, Some, None, Contains, option_to_list, is_some, ◌==◌, nat_lt, slice_index_or}
+use Rattle.std.specs.Prelude.{Option, Some, None, Contains, option_to_list, is_some, ◌==◌, nat_lt}
 use Rattle.std.proofs.lemmas.Nat.{pow_pos}
 use Rattle.std.proofs.lemmas.Option.{none-some}
 use Rattle.std.proofs.lemmas.List.{append-nil, append_assoc}
@@ -25,7 +25,7 @@ use Rattle.blk_back.specs.declared.told.Halt.TheVariants as halt
 use Rattle.blk_back.specs.declared.stage.Reply.{Reply}
 use Rattle.blk_back.specs.declared.stage.Stage.{Stage}
 use Rattle.blk_back.specs.declared.stage.Stage.TheVariants as stage
-use Rattle.blk_back.specs.View.{View, no_page, page_of, slot_page, slot_word}
+use Rattle.blk_back.specs.View.{View, no_page, page_of, slot_page}
 use Rattle.blk_back.specs.Ask.{ask_at, ask_of, loop_ask, reply_ask, entry_ask, index_ask, unmap_ask, next_reply, IsAnswer, StaysInPage}
 use Rattle.blk_back.specs.Step.{giving_up, give_up, unbound, bound, other_pages, mapped, attaches, may_attach, attached, halts_at, may_halt, halts, overrun, looked, loop_word, loop_step, fetched, fetch_step, next_number, step_at, step_of, job_ask_of, job_step, next_job_of}
 use Rattle.blk_back.specs.Sound.{IsMapped, IsPlaced, AreWritable, IsSound}

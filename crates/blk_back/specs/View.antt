@@ -42,7 +42,7 @@ slot_page v k i = page_of v (slot_word_of v.shape k i).0
 abbrev pub slot_word : Shape → ℕ → ℕ → ℕ
 slot_word s k i = (slot_word_of s k i).1
 
--- the disk as this back publishes it: barriers, flushes and discards where it may be written, and no indirect requests
+-- the disk as this back publishes it: barriers, flushes and discards where it may be written, indirect requests as the options say
 abbrev pub info_of : Options → DiskInfo
 info_of config = record {
   sectors = config.sectors;
@@ -50,7 +50,7 @@ info_of config = record {
   barrier = not config.read_only;
   flush = not config.read_only;
   discard = not config.read_only;
-  max_indirect = 0;
+  max_indirect = config.indirect;
 }
 
 -- the shape of a ring that isn't known yet

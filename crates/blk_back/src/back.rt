@@ -70,7 +70,7 @@ impl Back {
             barrier: !config.read_only,
             flush: !config.read_only,
             discard: !config.read_only,
-            max_indirect: 0,
+            max_indirect: config.indirect,
         };
         let jobs = Jobs::reserve(alloc, largest, info)?;
         Ok(Back {

@@ -11,14 +11,18 @@ use Rattle.blk_front.specs.declared.stage.Ending.{Ending}
 use Rattle.blk_front.specs.declared.request.Request.{Request}
 use Rattle.blk_front.specs.declared.request.Transfer.{Transfer}
 use Rattle.blk_front.specs.declared.request.Transfer.TheVariants as transfer
-use Rattle.blk_front.specs.Request.{grant_flags, frame_at, filling_at}
+use Rattle.blk_front.specs.Request.{flags_at, frame_at, filling_at, is_indirect, page_at, naming_at}
 use Rattle.blk_front.specs.Entry.{entry_of}
 use Rattle.blk_front.specs.View.{View, ring_frame, ring_page_frame, entry_frame, entry_word, slot_frame, slot_word, fresh_word, next_request}
 
--- word n of a write's data is written; the frame of this place is named in its grant entry, and granted
+-- word n of a write's data is written, and word n of the segments in its indirect pages; the frame of this place is named in its grant entry, and granted
 abbrev pub data_ask : Option Request → ℕ → FrontAsk
 data_ask None n = Wait
 data_ask (Some r) n = Write (frame_at r (n / 1024)) (n % 1024) (filling_at r.transfer n)
+
+abbrev pub page_ask : Option Request → ℕ → FrontAsk
+page_ask None n = Wait
+page_ask (Some r) n = Write (page_at r (n / 1024)) (n % 1024) (naming_at r n)
 
 abbrev pub name_ask : Option Request → ℕ → FrontAsk
 name_ask None place = Wait
@@ -26,7 +30,7 @@ name_ask (Some r) place = Write (entry_frame (frame_at r place)) (entry_word (fr
 
 abbrev pub grant_ask : Option Request → ℕ → FrontAsk
 grant_ask None place = Wait
-grant_ask (Some r) place = Write (entry_frame (frame_at r place)) (entry_word (frame_at r place)) (grant_flags r.transfer)
+grant_ask (Some r) place = Write (entry_frame (frame_at r place)) (entry_word (frame_at r place)) (flags_at r place)
 
 -- the grant of an ending request's frame of this place is looked at, and ended; and word n of its data is read
 abbrev pub revoke_ask : Option Ending → ℕ → FrontAsk
@@ -45,11 +49,11 @@ read_ask (Some e) n = Read (frame_at e.request (n / 1024)) (n % 1024)
 abbrev pub entry_ask : View → List ℕ → ℕ → FrontAsk
 entry_ask v entry k = Write (slot_frame v.shape v.ring.prod k) (slot_word v.shape v.ring.prod k) (slice_index entry k)
 
--- a request is begun: a write or a barrier with its data, a read with its grants, one without frames with its entry
+-- a request is begun: a write or a barrier with its data, a read with its indirect pages or its grants, one without frames with its entry
 abbrev pub issue_ask : View → Request → Transfer → FrontAsk
 issue_ask v r (transfer.Write tag) = data_ask (Some r) 0
 issue_ask v r (transfer.Barrier tag) = data_ask (Some r) 0
-issue_ask v r transfer.Read = name_ask (Some r) 0
+issue_ask v r transfer.Read = if is_indirect r.count then page_ask (Some r) 0 else name_ask (Some r) 0
 issue_ask v r transfer.Flush = entry_ask v (entry_of v.shape.abi r) 0
 issue_ask v r (transfer.Discard sectors) = entry_ask v (entry_of v.shape.abi r) 0
 
@@ -74,6 +78,7 @@ ask_at stage.NewPort v = NewPort
 ask_at stage.Initialised v = Wait
 ask_at stage.Loop v = loop_ask v (next_request v)
 ask_at (stage.Data n) v = data_ask (next_request v) n
+ask_at (stage.Pages n) v = page_ask (next_request v) n
 ask_at (stage.GrantFrame place) v = name_ask (next_request v) place
 ask_at (stage.GrantFence place) v = Fence
 ask_at (stage.GrantFlags place) v = grant_ask (next_request v) place

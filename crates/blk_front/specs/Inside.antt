@@ -1,4 +1,7 @@
 -- How the fields of a front stand for what contracts see of it.
+use Rattle.std.specs.Prelude.{ℕ, ◌+◌, ◌<◌, ◌≤◌, length, Option, Some, None}
+use Rattle.ring_words.specs.Shape.{entries_of}
+use Rattle.blk_front.specs.declared.stage.Ending.{Ending}
 use Rattle.blk_front.specs.declared.front.Front.TheInside.{Inside}
 use Rattle.blk_front.specs.View.{View}
 
@@ -23,3 +26,15 @@ view_of f = record {
   words = f.words;
   told = f.told;
 }
+
+-- A list of frames is spare, or it is the list of a request: those are more than the ring's entries, and there is room for all when they are spare.
+abbrev pub held : Option Ending → ℕ
+held None = 0
+held (Some e) = 1
+
+abbrev pub lists : Inside → ℕ
+lists f = f.spare + length f.requests.items + held f.ending
+
+pub record IsStocked (f : Inside) : Type 0 where
+  pub enough : entries_of f.order < lists f
+  pub room : lists f ≤ 513

@@ -1,3 +1,4 @@
+pub mod Frames
 pub mod Pool
 pub mod Request
 pub mod View

@@ -15,7 +15,7 @@ use Rattle.blk_front.specs.declared.stage.Ending.{Ending}
 use Rattle.blk_front.specs.declared.request.Request.{Request}
 use Rattle.blk_front.specs.declared.request.Transfer.{Transfer}
 use Rattle.blk_front.specs.declared.request.Transfer.TheVariants as transfer
-use Rattle.blk_front.specs.Request.{has_data, words_in}
+use Rattle.blk_front.specs.Request.{has_data, words_in, is_indirect, naming_words}
 use Rattle.blk_front.specs.Entry.{entry_of}
 use Rattle.blk_front.specs.declared.told.Told.TheVariants as told
 use Rattle.blk_front.specs.Pool.{with_all_free}
@@ -40,21 +40,29 @@ loop_word v word =
     then looked v word (record v { seen = word; stage = stage.StoreEvent })
     else at (stage.ResponseHigh word) v
 
--- a request was begun: of a write or a barrier a word of its data was written, of a read a word of its first grant, of one without frames a word of its entry
+-- a request was begun: of a write or a barrier a word of its data was written, of a read a word of its indirect pages or of its first grant, of one without frames a word of its entry
 abbrev pub entered : View → Request → Stage → View
 entered v r s = record v { stage = s; entry = entry_of v.shape.abi r }
 
 abbrev pub begun : View → Request → Transfer → View
 begun v r (transfer.Write tag) = at (stage.Data 1) v
 begun v r (transfer.Barrier tag) = at (stage.Data 1) v
-begun v r transfer.Read = at (stage.GrantFence 0) v
+begun v r transfer.Read = at (if is_indirect r.count then stage.Pages 1 else stage.GrantFence 0) v
 begun v r transfer.Flush = entered v r (stage.Slot 1)
 begun v r (transfer.Discard sectors) = entered v r (stage.Slot 1)
 
--- a word of its data was written: the next one is, or its frames are granted
+-- its data are written: its indirect pages are, or its frames are granted
+abbrev pub after_data : Request → Stage
+after_data r = if is_indirect r.count then stage.Pages 0 else stage.GrantFrame 0
+
+-- a word of its data was written, or of its indirect pages: the next one is, or that was the last
 abbrev pub data_stage : Option Request → ℕ → Stage
 data_stage None n = stage.Data n
-data_stage (Some r) n = if nat_lt (n + 1) (words_in r) then stage.Data (n + 1) else stage.GrantFrame 0
+data_stage (Some r) n = if nat_lt (n + 1) (words_in r) then stage.Data (n + 1) else after_data r
+
+abbrev pub page_stage : Option Request → ℕ → Stage
+page_stage None n = stage.Pages n
+page_stage (Some r) n = if nat_lt (n + 1) (naming_words r) then stage.Pages (n + 1) else stage.GrantFrame 0
 
 -- a frame of it was granted: the next one is, or its entry is written
 abbrev pub granted : Option Request → ℕ → View → View
@@ -168,6 +176,7 @@ step_at (stage.RingFlags page) v answer = at (ring_granted v page) v
 step_at stage.NewPort v answer = at stage.Initialised v
 step_at stage.Loop v answer = loop_step v (next_request v) answer
 step_at (stage.Data n) v answer = at (data_stage (next_request v) n) v
+step_at (stage.Pages n) v answer = at (page_stage (next_request v) n) v
 step_at (stage.GrantFrame place) v answer = at (stage.GrantFence place) v
 step_at (stage.GrantFence place) v answer = at (stage.GrantFlags place) v
 step_at (stage.GrantFlags place) v answer = granted (next_request v) place v

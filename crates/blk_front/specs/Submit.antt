@@ -1,11 +1,12 @@
 -- When the front refuses a submission, and what an accepted one makes of it.
-use Rattle.std.specs.Prelude.{ℕ, ◌+◌, Bool, true, false, not, ◌&&◌, List, [], ◌∷◌, ◌++◌, length, sum_by, Option, Some, None, Result, Ok, Err, if◌then◌else◌, ◌==◌, nat_lt, nat_le}
+use Rattle.std.specs.Prelude.{ℕ, ◌+◌, min, max, Bool, true, false, not, ◌&&◌, List, [], ◌∷◌, ◌++◌, length, sum_by, Option, Some, None, Result, Ok, Err, if◌then◌else◌, ◌==◌, nat_lt, nat_le}
 use Rattle.blk_base.specs.declared.ask.FrontAsk.{FrontAsk}
 use Rattle.blk_base.specs.declared.ask.FrontAsk.TheVariants.{Wait}
 use Rattle.blk_base.specs.declared.config.Job.{Job}
 use Rattle.blk_base.specs.declared.config.Job.TheVariants as jobs
 use Rattle.blk_front.specs.declared.request.Request.{Request}
 use Rattle.blk_front.specs.declared.request.Wish.{Wish}
+use Rattle.blk_front.specs.declared.request.Transfer.{Transfer}
 use Rattle.blk_front.specs.declared.request.Transfer.TheVariants as transfer
 use Rattle.blk_front.specs.declared.stage.Ending.{Ending}
 use Rattle.blk_front.specs.declared.stage.Stage.{Stage}
@@ -13,7 +14,7 @@ use Rattle.blk_front.specs.declared.stage.Stage.TheVariants as stage
 use Rattle.blk_front.specs.declared.told.Refusal.{Refusal}
 use Rattle.blk_front.specs.declared.told.Refusal.TheVariants as refusal
 use Rattle.blk_front.specs.Pool.{taking}
-use Rattle.blk_front.specs.Request.{is_write, named_of, frames_for}
+use Rattle.blk_front.specs.Request.{is_write, named_of, frames_for, pages_for, may_be_indirect}
 use Rattle.blk_front.specs.declared.state.Offers.{Offers}
 use Rattle.ring_words.specs.Shape.{entries_of}
 use Rattle.blk_front.specs.View.{View}
@@ -106,6 +107,14 @@ accepted v wish taken = record v {
   pool = taken.1;
 }
 
+-- no request has more segments: 11, and a read or a write as many as the back takes in indirect pages, of which this front has at most 960
+abbrev pub most_segments : Offers → Transfer → ℕ
+most_segments offers way = if may_be_indirect way then max 11 (min 960 offers.indirect) else 11
+
+-- so many frames it takes: those of its data, and its indirect pages
+abbrev pub frames_taken : ℕ → ℕ
+frames_taken count = frames_for count + pages_for count
+
 abbrev pub submit_with : View → Wish → Option (List ℕ × List Bool) → Result ℕ Refusal × View
 submit_with v wish None = (Err refusal.Buffers, v)
 submit_with v wish (Some taken) = (Ok (v.last + 1), accepted v wish taken)
@@ -115,9 +124,9 @@ submit_one v None = (Err refusal.Unsupported, v)
 submit_one v (Some wish) =
     if is_write wish.transfer && v.read_only then (Err refusal.ReadOnly, v)
     else (if nat_lt v.sectors (wish.sector + named_of wish.transfer wish.count) then (Err refusal.Range, v)
-    else (if nat_lt 11 (frames_for wish.count) then (Err refusal.Long, v)
+    else (if nat_lt (most_segments v.offers wish.transfer) (frames_for wish.count) then (Err refusal.Long, v)
     else (if nat_le (entries_of v.shape.order) (unfinished v) then (Err refusal.Full, v)
-    else submit_with v wish (taking (frames_for wish.count) v.pool []))))
+    else submit_with v wish (taking (frames_taken wish.count) v.pool []))))
 
 -- the answer to a submission, and the front after it
 abbrev pub submit_of : View → Job → Result ℕ Refusal × View

@@ -75,7 +75,7 @@ start_of config = record {
   sectors = config.sectors;
   read_only = config.read_only;
   start = config.start;
-  offers = record { barrier = false; flush = false; discard = false };
+  offers = record { barrier = false; flush = false; discard = false; indirect = 0 };
   shape = record { abi = config.abi; order = config.order };
   ring = record { entries = entries_of config.order; prod = config.start; cons = config.start };
   stage = stage.RingWord 0;

@@ -4,7 +4,7 @@ ghost use Rattle.blk_base.specs.declared.ask.FrontAsk.TheVariants.{Wait};
 ghost use Rattle.std.specs.Option.{option_copied};
 ghost use Rattle.ring_words.specs.Shape.{entry_words_of};
 ghost use Rattle.blk_front.specs.View.{start_of, next_request, ring_page_frame, slot_frame, slot_word, entry_frame, entry_word};
-ghost use Rattle.blk_front.specs.Ask.{ask_of, is_through, loop_ask, issue_ask, entry_ask, data_ask, name_ask, grant_ask, revoke_ask, end_ask, read_ask, IsAnswer, IsPlace, StaysInMemory};
+ghost use Rattle.blk_front.specs.Ask.{ask_of, is_through, loop_ask, issue_ask, entry_ask, data_ask, page_ask, name_ask, grant_ask, revoke_ask, end_ask, read_ask, IsAnswer, IsPlace, StaysInMemory};
 ghost use Rattle.blk_front.specs.Step.{step_of, step_at, ring_read, ring_ended};
 ghost use Rattle.blk_front.specs.Entry.{entry_of};
 ghost use Rattle.blk_front.specs.Request.{IsShaped};
@@ -14,9 +14,10 @@ mod state;
 mod steps;
 mod submit;
 
+use crate::frames::SpareLists;
 use crate::place;
 use crate::pool::{Pool, PoolFrame};
-use crate::request::{Request, Transfer};
+use crate::request::{Request, Transfer, is_indirect};
 use crate::stage::{Ending, Stage};
 use crate::state::Offers;
 use crate::told::{Refusal, Told};
@@ -30,8 +31,8 @@ use std::marker::Model;
 use steps::wire;
 
 /// The front end of a ring of 1 to 16 pages under the layout of its guest, which issues reads and
-/// writes of up to 88 sectors, and barriers, flushes and discards where its back serves them. After
-/// `new` it takes no memory.
+/// writes of up to 88 sectors, of up to 7680 where its back takes so many segments in indirect pages,
+/// and barriers, flushes and discards where its back serves them. After `new` it takes no memory.
 #[derive(Drop)]
 pub struct Front {
     sectors: u64,
@@ -48,6 +49,7 @@ pub struct Front {
     last: u32,
     waiting: u32,
     requests: Vec<Request>,
+    spare: SpareLists,
     ending: Option<Ending>,
     pool: Pool,
     entry: ArrayVec<u32, 28>,
@@ -58,23 +60,25 @@ pub struct Front {
 impl Model for Front {
     ghost use Rattle.std.specs.Prelude.{◌≤◌, vec_capacity};
     ghost use Rattle.blk_front.specs.View.{View};
-    ghost use Rattle.blk_front.specs.Inside.{view_of};
+    ghost use Rattle.blk_front.specs.Inside.{view_of, IsStocked};
     ghost use Rattle.blk_front.specs.Sound.{IsSound};
 
     ghost Value = { View };
 
     ghost view = { view_of };
 
-    ghost invariant = { λ f. IsSound (view_of f) × (512 ≤ vec_capacity f.requests) };
+    ghost invariant = { λ f. IsSound (view_of f) × (512 ≤ vec_capacity f.requests) × IsStocked f };
 }
 
 impl Front {
     /// A front that makes its ring first. It fails only where there is not enough memory.
+    #[tactic(auto, using(crate::proofs::Shapes::few_pages))]
     pub fn new(alloc: Global, config: &Config) -> Result<Front, OutOfMemory>
         ensures { IfOk result (λ front. front ≡ start_of config.now) }
     {
         let requests = Vec::with_capacity(alloc, 512)?;
         let shape = RingShape::of(config.abi, config.order);
+        let spare = SpareLists::new(alloc, shape.entries() + 1)?;
         Ok(Front {
             sectors: config.sectors,
             read_only: config.read_only,
@@ -83,6 +87,7 @@ impl Front {
                 barrier: false,
                 flush: false,
                 discard: false,
+                indirect: 0,
             },
             abi: config.abi,
             order: config.order,
@@ -94,6 +99,7 @@ impl Front {
             last: 0,
             waiting: 0,
             requests,
+            spare,
             ending: None,
             pool: Pool::new(),
             entry: ArrayVec::new(),
@@ -187,8 +193,8 @@ impl Front {
         write(frame, place, entry.get(word as usize).copied().unwrap_or(0))
     }
 
-    // A request is begun: a write or a barrier with its data, a read with its grants, one without frames
-    // with its entry.
+    // A request is begun: a write or a barrier with its data, a read with its indirect pages or its
+    // grants, one without frames with its entry.
     #[inline(always)]
     fn issue(&self, r: &Request) -> FrontAsk<'_>
         requires { IsShaped r.now }
@@ -197,6 +203,7 @@ impl Front {
     {
         match r.transfer {
             Transfer::Write(_) | Transfer::Barrier(_) => write_data(r, 0),
+            Transfer::Read if is_indirect(r.count) => write_page(r, 0),
             Transfer::Read => write_frame(&r.frame(0)),
             Transfer::Flush | Transfer::Discard(_) => self.write_first(r),
         }
@@ -225,6 +232,18 @@ impl Front {
         }
     }
 
+    // Writes a word of its indirect pages.
+    fn issue_page(&self, n: u32) -> FrontAsk<'_>
+        requires { n < 1920 }
+        ensures value { result ≡ page_ask (next_request self.now) n }
+        ensures within { StaysInMemory result }
+    {
+        match self.next_request() {
+            Some(r) => write_page(r, n),
+            None => FrontAsk::Wait,
+        }
+    }
+
     // Names its frame of this place in the frame's grant entry.
     fn name_frame(&self, place: u32) -> FrontAsk<'_>
         ensures value { result ≡ name_ask (next_request self.now) place }
@@ -242,7 +261,7 @@ impl Front {
         ensures within { StaysInMemory result }
     {
         match self.next_request() {
-            Some(r) => write_flags(&r.frame(place), r.transfer.grant_flags()),
+            Some(r) => write_flags(&r.frame(place), r.flags_at(place)),
             None => FrontAsk::Wait,
         }
     }
@@ -287,6 +306,15 @@ fn write_data<'a>(r: &Request, n: u32) -> FrontAsk<'a>
     ensures within { StaysInMemory result }
 {
     write(r.frame(n / 1024).number(), n % 1024, r.transfer.filling(n))
+}
+
+// A word of its segments is written into an indirect page.
+fn write_page<'a>(r: &Request, n: u32) -> FrontAsk<'a>
+    requires { n < 1920 }
+    ensures value { result ≡ page_ask (Some r.now) n }
+    ensures within { StaysInMemory result }
+{
+    write(r.page_at(n / 1024).number(), n % 1024, r.naming_at(n))
 }
 
 // One word of memory is read.
@@ -420,6 +448,7 @@ impl<'a> Endpoint<'a> for Front {
             Stage::Initialised => FrontAsk::Wait,
             Stage::Loop => self.ask_in_loop(),
             Stage::Data(n) => self.issue_data(n),
+            Stage::Pages(n) => self.issue_page(n),
             Stage::GrantFrame(place) => self.name_frame(place),
             Stage::GrantFence(_) => FrontAsk::Fence,
             Stage::GrantFlags(place) => self.grant_frame(place),
@@ -466,6 +495,7 @@ impl<'a> Endpoint<'a> for Front {
             (Stage::NewPort, _) => self.stage = Stage::Initialised,
             (Stage::Loop, answer) => self.begin(answer),
             (Stage::Data(n), _) => self.wrote_data(n),
+            (Stage::Pages(n), _) => self.wrote_page(n),
             (Stage::GrantFrame(place), _) => self.stage = Stage::GrantFence(place),
             (Stage::GrantFence(place), _) => self.stage = Stage::GrantFlags(place),
             (Stage::GrantFlags(place), _) => self.granted(place),

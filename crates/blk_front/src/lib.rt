@@ -3,6 +3,7 @@
 //! the answer. The machine of both domains stands on it.
 #![tactic(auto)]
 
+mod frames;
 mod front;
 mod place;
 mod pool;
@@ -13,6 +14,7 @@ mod state;
 mod tests;
 mod told;
 
+pub use frames::FrameList;
 pub use front::Front;
 pub use pool::PoolFrame;
 pub use request::{Request, Transfer};

@@ -1,10 +1,10 @@
 // A request that isn't finished.
-ghost use Rattle.std.specs.Prelude.{◌≡◌, ◌/◌, ◌%◌, ◌<◌};
-ghost use Rattle.blk_front.specs.Request.{tag_of, named_of, grant_flags, operation_of, filling_at, frames_for, frame_at, segment_at, segments_of};
+ghost use Rattle.std.specs.Prelude.{◌≡◌, ◌/◌, ◌%◌, ◌<◌, ◌≤◌};
+ghost use Rattle.blk_front.specs.Request.{tag_of, named_of, may_be_indirect, grant_flags, flags_at, filling_at, frames_for, is_indirect, pages_for, frame_at, page_at, naming_words, naming_at, segment_at, segments_of, page_reference, page_references};
 
+use crate::frames::FrameList;
 use crate::pool::PoolFrame;
-use arrayvec::ArrayVec;
-use blk_layout::Segment;
+use blk_layout::{Segment, segment_words};
 use grant_table::{GTF_PERMIT_ACCESS, GTF_READONLY};
 
 /// Words in a sector, and sectors in a frame.
@@ -13,6 +13,12 @@ pub const SECTOR_WORDS: u32 = 128;
 pub const FRAME_SECTORS: u32 = 8;
 /// Segments that an entry can name (`BLKIF_MAX_SEGMENTS_PER_REQUEST`).
 pub const MAX_SEGMENTS: u32 = 11;
+/// Segments that this front has of a read or a write at most, where the back takes so many.
+pub const MAX_INDIRECT_SEGMENTS: u32 = 960;
+/// Segments that an indirect page has room for.
+const PAGE_SEGMENTS: u32 = 512;
+/// Indirect pages that an entry can name (`BLKIF_MAX_INDIRECT_PAGES_PER_REQUEST`).
+const MAX_PAGES: usize = 8;
 
 /// What a request has done: which way its sectors go, or that none go between frames and the disk.
 #[derive(Clone, Copy, Debug, PartialEq, Eq)]
@@ -52,6 +58,13 @@ impl Transfer {
         }
     }
 
+    /// Whether a request may have its segments in indirect pages (`BLKIF_OP_INDIRECT`): a read or a write.
+    pub fn may_be_indirect(&self) -> bool
+        ensures { result ≡ may_be_indirect self.now }
+    {
+        matches!(*self, Transfer::Read | Transfer::Write(_))
+    }
+
     /// Word `n` of the data of a write or a barrier: the word of its sector.
     pub fn filling(&self, n: u32) -> u32
         ensures { result ≡ filling_at self.now n }
@@ -77,6 +90,25 @@ pub fn frames_for(count: u32) -> u32
     count.div_ceil(FRAME_SECTORS)
 }
 
+/// Whether so many sectors take more segments than an entry has room for.
+pub fn is_indirect(count: u32) -> bool
+    ensures { result ≡ is_indirect count }
+{
+    frames_for(count) > MAX_SEGMENTS
+}
+
+/// How many indirect pages the segments of so many sectors take, 512 to a page; none where an entry
+/// has room for them.
+pub fn pages_for(count: u32) -> u32
+    ensures { result ≡ pages_for count }
+{
+    if is_indirect(count) {
+        frames_for(count).div_ceil(PAGE_SEGMENTS)
+    } else {
+        0
+    }
+}
+
 /// What is asked of the front: the first disk sector, how many sectors go between frames and the
 /// disk, and what is done.
 #[derive(Clone, Copy, Debug, PartialEq, Eq)]
@@ -87,16 +119,16 @@ pub struct Wish {
 }
 
 /// A request that was submitted and isn't finished: its number, which is the id that it has on the
-/// ring, its first disk sector, how many sectors go between frames and the disk (1 to 88 of a read, a
-/// write or a barrier, none of a flush or a discard), what is done, and the frames of its data, eight
-/// sectors in each, in order.
+/// ring, its first disk sector, how many sectors go between frames and the disk (1 to 7680 of a read or
+/// a write, 1 to 88 of a barrier, none of a flush or a discard), what is done, and its frames: those of
+/// its data, eight sectors in each, in order, and then its indirect pages.
 #[derive(Debug, Drop)]
 pub struct Request {
     pub number: u32,
     pub sector: u64,
     pub count: u32,
     pub transfer: Transfer,
-    pub frames: ArrayVec<PoolFrame, 11>,
+    pub frames: FrameList,
 }
 
 impl Request {
@@ -110,13 +142,48 @@ impl Request {
         }
     }
 
+    /// Its indirect page of this place, 0 or 1; the pool's first frame where there is none.
+    pub fn page_at(&self, page: u32) -> PoolFrame
+        requires { page < 2 }
+        ensures { result ≡ page_at self.now page }
+    {
+        self.frame(frames_for(self.count) + page)
+    }
+
+    /// The flags of the grant entry of its frame of this place: an indirect page is for reading alone.
+    pub fn flags_at(&self, place: u32) -> u32
+        ensures { result ≡ flags_at self.now place }
+    {
+        if place < frames_for(self.count) {
+            self.transfer.grant_flags()
+        } else {
+            GTF_PERMIT_ACCESS | GTF_READONLY
+        }
+    }
+
+    /// How many words its segments take in indirect pages, two each.
+    pub fn naming_words(&self) -> u32
+        ensures { result ≡ naming_words self.now }
+    {
+        2 * frames_for(self.count)
+    }
+
+    /// The word of this number of its indirect pages: the first or the second one of a segment.
+    pub fn naming_at(&self, n: u32) -> u32
+        requires { n < 1920 }
+        ensures { result ≡ naming_at self.now n }
+    {
+        let words = segment_words(&self.segment((n / 2) as usize));
+        words[(n % 2) as usize]
+    }
+
     /// The segment of its frame of this place: its sectors from the first on, all eight but in the
     /// last frame. None where there is no such frame: reference 0.
     fn segment(&self, place: usize) -> Segment
-        requires { place < 11 }
+        requires { place < 960 }
         ensures { result ≡ segment_at self.now place }
     {
-        match self.frames.as_slice().get(place) {
+        match self.frames.get(place) {
             Some(frame) => {
                 let before = FRAME_SECTORS * place as u32;
                 let last = (self.count.saturating_sub(1)).saturating_sub(before);
@@ -139,5 +206,27 @@ impl Request {
             segments[place] = self.segment(place);
         }
         segments
+    }
+
+    /// The reference of its indirect page of this place; 0 where there is none.
+    fn page_reference(&self, page: usize) -> u32
+        requires { page < 8 }
+        ensures { result ≡ page_reference self.now page }
+    {
+        match self.frames.get(frames_for(self.count) as usize + page) {
+            Some(frame) => frame.reference(),
+            None => 0,
+        }
+    }
+
+    /// The references of its indirect pages, as its entry has them.
+    pub fn page_references(&self) -> [u32; MAX_PAGES]
+        ensures { result ≡ page_references self.now }
+    {
+        let mut references = [0; MAX_PAGES];
+        for page in 0..MAX_PAGES {
+            references[page] = self.page_reference(page);
+        }
+        references
     }
 }

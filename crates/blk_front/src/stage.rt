@@ -28,9 +28,12 @@ pub enum Stage {
     /// Is connected, and at nothing in particular.
     Loop,
     /// Writes the data of a write, 128 words a sector: the word of this number is written next, 1 to
-    /// 11263.
+    /// 983039.
     Data(u32),
-    /// Grants the request's frame of this place, 0 to 10: its entry's second word, a fence, its first
+    /// Writes the segments into the request's indirect pages, two words each: the word of this number is
+    /// written next, 0 to 1919.
+    Pages(u32),
+    /// Grants the request's frame of this place, 0 to 961: its entry's second word, a fence, its first
     /// word. The fence has the frame stand in the entry before its flags permit access.
     GrantFrame(u32),
     GrantFence(u32),
@@ -47,11 +50,11 @@ pub enum Stage {
     /// Reads a response: its second word, knowing the first, and then its third.
     ResponseHigh(u32),
     ResponseLast(u32, u32),
-    /// Ends the grant of the ending request's frame of this place, 0 to 10: reads its entry's first
+    /// Ends the grant of the ending request's frame of this place, 0 to 961: reads its entry's first
     /// word, and exchanges it for 0 if it is still this one.
     GrantRead(u32),
     GrantEnd(u32, u32),
-    /// Reads the data of a read that was answered: the word of this number is read next, 0 to 11263.
+    /// Reads the data of a read that was answered: the word of this number is read next, 0 to 983039.
     ReadData(u32),
     /// Looks for responses a last time: the event word, a fence, the producer again. The fence has the
     /// event word seen before the producer is read (`RING_FINAL_CHECK_FOR_RESPONSES`).

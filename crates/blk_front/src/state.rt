@@ -1,12 +1,14 @@
 // The states that the negotiation has the front enter.
 
 /// What the back serves beside reads and writes, as it published it (`feature-barrier`,
-/// `feature-flush-cache` and `feature-discard` of `io/blkif.h`).
+/// `feature-flush-cache` and `feature-discard` of `io/blkif.h`), and how many segments it takes in
+/// indirect pages, 0 where it takes none (`feature-max-indirect-segments`).
 #[derive(Clone, Copy, Debug, PartialEq, Eq)]
 pub struct Offers {
     pub barrier: bool,
     pub flush: bool,
     pub discard: bool,
+    pub indirect: u32,
 }
 
 /// A state that the front enters as its negotiation with the back goes (`io/xenbus.h`).

@@ -3,6 +3,7 @@ mod answers;
 mod closing;
 mod frameless;
 mod guest;
+mod indirect;
 mod long;
 mod reads;
 mod shapes;

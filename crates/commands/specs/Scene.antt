@@ -22,11 +22,11 @@ scene source disk output = record { source = source; disk = disk; output = outpu
 
 -- the options of a run that were asked for, on an image of so many sectors
 abbrev pub options_of : RunOptions → ℕ → Options
-options_of options sectors = record { abi = options.abi; order = options.order; persistent = 0; indirect = 0; start = options.start; read_only = options.read_only; sectors = sectors }
+options_of options sectors = record { abi = options.abi; order = options.order; persistent = 0; indirect = options.indirect; start = options.start; read_only = options.read_only; sectors = sectors }
 
--- without any, no moves are shown, the layout is that of x86_64, the ring has one page and begins at 0, and the disk may be written
+-- without any, no moves are shown, the layout is that of x86_64, the ring has one page and begins at 0, no request has indirect pages, and the disk may be written
 abbrev pub no_options : RunOptions
-no_options = record { detail = Lines; abi = X64; order = 0; start = 0; read_only = false }
+no_options = record { detail = Lines; abi = X64; order = 0; start = 0; indirect = 0; read_only = false }
 
 -- a schedule has fewer bytes than this
 abbrev pub bytes_limit : ℕ

@@ -25,6 +25,10 @@ image_rule = record (new_rule (codes "image")) { required = true }
 abbrev pub start_rule : Rule
 start_rule = record (new_rule (codes "start")) { long = Some (codes "start"); defaults = codes "0" ∷ []; parser = Some (parser.Unsigned 0 4294967295) }
 
+-- `--indirect`, a number from 0 to 960, and 0 where there is none
+abbrev pub indirect_rule : Rule
+indirect_rule = record (new_rule (codes "indirect")) { long = Some (codes "indirect"); defaults = codes "0" ∷ []; parser = Some (parser.Unsigned 0 960) }
+
 -- `--moves`
 abbrev pub moves_rule : Rule
 moves_rule = record (new_rule (codes "moves")) { long = Some (codes "moves"); action = Some SetTrue }
@@ -51,7 +55,7 @@ shape_set = with_rule (with_rule (with_rule (with_rule (new_app (codes "run")) i
 
 -- `run`
 abbrev pub run_set : App
-run_set = with_rule (with_rule shape_set start_rule) read_only_rule
+run_set = with_rule (with_rule (with_rule shape_set start_rule) indirect_rule) read_only_rule
 
 -- `inspect`
 abbrev pub inspect_set : App
@@ -97,6 +101,10 @@ order_of n = if nat_le n 4 then Some n else None
 abbrev pub start_of : ℕ → Option ℕ
 start_of n = if nat_le n 4294967295 then Some n else None
 
+-- a number of segments of a request in indirect pages
+abbrev pub indirect_of : ℕ → Option ℕ
+indirect_of n = if nat_le n 960 then Some n else None
+
 -- a flag that was used has the text `true`
 abbrev pub is_yes : Option Text → Bool
 is_yes None = false
@@ -115,15 +123,17 @@ pub data Wish : Type 0 where
   a_check : Wish
   a_bench : ℕ → ℕ → Wish
 
-abbrev pub run_with : Text → (moves read_only : Bool) → Option Abi → (order start : Option ℕ) → Option Wish
-run_with image moves read_only None order start = None
-run_with image moves read_only (Some abi) None start = None
-run_with image moves read_only (Some abi) (Some order) start = option_map (λ first. a_run image (record { detail = detail_of moves; abi = abi; order = order; start = first; read_only = read_only })) start
+abbrev pub run_with : Text → (moves read_only : Bool) → Option Abi → (order start indirect : Option ℕ) → Option Wish
+run_with image moves read_only None order start indirect = None
+run_with image moves read_only (Some abi) None start indirect = None
+run_with image moves read_only (Some abi) (Some order) None indirect = None
+run_with image moves read_only (Some abi) (Some order) (Some first) indirect =
+    option_map (λ most. a_run image (record { detail = detail_of moves; abi = abi; order = order; start = first; indirect = most; read_only = read_only })) indirect
 
 abbrev pub run_in : List Row → Option Wish
 run_in rows =
     option_and_then
-    (λ image. run_with image (flag_in (codes "moves") rows) (flag_in (codes "read-only") rows) (option_and_then layout_of (number_in (codes "abi") rows)) (option_and_then order_of (number_in (codes "order") rows)) (option_and_then start_of (number_in (codes "start") rows)))
+    (λ image. run_with image (flag_in (codes "moves") rows) (flag_in (codes "read-only") rows) (option_and_then layout_of (number_in (codes "abi") rows)) (option_and_then order_of (number_in (codes "order") rows)) (option_and_then start_of (number_in (codes "start") rows)) (option_and_then indirect_of (number_in (codes "indirect") rows)))
     (first_of (codes "image") rows)
 
 abbrev pub ring_with : Option Abi → Option ℕ → Option Wish

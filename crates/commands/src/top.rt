@@ -202,7 +202,8 @@ fn run_schedule<S: Source, D: SectorDisk, O: Sink>(
     disk: &mut D,
     out: &mut O,
 ) -> Result<(), Stop>
-    requires { options.order ≤ 4 }
+    requires pages { options.order ≤ 4 }
+    requires segments { options.indirect ≤ 960 }
     ensures ends { RunEnds image.now options result
         (scene (S.seen src.old) (D.seen disk.old) (O.seen out.old))
         (scene (S.seen src.new) (D.seen disk.new) (O.seen out.new)) }
@@ -219,7 +220,7 @@ fn run_schedule<S: Source, D: SectorDisk, O: Sink>(
         abi: options.abi,
         order: options.order,
         persistent: 0,
-        indirect: 0,
+        indirect: options.indirect,
         start: options.start,
         read_only: options.read_only,
         sectors,

@@ -2,8 +2,8 @@
 ghost use Rattle.std.specs.Prelude.{◌≡◌, ℕ, IfOk, codes, map, option_map, option_and_then};
 ghost use Rattle.std.specs.String.{string_bytes};
 ghost use Rattle.clap.specs.Words.{first_of, found_of, rows_of, subcommand_rows_of, rule_of};
-ghost use Rattle.commands.specs.Words.{wish_of, wish_by, wish_in, run_in, run_with, ring_in, bench_in, flag_in, number_in, start_of, layout_of, order_of};
-ghost use Rattle.commands.specs.Words.{command_set, read_set, run_set, shape_set, inspect_set, check_set, bench_set, image_rule, moves_rule, start_rule, read_only_rule, abi_rule, order_rule, number_rule};
+ghost use Rattle.commands.specs.Words.{wish_of, wish_by, wish_in, run_in, run_with, ring_in, bench_in, flag_in, number_in, start_of, indirect_of, layout_of, order_of};
+ghost use Rattle.commands.specs.Words.{command_set, read_set, run_set, shape_set, inspect_set, check_set, bench_set, image_rule, moves_rule, start_rule, indirect_rule, read_only_rule, abi_rule, order_rule, number_rule};
 ghost use Rattle.commands.specs.Reading.{IsArgument, IsSet};
 
 use blk_base::{Abi, OutOfMemory};
@@ -36,16 +36,18 @@ pub struct RunOptions {
     pub order: u32,
     /// The ring's first index: its producers begin there.
     pub start: u32,
+    /// The most segments that a request may have in indirect pages, 0 to 960; 0 offers no such requests.
+    pub indirect: u32,
     /// Whether the disk is read-only: the image is never written.
     pub read_only: bool,
 }
 
 /// The command that the words after the program's name ask for, as `clap` reads them: `run` with an
-/// image's name, and `--moves`, `--read-only`, `--abi` 64 or 32, `--order` from 0 to 4 and `--start`, a
-/// number of 32 bits, before or after it; `inspect`, with `--abi` and `--order`; `check`; or `bench`,
+/// image's name, and `--moves`, `--read-only`, `--abi` 64 or 32, `--order` from 0 to 4, `--start`, a
+/// number of 32 bits, and `--indirect` from 0 to 960, before or after it; `inspect`, with `--abi` and `--order`; `check`; or `bench`,
 /// with a seed and a count, numbers of 64 bits. Each option comes at most once, and a number may have a plus and zeros
-/// before it. Without them the layout is that of x86_64, the order 0, the ring's first index 0, and the
-/// disk may be written.
+/// before it. Without them the layout is that of x86_64, the order 0, the ring's first index 0, no request
+/// has indirect pages, and the disk may be written.
 ///
 /// `None` where `clap` finds a fault in the words, of which a wish for help is one, and at an `--abi`
 /// between 32 and 64. The error comes where there was no memory.
@@ -83,12 +85,13 @@ fn read_commands<'a>(alloc: Global) -> Result<clap::Command<'a>, AllocError>
         .subcommand(check_command(alloc))
 }
 
-// `run IMAGE [--moves] [--abi N] [--order N] [--start N] [--read-only]`.
+// `run IMAGE [--moves] [--abi N] [--order N] [--start N] [--indirect N] [--read-only]`.
 fn run_command<'a>(alloc: Global) -> Result<clap::Command<'a>, AllocError>
     ensures { IfOk result (IsSet run_set) }
 {
     run_command_up_to_order(alloc)?
         .arg(start_option(alloc))?
+        .arg(indirect_option(alloc))?
         .arg(read_only_flag(alloc))
 }
 
@@ -159,6 +162,15 @@ fn start_option<'a>(alloc: Global) -> Arg<'a>
         .default_value("0")
 }
 
+fn indirect_option<'a>(alloc: Global) -> Arg<'a>
+    ensures { IsArgument indirect_rule result }
+{
+    Arg::new(alloc, "indirect")
+        .long("indirect")
+        .value_parser(value_parser!(u64).range(0..=960))
+        .default_value("0")
+}
+
 fn read_only_flag<'a>(alloc: Global) -> Arg<'a>
     ensures { IsArgument read_only_rule result }
 {
@@ -210,6 +222,7 @@ fn run<'a>(found: &ArgMatches<'a>) -> Option<Command<'a>>
         number(found, "abi"),
         number(found, "order"),
         number(found, "start"),
+        number(found, "indirect"),
     )
 }
 
@@ -221,13 +234,16 @@ fn run_with(
     bits: Option<u64>,
     pages: Option<u64>,
     first: Option<u64>,
+    most: Option<u64>,
 ) -> Option<Command<'_>>
     ensures { option_map wish_by result
-        ≡ run_with image.now moves read_only (option_and_then layout_of bits) (option_and_then order_of pages) (option_and_then start_of first) }
+        ≡ run_with image.now moves read_only (option_and_then layout_of bits) (option_and_then order_of pages)
+        (option_and_then start_of first) (option_and_then indirect_of most) }
 {
     let abi = layout(bits?)?;
     let order = order(pages?)?;
     let start = start(first?)?;
+    let indirect = indirect(most?)?;
     let detail = if moves { Detail::Moves } else { Detail::Lines };
     Some(Command::Run {
         image,
@@ -236,6 +252,7 @@ fn run_with(
             abi,
             order,
             start,
+            indirect,
             read_only,
         },
     })
@@ -280,6 +297,17 @@ fn start(number: u64) -> Option<u32>
     ensures { result ≡ start_of number }
 {
     if number <= 4_294_967_295 {
+        Some(number as u32)
+    } else {
+        None
+    }
+}
+
+// A number of segments of a request in indirect pages.
+fn indirect(number: u64) -> Option<u32>
+    ensures { result ≡ indirect_of number }
+{
+    if number <= 960 {
         Some(number as u32)
     } else {
         None

@@ -58,6 +58,7 @@ fn words_that_ask_for_a_run(rt: HostRuntime) -> Result<(), Fail> {
             abi: Abi::X64,
             order: 0,
             start,
+            indirect: 0,
             read_only,
         };
         assert!(rt; ask_for(alloc, line, Some(Command::Run { image, options }))?);
@@ -78,6 +79,7 @@ fn words_that_ask_for_a_run_on_a_read_only_disk(rt: HostRuntime) -> Result<(), F
             abi: Abi::X64,
             order: 0,
             start,
+            indirect: 0,
             read_only: true,
         };
         let command = Command::Run {
@@ -92,16 +94,25 @@ fn words_that_ask_for_a_run_on_a_read_only_disk(rt: HostRuntime) -> Result<(), F
 #[test]
 fn words_that_ask_for_a_run_on_a_ring_of_a_shape(rt: HostRuntime) -> Result<(), Fail> {
     let alloc = rt.alloc();
-    for (line, abi, order, start) in [
-        ("run disk --abi 32", Abi::X32, 0, 0),
-        ("run --abi=64 disk --order 4", Abi::X64, 4, 0),
-        ("run disk --order +1 --start 7 --abi 0032", Abi::X32, 1, 7),
+    for (line, abi, order, start, indirect) in [
+        ("run disk --abi 32", Abi::X32, 0, 0, 0),
+        ("run --abi=64 disk --order 4", Abi::X64, 4, 0, 0),
+        (
+            "run disk --order +1 --start 7 --abi 0032",
+            Abi::X32,
+            1,
+            7,
+            0,
+        ),
+        ("run disk --indirect 960", Abi::X64, 0, 0, 960),
+        ("run --indirect=+0256 disk --order 1", Abi::X64, 1, 0, 256),
     ] {
         let options = RunOptions {
             detail: Detail::Lines,
             abi,
             order,
             start,
+            indirect,
             read_only: false,
         };
         let command = Command::Run {
@@ -213,6 +224,11 @@ fn words_that_ask_for_no_run(rt: HostRuntime) -> Result<(), Fail> {
         "run disk --start -1",
         "run disk --start 4294967296",
         "run disk --start 1 --start 1",
+        "run disk --indirect",
+        "run disk --indirect 961",
+        "run disk --indirect -1",
+        "run disk --indirect 1 --indirect 1",
+        "inspect --indirect 1",
         "run disk --move",
         "run -x",
         "--moves run disk",

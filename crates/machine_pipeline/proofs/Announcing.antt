@@ -26,13 +26,13 @@ turned_on : (config : Options) (w : World) (g : Flow) (d : Pipeline) (s s' : Fro
     → may_front_sleep s ≡ true → may_front_sleep s' ≡ true → is_issuing s' ≡ is_issuing s
     → Holds config w g d s w.back.stage
     → FrontAt g.shape g.start g.pushed g.taken g.front_seen g.submitted g.replies (next_request w.front) w.front.entry w.front.ending s'
-    → filled s ≡ 0 → filled s' ≡ 0 → entered s ≡ 0 → entered s' ≡ 0 → named_frames s' ≡ 0 → granted_frames s' ≡ 0
+    → ((frames : ℕ) → filled s frames ≡ 0) → ((frames : ℕ) → filled s' frames ≡ 0) → entered s ≡ 0 → entered s' ≡ 0 → named_frames s' ≡ 0 → granted_frames s' ≡ 0
     → (w.back.asleep ≡ true → FrontSends s g.pushed g.fetched → FrontSends s' g.pushed g.fetched)
     → Holds config (with_front w s' w.front.entry w.under.pages) g d s' w.back.stage
 turned_on config w g d s s' i i' same h at full full' few few' unnamed ungranted sends =
     issue_kept config w g d s s' w.front.entry w.under.pages i i' same h at h.memory (λ f low high x lt. refl) (λ x lt. refl) (λ page lt. record { flags = refl; frame = refl })
     (slots_turned g.shape g.start g.fetched g.pushed g.taken g.replied g.submitted g.replies w.under.pages w.under.pages s s' w.back.stage h.shaped.narrow (λ f x from to in_it behind. refl) few' h.slots)
-    (frames_turned g.pushed w.under.pages w.under.pages s s' w.front.requests (omega arith) (λ n x lt i l. refl) h.frames)
+    (frames_turned g.pushed w.under.pages w.under.pages s s' w.front.requests (λ frames. let none = full' frames in omega arith) (λ n x lt i l. refl) h.frames)
     (entries_turned g.pushed w.under.pages w.under.pages w.under.grants.live s s' w.front.ending w.front.requests i' (omega arith) (omega arith) (λ n x lt a in_it. record { flags = refl; frame = refl }) h.entries)
     sends
 
@@ -41,7 +41,7 @@ producer_fence_goes config w g d old safe h = record {
   flow = g;
   steps = [];
   does = said_nothing d _ w.front.told safe.front_told;
-  holds = turned_on config w g d (front.ProducerFence old) (front.RequestEvent old) refl refl refl h h.front_at refl refl refl refl refl refl (λ t sends. sends);
+  holds = turned_on config w g d (front.ProducerFence old) (front.RequestEvent old) refl refl refl h h.front_at (λ frames. refl) (λ frames. refl) refl refl refl refl (λ t sends. sends);
 }
 
 -- the first request that a sleeping back doesn't know of passes its event word
@@ -60,8 +60,8 @@ event_goes config w g d old safe h = record {
 }
   where
     by_test : (b : Bool) → notifies old w.front.ring.prod (word_of w.under.pages 2 1) ≡ b → Holds config (with_front w (if b then front.Send else front.Loop) w.front.entry w.under.pages) g d (if b then front.Send else front.Loop) w.back.stage
-    by_test true t = turned_on config w g d (front.RequestEvent old) front.Send refl refl refl h tt refl refl refl refl refl refl (λ t sends. tt)
-    by_test false t = turned_on config w g d (front.RequestEvent old) front.Loop refl refl refl h tt refl refl refl refl refl refl (λ sleeps sends.
+    by_test true t = turned_on config w g d (front.RequestEvent old) front.Send refl refl refl h tt (λ frames. refl) (λ frames. refl) refl refl refl refl (λ t sends. tt)
+    by_test false t = turned_on config w g d (front.RequestEvent old) front.Loop refl refl refl h tt (λ frames. refl) (λ frames. refl) refl refl refl refl (λ sleeps sends.
         let x = h.indices in
         let u = h.back_sleep in
         let yes : notifies old w.front.ring.prod (word_of w.under.pages 2 1) ≡ true = notified g.start g.fetched g.pushed old w.front.ring.prod (word_of w.under.pages 2 1) h.front_at.1 x.pushed (u.armed sleeps) sends in

@@ -1,6 +1,9 @@
 -- The job that the back makes of an entry.
-use Rattle.std.proofs.Common.{◌≡◌, ℕ, ◌+◌, ◌-◌, ◌^◌, ◌<◌, ◌≤◌, ◌==◌, Bool, true, false, List, [], ◌∷◌, ◌++◌, get_or, refl, ap, sym, ◌∙◌, arith}
-use Rattle.std.specs.Prelude.{Some, slice_get, nat_lt}
+use Rattle.std.proofs.Common.{◌≡◌, ℕ, zero, suc, ◌+◌, ◌-◌, ◌/◌, ◌^◌, ◌<◌, ◌≤◌, ◌==◌, Bool, true, false, List, [], ◌∷◌, ◌++◌, get_or, refl, ap, sym, ◌∙◌, arith}
+use Rattle.std.specs.Prelude.{All, Option, Some, None, map, take, length, slice_get, nat_lt, nat_le, if◌then◌else◌}
+use Rattle.std.specs.List.{range_with_len}
+use Rattle.std.proofs.lemmas.List.FromFn.{length-map-range_with_len}
+use Rattle.machine_pipeline.proofs.Lists.{all_at}
 use Rattle.std.proofs.lemmas.Bool.{true≢false}
 use Rattle.std.proofs.lemmas.Bool.Decides.{nat_tests}
 use Rattle.std.proofs.lemmas.List.Elements.{All-push}
@@ -14,23 +17,24 @@ use Rattle.machine_pipeline.proofs.ReadBack.{IsReadBack, ReadAt}
 use Rattle.blk_front.specs.declared.request.Request.{Request}
 use Rattle.blk_front.specs.declared.request.Transfer.{Transfer}
 use Rattle.blk_front.specs.declared.request.Transfer.TheVariants as transfer
-use Rattle.blk_front.specs.Request.{is_write, is_moving, named_of, operation_of, frames_for, segments_of, IsCounted, IsShaped}
+use Rattle.blk_front.specs.Request.{is_write, is_moving, is_indirect, may_be_indirect, named_of, operation_of, frames_for, pages_for, segments_of, reference_in, page_reference, page_references, IsCounted, IsShaped}
 use Rattle.blk_front.specs.Entry.{entry_as, entry_request, entry_of}
 use Rattle.blk_back.specs.View.{info_of}
 use Rattle.blk_back.specs.Step.{fetched}
 use Rattle.machine_pipeline.specs.Plain.{IsPlain}
-use Rattle.machine_pipeline.proofs.Flow.{frames_of, own_segments, worked}
-use Rattle.machine_pipeline.proofs.Segments.{own_here, own_sound, own_sectors, ranged, eleven}
-use Rattle.machine_pipeline.proofs.Holds.{IsSubmitted, AreNumbers, AtWork, IsUnhindered, AreWorks, IsWork}
+use Rattle.machine_pipeline.proofs.Flow.{own_segments, worked}
+use Rattle.machine_pipeline.proofs.Segments.{own_direct, own_here, own_sound, own_sectors, ranged, eleven}
+use Rattle.machine_pipeline.proofs.Holds.{IsPooled, IsSubmitted, AreNumbers, AtWork, IsUnhindered, AreWorks, IsWork}
 use Rattle.blk_base.specs.declared.operation.Abi.{Abi}
 use Rattle.blk_layout.specs.Entry.{request_of}
-use Rattle.blk_layout.specs.Range.{IsInRange}
+use Rattle.blk_layout.specs.Range.{IsInRange, AreWords}
 use Rattle.blk_layout.proofs.Back.{reads_back}
+use Rattle.blk_layout.specs.declared.segment.Segment.{Segment}
 use Rattle.blk_layout.specs.declared.request.RawRequest.{RawRequest}
-use Rattle.blk_layout.specs.declared.request.RawRequest.TheVariants.{Direct}
+use Rattle.blk_layout.specs.declared.request.RawRequest.TheVariants.{Direct, Indirect}
 use Rattle.segment_list.specs.Verdict.{verdict_of}
 use Rattle.segment_list.specs.Segments.{sectors_of}
-use Rattle.back_jobs.specs.Task.{begun, frameless, moving, first_of}
+use Rattle.back_jobs.specs.Task.{begun, frameless, moving, paging, first_of}
 
 -- an operation is a byte
 pub small_operation : (way : Transfer) → operation_of way < 2 ^ 8
@@ -40,73 +44,154 @@ small_operation (transfer.Barrier tag) = omega arith
 small_operation transfer.Flush = omega arith
 small_operation (transfer.Discard sectors) = omega arith
 
+-- its indirect pages have references of 32 bits
+references_fit : (r : Request) → All IsPooled r.frames.items → (a n : ℕ) → AreWords (map (page_reference r) (range_with_len a n))
+references_fit r pooled a zero = tt
+references_fit r pooled a (suc n) = (by_frame (slice_get r.frames.items (frames_for r.count + a)) refl, references_fit r pooled (a + 1) n)
+  where
+    by_frame : (frame : Option ℕ) → slice_get r.frames.items (frames_for r.count + a) ≡ frame → reference_in frame < 2 ^ 32
+    by_frame None e = omega arith
+    by_frame (Some frame) e = let its = all_at IsPooled r.frames.items (frames_for r.count + a) frame pooled e in omega (arith, its.1)
+
+eight : (r : Request) → length (page_references r) ≡ 8
+eight r = length-map-range_with_len (page_reference r) 0 8
+
 in_range : (sectors : ℕ) (k : ℕ) (r : Request) → sectors ≤ 2 ^ 64 → k < 2 ^ 32 → IsSubmitted sectors k r → IsInRange (entry_request r)
 in_range sectors k r sized few s = by_way r.transfer s.sector s.numbers s.shaped.counted
   where
     number : r.number < 2 ^ 64
     number = let number = s.number in omega arith
 
-    moves : (op : ℕ) → op ≤ 2 → r.sector + r.count ≤ sectors → 1 ≤ r.count → r.count ≤ 88 → IsInRange (Direct op (frames_for r.count) 51712 r.number r.sector (segments_of r))
-    moves op below within some few = (omega arith, omega arith, omega arith, omega arith, omega arith, number, omega arith, eleven r, ranged r s.frames)
+    moves : (op : ℕ) → op ≤ 2 → r.sector + r.count ≤ sectors → 1 ≤ r.count → r.count ≤ 7680 → (b : Bool) → is_indirect r.count ≡ b
+        → IsInRange (if b then Indirect op (frames_for r.count) 51712 r.number r.sector (page_references r) else Direct op (frames_for r.count) 51712 r.number r.sector (segments_of r))
+    moves op below within some short true large = (omega arith, omega arith, omega arith, number, omega arith, eight r, references_fit r s.frames 0 8)
+    moves op below within some short false direct =
+        let few_segments : frames_for r.count ≤ 11 = grind (arith, nat_tests) in
+        (omega arith, omega arith, omega arith, omega arith, omega arith, number, omega arith, eleven r, ranged r s.frames)
 
     by_way : (way : Transfer) → r.sector + named_of way r.count ≤ sectors → AreNumbers way r.sector → IsCounted way r.count → IsInRange (entry_as way r)
     by_way (transfer.Discard sectors) within numbers counted = (omega arith, omega arith, number, omega (arith, numbers.0), omega (arith, numbers.1))
-    by_way transfer.Flush within numbers counted = let most = counted.few in (omega arith, omega arith, omega arith, omega arith, omega arith, number, omega (arith, numbers), eleven r, ranged r s.frames)
-    by_way transfer.Read within numbers counted = moves 0 (omega arith) within (counted.some refl) counted.few
-    by_way (transfer.Write tag) within numbers counted = moves 1 (omega arith) within (counted.some refl) counted.few
-    by_way (transfer.Barrier tag) within numbers counted = moves 2 (omega arith) within (counted.some refl) counted.few
+    by_way transfer.Flush within numbers counted =
+        let none = counted.none refl in
+        let direct : is_indirect r.count ≡ false = rw none refl in
+        rw direct (omega arith, omega arith, omega arith, omega arith, omega arith, number, omega (arith, numbers), eleven r, ranged r s.frames)
+    by_way transfer.Read within numbers counted = moves 0 (omega arith) within (counted.some refl) counted.few (is_indirect r.count) refl
+    by_way (transfer.Write tag) within numbers counted = moves 1 (omega arith) within (counted.some refl) counted.few (is_indirect r.count) refl
+    by_way (transfer.Barrier tag) within numbers counted = moves 2 (omega arith) within (counted.some refl) counted.few (is_indirect r.count) refl
 
 -- a request that moves sectors passes the tests of its segments
 record Passes (config : Options) (r : Request) : Type 0 where
   pub some : (frames_for r.count == 0) ≡ false
-  pub few : nat_lt 11 (frames_for r.count) ≡ false
   pub on_disk : nat_lt config.sectors (r.sector + sectors_of (own_segments r)) ≡ false
 
 passes : (config : Options) (r : Request) → r.sector + r.count ≤ config.sectors → IsShaped r → is_moving r.transfer ≡ true → Passes config r
 passes config r within shaped moves =
     let least = shaped.counted.some moves in
-    let most = shaped.counted.few in
     let all = own_sectors r shaped in
-    record { some = grind (arith, nat_tests); few = grind (arith, nat_tests); on_disk = grind (arith, nat_tests) }
+    record { some = grind (arith, nat_tests); on_disk = grind (arith, nat_tests) }
 
--- the job of a request: that of a read, a write or a barrier moves its sectors
+-- its indirect pages name as many segments as the back takes
+record IsLarge (config : Options) (r : Request) : Type 0 where
+  pub some : (frames_for r.count == 0) ≡ false
+  pub published : (config.indirect == 0) ≡ false
+  pub few : nat_lt config.indirect (frames_for r.count) ≡ false
+  pub room : nat_le (frames_for r.count) 960 ≡ true
+
+is_large : (config : Options) (r : Request) → IsShaped r → is_moving r.transfer ≡ true → frames_for r.count ≤ config.indirect → IsLarge config r
+is_large config r shaped moves limit =
+    let least = shaped.counted.some moves in
+    let most = shaped.counted.few in
+    record { some = grind (arith, nat_tests); published = grind (arith, nat_tests); few = grind (arith, nat_tests); room = grind (arith, nat_tests) }
+
+-- the job of a request: that of a read, a write or a barrier moves its sectors, once it copied its segments where they lie in indirect pages
+abbrev pub moving_as : Bool → Transfer → (number size : ℕ) → Request → Work
+moving_as true way number size r = paging number (entry_request r) size (is_write way) r.sector (frames_for r.count) (page_references r)
+moving_as false way number size r = moving number (entry_request r) size (is_write way) r.sector (own_segments r)
+
 abbrev pub job_as : Transfer → (number size : ℕ) → Request → Work
 job_as transfer.Flush number size r = frameless number (entry_request r) size r.sector job.Flush
 job_as (transfer.Discard sectors) number size r = frameless number (entry_request r) size r.sector (job.Trim sectors)
-job_as way number size r = moving number (entry_request r) size (is_write way) r.sector (own_segments r)
+job_as way number size r = moving_as (is_indirect r.count) way number size r
+
+-- an entry that has room for its segments
+abbrev direct_entry : ℕ → Request → RawRequest
+direct_entry op r = Direct op (frames_for r.count) 51712 r.number r.sector (segments_of r)
+
+by_entry : (config : Options) (number size : ℕ) (r : Request) (entry : RawRequest) (writes : Bool)
+    → entry_request r ≡ entry
+    → begun number entry size (verdict_of entry (info_of config)) ≡ moving number entry size writes r.sector (own_segments r)
+    → begun number (entry_request r) size (verdict_of (entry_request r) (info_of config)) ≡ moving number (entry_request r) size writes r.sector (own_segments r)
+by_entry config number size r entry writes is serves =
+    ap (λ (e : RawRequest). begun number e size (verdict_of e (info_of config))) is
+    ∙ (serves ∙ sym (ap (λ (e : RawRequest). moving number e size writes r.sector (own_segments r)) is))
 
 -- each request is served where the disk may be written, and a read on each disk
 serves : (config : Options) (number size : ℕ) (r : Request) (way : Transfer)
     → r.transfer ≡ way
     → (is_write way ≡ true → config.read_only ≡ false)
     → (is_moving way ≡ false → config.read_only ≡ false)
+    → (is_indirect r.count ≡ true → frames_for r.count ≤ config.indirect)
     → r.sector + named_of way r.count ≤ config.sectors
     → AreNumbers way r.sector
     → IsShaped r
     → begun number (entry_request r) size (verdict_of (entry_request r) (info_of config)) ≡ job_as way number size r
-serves config number size r transfer.Flush way writable served within numbers shaped =
+serves config number size r transfer.Flush way writable served limit within numbers shaped =
     let none : r.count ≡ 0 = shaped.counted.none (ap is_moving way) in
+    let direct : is_indirect r.count ≡ false = rw none refl in
     let bare : (frames_for r.count == 0) ≡ true = grind (arith, nat_tests) in
-    rw (way, served refl, bare) refl
-serves config number size r (transfer.Discard sectors) way writable served within numbers shaped =
+    rw (way, direct, served refl, bare) refl
+serves config number size r (transfer.Discard sectors) way writable served limit within numbers shaped =
     let some : (sectors == 0) ≡ false = grind (arith, nat_tests, numbers.0) in
     let on_disk : nat_lt config.sectors (r.sector + sectors) ≡ false = grind (arith, nat_tests) in
     rw (way, served refl, some, on_disk) refl
-serves config number size r transfer.Read way writable served within numbers shaped =
+serves config number size r transfer.Read way writable served limit within numbers shaped = by_size (is_indirect r.count) refl
+  where
+    may : Passes config r
+    may = passes config r within shaped (ap is_moving way)
+
+    by_size : (b : Bool) → is_indirect r.count ≡ b → begun number (entry_request r) size (verdict_of (entry_request r) (info_of config)) ≡ moving_as b transfer.Read number size r
+    by_size true large =
+        let its : IsLarge config r = is_large config r shaped (ap is_moving way) (limit large) in
+        rw (way, large, its.some, its.published, its.few, its.room) refl
+    by_size false direct =
+        let entry : entry_request r ≡ direct_entry 0 r = rw (way, direct) refl in
+        let few : frames_for r.count ≤ 11 = grind (arith, nat_tests) in
+        let own : take (frames_for r.count) (segments_of r) ≡ own_segments r = own_direct r few in
+        let serves : begun number (direct_entry 0 r) size (verdict_of (direct_entry 0 r) (info_of config)) ≡ moving number (direct_entry 0 r) size false r.sector (own_segments r) =
+        rw (own, may.some, direct, own_sound r shaped, may.on_disk) (ap (λ (l : List Segment). moving number (direct_entry 0 r) size false r.sector l) own) in
+        by_entry config number size r (direct_entry 0 r) false entry serves
+serves config number size r (transfer.Write tag) way writable served limit within numbers shaped = by_size (is_indirect r.count) refl
+  where
+    may : Passes config r
+    may = passes config r within shaped (ap is_moving way)
+
+    by_size : (b : Bool) → is_indirect r.count ≡ b → begun number (entry_request r) size (verdict_of (entry_request r) (info_of config)) ≡ moving_as b (transfer.Write tag) number size r
+    by_size true large =
+        let its : IsLarge config r = is_large config r shaped (ap is_moving way) (limit large) in
+        rw (way, large, writable refl, its.some, its.published, its.few, its.room) refl
+    by_size false direct =
+        let entry : entry_request r ≡ direct_entry 1 r = rw (way, direct) refl in
+        let few : frames_for r.count ≤ 11 = grind (arith, nat_tests) in
+        let own : take (frames_for r.count) (segments_of r) ≡ own_segments r = own_direct r few in
+        let serves : begun number (direct_entry 1 r) size (verdict_of (direct_entry 1 r) (info_of config)) ≡ moving number (direct_entry 1 r) size true r.sector (own_segments r) =
+        rw (own, writable refl, may.some, direct, own_sound r shaped, may.on_disk) (ap (λ (l : List Segment). moving number (direct_entry 1 r) size true r.sector l) own) in
+        by_entry config number size r (direct_entry 1 r) true entry serves
+serves config number size r (transfer.Barrier tag) way writable served limit within numbers shaped =
     let may = passes config r within shaped (ap is_moving way) in
-    rw (way, may.some, may.few, own_sound r shaped, may.on_disk) refl
-serves config number size r (transfer.Write tag) way writable served within numbers shaped =
-    let may = passes config r within shaped (ap is_moving way) in
-    rw (way, writable refl, may.some, may.few, own_sound r shaped, may.on_disk) refl
-serves config number size r (transfer.Barrier tag) way writable served within numbers shaped =
-    let may = passes config r within shaped (ap is_moving way) in
-    rw (way, writable refl, may.some, may.few, own_sound r shaped, may.on_disk) refl
+    let short = shaped.counted.direct (ap may_be_indirect way) in
+    let few : frames_for r.count ≤ 11 = omega arith in
+    let direct : is_indirect r.count ≡ false = grind (arith, nat_tests) in
+    let own : take (frames_for r.count) (segments_of r) ≡ own_segments r = own_direct r few in
+    let entry : entry_request r ≡ direct_entry 2 r = rw (way, direct) refl in
+    let serves : begun number (direct_entry 2 r) size (verdict_of (direct_entry 2 r) (info_of config)) ≡ moving number (direct_entry 2 r) size true r.sector (own_segments r) =
+    rw (own, writable refl, may.some, direct, own_sound r shaped, may.on_disk) (ap (λ (l : List Segment). moving number (direct_entry 2 r) size true r.sector l) own) in
+    by_entry config number size r (direct_entry 2 r) true entry serves ∙ sym (rw direct refl)
 
 -- the job of the entry's words
-pub entry_job : (abi : Abi) (config : Options) (number size k : ℕ) (r : Request) → IsPlain config → k < 2 ^ 32 → IsSubmitted config.sectors k r → (is_write r.transfer ≡ true → config.read_only ≡ false) → (is_moving r.transfer ≡ false → config.read_only ≡ false) → begun number (request_of abi (entry_of abi r)) size (verdict_of (request_of abi (entry_of abi r)) (info_of config)) ≡ job_as r.transfer number size r
-entry_job abi config number size k r plain few s writable served =
+pub entry_job : (abi : Abi) (config : Options) (number size k : ℕ) (r : Request) → IsPlain config → k < 2 ^ 32 → IsSubmitted config.sectors k r → (is_write r.transfer ≡ true → config.read_only ≡ false) → (is_moving r.transfer ≡ false → config.read_only ≡ false) → (is_indirect r.count ≡ true → frames_for r.count ≤ config.indirect) → begun number (request_of abi (entry_of abi r)) size (verdict_of (request_of abi (entry_of abi r)) (info_of config)) ≡ job_as r.transfer number size r
+entry_job abi config number size k r plain few s writable served limit =
     ap (λ (x : RawRequest). begun number x size (verdict_of x (info_of config))) (reads_back abi (entry_request r) (in_range config.sectors k r plain.sectors few s))
-    ∙ serves config number size r r.transfer refl writable served s.sector s.numbers s.shaped
+    ∙ serves config number size r r.transfer refl writable served limit s.sector s.numbers s.shaped
 
 -- its number, its id and its operation are those of the request; it begins with none of its sectors moved; it waits at its beginning, if at all
 pub record IsJobOf (way : Transfer) (number : ℕ) (r : Request) (t : Work) : Type 0 where
@@ -117,17 +202,33 @@ pub record IsJobOf (way : Transfer) (number : ℕ) (r : Request) (t : Work) : Ty
   pub unhindered : (u : Work) → IsUnhindered u t
   pub unread : (pages : List ℕ) (y : Request) → ReadAt pages y t.moved t.words [] t.stage
 
-pub is_job : (way : Transfer) (number size : ℕ) (r : Request) → r.transfer ≡ way → IsJobOf way number r (job_as way number size r)
-is_job way number size r is = by_way way is
+pub is_job : (way : Transfer) (number size : ℕ) (r : Request) → IsShaped r → r.transfer ≡ way → IsJobOf way number r (job_as way number size r)
+is_job way number size r shaped is = by_way way is
   where
     none : (pages : List ℕ) (y : Request) → IsReadBack pages y 0 []
     none pages y = record { counted = refl; few = omega arith; sectors = λ i ws none. absurd (none-some ws none) }
 
-    by_way : (way : Transfer) → r.transfer ≡ way → IsJobOf way number r (job_as way number size r)
-    by_way transfer.Flush is = rw is (record { numbered = refl; id = refl; op = refl; unmoved = refl; unhindered = λ u undone begun. refl; unread = none })
-    by_way way is = rw is (record { numbered = refl; id = refl; op = refl; unmoved = refl; unhindered = λ u undone begun. absurd (true≢false begun); unread = none })
+    moves : (b : Bool) → is_indirect r.count ≡ b → (way : Transfer) → r.transfer ≡ way → is_moving way ≡ true → IsJobOf way number r (moving_as b way number size r)
+    moves true large transfer.Read is t = rw (is, large) (record { numbered = refl; id = refl; op = refl; unmoved = refl; unhindered = λ u undone begun. absurd (true≢false begun); unread = none })
+    moves true large (transfer.Write tag) is t = rw (is, large) (record { numbered = refl; id = refl; op = refl; unmoved = refl; unhindered = λ u undone begun. absurd (true≢false begun); unread = none })
+    moves true large (transfer.Barrier tag) is t = rw (is, large) (record { numbered = refl; id = refl; op = refl; unmoved = refl; unhindered = λ u undone begun. absurd (true≢false begun); unread = none })
+    moves false direct transfer.Read is t = rw (is, direct) (record { numbered = refl; id = refl; op = refl; unmoved = refl; unhindered = λ u undone begun. absurd (true≢false begun); unread = none })
+    moves false direct (transfer.Write tag) is t = rw (is, direct) (record { numbered = refl; id = refl; op = refl; unmoved = refl; unhindered = λ u undone begun. absurd (true≢false begun); unread = none })
+    moves false direct (transfer.Barrier tag) is t = rw (is, direct) (record { numbered = refl; id = refl; op = refl; unmoved = refl; unhindered = λ u undone begun. absurd (true≢false begun); unread = none })
+    moves b e transfer.Flush is t = absurd (true≢false (sym t))
+    moves b e (transfer.Discard sectors) is t = absurd (true≢false (sym t))
 
--- a request that moves sectors begins at its first segment
+    by_way : (way : Transfer) → r.transfer ≡ way → IsJobOf way number r (job_as way number size r)
+    by_way transfer.Flush is = rw (is, direct) (record { numbered = refl; id = refl; op = refl; unmoved = refl; unhindered = λ u undone begun. refl; unread = none })
+      where
+        direct : is_indirect r.count ≡ false
+        direct = let none = shaped.counted.none (ap is_moving is) in rw none refl
+    by_way (transfer.Discard sectors) is = rw is (record { numbered = refl; id = refl; op = refl; unmoved = refl; unhindered = λ u undone begun. absurd (true≢false begun); unread = none })
+    by_way transfer.Read is = moves (is_indirect r.count) refl transfer.Read is refl
+    by_way (transfer.Write tag) is = moves (is_indirect r.count) refl (transfer.Write tag) is refl
+    by_way (transfer.Barrier tag) is = moves (is_indirect r.count) refl (transfer.Barrier tag) is refl
+
+-- a request that moves sectors begins at its first segment, or at its first indirect page
 begins_moving : (writes : Bool) (number size : ℕ) (r : Request) → IsShaped r → is_moving r.transfer ≡ true → is_write r.transfer ≡ writes → (let t : Work = moving number (entry_request r) size writes r.sector (own_segments r) in AtWork r t job.Map)
 begins_moving writes number size r shaped moves same = (
   record {
@@ -143,28 +244,64 @@ begins_moving writes number size r shaped moves same = (
   first,
 )
   where
-    frames : 1 ≤ frames_of r
-    frames = let some = shaped.counted.some moves in let frames = shaped.frames in omega arith
+    frames : 1 ≤ frames_for r.count
+    frames = let some = shaped.counted.some moves in omega arith
 
     first : first_of (own_segments r) ≡ 0
     first = ap first_of (own_here r 0 shaped frames)
 
-at_begin : (way : Transfer) (number size : ℕ) (r : Request) → r.transfer ≡ way → IsShaped r → (let t : Work = job_as way number size r in AtWork r t t.stage)
-at_begin transfer.Flush number size r is shaped = (is, refl)
-at_begin (transfer.Discard sectors) number size r is shaped = (is, refl, refl)
-at_begin transfer.Read number size r is shaped = begins_moving false number size r shaped (ap is_moving is) (ap is_write is)
-at_begin (transfer.Write tag) number size r is shaped = begins_moving true number size r shaped (ap is_moving is) (ap is_write is)
-at_begin (transfer.Barrier tag) number size r is shaped = begins_moving true number size r shaped (ap is_moving is) (ap is_write is)
+begins_copying : (writes : Bool) (number size : ℕ) (r : Request) → is_indirect r.count ≡ true → r.sector + r.count ≤ size → is_write r.transfer ≡ writes
+    → (let t : Work = paging number (entry_request r) size writes r.sector (frames_for r.count) (page_references r) in AtWork r t job.MapPage)
+begins_copying writes number size r large fits same =
+    let many : 11 < frames_for r.count = grind (arith, nat_tests) in
+    let pages : pages_for r.count ≡ (frames_for r.count + 511) / 512 = rw large refl in (
+      0,
+      record {
+        here = omega arith;
+        large = large;
+        writes = sym same;
+        named = refl;
+        rest = refl;
+        few = omega arith;
+        pages = refl;
+        moved = refl;
+        disk = refl;
+        fits = fits;
+        words = refl;
+      },
+      refl,
+      omega arith,
+    )
+
+at_begin : (way : Transfer) (number size : ℕ) (r : Request) → r.transfer ≡ way → IsShaped r → r.sector + named_of way r.count ≤ size → (let t : Work = job_as way number size r in AtWork r t t.stage)
+at_begin transfer.Flush number size r is shaped fits = (is, refl)
+at_begin (transfer.Discard sectors) number size r is shaped fits = (is, refl, refl)
+at_begin transfer.Read number size r is shaped fits = moves (is_indirect r.count) refl
+  where
+    moves : (b : Bool) → is_indirect r.count ≡ b → (let t : Work = moving_as b transfer.Read number size r in AtWork r t t.stage)
+    moves true large = begins_copying false number size r large fits (ap is_write is)
+    moves false direct = begins_moving false number size r shaped (ap is_moving is) (ap is_write is)
+at_begin (transfer.Write tag) number size r is shaped fits = moves (is_indirect r.count) refl
+  where
+    moves : (b : Bool) → is_indirect r.count ≡ b → (let t : Work = moving_as b (transfer.Write tag) number size r in AtWork r t t.stage)
+    moves true large = begins_copying true number size r large fits (ap is_write is)
+    moves false direct = begins_moving true number size r shaped (ap is_moving is) (ap is_write is)
+at_begin (transfer.Barrier tag) number size r is shaped fits = moves (is_indirect r.count) refl
+  where
+    moves : (b : Bool) → is_indirect r.count ≡ b → (let t : Work = moving_as b (transfer.Barrier tag) number size r in AtWork r t t.stage)
+    moves true large = begins_copying true number size r large fits (ap is_write is)
+    moves false direct = begins_moving true number size r shaped (ap is_moving is) (ap is_write is)
 
 -- that job is the one of the request
 pub is_work : (submitted : List Request) (fetched size sectors : ℕ) (number : ℕ) (r : Request)
     → number ≡ fetched + 1
     → slice_get submitted fetched ≡ Some r
     → IsSubmitted sectors fetched r
+    → size ≡ sectors
     → IsWork submitted (fetched + 1) (job_as r.transfer number size r)
-is_work submitted fetched size sectors number r e known s =
+is_work submitted fetched size sectors number r e known s whole =
     let t : Work = job_as r.transfer number size r in
-    let it : IsJobOf r.transfer number r t = is_job r.transfer number size r refl in
+    let it : IsJobOf r.transfer number r t = is_job r.transfer number size r s.shaped refl in
     let before : t.number - 1 ≡ fetched = omega (arith, it.numbered) in
     record {
       r = r;
@@ -173,7 +310,7 @@ is_work submitted fetched size sectors number r e known s =
       reached = omega (arith, it.numbered);
       id = it.id ∙ (s.number ∙ (sym e ∙ sym it.numbered));
       op = it.op;
-      at = at_begin r.transfer number size r refl s.shaped;
+      at = at_begin r.transfer number size r refl s.shaped (let fits = s.sector in omega arith);
     }
 
 -- the jobs with it

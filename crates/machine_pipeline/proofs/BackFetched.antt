@@ -142,13 +142,13 @@ goes_fetched config w g d k shown given r words p known e = subst (λ (ws : List
     sub = subst (λ (sectors : ℕ). IsSubmitted sectors g.fetched r) h.sized.sectors (h.submitted.each g.fetched r known)
 
     made : t ≡ job_as r.transfer (next_number w.back) w.back.jobs.info.sectors r
-    made = ap (λ (i : DiskInfo). begun (next_number w.back) (request_of w.back.shape.abi (entry_of w.back.shape.abi r)) w.back.jobs.info.sectors (verdict_of (request_of w.back.shape.abi (entry_of w.back.shape.abi r)) i)) h.info ∙ entry_job w.back.shape.abi config (next_number w.back) w.back.jobs.info.sectors g.fetched r p.plain (omega (arith, x.few, x.all, x.fetched_pushed)) sub (h.sized.writable g.fetched r known) (h.sized.served g.fetched r known)
+    made = ap (λ (i : DiskInfo). begun (next_number w.back) (request_of w.back.shape.abi (entry_of w.back.shape.abi r)) w.back.jobs.info.sectors (verdict_of (request_of w.back.shape.abi (entry_of w.back.shape.abi r)) i)) h.info ∙ entry_job w.back.shape.abi config (next_number w.back) w.back.jobs.info.sectors g.fetched r p.plain (omega (arith, x.few, x.all, x.fetched_pushed)) sub (h.sized.writable g.fetched r known) (h.sized.served g.fetched r known) (h.sized.short g.fetched r known)
 
     it : IsJobOf r.transfer (next_number w.back) r t
-    it = subst (IsJobOf r.transfer (next_number w.back) r) (sym made) (is_job r.transfer (next_number w.back) w.back.jobs.info.sectors r refl)
+    it = subst (IsJobOf r.transfer (next_number w.back) r) (sym made) (is_job r.transfer (next_number w.back) w.back.jobs.info.sectors r sub.shaped refl)
 
     is : IsWork g.submitted (g.fetched + 1) t
-    is = subst (λ (u : Work). IsWork g.submitted (g.fetched + 1) u) (sym made) (is_work g.submitted g.fetched w.back.jobs.info.sectors config.sectors (next_number w.back) r number known sub)
+    is = subst (λ (u : Work). IsWork g.submitted (g.fetched + 1) u) (sym made) (is_work g.submitted g.fetched w.back.jobs.info.sectors config.sectors (next_number w.back) r number known sub (ap (λ (i : DiskInfo). i.sectors) h.info))
 
     s : Stepped None IsSame d [] (λ p. AreStations config (record g { fetched = g.fetched + 1 }) p (is_ready w.front.stage) (is_issuing w.front.stage) false (ending_at w.front.stage w.front.ending) (telling_at w.front.stage) None w.front.requests (w.back.jobs.works ++ t ∷ []) w.under.pages)
     s = fetches config g d (is_ready w.front.stage) (is_issuing w.front.stage) (ending_at w.front.stage w.front.ending) (telling_at w.front.stage) None w.front.requests w.back.jobs.works w.under.pages t (omega (arith, x.back_to, h.back_at.2)) (it.numbered ∙ number) it.unmoved (it.unread w.under.pages) h.stations

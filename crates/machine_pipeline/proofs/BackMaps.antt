@@ -86,7 +86,7 @@ granted_still pushed old new live h s r apart same was = record {
   named = λ le place lt. let entry = same place lt in entry.frame ∙ was.named le place lt;
   named_next = λ e place t lt. let entry = same place lt in entry.frame ∙ was.named_next e place t lt;
   flags = λ le place lt. let entry = same place lt in entry.flags
-      ∙ (was.flags le place lt ∙ ap (λ (n : ℕ). flags_with r.transfer n) (sym (mapped_beside live h (frame_at r place + 6) (apart place lt))));
+      ∙ (was.flags le place lt ∙ ap (λ (n : ℕ). flags_with r place n) (sym (mapped_beside live h (frame_at r place + 6) (apart place lt))));
   flags_next = λ e place t lt. let entry = same place lt in entry.flags ∙ was.flags_next e place t lt;
 }
 

@@ -16,10 +16,10 @@ use Rattle.blk_front.specs.declared.request.Transfer.{Transfer}
 use Rattle.blk_front.specs.declared.request.Transfer.TheVariants as transfer
 use Rattle.blk_front.specs.declared.stage.Ending.{Ending}
 use Rattle.blk_front.specs.declared.told.Told.TheVariants as told
-use Rattle.blk_front.specs.Request.{has_data, words_in}
+use Rattle.blk_front.specs.Request.{has_data, words_in, is_indirect, naming_words}
 use Rattle.blk_front.specs.View.{View, next_request}
 use Rattle.blk_front.specs.Entry.{entry_of}
-use Rattle.blk_front.specs.Step.{at, broken, looked, begun, data_stage, granted, loop_step, issued, response_at, is_mapped, finished, ended, revoked, sector_told, data_step, ring_left, step_at}
+use Rattle.blk_front.specs.Step.{at, broken, looked, begun, after_data, data_stage, page_stage, granted, loop_step, issued, response_at, is_mapped, finished, ended, revoked, sector_told, data_step, ring_left, step_at}
 use Rattle.blk_front.specs.Submit.{is_connected}
 use Rattle.blk_front.specs.declared.state.FrontState.{FrontState}
 use Rattle.blk_front.specs.declared.state.FrontState.TheVariants as state
@@ -48,7 +48,7 @@ looked_on v word otherwise p =
     (either (word == v.ring.cons) otherwise (record v { seen = word; stage = front.Loop }) p refl)
 
 begun_on : (v : View) (r : Request) (way : Transfer) → IsOn (begun v r way)
-begun_on v r transfer.Read = refl
+begun_on v r transfer.Read = either_stage (is_indirect r.count) (front.Pages 1) (front.GrantFence 0) refl refl
 begun_on v r (transfer.Write tag) = refl
 begun_on v r (transfer.Barrier tag) = refl
 begun_on v r transfer.Flush = refl
@@ -69,7 +69,12 @@ response_on v (Ok response) low (Some found) = either (length found.1.frames.ite
 
 data_stage_on : (next : Option Request) (n : ℕ) → is_connected (data_stage next n) ≡ true
 data_stage_on None n = refl
-data_stage_on (Some r) n = either_stage (nat_lt (n + 1) (words_in r)) (front.Data (n + 1)) (front.GrantFrame 0) refl refl
+data_stage_on (Some r) n =
+    either_stage (nat_lt (n + 1) (words_in r)) (front.Data (n + 1)) (after_data r) refl (either_stage (is_indirect r.count) (front.Pages 0) (front.GrantFrame 0) refl refl)
+
+page_stage_on : (next : Option Request) (n : ℕ) → is_connected (page_stage next n) ≡ true
+page_stage_on None n = refl
+page_stage_on (Some r) n = either_stage (nat_lt (n + 1) (naming_words r)) (front.Pages (n + 1)) (front.GrantFrame 0) refl refl
 
 granted_on : (v : View) (next : Option Request) (place : ℕ) → IsOn v → IsOn (granted next place v)
 granted_on v None place p = p
@@ -100,6 +105,7 @@ step_on (front.RingFlags page) v x p e = absurd (true≢false (sym e))
 step_on front.NewPort v x p e = refl
 step_on front.Loop v x p e = loop_on v (next_request v) x p
 step_on (front.Data n) v x p e = data_stage_on (next_request v) n
+step_on (front.Pages n) v x p e = page_stage_on (next_request v) n
 step_on (front.GrantFrame place) v x p e = refl
 step_on (front.GrantFence place) v x p e = refl
 step_on (front.GrantFlags place) v x p e = granted_on v (next_request v) place p

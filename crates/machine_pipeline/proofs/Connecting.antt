@@ -94,6 +94,7 @@ becomes_ready config w g d offers published h = record {
       barrier = published.barrier ∙ ap (λ (i : DiskInfo). i.barrier) h.info;
       flush = published.flush ∙ ap (λ (i : DiskInfo). i.flush) h.info;
       discard = published.discard ∙ ap (λ (i : DiskInfo). i.discard) h.info;
+      indirect = published.indirect ∙ ap (λ (i : DiskInfo). i.max_indirect) h.info;
     };
     back_at = h.back_at;
     unhalted = h.unhalted;
@@ -219,7 +220,7 @@ agrees config w g d order plain wished unmade h =
     x = h.indices
 
     none : g.pushed ≡ 0
-    none = (subst (λ (b : Bool). IsOffered b config.read_only w.front.offers g.pushed w.front.last) (unmade_unready w.front.stage unmade) h.offered).0
+    none = (subst (λ (b : Bool). IsOffered b config.read_only config.indirect w.front.offers g.pushed w.front.last) (unmade_unready w.front.stage unmade) h.offered).0
 
     pushed : (g.taken ≤ g.pushed) × (g.front_seen ≤ g.pushed)
     pushed = (omega (arith, x.taken_replied, x.replied_fetched, x.fetched_pushed), omega (arith, x.front_to, x.replied_fetched, x.fetched_pushed))

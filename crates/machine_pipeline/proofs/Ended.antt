@@ -1,5 +1,6 @@
 -- The front reads a grant entry, ends it, and tells the answer: what all that holds becomes.
 use Rattle.std.proofs.Common.{◌≡◌, ◌≢◌, ℕ, ◌+◌, ◌-◌, ◌*◌, ◌<◌, ◌≤◌, ◌==◌, ◌⊎◌, inl, inr, if◌then◌else◌, Bool, true, List, [], ◌∷◌, refl, ap, sym, ◌∙◌, subst, arith, true≢false, length-set, false, length, ◌^◌}
+use Rattle.std.proofs.lemmas.Bool.{cases_eq}
 use Rattle.std.specs.Prelude.{Option, Some, None, slice_get, nat_lt}
 use Rattle.std.proofs.lemmas.Option.{none-some, same_Some}
 use Rattle.std.proofs.lemmas.Bool.Decides.{nat_tests}
@@ -16,7 +17,7 @@ use Rattle.blk_base.specs.declared.operation.Status.TheVariants.{Okay}
 use Rattle.blk_front.specs.declared.request.Request.{Request}
 use Rattle.blk_front.specs.declared.request.Transfer.{Transfer}
 use Rattle.blk_front.specs.declared.request.Transfer.TheVariants as transfer
-use Rattle.blk_front.specs.Request.{grant_flags, has_data, frame_at, words_in, IsShaped}
+use Rattle.blk_front.specs.Request.{grant_flags, flags_at, frames_for, pages_for, has_data, frame_at, words_in, IsShaped}
 use Rattle.blk_front.specs.Ask.{revoke_ask, end_ask}
 use Rattle.blk_front.specs.Pool.{with_all_free}
 use Rattle.blk_front.specs.Submit.{is_ready, ending_of}
@@ -80,7 +81,7 @@ ends_on config w g d d' s s' ending pool words pages i i' restless unarmed fewer
   info = h.info;
   replies = h.replies;
   front_at = at;
-  offered = subst (λ (b : Bool). IsOffered b config.read_only w.front.offers g.pushed w.front.last) (i.ready ∙ sym i'.ready) h.offered;
+  offered = subst (λ (b : Bool). IsOffered b config.read_only config.indirect w.front.offers g.pushed w.front.last) (i.ready ∙ sym i'.ready) h.offered;
   back_at = h.back_at;
   unhalted = h.unhalted;
   memory = sized;
@@ -114,10 +115,17 @@ ends_on config w g d d' s s' ending pool words pages i i' restless unarmed fewer
     by_wake (inr (inr sends)) = absurd (i.quiet g.pushed g.fetched sends)
 
 -- a granted frame isn't mapped
-unmapped_flags : (way : Transfer) → is_mapped (grant_flags way) ≡ false
-unmapped_flags (transfer.Write tag) = refl
-unmapped_flags (transfer.Barrier tag) = refl
-unmapped_flags way = refl
+unmapped_way : (way : Transfer) → is_mapped (grant_flags way) ≡ false
+unmapped_way (transfer.Write tag) = refl
+unmapped_way (transfer.Barrier tag) = refl
+unmapped_way way = refl
+
+unmapped_flags : (r : Request) (place : ℕ) → is_mapped (flags_at r place) ≡ false
+unmapped_flags r place = by_place (nat_lt place (frames_for r.count))
+  where
+    by_place : (b : Bool) → is_mapped (if b then grant_flags r.transfer else 5) ≡ false
+    by_place true = unmapped_way r.transfer
+    by_place false = refl
 
 -- the moves at these stages, by the request that is ending
 abbrev pub ActGoes : Options → World → Pipeline → FrontStage → FrontAsk → Type 0
@@ -159,18 +167,21 @@ grant_read_goes config w g d place told h =
     word = word_of w.under.pages (entry_frame frame) (entry_word frame)
 
     flags : ℕ
-    flags = grant_flags e.request.transfer
+    flags = flags_at e.request place
 
     entries : AreEntries g.pushed w.under.pages w.under.grants.live (front.GrantRead place) w.front.ending w.front.requests
     entries = h.entries
 
     stepped : end_step w.front place word ≡ at_stage (front.GrantEnd place flags) w.front
     stepped = ap (end_step w.front place) (entries.ending e here place (omega arith) at.3)
-        ∙ ap (λ (b : Bool). if b then broken flags w.front else at_stage (front.GrantEnd place flags) w.front) (unmapped_flags e.request.transfer)
+        ∙ ap (λ (b : Bool). if b then broken flags w.front else at_stage (front.GrantEnd place flags) w.front) (unmapped_flags e.request place)
 
 -- a request that has a frame has a word of data
 some_word : (r : Request) (place : ℕ) → IsShaped r → place < frames_of r → 0 < words_in r
-some_word r place shaped within = let frames = shaped.frames in omega arith
+some_word r place shaped within = elim (cases_eq r.count 0) [
+  | inl none ↦ (let frames = shaped.frames in let pages : pages_for r.count ≡ 0 = rw none refl in omega arith)
+  | inr some ↦ omega arith
+]
 
 -- a read that went well has data, and nothing else has
 data_are : (way : Transfer) (status : Status) → has_data way status ≡ true → (way ≡ transfer.Read) × (status ≡ Okay)
@@ -189,7 +200,7 @@ grant_end_goes config w g d place before untold h =
     (subst (λ (ps : List ℕ). Becomes (revoked_by (Some e) place w.front) ps) (sym changed)
     (by_more (nat_lt (place + 1) (frames_of e.request)) refl)))
   where
-    at : IsEndingAt g.submitted g.replies w.front.ending (λ x. (place < frames_of x.request) × (before ≡ grant_flags x.request.transfer))
+    at : IsEndingAt g.submitted g.replies w.front.ending (λ x. (place < frames_of x.request) × (before ≡ flags_at x.request place))
     at = h.front_at
 
     e : Ending
@@ -273,7 +284,7 @@ grant_end_goes config w g d place before untold h =
     -- and so are those of its own frames that are left
     left : AreRevoked pages (front.GrantRead (place + 1)) w.front.ending
     left x same = subst (λ (y : Ending). (a : ℕ) → place + 1 ≤ a → a < frames_of y.request
-        → entry_word0 pages (frame_at y.request a + 6) ≡ grant_flags y.request.transfer) (same_Some e x (sym here ∙ same)) (λ a le lt.
+        → entry_word0 pages (frame_at y.request a + 6) ≡ flags_at y.request a) (same_Some e x (sym here ∙ same)) (λ a le lt.
         let in_pool = pooled_at e.request its.frames a in
         let apart = ending_own_apart w.front.pool w.front.requests e owned a place (omega arith) lt within in_pool in
         let kept = apart_entry (frame_at e.request a + 6) (let top = in_pool.1 in omega arith) (λ same. apart (omega arith)) in

@@ -1,5 +1,6 @@
 -- What passes through the ring, by whole indices in place of its wrapped words: whole indices, each request that was ever submitted, and the responses on their way.
-use Rattle.std.specs.Prelude.{ℕ, ◌+◌, ◌/◌, ◌%◌, ◌^◌, ◌==◌, Bool, true, false, List, [], length, take, count_by, Option, Some, None}
+use Rattle.std.specs.Prelude.{ℕ, ◌+◌, ◌-◌, ◌*◌, ◌/◌, ◌%◌, ◌^◌, ◌==◌, ◌&&◌, Bool, true, false, List, [], length, map, max, count_by, Option, Some, None, if◌then◌else◌, nat_lt}
+use Rattle.std.specs.List.{range_with_len}
 use Rattle.blk_base.specs.declared.config.Job.{Job}
 use Rattle.blk_base.specs.declared.config.Job.TheVariants as jobs
 use Rattle.ring_words.specs.Shape.{Shape}
@@ -10,7 +11,7 @@ use Rattle.blk_front.specs.declared.request.Transfer.TheVariants as transfer
 use Rattle.blk_front.specs.declared.stage.Ending.{Ending}
 use Rattle.blk_front.specs.declared.stage.Stage.{Stage as FrontStage}
 use Rattle.blk_front.specs.declared.stage.Stage.TheVariants as front
-use Rattle.blk_front.specs.Request.{frames_for, frame_at, segments_of}
+use Rattle.blk_front.specs.Request.{is_write, frames_for, is_indirect, words_in, naming_words, frame_at, filling_at, naming_at, segment_at}
 use Rattle.xen_pages.specs.Pages.{word_of}
 use Rattle.back_jobs.specs.declared.stage.Stage.{Stage as JobStage}
 use Rattle.back_jobs.specs.declared.stage.Stage.TheVariants as job
@@ -60,9 +61,10 @@ granted_pages (front.RingFence page) pages = page
 granted_pages (front.RingFlags page) pages = page
 granted_pages s pages = pages
 
--- a request is being issued: its data, its grant, its entry, and then the producer
+-- a request is being issued: its data, its indirect pages, its grants, its entry, and then the producer
 abbrev pub is_issuing : FrontStage → Bool
 is_issuing (front.Data n) = true
+is_issuing (front.Pages n) = true
 is_issuing (front.GrantFrame place) = true
 is_issuing (front.GrantFence place) = true
 is_issuing (front.GrantFlags place) = true
@@ -70,30 +72,31 @@ is_issuing (front.Slot k) = true
 is_issuing front.Producer = true
 is_issuing s = false
 
--- of the request that is being issued: how many words of its data were written (all are, once its frames are granted), how many of its frames stand in their grant entries, and how many are granted
-abbrev pub filled : FrontStage → ℕ
-filled (front.Data n) = n
-filled (front.GrantFrame place) = 11264
-filled (front.GrantFence place) = 11264
-filled (front.GrantFlags place) = 11264
-filled (front.Slot k) = 11264
-filled front.Producer = 11264
-filled s = 0
+-- of the request that is being issued, whose data have so many frames: how far the words of its frames were written, those of its data first and then those of its indirect pages (all are, once its frames are granted), how many of its frames stand in their grant entries, and how many are granted
+abbrev pub filled : FrontStage → (frames : ℕ) → ℕ
+filled (front.Data n) frames = n
+filled (front.Pages n) frames = 1024 * frames + n
+filled (front.GrantFrame place) frames = 1024 * frames + 1920
+filled (front.GrantFence place) frames = 1024 * frames + 1920
+filled (front.GrantFlags place) frames = 1024 * frames + 1920
+filled (front.Slot k) frames = 1024 * frames + 1920
+filled front.Producer frames = 1024 * frames + 1920
+filled s frames = 0
 
 abbrev pub named_frames : FrontStage → ℕ
 named_frames (front.GrantFrame place) = place
 named_frames (front.GrantFence place) = place + 1
 named_frames (front.GrantFlags place) = place + 1
-named_frames (front.Slot k) = 11
-named_frames front.Producer = 11
+named_frames (front.Slot k) = 962
+named_frames front.Producer = 962
 named_frames s = 0
 
 abbrev pub granted_frames : FrontStage → ℕ
 granted_frames (front.GrantFrame place) = place
 granted_frames (front.GrantFence place) = place
 granted_frames (front.GrantFlags place) = place
-granted_frames (front.Slot k) = 11
-granted_frames front.Producer = 11
+granted_frames (front.Slot k) = 962
+granted_frames front.Producer = 962
 granted_frames s = 0
 
 abbrev pub entered : FrontStage → ℕ
@@ -153,6 +156,7 @@ is_front_arming s = false
 abbrev pub may_front_sleep : FrontStage → Bool
 may_front_sleep front.Loop = true
 may_front_sleep (front.Data n) = true
+may_front_sleep (front.Pages n) = true
 may_front_sleep (front.GrantFrame place) = true
 may_front_sleep (front.GrantFence place) = true
 may_front_sleep (front.GrantFlags place) = true
@@ -227,8 +231,24 @@ job_of (transfer.Discard sectors) sector count = jobs.Discard sector sectors
 
 -- its own segments
 abbrev pub own_segments : Request → List Segment
-own_segments r = take (frames_for r.count) (segments_of r)
+own_segments r = map (segment_at r) (range_with_len 0 (frames_for r.count))
 
--- word n of its data, as memory has it
+-- word n of its frames, those of its data and then its indirect pages, as memory has it
 abbrev pub data_word : List ℕ → Request → ℕ → ℕ
 data_word pages r n = word_of pages (frame_at r (n / 1024)) (n % 1024)
+
+-- the words of its frames are so many at most
+abbrev pub span : Request → ℕ
+span r = max (words_in r) (1024 * frames_of r)
+
+-- its segments take so many words of its indirect pages
+abbrev pub naming_in : Request → ℕ
+naming_in r = if is_indirect r.count then naming_words r else 0
+
+-- word n of its frames is one that the front writes before it grants them: of the data of a write, or of its indirect pages
+abbrev pub is_own : Request → ℕ → Bool
+is_own r n = if nat_lt n (1024 * frames_for r.count) then is_write r.transfer && nat_lt n (words_in r) else nat_lt n (1024 * frames_for r.count + naming_in r)
+
+-- and the front writes this there
+abbrev pub own_value : Request → ℕ → ℕ
+own_value r n = if nat_lt n (1024 * frames_for r.count) then filling_at r.transfer n else naming_at r (n - 1024 * frames_for r.count)

@@ -14,7 +14,7 @@ use Rattle.grant_table.specs.declared.held.Held.{Held}
 use Rattle.grant_table.specs.Table.{entry_word0, entry_word1}
 use Rattle.pipeline_laws.specs.Pipeline.{Pipeline}
 use Rattle.blk_front.specs.declared.request.Request.{Request}
-use Rattle.blk_front.specs.Request.{grant_flags, frame_at}
+use Rattle.blk_front.specs.Request.{flags_at, frame_at}
 use Rattle.blk_front.specs.Ask.{name_ask, grant_ask}
 use Rattle.blk_front.specs.declared.stage.Ending.{Ending}
 use Rattle.blk_front.specs.declared.stage.Stage.{Stage as FrontStage}
@@ -54,7 +54,7 @@ abbrev pub AreNamed : List ℕ → Request → ℕ → Type 0
 AreNamed pages r n = (a : ℕ) → a < n → a < frames_of r → entry_word1 pages (frame_at r a + 6) ≡ frame_at r a
 
 abbrev pub AreGranted : List ℕ → Request → ℕ → Type 0
-AreGranted pages r n = (a : ℕ) → a < n → a < frames_of r → entry_word0 pages (frame_at r a + 6) ≡ grant_flags r.transfer
+AreGranted pages r n = (a : ℕ) → a < n → a < frames_of r → entry_word0 pages (frame_at r a + 6) ≡ flags_at r a
 
 -- the memory with a frame in the entry of its own reference, or with its flags there
 abbrev pub with_name : List ℕ → (frame value : ℕ) → List ℕ
@@ -133,7 +133,7 @@ entry_on : (config : Options) (w : World) (g : Flow) (d : Pipeline) (s s' : Fron
     → place < frames_of r
     → word < 1024
     → SameOthers w.under.pages (with_word w.under.pages ((frame_at r place + 6) / 512) word value) (frame_at r place + 6)
-    → filled s' ≤ filled s → entered s' ≡ 0
+    → ((frames : ℕ) → filled s' frames ≤ filled s frames) → entered s' ≡ 0
     → FrontAt g.shape g.start g.pushed g.taken g.front_seen g.submitted g.replies (next_request w.front) entry w.front.ending s'
     → AreNamed (with_word w.under.pages ((frame_at r place + 6) / 512) word value) r (named_frames s')
     → AreGranted (with_word w.under.pages ((frame_at r place + 6) / 512) word value) r (granted_frames s')
@@ -186,29 +186,29 @@ granted_now : (pages : List ℕ) (r : Request) (place : ℕ) → length pages �
     → AreNamed pages r (place + 1)
     → AreGranted pages r place
     → (a : ℕ) → a < place + 1 → a < frames_of r
-    → (entry_word1 (with_flags pages (frame_at r place) (grant_flags r.transfer)) (frame_at r a + 6) ≡ frame_at r a)
-    × (entry_word0 (with_flags pages (frame_at r place) (grant_flags r.transfer)) (frame_at r a + 6) ≡ grant_flags r.transfer)
+    → (entry_word1 (with_flags pages (frame_at r place) (flags_at r place)) (frame_at r a + 6) ≡ frame_at r a)
+    × (entry_word0 (with_flags pages (frame_at r place) (flags_at r place)) (frame_at r a + 6) ≡ flags_at r a)
 granted_now pages r place sized pooled own here named before a upto in_it = by_test (a == place) refl
   where
     pool : (b : ℕ) → frame_at r b < 1018
     pool b = let its = pooled_at r pooled b in its.1
 
     new : List ℕ
-    new = with_flags pages (frame_at r place) (grant_flags r.transfer)
+    new = with_flags pages (frame_at r place) (flags_at r place)
 
     by_test : (t : Bool) → (a == place) ≡ t → (entry_word1 new (frame_at r a + 6) ≡ frame_at r a)
-        × (entry_word0 new (frame_at r a + 6) ≡ grant_flags r.transfer)
+        × (entry_word0 new (frame_at r a + 6) ≡ flags_at r a)
     by_test true t =
         let same : a ≡ place = grind (arith, nat_tests) in
         let high = pool place in
         rw same (
-          other_word pages ((frame_at r place + 6) / 512) (2 * ((frame_at r place + 6) % 512)) (grant_flags r.transfer) (2 * ((frame_at r place + 6) % 512) + 1) (omega arith) ∙ named place (omega arith) here,
-          written pages ((frame_at r place + 6) / 512) (2 * ((frame_at r place + 6) % 512)) (grant_flags r.transfer) sized (omega arith) (omega arith),
+          other_word pages ((frame_at r place + 6) / 512) (2 * ((frame_at r place + 6) % 512)) (flags_at r place) (2 * ((frame_at r place + 6) % 512) + 1) (omega arith) ∙ named place (omega arith) here,
+          written pages ((frame_at r place + 6) / 512) (2 * ((frame_at r place + 6) % 512)) (flags_at r place) sized (omega arith) (omega arith),
         )
     by_test false t =
         let other : a ≢ place = grind (arith, nat_tests) in
         let differs = own a place other in_it here in
-        let entry = other_entry pages (frame_at r place + 6) (frame_at r a + 6) (grant_flags r.transfer) (omega (arith, pool place)) (omega (arith, pool a))
+        let entry = other_entry pages (frame_at r place + 6) (frame_at r a + 6) (flags_at r place) (omega (arith, pool place)) (omega (arith, pool a))
         (λ same. differs (omega arith)) in
         (entry.frame ∙ named a upto in_it, entry.flags ∙ before a (omega arith) in_it)
 
@@ -237,7 +237,7 @@ frame_goes config w g d place safe h = subst (λ (q : Option Request). NameGoes 
       does = said_nothing d _ w.front.told safe.front_told;
       holds = entry_on config w g d (front.GrantFrame place) (front.GrantFence place) r place w.front.entry (2 * ((frame_at r place + 6) % 512) + 1) (frame_at r place) refl refl refl h next h.front_at.2 (omega arith)
           (λ other lt apart. other_named w.under.pages (frame_at r place + 6) other (frame_at r place) (omega (arith, pooled.1)) lt apart)
-          (omega arith) refl h.front_at
+          (λ frames. omega arith) refl h.front_at
           (named_now w.under.pages r place h.memory next.frames next.own h.front_at.2 (was.named_next next.number))
           (flags_still w.under.pages r place (frame_at r place) next.frames next.own h.front_at.2 (was.flags_next next.number))
           (λ sends. sends);
@@ -250,7 +250,7 @@ fence_goes config w g d place safe h = record {
   does = said_nothing d _ w.front.told safe.front_told;
   holds = issue_kept config w g d (front.GrantFence place) (front.GrantFlags place) w.front.entry w.under.pages refl refl refl h h.front_at h.memory (λ f low high x lt. refl) (λ x lt. refl) (λ page lt. record { flags = refl; frame = refl })
       (slots_turned g.shape g.start g.fetched g.pushed g.taken g.replied g.submitted g.replies w.under.pages w.under.pages (front.GrantFence place) (front.GrantFlags place) w.back.stage h.shaped.narrow (λ f x from to in_it behind. refl) refl h.slots)
-      (frames_turned g.pushed w.under.pages w.under.pages (front.GrantFence place) (front.GrantFlags place) w.front.requests (omega arith) (λ n x lt i l. refl) h.frames)
+      (frames_turned g.pushed w.under.pages w.under.pages (front.GrantFence place) (front.GrantFlags place) w.front.requests (λ frames. omega arith) (λ n x lt i l. refl) h.frames)
       (entries_turned g.pushed w.under.pages w.under.pages w.under.grants.live (front.GrantFence place) (front.GrantFlags place) w.front.ending w.front.requests refl (omega arith) (omega arith) (λ n x lt a in_it. record { flags = refl; frame = refl }) h.entries)
       (λ t sends. sends);
 }
@@ -281,21 +281,21 @@ flags_goes config w g d place safe h = subst (λ (q : Option Request). GrantGoes
     was = all_at (IsGranted g.pushed w.under.pages w.under.grants.live (front.GrantFlags place)) w.front.requests (length w.front.requests - w.front.waiting) r h.entries.each next.place
 
     new : List ℕ
-    new = with_flags w.under.pages (frame_at r place) (grant_flags r.transfer)
+    new = with_flags w.under.pages (frame_at r place) (flags_at r place)
 
     now : (a : ℕ) → a < place + 1 → a < frames_of r → (entry_word1 new (frame_at r a + 6) ≡ frame_at r a)
-        × (entry_word0 new (frame_at r a + 6) ≡ grant_flags r.transfer)
+        × (entry_word0 new (frame_at r a + 6) ≡ flags_at r a)
     now = granted_now w.under.pages r place h.memory next.frames next.own h.front_at.2 (was.named_next next.number) (was.flags_next next.number)
 
-    on : (s' : FrontStage) (entry : List ℕ) → may_front_sleep s' ≡ true → is_issuing s' ≡ true → filled s' ≤ 11264 → entered s' ≡ 0
+    on : (s' : FrontStage) (entry : List ℕ) → may_front_sleep s' ≡ true → is_issuing s' ≡ true → ((frames : ℕ) → filled s' frames ≤ 1024 * frames + 1920) → entered s' ≡ 0
         → FrontAt g.shape g.start g.pushed g.taken g.front_seen g.submitted g.replies (next_request w.front) entry w.front.ending s'
         → ((a : ℕ) → a < named_frames s' → a < frames_of r → a < place + 1)
         → ((a : ℕ) → a < granted_frames s' → a < frames_of r → a < place + 1)
         → Holds config (with_front w s' entry new) g d s' w.back.stage
     on s' entry i' same filled_few none at few fewer =
         let pooled = pooled_at r next.frames place in
-        entry_on config w g d (front.GrantFlags place) s' r place entry (2 * ((frame_at r place + 6) % 512)) (grant_flags r.transfer) refl i' same h next h.front_at.2 (omega arith)
-        (λ other lt apart. other_entry w.under.pages (frame_at r place + 6) other (grant_flags r.transfer) (omega (arith, pooled.1)) lt apart)
+        entry_on config w g d (front.GrantFlags place) s' r place entry (2 * ((frame_at r place + 6) % 512)) (flags_at r place) refl i' same h next h.front_at.2 (omega arith)
+        (λ other lt apart. other_entry w.under.pages (frame_at r place + 6) other (flags_at r place) (omega (arith, pooled.1)) lt apart)
         filled_few none at
         (λ a upto in_it. let its = now a (few a upto in_it) in_it in its.0) (λ a upto in_it. let its = now a (fewer a upto in_it) in_it in its.1)
         (λ sends. sends)
@@ -303,13 +303,13 @@ flags_goes config w g d place safe h = subst (λ (q : Option Request). GrantGoes
     by_test : (b : Bool) → nat_lt (place + 1) (frames_of r) ≡ b
         → (let x : View = (if b then at (front.GrantFrame (place + 1)) w.front else record w.front { stage = front.Slot 0; entry = entry_of w.front.shape.abi r }) in
         Goes config
-        (lines.Move (moves.FrontWrite ((frame_at r place + 6) / 512) (2 * ((frame_at r place + 6) % 512)) (grant_flags r.transfer)) ∷ front_lines x.told)
+        (lines.Move (moves.FrontWrite ((frame_at r place + 6) / 512) (2 * ((frame_at r place + 6) % 512)) (flags_at r place)) ∷ front_lines x.told)
         (record { front = record x { told = None }; back = w.back; under = (let u : Hypervisor = w.under in record u { pages = new }) }) d)
     by_test true t = record {
       flow = g;
       steps = [];
       does = said_nothing d _ w.front.told safe.front_told;
-      holds = on (front.GrantFrame (place + 1)) w.front.entry refl refl (omega arith) refl (r, h.front_at.1, further (place + 1) (frames_of r) t)
+      holds = on (front.GrantFrame (place + 1)) w.front.entry refl refl (λ frames. omega arith) refl (r, h.front_at.1, further (place + 1) (frames_of r) t)
           (λ a upto in_it. upto) (λ a upto in_it. upto);
     }
       where
@@ -319,7 +319,7 @@ flags_goes config w g d place safe h = subst (λ (q : Option Request). GrantGoes
       flow = g;
       steps = [];
       does = said_nothing d _ w.front.told safe.front_told;
-      holds = on (front.Slot 0) (entry_of w.front.shape.abi r) refl refl (omega arith) refl (some_words g.shape.abi, (r, h.front_at.1, ap (λ (x : Shape). entry_of x.abi r) h.shaped.known))
+      holds = on (front.Slot 0) (entry_of w.front.shape.abi r) refl refl (λ frames. omega arith) refl (some_words g.shape.abi, (r, h.front_at.1, ap (λ (x : Shape). entry_of x.abi r) h.shaped.known))
           (λ a upto in_it. last place (frames_of r) t a in_it) (λ a upto in_it. last place (frames_of r) t a in_it);
     }
       where

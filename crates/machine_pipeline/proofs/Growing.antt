@@ -13,7 +13,7 @@ use Rattle.std.proofs.lemmas.List.Folds.{list_any-append}
 use Rattle.blk_base.specs.Options.{Options}
 use Rattle.pipeline_laws.specs.Station.{Request as Asked, is_finished}
 use Rattle.blk_front.specs.declared.request.Request.{Request}
-use Rattle.blk_front.specs.Request.{is_write, is_moving, named_of, IsShaped}
+use Rattle.blk_front.specs.Request.{is_write, is_moving, is_indirect, frames_for, named_of, IsShaped}
 use Rattle.blk_front.specs.declared.stage.Ending.{Ending}
 use Rattle.blk_front.specs.Pool.{with_taken, taking}
 use Rattle.machine_pipeline.proofs.Flow.{frames_of, uses, ending_frames, ending_uses, job_of}
@@ -50,9 +50,9 @@ submitted_more submitted sectors last x number on_disk numbers shaped pooled h =
 }
 
 -- only a read is submitted to a disk that is read-only
-pub disk_more : (config : Options) (sectors : ℕ) (read_only : Bool) (submitted : List Request) (x : Request) → (is_write x.transfer && read_only) ≡ false → (is_moving x.transfer ≡ false → config.read_only ≡ false)
+pub disk_more : (config : Options) (sectors : ℕ) (read_only : Bool) (submitted : List Request) (x : Request) → (is_write x.transfer && read_only) ≡ false → (is_moving x.transfer ≡ false → config.read_only ≡ false) → (is_indirect x.count ≡ true → frames_for x.count ≤ config.indirect)
     → IsOfTheDisk config sectors read_only submitted → IsOfTheDisk config sectors read_only (submitted ++ x ∷ [])
-disk_more config sectors read_only submitted x may serves h = record {
+disk_more config sectors read_only submitted x may serves short h = record {
   sectors = h.sectors;
   read_only = h.read_only;
   writable = λ k r e is. elim (push_was submitted x k r e) [
@@ -62,6 +62,10 @@ disk_more config sectors read_only submitted x may serves h = record {
   served = λ k r e is. elim (push_was submitted x k r e) [
     | inl was ↦ h.served k r was is
     | inr new ↦ serves (ap (λ (y : Request). is_moving y.transfer) (sym new.1) ∙ is)
+  ];
+  short = λ k r e. elim (push_was submitted x k r e) [
+    | inl was ↦ h.short k r was
+    | inr new ↦ subst (λ (y : Request). is_indirect y.count ≡ true → frames_for y.count ≤ config.indirect) (sym new.1) short
   ];
 }
   where

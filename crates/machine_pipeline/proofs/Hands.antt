@@ -19,9 +19,9 @@ use Rattle.blk_back.specs.declared.stage.Stage.TheVariants as back
 use Rattle.ring_words.specs.Shape.{Shape}
 use Rattle.blk_back.specs.View.{no_page}
 use Rattle.blk_back.specs.Hands.{given_up}
-use Rattle.blk_front.specs.Request.{frame_at}
+use Rattle.blk_front.specs.Request.{frames_for, frame_at, IsShaped}
 use Rattle.machine_pipeline.proofs.Flow.{frames_of, uses, ending_uses}
-use Rattle.machine_pipeline.proofs.Holds.{AreQueued, IsPooled, ArePooled, IsHand, AtWork, IsWork, BackAt, PagesAt}
+use Rattle.machine_pipeline.proofs.Holds.{AreQueued, IsPooled, ArePooled, IsHand, IsCopying, AtWork, IsWork, BackAt, PagesAt}
 use Rattle.machine_pipeline.proofs.Stations.{StandsAt, AreOpen, IsTaking, finishing, finishing_kind, kind_of, early_open, apart}
 use Rattle.machine_pipeline.proofs.Lists.{all_at, place_of_any, count_two, count_one, count_none, sum_one, sum_two}
 
@@ -138,20 +138,31 @@ pub record IsHandOf (m : Mapping) (r : Request) : Type 0 where
 hand_of : (n m : Mapping) (r : Request) (place : ℕ) → n ≡ m → place < frames_of r → IsHand n r place → IsHandOf m r
 hand_of n m r place same here hand = record { place = place; here = here; hand = subst (λ (x : Mapping). IsHand x r place) same hand }
 
-hand_at : (r : Request) (t : Work) (s : JobStage) (m : Mapping) → AtWork r t s → mapping_at s ≡ Some m → IsHandOf m r
-hand_at r t job.Map m h e = absurd (none-some m e)
-hand_at r t (job.ReadWord n j) m h e = hand_of n m r h.0.place (same_Some n m e) h.0.here h.1
-hand_at r t (job.DiskWrite n) m h e = hand_of n m r h.0.place (same_Some n m e) h.0.here h.1
-hand_at r t (job.DiskRead n) m h e = hand_of n m r h.0.place (same_Some n m e) h.0.here h.1
-hand_at r t (job.WriteWord n j) m h e = hand_of n m r h.0.place (same_Some n m e) h.0.here h.1
-hand_at r t (job.Unmap n) m h e = hand_of n m r h.0.place (same_Some n m e) h.0.here h.1
-hand_at r t (job.GiveUp n) m h e = hand_of n m r h.0 (same_Some n m e) h.1 h.2
-hand_at r t job.Flush m h e = absurd (none-some m e)
-hand_at r t (job.Trim count) m h e = absurd (none-some m e)
-hand_at r t (job.Done status) m h e = absurd (none-some m e)
+page_of : (n m : Mapping) (r : Request) (t : Work) (page : ℕ) → n ≡ m → IsCopying t r page → IsHand n r (frames_for r.count + page) → IsShaped r → IsHandOf m r
+page_of n m r t page same copies hand shaped = hand_of n m r (frames_for r.count + page) same (let frames = shaped.frames in let here = copies.here in omega arith) hand
 
-pub work_hand : (submitted : List Request) (fetched : ℕ) (t : Work) (m : Mapping) → (h : IsWork submitted fetched t) → mapping_at t.stage ≡ Some m → IsHandOf m h.r
-work_hand submitted fetched t m h e = hand_at h.r t t.stage m h.at e
+-- of its data or of its indirect pages
+data_of : (n m : Mapping) (r : Request) (place : ℕ) → n ≡ m → place < frames_for r.count → IsHand n r place → IsShaped r → IsHandOf m r
+data_of n m r place same here hand shaped = hand_of n m r place same (let frames = shaped.frames in omega arith) hand
+
+hand_at : (r : Request) (t : Work) (s : JobStage) (m : Mapping) → IsShaped r → AtWork r t s → mapping_at s ≡ Some m → IsHandOf m r
+hand_at r t job.MapPage m shaped h e = absurd (none-some m e)
+hand_at r t (job.PageReference n) m shaped h e = page_of n m r t h.page (same_Some n m e) h.copies h.hand shaped
+hand_at r t (job.PageSectors n gref) m shaped h e = page_of n m r t h.0.page (same_Some n m e) h.0.copies h.0.hand shaped
+hand_at r t (job.UnmapPage n) m shaped h e = page_of n m r t h.page (same_Some n m e) h.copies h.hand shaped
+hand_at r t job.Map m shaped h e = absurd (none-some m e)
+hand_at r t (job.ReadWord n j) m shaped h e = data_of n m r h.0.place (same_Some n m e) h.0.here h.1 shaped
+hand_at r t (job.DiskWrite n) m shaped h e = data_of n m r h.0.place (same_Some n m e) h.0.here h.1 shaped
+hand_at r t (job.DiskRead n) m shaped h e = data_of n m r h.0.place (same_Some n m e) h.0.here h.1 shaped
+hand_at r t (job.WriteWord n j) m shaped h e = data_of n m r h.0.place (same_Some n m e) h.0.here h.1 shaped
+hand_at r t (job.Unmap n) m shaped h e = data_of n m r h.0.place (same_Some n m e) h.0.here h.1 shaped
+hand_at r t (job.GiveUp n) m shaped h e = data_of n m r h.0 (same_Some n m e) h.1 h.2 shaped
+hand_at r t job.Flush m shaped h e = absurd (none-some m e)
+hand_at r t (job.Trim count) m shaped h e = absurd (none-some m e)
+hand_at r t (job.Done status) m shaped h e = absurd (none-some m e)
+
+pub work_hand : (submitted : List Request) (fetched : ℕ) (t : Work) (m : Mapping) → (h : IsWork submitted fetched t) → IsShaped h.r → mapping_at t.stage ≡ Some m → IsHandOf m h.r
+work_hand submitted fetched t m h shaped e = hand_at h.r t t.stage m shaped h.at e
 
 pub hands_none : (test : Mapping → Bool) (works : List Work) → ((i : ℕ) (t : Work) (m : Mapping) → slice_get works i ≡ Some t → mapping_at t.stage ≡ Some m → test m ≡ false) → count_by test (hands_in works) ≡ 0
 hands_none test [] none = refl

@@ -15,7 +15,7 @@ use Rattle.pipeline_laws.specs.Pipeline.{Pipeline}
 use Rattle.blk_front.specs.declared.request.Request.{Request}
 use Rattle.blk_front.specs.declared.request.Transfer.{Transfer}
 use Rattle.blk_front.specs.declared.request.Transfer.TheVariants as transfer
-use Rattle.blk_front.specs.Request.{IsCounted}
+use Rattle.blk_front.specs.Request.{frames_for, pages_for, IsCounted}
 use Rattle.blk_front.specs.declared.stage.Ending.{Ending}
 use Rattle.blk_front.specs.View.{next_request}
 use Rattle.split_model.specs.World.{World}
@@ -201,13 +201,24 @@ frames_ones : (requests : List Request) (ending : Option Ending) → sum_by fram
 frames_ones requests None = omega arith
 frames_ones requests (Some e) = let first = sum_by-cons frames_of e.request requests in omega arith
 
--- a request that moves at most 88 sectors needs a frame for each eight of them, and another request none
-few_frames : (way : Transfer) (sector count : ℕ) → IsCounted way count → job_frames (job_of way sector count) ≡ (count + 7) / 8
-few_frames transfer.Flush sector count counted = let none = counted.none refl in omega arith
-few_frames (transfer.Discard sectors) sector count counted = let none = counted.none refl in omega arith
-few_frames transfer.Read sector count counted = let few = counted.few in let short : nat_lt 11 ((count + 7) / 8) ≡ false = grind (arith, nat_tests) in rw short refl
-few_frames (transfer.Write tag) sector count counted = let few = counted.few in let short : nat_lt 11 ((count + 7) / 8) ≡ false = grind (arith, nat_tests) in rw short refl
-few_frames (transfer.Barrier tag) sector count counted = refl
+-- the frames that so many sectors take, by the rule
+pub ruled_frames : (count : ℕ) → (if nat_lt 11 ((count + 7) / 8) then (count + 7) / 8 + ((count + 7) / 8 + 511) / 512 else (count + 7) / 8) ≡ frames_for count + pages_for count
+ruled_frames count = by_size (nat_lt 11 ((count + 7) / 8))
+  where
+    by_size : (b : Bool) → (if b then (count + 7) / 8 + ((count + 7) / 8 + 511) / 512 else (count + 7) / 8) ≡ (count + 7) / 8 + (if b then ((count + 7) / 8 + 511) / 512 else 0)
+    by_size true = refl
+    by_size false = omega arith
+
+-- a request needs a frame for each eight of the sectors that it moves, and its indirect pages
+all_frames : (way : Transfer) (sector count : ℕ) → IsCounted way count → job_frames (job_of way sector count) ≡ frames_for count + pages_for count
+all_frames transfer.Flush sector count counted = let none = counted.none refl in rw none refl
+all_frames (transfer.Discard sectors) sector count counted = let none = counted.none refl in rw none refl
+all_frames transfer.Read sector count counted = ruled_frames count
+all_frames (transfer.Write tag) sector count counted = ruled_frames count
+all_frames (transfer.Barrier tag) sector count counted =
+    let few = counted.direct refl in
+    let short : nat_lt 11 ((count + 7) / 8) ≡ false = grind (arith, nat_tests) in
+    rw short (omega arith)
 
 fitting : (submitted : List Request) (sectors last : ℕ) (carried : List Carried) (r : Request) → AreSubmitted submitted sectors last → AreKnown submitted carried → slice_get submitted (r.number - 1) ≡ Some r → IsFitting carried r
 fitting submitted sectors last carried r all known stands k x number here =
@@ -215,7 +226,7 @@ fitting submitted sectors last carried r all known stands k x number here =
     let at : slice_get submitted k ≡ Some r = ap (slice_get submitted) (sym place) ∙ stands in
     let is : IsSubmitted sectors k r = all.each k r at in
     let shaped = is.shaped in
-    ap job_frames (known.each k r x at here) ∙ (few_frames r.transfer r.sector r.count shaped.counted ∙ sym shaped.frames)
+    ap job_frames (known.each k r x at here) ∙ (all_frames r.transfer r.sector r.count shaped.counted ∙ sym shaped.frames)
 
 pub frames_alike : (config : Options) (w : World) (g : Flow) (d : Pipeline) → Holds config w g d w.front.stage w.back.stage → sum_by frames_held (map asked d.requests) ≡ count_by (λ (b : Bool). b) w.front.pool
 frames_alike config w g d h =

@@ -1,7 +1,8 @@
 -- What holds between both ends, memory, and the pipeline that they stand for, one subject a record.
-use Rattle.std.specs.Prelude.{◌≡◌, ◌≢◌, ℕ, ◌+◌, ◌-◌, ◌*◌, ◌/◌, ◌%◌, ◌^◌, ◌<◌, ◌≤◌, ◌==◌, ◌⊎◌, min, Bool, true, false, not, cond, List, [], ◌∷◌, length, take, drop, count_by, sum_by, replicate, slice_get, slice_index, slice_index_or, Option, Some, None, All, AllPairs, if◌then◌else◌}
+use Rattle.std.specs.Prelude.{◌≡◌, ◌≢◌, ℕ, ◌+◌, ◌-◌, ◌*◌, ◌/◌, ◌%◌, ◌^◌, ◌<◌, ◌≤◌, ◌==◌, ◌⊎◌, min, Bool, true, false, not, cond, List, [], ◌∷◌, length, take, drop, count_by, sum_by, replicate, slice_get, slice_index, slice_index_or, Option, Some, None, All, AllPairs, if◌then◌else◌, nat_lt}
 use Rattle.blk_base.specs.declared.parts.Mapping.{Mapping}
 use Rattle.blk_base.specs.declared.parts.Mode.TheVariants.{ReadWrite}
+use Rattle.blk_layout.specs.declared.segment.Segment.{Segment}
 use Rattle.blk_base.specs.declared.operation.Status.TheVariants.{Okay}
 use Rattle.std.specs.List.{range_with_len}
 use Rattle.ring_words.specs.Ring.{Ring}
@@ -16,7 +17,7 @@ use Rattle.blk_front.specs.declared.request.Request.{Request}
 use Rattle.blk_front.specs.declared.request.Transfer.{Transfer}
 use Rattle.blk_front.specs.declared.request.Transfer.TheVariants as transfer
 use Rattle.blk_front.specs.Entry.{entry_of}
-use Rattle.blk_front.specs.Request.{is_write, is_moving, named_of, tag_of, operation_of, grant_flags, words_in, frame_at, filling_at, IsShaped}
+use Rattle.blk_front.specs.Request.{is_write, is_moving, is_indirect, named_of, tag_of, operation_of, flags_at, frames_for, pages_for, page_references, segment_at, naming_words, words_in, frame_at, IsShaped}
 use Rattle.blk_front.specs.declared.stage.Ending.{Ending}
 use Rattle.blk_front.specs.declared.state.Offers.{Offers}
 use Rattle.blk_front.specs.declared.stage.Stage.{Stage as FrontStage}
@@ -36,7 +37,7 @@ use Rattle.blk_back.specs.Hands.{hands_at}
 use Rattle.blk_base.specs.Options.{Options}
 use Rattle.split_model.specs.World.{World}
 use Rattle.split_model.specs.Safe.{IsSafe}
-use Rattle.machine_pipeline.proofs.Flow.{Flow, wrapped, has_ring, named_pages, granted_pages, filled, named_frames, granted_frames, entered, ending_at, revoking_at, revoked, telling_at, frames_of, uses, ending_frames, ending_uses, is_front_arming, may_front_sleep, reply_at, reply_count, responded, is_back_arming, may_back_sleep, has_terms, is_bound_back, own_segments, data_word, is_issuing, is_fetching}
+use Rattle.machine_pipeline.proofs.Flow.{Flow, wrapped, has_ring, named_pages, granted_pages, filled, named_frames, granted_frames, entered, ending_at, revoking_at, revoked, telling_at, frames_of, uses, ending_frames, ending_uses, is_front_arming, may_front_sleep, reply_at, reply_count, responded, is_back_arming, may_back_sleep, has_terms, is_bound_back, own_segments, data_word, span, is_own, own_value, is_issuing, is_fetching}
 use Rattle.machine_pipeline.proofs.Stations.{AreStations}
 
 -- the indices of both ends are whole ones, wrapped, in the order of a request's way; `held` requests are unfinished, `waiting` of them not issued, and `ending` more have their grant ended
@@ -104,7 +105,7 @@ last_in r place = min 7 (r.count - 1 - 8 * place)
 -- a job is at the segment of this place: `ahead` is 1 where its sector wasn't moved yet, and 0 where it was
 pub record IsInSegment (t : Work) (r : Request) (ahead : ℕ) : Type 0 where
   pub place : ℕ
-  pub here : place < frames_of r
+  pub here : place < frames_for r.count
   pub writes : t.writes ≡ is_write r.transfer
   pub rest : t.rest ≡ drop place (own_segments r)
   pub within : t.within ≤ last_in r place
@@ -119,10 +120,44 @@ IsMoving t r = IsInSegment t r 1
 abbrev pub IsReturning : Work → Request → Type 0
 IsReturning t r = IsInSegment t r 0
 
--- a mapping of the request's frame of this place, for reading alone where it is a write
+-- the frame of this place is only read: one of a write's data, or an indirect page
+abbrev pub is_only_read : Request → ℕ → Bool
+is_only_read r place = if nat_lt place (frames_for r.count) then is_write r.transfer else true
+
+-- a mapping of the request's frame of this place, for reading alone where it is only read
 pub record IsHand (m : Mapping) (r : Request) (place : ℕ) : Type 0 where
   pub gref : m.gref ≡ frame_at r place + 6
-  pub mode : m.mode ≡ mode_of (is_write r.transfer)
+  pub mode : m.mode ≡ mode_of (is_only_read r place)
+
+-- a job copies the segments of its request from this page, those of the pages before it are copied; it has moved nothing, and the sectors lie on its disk
+pub record IsCopying (t : Work) (r : Request) (page : ℕ) : Type 0 where
+  pub here : page < pages_for r.count
+  pub large : is_indirect r.count ≡ true
+  pub writes : t.writes ≡ is_write r.transfer
+  pub named : t.named ≡ frames_for r.count
+  pub rest : t.rest ≡ take (length t.rest) (own_segments r)
+  pub few : length t.rest ≤ frames_for r.count
+  pub pages : t.pages ≡ drop page (page_references r)
+  pub moved : t.moved ≡ 0
+  pub disk : t.disk ≡ r.sector
+  pub fits : r.sector + r.count ≤ t.size
+  pub words : length t.words ≡ 128
+
+-- so many of this page's segments are left to be copied that one is
+pub record IsInPage (t : Work) (r : Request) (m : Mapping) : Type 0 where
+  pub page : ℕ
+  pub copies : IsCopying t r page
+  pub hand : IsHand m r (frames_for r.count + page)
+  pub from : 512 * page ≤ length t.rest
+  pub to : length t.rest < 512 * (page + 1)
+  pub left : length t.rest < frames_for r.count
+
+-- the page is given up: its last segment was copied, or that of all
+pub record IsThroughPage (t : Work) (r : Request) (m : Mapping) : Type 0 where
+  pub page : ℕ
+  pub copies : IsCopying t r page
+  pub hand : IsHand m r (frames_for r.count + page)
+  pub through : (length t.rest ≡ frames_for r.count) ⊎ (length t.rest ≡ 512 * (page + 1))
 
 -- the word that fills the sector that is moved next
 abbrev pub sector_word : Request → Work → ℕ
@@ -130,13 +165,17 @@ sector_word r t = (tag_of r.transfer + t.moved) % 2 ^ 32
 
 -- a job that flushes or trims has moved nothing
 abbrev pub AtWork : Request → Work → JobStage → Type 0
+AtWork r t job.MapPage = (page : ℕ) × IsCopying t r page × (length t.rest ≡ 512 * page) × (length t.rest < frames_for r.count)
+AtWork r t (job.PageReference m) = IsInPage t r m
+AtWork r t (job.PageSectors m gref) = (x : IsInPage t r m) × ((let s : Segment = segment_at r (length t.rest) in s.gref) ≡ gref)
+AtWork r t (job.UnmapPage m) = IsThroughPage t r m
 AtWork r t job.Map = (x : IsMoving t r) × (t.within ≡ 0)
 AtWork r t (job.ReadWord m j) = (x : IsMoving t r) × IsHand m r x.place × (j < 128) × (is_write r.transfer ≡ true) × ((i : ℕ) → i < j → slice_index t.words i ≡ sector_word r t)
 AtWork r t (job.DiskWrite m) = (x : IsMoving t r) × IsHand m r x.place × (is_write r.transfer ≡ true) × (t.words ≡ replicate 128 (sector_word r t))
 AtWork r t (job.DiskRead m) = (x : IsMoving t r) × IsHand m r x.place × (is_write r.transfer ≡ false)
 AtWork r t (job.WriteWord m j) = (x : IsReturning t r) × IsHand m r x.place × (j < 128) × (is_write r.transfer ≡ false)
 AtWork r t (job.Unmap m) = (x : IsReturning t r) × IsHand m r x.place × (t.within ≡ last_in r x.place)
-AtWork r t (job.GiveUp m) = (place : ℕ) × (place < frames_of r) × IsHand m r place
+AtWork r t (job.GiveUp m) = (place : ℕ) × (place < frames_for r.count) × IsHand m r place
 AtWork r t job.Flush = (r.transfer ≡ transfer.Flush) × (t.moved ≡ 0)
 AtWork r t (job.Trim count) = (r.transfer ≡ transfer.Discard count) × (t.moved ≡ 0) × (t.disk ≡ r.sector)
 AtWork r t (job.Done status) = Unit {0}
@@ -197,6 +236,7 @@ FrontAt shape start pushed taken front_seen submitted replies next entry ending 
 FrontAt shape start pushed taken front_seen submitted replies next entry ending (front.RingFence page) = page < 2 ^ shape.order
 FrontAt shape start pushed taken front_seen submitted replies next entry ending (front.RingFlags page) = page < 2 ^ shape.order
 FrontAt shape start pushed taken front_seen submitted replies next entry ending (front.Data n) = IsNextAt next (λ r. (1 ≤ n) × (n < words_in r) × (is_write r.transfer ≡ true))
+FrontAt shape start pushed taken front_seen submitted replies next entry ending (front.Pages n) = IsNextAt next (λ r. (n < naming_words r) × (is_indirect r.count ≡ true))
 FrontAt shape start pushed taken front_seen submitted replies next entry ending (front.GrantFrame place) = IsNextAt next (λ r. place < frames_of r)
 FrontAt shape start pushed taken front_seen submitted replies next entry ending (front.GrantFence place) = IsNextAt next (λ r. place < frames_of r)
 FrontAt shape start pushed taken front_seen submitted replies next entry ending (front.GrantFlags place) = IsNextAt next (λ r. place < frames_of r)
@@ -207,7 +247,7 @@ FrontAt shape start pushed taken front_seen submitted replies next entry ending 
 FrontAt shape start pushed taken front_seen submitted replies next entry ending (front.ResponseHigh low) = (t : IsTaken taken front_seen replies) × (low ≡ response_word t.rep 0)
 FrontAt shape start pushed taken front_seen submitted replies next entry ending (front.ResponseLast low high) = (t : IsTaken taken front_seen replies) × (low ≡ response_word t.rep 0) × (high ≡ response_word t.rep 1)
 FrontAt shape start pushed taken front_seen submitted replies next entry ending (front.GrantRead place) = IsEndingAt submitted replies ending (λ e. place < frames_of e.request)
-FrontAt shape start pushed taken front_seen submitted replies next entry ending (front.GrantEnd place before) = IsEndingAt submitted replies ending (λ e. (place < frames_of e.request) × (before ≡ grant_flags e.request.transfer))
+FrontAt shape start pushed taken front_seen submitted replies next entry ending (front.GrantEnd place before) = IsEndingAt submitted replies ending (λ e. (place < frames_of e.request) × (before ≡ flags_at e.request place))
 FrontAt shape start pushed taken front_seen submitted replies next entry ending (front.ReadData n) = IsEndingAt submitted replies ending (λ e. (n < words_in e.request) × (e.request.transfer ≡ transfer.Read) × (e.status ≡ Okay))
 FrontAt shape start pushed taken front_seen submitted replies next entry ending (front.RingRead page) = ⊥
 FrontAt shape start pushed taken front_seen submitted replies next entry ending (front.RingEnd page before) = ⊥
@@ -217,16 +257,17 @@ FrontAt shape start pushed taken front_seen submitted replies next entry ending 
 FrontAt shape start pushed taken front_seen submitted replies next entry ending (front.Broken word) = ⊥
 FrontAt shape start pushed taken front_seen submitted replies next entry ending s = Unit {0}
 
--- the back serves barriers, flushes and discards where the disk isn't read-only, and the front knows it
-pub record AreOffered (fixed : Bool) (offers : Offers) : Type 0 where
+-- the back serves barriers, flushes and discards where the disk isn't read-only, and so many segments of indirect pages, and the front knows it
+pub record AreOffered (fixed : Bool) (limit : ℕ) (offers : Offers) : Type 0 where
   pub barrier : offers.barrier ≡ not fixed
   pub flush : offers.flush ≡ not fixed
   pub discard : offers.discard ≡ not fixed
+  pub indirect : offers.indirect ≡ limit
 
 -- before it is connected nothing was submitted; from then on the front knows what its back serves
-abbrev pub IsOffered : Bool → (fixed : Bool) → Offers → (pushed last : ℕ) → Type 0
-IsOffered false fixed offers pushed last = (pushed ≡ 0) × (last ≡ 0)
-IsOffered true fixed offers pushed last = AreOffered fixed offers
+abbrev pub IsOffered : Bool → (fixed : Bool) → (limit : ℕ) → Offers → (pushed last : ℕ) → Type 0
+IsOffered false fixed limit offers pushed last = (pushed ≡ 0) × (last ≡ 0)
+IsOffered true fixed limit offers pushed last = AreOffered fixed limit offers
 
 -- a job's result was taken, and its response is being written
 pub record IsReplying (fetched : ℕ) (works : List Work) (rep : Reply) : Type 0 where
@@ -275,31 +316,29 @@ pub record AreSlots (shape : Shape) (start fetched pushed taken replied : ℕ) (
   pub responses : (k : ℕ) (rep : Reply) → slice_get replies k ≡ Some rep → (i : ℕ) → i < 3 → slot_of pages shape (wrapped start (taken + k)) i ≡ response_word rep i
   pub response : (rep : Reply) → reply_at back_stage ≡ Some rep → (i : ℕ) → i < responded back_stage → slot_of pages shape (wrapped start replied) i ≡ response_word rep i
 
--- the words of a write's data, once it is pushed, and as far as it is being issued
+-- the words of a write's data and of indirect pages, once the request is pushed, and as far as it is being issued
 pub record IsFilled (pushed : ℕ) (pages : List ℕ) (stage : FrontStage) (r : Request) : Type 0 where
-  pub whole : is_write r.transfer ≡ true → r.number ≤ pushed → (n : ℕ) → n < words_in r → data_word pages r n ≡ filling_at r.transfer n
-  pub begun : is_write r.transfer ≡ true → r.number ≡ pushed + 1 → (n : ℕ) → n < filled stage → n < words_in r → data_word pages r n ≡ filling_at r.transfer n
+  pub whole : r.number ≤ pushed → (n : ℕ) → n < span r → is_own r n ≡ true → data_word pages r n ≡ own_value r n
+  pub begun : r.number ≡ pushed + 1 → (n : ℕ) → n < filled stage (frames_for r.count) → n < span r → is_own r n ≡ true → data_word pages r n ≡ own_value r n
 
--- the flags of a mapped frame's entry: with GTF_reading (8), and of a read's with GTF_writing (16) too
-abbrev pub mapped_flags : Transfer → ℕ
-mapped_flags (transfer.Write tag) = 13
-mapped_flags (transfer.Barrier tag) = 13
-mapped_flags way = 25
+-- the flags of a mapped frame's entry: with GTF_reading (8), and GTF_writing (16) too where it isn't only read
+abbrev pub mapped_at : Request → ℕ → ℕ
+mapped_at r place = if is_only_read r place then 13 else 25
 
--- the flags of a granted frame's entry, with so many mappings of it
-abbrev pub flags_with : Transfer → ℕ → ℕ
-flags_with way mappings = if mappings == 0 then grant_flags way else mapped_flags way
+-- the flags of the entry of a granted frame, with so many mappings of it
+abbrev pub flags_with : Request → (place mappings : ℕ) → ℕ
+flags_with r place mappings = if mappings == 0 then flags_at r place else mapped_at r place
 
 -- the grant entries of a request's frames, once it is pushed, and as far as it is being issued
 pub record IsGranted (pushed : ℕ) (pages : List ℕ) (live : List Held) (stage : FrontStage) (r : Request) : Type 0 where
   pub named : r.number ≤ pushed → (place : ℕ) → place < frames_of r → entry_word1 pages (frame_at r place + 6) ≡ frame_at r place
   pub named_next : r.number ≡ pushed + 1 → (place : ℕ) → place < named_frames stage → place < frames_of r → entry_word1 pages (frame_at r place + 6) ≡ frame_at r place
-  pub flags : r.number ≤ pushed → (place : ℕ) → place < frames_of r → entry_word0 pages (frame_at r place + 6) ≡ flags_with r.transfer (mappings_of (frame_at r place + 6) live)
-  pub flags_next : r.number ≡ pushed + 1 → (place : ℕ) → place < granted_frames stage → place < frames_of r → entry_word0 pages (frame_at r place + 6) ≡ grant_flags r.transfer
+  pub flags : r.number ≤ pushed → (place : ℕ) → place < frames_of r → entry_word0 pages (frame_at r place + 6) ≡ flags_with r place (mappings_of (frame_at r place + 6) live)
+  pub flags_next : r.number ≡ pushed + 1 → (place : ℕ) → place < granted_frames stage → place < frames_of r → entry_word0 pages (frame_at r place + 6) ≡ flags_at r place
 
 -- the grants of the ending request that weren't ended yet have no mapping
 abbrev pub AreRevoked : List ℕ → FrontStage → Option Ending → Type 0
-AreRevoked pages stage ending = (e : Ending) → revoking_at stage ending ≡ Some e → (place : ℕ) → revoked stage ≤ place → place < frames_of e.request → entry_word0 pages (frame_at e.request place + 6) ≡ grant_flags e.request.transfer
+AreRevoked pages stage ending = (e : Ending) → revoking_at stage ending ≡ Some e → (place : ℕ) → revoked stage ≤ place → place < frames_of e.request → entry_word0 pages (frame_at e.request place + 6) ≡ flags_at e.request place
 
 pub record AreEntries (pushed : ℕ) (pages : List ℕ) (live : List Held) (stage : FrontStage) (last : Option Ending) (requests : List Request) : Type 0 where
   pub each : All (IsGranted pushed pages live stage) requests
@@ -379,12 +418,13 @@ pub record IsStarted (option start front_start : ℕ) (began front_closes : Bool
   pub known : front_start ≡ option
   pub closing : began ≡ front_closes
 
--- the front knows the option's disk, and only reads are submitted to a read-only one
+-- the front knows the option's disk, only reads are submitted to a read-only one, and no request has more segments in indirect pages than the option says
 pub record IsOfTheDisk (config : Options) (size : ℕ) (fixed : Bool) (submitted : List Request) : Type 0 where
   pub sectors : size ≡ config.sectors
   pub read_only : fixed ≡ config.read_only
   pub writable : (k : ℕ) (r : Request) → slice_get submitted k ≡ Some r → is_write r.transfer ≡ true → config.read_only ≡ false
   pub served : (k : ℕ) (r : Request) → slice_get submitted k ≡ Some r → is_moving r.transfer ≡ false → config.read_only ≡ false
+  pub short : (k : ℕ) (r : Request) → slice_get submitted k ≡ Some r → is_indirect r.count ≡ true → frames_for r.count ≤ config.indirect
 
 -- the machine with the front at stage s and the back at stage b, the flow of its words, and the pipeline that it stands for
 pub record Holds (config : Options) (w : World) (g : Flow) (d : Pipeline) (s : FrontStage) (b : BackStage) : Type 0 where
@@ -401,7 +441,7 @@ pub record Holds (config : Options) (w : World) (g : Flow) (d : Pipeline) (s : F
   pub info : w.back.jobs.info ≡ info_of config
   pub replies : AreReplies g.fetched g.taken g.replied g.replies
   pub front_at : FrontAt g.shape g.start g.pushed g.taken g.front_seen g.submitted g.replies (next_request w.front) w.front.entry w.front.ending s
-  pub offered : IsOffered (is_ready s) config.read_only w.front.offers g.pushed w.front.last
+  pub offered : IsOffered (is_ready s) config.read_only config.indirect w.front.offers g.pushed w.front.last
   pub back_at : BackAt g.shape g.start g.fetched g.back_seen g.replied g.submitted w.back.jobs.works w.back.entry b
   pub unhalted : w.back.halted ≡ None
   pub memory : length w.under.pages ≡ 1114112

@@ -11,6 +11,7 @@ use Rattle.blk_front.specs.declared.request.Request.{Request}
 use Rattle.blk_front.specs.declared.stage.Ending.{Ending}
 use Rattle.blk_front.specs.declared.stage.Stage.{Stage as FrontStage}
 use Rattle.blk_front.specs.declared.stage.Stage.TheVariants as front
+use Rattle.blk_front.specs.Request.{frames_for}
 use Rattle.blk_front.specs.View as front_view
 use Rattle.blk_front.specs.View.{next_request}
 use Rattle.blk_front.specs.Submit.{is_ready, is_connected, ending_of}
@@ -103,7 +104,7 @@ slots_turned shape start fetched pushed taken replied submitted replies old new 
 
 -- the requests' data, where no more of one was written
 pub frames_turned : (pushed : ℕ) (old new : List ℕ) (s s' : FrontStage) (requests : List Request)
-    → filled s' ≤ filled s
+    → ((frames : ℕ) → filled s' frames ≤ filled s frames)
     → All (SameData old new) requests
     → All (IsFilled pushed old s) requests
     → All (IsFilled pushed new s') requests
@@ -111,8 +112,8 @@ frames_turned pushed old new s s' requests less same h k d lt =
     let here = same k d lt in
     let was = h k d lt in
     record {
-      whole = λ way le n l. here n l ∙ was.whole way le n l;
-      begun = λ way e n l m. here n m ∙ was.begun way e n (omega arith) m;
+      whole = λ le n l own. here n l ∙ was.whole le n l own;
+      begun = λ e n f l own. here n l ∙ was.begun e n (let few = less (frames_for (let q : Request = get_or requests k d in q.count)) in omega arith) l own;
     }
 
 -- their grant entries, where none was written

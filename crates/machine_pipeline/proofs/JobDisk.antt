@@ -46,7 +46,7 @@ took_goes config w g d number p t r m h is e at = record {
     shaped : IsShaped r
     shaped = let its = h.submitted.each (t.number - 1) r is.known in its.shaped
 
-    left : (t.moved + 1 ≤ r.count) × (t.within ≤ 7) × (r.count ≤ 88)
+    left : (t.moved + 1 ≤ r.count) × (t.within ≤ 7) × (r.count ≤ 7680)
     left = sectors_left t r 1 shaped at.0
 
     one_more : (t.moved + 1) % 2 ^ 32 ≡ t.moved + 1

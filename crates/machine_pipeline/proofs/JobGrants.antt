@@ -1,5 +1,5 @@
 -- A job maps a frame of its request, and gives the mapping up.
-use Rattle.std.proofs.Common.{◌≡◌, ◌≢◌, ℕ, ◌+◌, ◌*◌, ◌/◌, ◌%◌, ◌<◌, ◌≤◌, ◌==◌, Bool, true, false, List, length, refl, ap, sym, ◌∙◌, subst, arith}
+use Rattle.std.proofs.Common.{◌≡◌, ◌≢◌, ℕ, ◌+◌, ◌*◌, ◌/◌, ◌%◌, ◌<◌, ◌≤◌, ◌==◌, Bool, true, false, List, length, if◌then◌else◌, refl, ap, sym, ◌∙◌, subst, arith}
 use Rattle.std.specs.Prelude.{Option, Some, slice_get, nat_lt, Ok}
 use Rattle.std.proofs.lemmas.Option.{same_Some}
 use Rattle.std.proofs.lemmas.Bool.Decides.{nat_tests}
@@ -9,42 +9,58 @@ use Rattle.grant_table.specs.Table.{entry_word0, entry_word1, with_entry_word0, 
 use Rattle.blk_front.specs.declared.request.Request.{Request}
 use Rattle.blk_front.specs.declared.request.Transfer.{Transfer}
 use Rattle.blk_front.specs.declared.request.Transfer.TheVariants as transfer
-use Rattle.blk_front.specs.Request.{is_write, grant_flags, frame_at}
+use Rattle.blk_front.specs.Request.{is_write, grant_flags, flags_at, frames_for, frame_at}
 use Rattle.back_jobs.specs.Task.{mode_of}
 use Rattle.blk_front.specs.declared.stage.Ending.{Ending}
 use Rattle.blk_front.specs.declared.stage.Stage.{Stage as FrontStage}
 use Rattle.machine_pipeline.proofs.Flow.{frames_of, revoking_at}
-use Rattle.machine_pipeline.proofs.Holds.{IsGranted, AreEntries, mapped_flags, flags_with}
+use Rattle.machine_pipeline.proofs.Holds.{IsGranted, AreEntries, is_only_read, mapped_at, flags_with}
 use Rattle.machine_pipeline.proofs.Lists.{all_at, all_from}
 use Rattle.machine_pipeline.proofs.Kept.{SameEntry, written, other_word, other_entry}
 
--- the entry of a granted frame lets it be mapped
-may_read : (frame : ℕ) → 2 ≤ frame → frame < 1018 → verdict_of (frame + 6) 5 frame (mode_of true) ≡ Ok frame
-may_read frame low high =
-    let known : nat_lt 1023 (frame + 6) ≡ false = grind (arith, nat_tests) in
-    let from : nat_lt frame 2 ≡ false = grind (arith, nat_tests) in
-    let to : nat_lt 1023 frame ≡ false = grind (arith, nat_tests) in
-    rw (known, from, to) refl
+-- the flags of a granted frame, by whether it is only read
+abbrev granting : Bool → ℕ
+granting true = 5
+granting false = 1
 
-pub may_map : (way : Transfer) (frame : ℕ) → 2 ≤ frame → frame < 1018 → verdict_of (frame + 6) (grant_flags way) frame (mode_of (is_write way)) ≡ Ok frame
-may_map (transfer.Write tag) frame low high = may_read frame low high
-may_map (transfer.Barrier tag) frame low high = may_read frame low high
-may_map way frame low high =
+granted_way : (way : Transfer) → grant_flags way ≡ granting (is_write way)
+granted_way (transfer.Write tag) = refl
+granted_way (transfer.Barrier tag) = refl
+granted_way way = refl
+
+pub granting_at : (r : Request) (place : ℕ) → flags_at r place ≡ granting (is_only_read r place)
+granting_at r place = by_place (nat_lt place (frames_for r.count))
+  where
+    by_place : (b : Bool) → (if b then grant_flags r.transfer else 5) ≡ granting (if b then is_write r.transfer else true)
+    by_place true = granted_way r.transfer
+    by_place false = refl
+
+-- the entry of a granted frame lets it be mapped
+pub may_map : (r : Request) (place frame : ℕ) → 2 ≤ frame → frame < 1018 → verdict_of (frame + 6) (flags_at r place) frame (mode_of (is_only_read r place)) ≡ Ok frame
+may_map r place frame low high =
     let known : nat_lt 1023 (frame + 6) ≡ false = grind (arith, nat_tests) in
     let from : nat_lt frame 2 ≡ false = grind (arith, nat_tests) in
     let to : nat_lt 1023 frame ≡ false = grind (arith, nat_tests) in
-    rw (known, from, to) refl
+    ap (λ (flags : ℕ). verdict_of (frame + 6) flags frame (mode_of (is_only_read r place))) (granting_at r place) ∙ by_mode known from to (is_only_read r place)
+  where
+    by_mode : nat_lt 1023 (frame + 6) ≡ false → nat_lt frame 2 ≡ false → nat_lt 1023 frame ≡ false → (b : Bool) → verdict_of (frame + 6) (granting b) frame (mode_of b) ≡ Ok frame
+    by_mode known from to true = rw (known, from, to) refl
+    by_mode known from to false = rw (known, from, to) refl
 
 -- the flags once it is mapped, and once no mapping is left
-pub set_flags : (way : Transfer) → mapped_entry (grant_flags way) (mode_of (is_write way)) ≡ mapped_flags way
-set_flags (transfer.Write tag) = refl
-set_flags (transfer.Barrier tag) = refl
-set_flags way = refl
+pub set_flags : (r : Request) (place : ℕ) → mapped_entry (flags_at r place) (mode_of (is_only_read r place)) ≡ mapped_at r place
+set_flags r place = ap (λ (flags : ℕ). mapped_entry flags (mode_of (is_only_read r place))) (granting_at r place) ∙ by_mode (is_only_read r place)
+  where
+    by_mode : (b : Bool) → mapped_entry (granting b) (mode_of b) ≡ (if b then 13 else 25)
+    by_mode true = refl
+    by_mode false = refl
 
-pub cleared_flags : (way : Transfer) → unmapped_entry (mapped_flags way) 0 0 ≡ grant_flags way
-cleared_flags (transfer.Write tag) = refl
-cleared_flags (transfer.Barrier tag) = refl
-cleared_flags way = refl
+pub cleared_flags : (r : Request) (place : ℕ) → unmapped_entry (mapped_at r place) 0 0 ≡ flags_at r place
+cleared_flags r place = by_mode (is_only_read r place) ∙ sym (granting_at r place)
+  where
+    by_mode : (b : Bool) → unmapped_entry (if b then 13 else 25) 0 0 ≡ granting b
+    by_mode true = refl
+    by_mode false = refl
 
 -- the grant entries once the flags of one frame of a request were made those of its mappings
 pub entries_marked : (pushed : ℕ) (pages : List ℕ) (live live' : List Held) (s : FrontStage) (ending : Option Ending) (requests : List Request) (i : ℕ)
@@ -53,7 +69,7 @@ pub entries_marked : (pushed : ℕ) (pages : List ℕ) (live live' : List Held) 
     → slice_get requests i ≡ Some r
     → r.number ≤ pushed
     → frame_at r place < 1018
-    → flags ≡ flags_with r.transfer (mappings_of (frame_at r place + 6) live')
+    → flags ≡ flags_with r place (mappings_of (frame_at r place + 6) live')
     → ((f : ℕ) → f ≢ frame_at r place → mappings_of (f + 6) live' ≡ mappings_of (f + 6) live)
     → ((j : ℕ) (x : Request) → slice_get requests j ≡ Some x → (a : ℕ) → frame_at x a < 1018)
     → ((a : ℕ) → a ≢ place → a < frames_of r → frame_at r a ≢ frame_at r place)
@@ -92,19 +108,19 @@ entries_marked pushed pages live live' s ending requests i r place flags sized h
             let entry = beside (frame_at r a) (bound i r here a) (own a off lt) in
             entry.frame
 
-    now : r.number ≤ pushed → (a : ℕ) → a < frames_of r → entry_word0 new (frame_at r a + 6) ≡ flags_with r.transfer (mappings_of (frame_at r a + 6) live')
+    now : r.number ≤ pushed → (a : ℕ) → a < frames_of r → entry_word0 new (frame_at r a + 6) ≡ flags_with r a (mappings_of (frame_at r a + 6) live')
     now le a lt = by_frame (a == place) refl
       where
-        by_frame : (b : Bool) → (a == place) ≡ b → entry_word0 new (frame_at r a + 6) ≡ flags_with r.transfer (mappings_of (frame_at r a + 6) live')
+        by_frame : (b : Bool) → (a == place) ≡ b → entry_word0 new (frame_at r a + 6) ≡ flags_with r a (mappings_of (frame_at r a + 6) live')
         by_frame true t =
             let at : a ≡ place = grind (arith, nat_tests) in
-            subst (λ (k : ℕ). entry_word0 new (frame_at r k + 6) ≡ flags_with r.transfer (mappings_of (frame_at r k + 6) live')) (sym at)
+            subst (λ (k : ℕ). entry_word0 new (frame_at r k + 6) ≡ flags_with r k (mappings_of (frame_at r k + 6) live')) (sym at)
             (written pages ((frame_at r place + 6) / 512) (2 * ((frame_at r place + 6) % 512)) flags sized (omega arith) (omega arith) ∙ marked)
         by_frame false t =
             let off : a ≢ place = grind (arith, nat_tests) in
             let frames = own a off lt in
             let entry = beside (frame_at r a) (bound i r here a) frames in
-            entry.flags ∙ (it.flags le a lt ∙ ap (λ (n : ℕ). flags_with r.transfer n) (sym (others (frame_at r a) frames)))
+            entry.flags ∙ (it.flags le a lt ∙ ap (λ (n : ℕ). flags_with r a n) (sym (others (frame_at r a) frames)))
 
     by_place : (j : ℕ) (x : Request) → slice_get requests j ≡ Some x → (b : Bool) → (j == i) ≡ b → IsGranted pushed new live' s x
     by_place j x e true t =
@@ -123,6 +139,6 @@ entries_marked pushed pages live live' s ending requests i r place flags sized h
           named = λ le a lt. let entry = beside (frame_at x a) (bound j x e a) (apart j x off e a lt) in entry.frame ∙ was.named le a lt;
           named_next = λ n a t lt. let entry = beside (frame_at x a) (bound j x e a) (apart j x off e a lt) in entry.frame ∙ was.named_next n a t lt;
           flags = λ le a lt. let frames = apart j x off e a lt in let entry = beside (frame_at x a) (bound j x e a) frames in
-              entry.flags ∙ (was.flags le a lt ∙ ap (λ (n : ℕ). flags_with x.transfer n) (sym (others (frame_at x a) frames)));
+              entry.flags ∙ (was.flags le a lt ∙ ap (λ (n : ℕ). flags_with x a n) (sym (others (frame_at x a) frames)));
           flags_next = λ n a t lt. let entry = beside (frame_at x a) (bound j x e a) (apart j x off e a lt) in entry.flags ∙ was.flags_next n a t lt;
         }

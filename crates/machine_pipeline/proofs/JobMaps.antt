@@ -1,7 +1,7 @@
 -- A job maps a frame of its request, and gives the mapping up: what that makes of all that holds.
 use Rattle.std.proofs.Common.{◌≡◌, ◌≢◌, ℕ, ◌+◌, ◌*◌, ◌/◌, ◌%◌, ◌<◌, ◌≤◌, ◌==◌, ◌&&◌, ◌⊎◌, inl, inr, Bool, true, false, cond, List, [], ◌∷◌, ◌++◌, length, refl, ap, sym, ◌∙◌, subst, arith, length-set}
-use Rattle.std.specs.Prelude.{Option, Some, None, slice_get, slice_set, count_by, Result, Ok}
-use Rattle.std.proofs.lemmas.Option.{none-some, same_Some}
+use Rattle.std.specs.Prelude.{Option, Some, None, slice_get, slice_set, count_by, nat_lt, Result, Ok}
+use Rattle.std.proofs.lemmas.Option.{none-some, same_Some, slice_get-get_or}
 use Rattle.std.proofs.lemmas.List.Sums.{sum_by-cons, sum_by-append}
 use Rattle.std.proofs.lemmas.Bool.Decides.{nat_tests}
 use Rattle.blk_base.specs.Options.{Options}
@@ -21,20 +21,20 @@ use Rattle.pipeline_laws.specs.Pipeline.{Pipeline}
 use Rattle.hypervisor.specs.Hypervisor.{Hypervisor}
 use Rattle.hypervisor.specs.Act.{BackAct, Outcome, back_act, map_act}
 use Rattle.blk_front.specs.declared.request.Request.{Request}
-use Rattle.blk_front.specs.Request.{is_write, grant_flags, frame_at}
+use Rattle.blk_front.specs.Request.{is_write, flags_at, frames_for, reference_in, frame_at}
 use Rattle.blk_layout.specs.declared.segment.Segment.{Segment}
 use Rattle.back_jobs.specs.declared.stage.Stage.{Stage as JobStage}
 use Rattle.back_jobs.specs.declared.stage.Stage.TheVariants as job
-use Rattle.back_jobs.specs.Task.{Work, mode_of, map_ask, sector_stage, ask_at, step_at, IsAnswer}
+use Rattle.back_jobs.specs.Task.{Work, mode_of, map_ask, page_ask, sector_stage, ask_at, step_at, IsAnswer}
 use Rattle.back_jobs.specs.Jobs.{mapping_at}
 use Rattle.back_jobs.specs.Hands.{HandsAfter, HasOneMore}
 use Rattle.blk_back.specs.Hands.{hands_of, hands_at}
 use Rattle.split_model.specs.World.{World}
 use Rattle.split_model.specs.Safe.{AreHeld}
 use Rattle.machine_pipeline.proofs.Flow.{Flow, frames_of, ending_at, worked}
-use Rattle.machine_pipeline.proofs.Segments.{own_here}
+use Rattle.machine_pipeline.proofs.Segments.{data_frames, own_here, few_pages_for, page_here}
 use Rattle.machine_pipeline.proofs.Data.{pooled_at}
-use Rattle.machine_pipeline.proofs.Holds.{Holds, IsPooled, IsMoving, IsHand, AtWork, IsWork, IsGranted, AreEntries, AreMapped, ArePooled, mapped_flags, flags_with}
+use Rattle.machine_pipeline.proofs.Holds.{Holds, IsPooled, IsMoving, IsHand, IsCopying, is_only_read, AtWork, IsWork, IsGranted, AreEntries, AreMapped, ArePooled, mapped_at, flags_with}
 use Rattle.machine_pipeline.proofs.ReadBack.{ReadAt}
 use Rattle.machine_pipeline.proofs.Turns.{GoesBy, nothing}
 use Rattle.machine_pipeline.proofs.Lists.{all_at, set_was}
@@ -45,7 +45,7 @@ use Rattle.machine_pipeline.proofs.Kept.{SameFrame, SameEntry, other_frame, othe
 use Rattle.machine_pipeline.proofs.BackStill.{revoking_ends, ending_submitted}
 use Rattle.machine_pipeline.proofs.JobGrants.{may_map, set_flags, cleared_flags, entries_marked}
 use Rattle.machine_pipeline.proofs.Jobs.{StationsWith, stations_stay, job_holds, other_number}
-use Rattle.machine_pipeline.proofs.JobMoves.{IsAt, IsOwn, own_at, JobGoesAt, job_says, job_next, work_of, at_work, read_was, live_hand, hands_step}
+use Rattle.machine_pipeline.proofs.JobMoves.{IsAt, IsOwn, own_at, JobGoesAt, job_says, job_next, work_of, at_work, read_was, live_hand, hands_step, copying}
 use Rattle.machine_pipeline.specs.Step.{CallOf}
 
 -- the grant entries once the flags of a frame's entry were made anew
@@ -53,7 +53,7 @@ marked : (config : Options) (w : World) (g : Flow) (d : Pipeline) (t : Work) (r 
     → Holds config w g d w.front.stage w.back.stage
     → IsOwn w g t r
     → a < frames_of r
-    → flags ≡ flags_with r.transfer (mappings_of (frame_at r a + 6) live')
+    → flags ≡ flags_with r a (mappings_of (frame_at r a + 6) live')
     → ((f : ℕ) → f ≢ frame_at r a → mappings_of (f + 6) live' ≡ mappings_of (f + 6) w.under.grants.live)
     → AreEntries g.pushed (with_entry_word0 w.under.pages (frame_at r a + 6) flags) live' w.front.stage w.front.ending w.front.requests
 marked config w g d t r a live' flags h own in_r same others =
@@ -96,6 +96,151 @@ worked_begun : (b : Bool) (m : Mapping) (moved : ℕ) → worked (sector_stage b
 worked_begun true m moved = refl
 worked_begun false m moved = refl
 
+-- the mapping that a map of the request's frame of this place makes, and what lies under both ends then
+abbrev made_of : World → Request → ℕ → Mapping
+made_of w r place = next_mapping w.under.grants (frame_at r place + 6) (mode_of (is_only_read r place))
+
+abbrev grants_with : World → Request → ℕ → GrantTable
+grants_with w r place = record { made = w.under.grants.made + 1; live = w.under.grants.live ++ record { mapping = made_of w r place; frame = frame_at r place } ∷ [] }
+
+abbrev pages_with : World → Request → ℕ → List ℕ
+pages_with w r place = with_entry_word0 w.under.pages (frame_at r place + 6) (mapped_at r place)
+
+abbrev under_with : World → Request → ℕ → Hypervisor
+under_with w r place = record w.under { pages = pages_with w r place; grants = grants_with w r place }
+
+abbrev act_with : World → Request → (place number : ℕ) → BackAct
+act_with w r place number = record {
+  answer = answer.Mapped (made_of w r place);
+  under = under_with w r place;
+  shown = moves.Map (back_mover.Job number) (frame_at r place + 6) (mode_of (is_only_read r place)) (w.under.grants.made + 1) (frame_at r place);
+}
+
+-- a job with nothing in its hand, whose request has a frame of this place
+record IsMapping (w : World) (g : Flow) (d : Pipeline) (p : ℕ) (t : Work) (r : Request) (place : ℕ) : Type 0 where
+  is : IsAt w g d p t r
+  own : IsOwn w g t r
+  here : place < frames_of r
+  bare : mapping_at t.stage ≡ None
+
+-- no other job has a mapping of it
+no_mapping : (config : Options) (w : World) (g : Flow) (d : Pipeline) (p : ℕ) (t : Work) (r : Request) (place : ℕ)
+    → Holds config w g d w.front.stage w.back.stage
+    → IsMapping w g d p t r place
+    → mappings_of (frame_at r place + 6) w.under.grants.live ≡ 0
+no_mapping config w g d p t r place h x =
+    unmapped config w g d w.front.stage w.back.stage h x.own.place r x.own.at place x.here alone (λ (y : Mapping). y.gref == frame_at r place + 6) (λ y apart. grind (arith, nat_tests))
+  where
+    alone : (i : ℕ) (u : Work) → slice_get w.back.jobs.works i ≡ Some u → u.number ≡ r.number → mapping_at u.stage ≡ None
+    alone i u f same = by_place (i == p) refl
+      where
+        by_place : (b : Bool) → (i == p) ≡ b → mapping_at u.stage ≡ None
+        by_place true t' =
+            let here : i ≡ p = grind (arith, nat_tests) in
+            let it : t ≡ u = same_Some t u (sym x.is.place ∙ (ap (slice_get w.back.jobs.works) (sym here) ∙ f)) in
+            subst (λ (y : Work). mapping_at y.stage ≡ None) it x.bare
+        by_place false t' =
+            let off : i ≢ p = grind (arith, nat_tests) in
+            absurd (other_number w.back.jobs.works p i t u h.works.ascending off x.is.place f (same ∙ x.own.number))
+
+-- so it is granted, and may be mapped
+acted_so : (config : Options) (w : World) (g : Flow) (d : Pipeline) (number p : ℕ) (t : Work) (r : Request) (place : ℕ) (o : Outcome)
+    → Holds config w g d w.front.stage w.back.stage
+    → IsMapping w g d p t r place
+    → back_act w.under (back_mover.Job number) (ask.Map (frame_at r place + 6) (mode_of (is_only_read r place))) o ≡ Some (act_with w r place number)
+acted_so config w g d number p t r place o h x =
+    ap (λ (y : Result ℕ MapRefusal). Some (map_act w.under (back_mover.Job number) (frame + 6) mode y)) verdict
+    ∙ (ap (λ (n : ℕ). Some (record { answer = answer.Mapped (made_of w r place); under = record w.under { pages = with_entry_word0 w.under.pages (frame + 6) (mapped_entry n mode); grants = grants_with w r place }; shown = moves.Map (back_mover.Job number) (frame + 6) mode (w.under.grants.made + 1) frame })) flags
+    ∙ ap (λ (n : ℕ). Some (record { answer = answer.Mapped (made_of w r place); under = record w.under { pages = with_entry_word0 w.under.pages (frame + 6) n; grants = grants_with w r place }; shown = moves.Map (back_mover.Job number) (frame + 6) mode (w.under.grants.made + 1) frame })) (set_flags r place))
+  where
+    frame : ℕ
+    frame = frame_at r place
+
+    mode : Mode
+    mode = mode_of (is_only_read r place)
+
+    pooled : IsPooled frame
+    pooled = pooled_at r x.own.frames place
+
+    granted : IsGranted g.pushed w.under.pages w.under.grants.live w.front.stage r
+    granted = all_at (IsGranted g.pushed w.under.pages w.under.grants.live w.front.stage) w.front.requests x.own.place r h.entries.each x.own.at
+
+    flags : entry_word0 w.under.pages (frame + 6) ≡ flags_at r place
+    flags = granted.flags x.own.reached place x.here ∙ ap (λ (n : ℕ). flags_with r place n) (no_mapping config w g d p t r place h x)
+
+    verdict : verdict_at w.under.pages (frame + 6) mode ≡ Ok frame
+    verdict =
+        ap (λ (n : ℕ). verdict_of (frame + 6) n (entry_word1 w.under.pages (frame + 6)) mode) flags
+        ∙ (ap (λ (n : ℕ). verdict_of (frame + 6) (flags_at r place) n mode) (granted.named x.own.reached place x.here)
+        ∙ may_map r place frame (omega (arith, pooled.0)) pooled.1)
+
+-- what holds goes on holding as the job maps it and is at this stage then
+mapped_holds : (config : Options) (w : World) (g : Flow) (d : Pipeline) (p : ℕ) (t : Work) (r : Request) (place : ℕ) (later : Work)
+    → Holds config w g d w.front.stage w.back.stage
+    → IsMapping w g d p t r place
+    → later.number ≡ t.number
+    → StationsWith config w g d (slice_set w.back.jobs.works p later) w.under.pages
+    → IsWork g.submitted g.fetched later
+    → HasOneMore (made_of w r place) (hands_of w.back) (hands_at w.back.stage (record w.back { jobs = record w.back.jobs { works = slice_set w.back.jobs.works p later } }))
+    → (let v : World = record { front = w.front; back = record w.back { jobs = record w.back.jobs { works = slice_set w.back.jobs.works p later }; told = None }; under = under_with w r place } in Holds config v g d v.front.stage v.back.stage)
+mapped_holds config w g d p t r place later h x number stations now more =
+    job_holds config w g d d p t later (pages_with w r place) grants h x.is.free number stations now
+    (length-set w.under.pages ((frame + 6) / 512 * 1024 + 2 * ((frame + 6) % 512)) value ∙ h.memory) (ring_frame_same w (frame + 6) value (omega (arith, pooled.1)))
+    (ring_entry_same w (frame + 6) value (omega (arith, pooled.1)) (omega (arith, pooled.0))) (pool_same w (frame + 6) value (omega (arith, pooled.1)))
+    (marked config w g d t r place grants.live value h x.own x.here counted others)
+    (mapped_more w.under.grants.live (hands_of w.back) (hands_at w.back.stage (record w.back { jobs = record w.back.jobs { works = slice_set w.back.jobs.works p later } })) (made_of w r place) frame refl more h.mapped)
+  where
+    frame : ℕ
+    frame = frame_at r place
+
+    value : ℕ
+    value = mapped_at r place
+
+    grants : GrantTable
+    grants = grants_with w r place
+
+    held : Held
+    held = record { mapping = made_of w r place; frame = frame }
+
+    pooled : IsPooled frame
+    pooled = pooled_at r x.own.frames place
+
+    counted : value ≡ flags_with r place (mappings_of (frame + 6) grants.live)
+    counted =
+        let same : (frame + 6 == frame + 6) ≡ true = grind (arith, nat_tests) in
+        let one : ◌≡◌ {A = ℕ} (cond (frame + 6 == frame + 6) 1 0) 1 = rw same refl in
+        let free = no_mapping config w g d p t r place h x in
+        let all : mappings_of (frame + 6) grants.live ≡ 1 = more_mappings (frame + 6) w.under.grants.live held ∙ omega arith in
+        sym (ap (λ (n : ℕ). flags_with r place n) all)
+
+    others : (f : ℕ) → f ≢ frame → mappings_of (f + 6) grants.live ≡ mappings_of (f + 6) w.under.grants.live
+    others f apart =
+        let differs : (frame + 6 == f + 6) ≡ false = grind (arith, nat_tests) in
+        let zero_more : ◌≡◌ {A = ℕ} (cond (frame + 6 == f + 6) 1 0) 0 = rw differs refl in
+        more_mappings (f + 6) w.under.grants.live held ∙ omega arith
+
+-- the mapping comes into hands
+comes : (w : World) (p : ℕ) (t later : Work) (r : Request) (place : ℕ) (j : JobStage)
+    → slice_get w.back.jobs.works p ≡ Some t
+    → t.stage ≡ j
+    → ask_at j t ≡ ask.Map (frame_at r place + 6) (mode_of (is_only_read r place))
+    → step_at j t (answer.Mapped (made_of w r place)) ≡ later
+    → HasOneMore (made_of w r place) (hands_of w.back) (hands_at w.back.stage (record w.back { jobs = record w.back.jobs { works = slice_set w.back.jobs.works p later } }))
+comes w p t later r place j here e asked stepped =
+    subst (λ (x : Work). HasOneMore m (hands_of w.back) (hands_at w.back.stage (record w.back { jobs = record w.back.jobs { works = slice_set w.back.jobs.works p x } }))) stepped
+    (subst (λ (a : BackAsk). HandsAfter a (answer.Mapped m) (hands_of w.back) (hands_at w.back.stage (record w.back { jobs = record w.back.jobs { works = slice_set w.back.jobs.works p (step_at j t (answer.Mapped m)) } }))) asked
+    (hands_step w p t j (answer.Mapped m) here e (subst (λ (a : BackAsk). IsAnswer a (answer.Mapped m)) (sym asked) (refl, refl))))
+  where
+    m : Mapping
+    m = made_of w r place
+
+-- a frame of data is only read where it is a write's; an indirect page is
+pub only_data : (r : Request) (place : ℕ) → place < frames_for r.count → is_only_read r place ≡ is_write r.transfer
+only_data r place lt = let in_data : nat_lt place (frames_for r.count) ≡ true = grind (arith, nat_tests) in rw in_data refl
+
+pub only_page : (r : Request) (page : ℕ) → is_only_read r (frames_for r.count + page) ≡ true
+only_page r page = let beyond : nat_lt (frames_for r.count + page) (frames_for r.count) ≡ false = grind (arith, nat_tests) in rw beyond refl
+
 -- the job maps the frame of its present segment
 pub map_goes : (config : Options) (w : World) (g : Flow) (d : Pipeline) (number p : ℕ) (t : Work) (r : Request) (o : Outcome)
     → Holds config w g d w.front.stage w.back.stage
@@ -107,50 +252,29 @@ map_goes config w g d number p t r o h is e at = subst (λ (x : Option BackAct).
   flow = g;
   steps = [];
   does = nothing (CallOf (ask_at job.Map t) o) _ d (λ a b call. same_Some b a (subst (λ (x : BackAsk). CallOf x o a b) asked call).1);
-  holds = subst (λ (x : Work). let v : World = record { front = w.front; back = record w.back { jobs = record w.back.jobs { works = slice_set w.back.jobs.works p x }; told = None }; under = under } in Holds config v g d v.front.stage v.back.stage) (sym stepped)
-      (job_holds config w g d d p t later pages grants h is.free refl
+  holds = subst (λ (x : Work). let v : World = record { front = w.front; back = record w.back { jobs = record w.back.jobs { works = slice_set w.back.jobs.works p x }; told = None }; under = under_with w r place } in Holds config v g d v.front.stage v.back.stage) (sym stepped)
+      (mapped_holds config w g d p t r place later h maps refl
       (stations_stay config w g d p t later r w.under.pages h.stations is.place is.known refl
       (worked_begun (is_write r.transfer) m t.moved ∙ sym (ap (λ (j : JobStage). worked j t.moved) e))
       (λ q was reads. subst (λ (b : Bool). ReadAt w.under.pages r t.moved t.words q.words (sector_stage b m)) (sym reads) (read_was config w g d p t r h is e q was reads)))
       (work_of w g d d p t later r is refl refl refl (begun (is_write r.transfer) refl))
-      sized (ring_frame_same w (frame + 6) value (omega (arith, pooled.1)))
-      (ring_entry_same w (frame + 6) value (omega (arith, pooled.1)) (omega (arith, pooled.0))) (pool_same w (frame + 6) value (omega (arith, pooled.1)))
-      (marked config w g d t r moving.place grants.live value h own moving.here counted others)
-      (mapped_more w.under.grants.live (hands_of w.back) (hands_at w.back.stage (record w.back { jobs = record w.back.jobs { works = slice_set w.back.jobs.works p later } })) m frame refl more h.mapped));
+      (comes w p t later r place job.Map is.place e asked stepped));
 })
   where
     moving : IsMoving t r
     moving = at.0
 
+    place : ℕ
+    place = moving.place
+
     own : IsOwn w g t r
     own = own_at config w g d p t r h is (at_work w g d p t r is e at)
 
-    frame : ℕ
-    frame = frame_at r moving.place
-
-    pooled : IsPooled frame
-    pooled = pooled_at r own.frames moving.place
-
-    mode : Mode
-    mode = mode_of (is_write r.transfer)
-
-    value : ℕ
-    value = mapped_flags r.transfer
+    maps : IsMapping w g d p t r place
+    maps = record { is = is; own = own; here = data_frames r place own.shaped moving.here; bare = rw e refl }
 
     m : Mapping
-    m = next_mapping w.under.grants (frame + 6) mode
-
-    held : Held
-    held = record { mapping = m; frame = frame }
-
-    pages : List ℕ
-    pages = with_entry_word0 w.under.pages (frame + 6) value
-
-    grants : GrantTable
-    grants = record { made = w.under.grants.made + 1; live = w.under.grants.live ++ held ∷ [] }
-
-    under : Hypervisor
-    under = record w.under { pages = pages; grants = grants }
+    m = made_of w r place
 
     later : Work
     later = record t { stage = sector_stage (is_write r.transfer) m }
@@ -167,46 +291,12 @@ map_goes config w g d number p t r o h is e at = subst (λ (x : Option BackAct).
       words = moving.words;
     }
 
-    sized : length pages ≡ 1114112
-    sized = length-set w.under.pages ((frame + 6) / 512 * 1024 + 2 * ((frame + 6) % 512)) value ∙ h.memory
-
-    granted : IsGranted g.pushed w.under.pages w.under.grants.live w.front.stage r
-    granted = all_at (IsGranted g.pushed w.under.pages w.under.grants.live w.front.stage) w.front.requests own.place r h.entries.each own.at
-
-    alone : (i : ℕ) (u : Work) → slice_get w.back.jobs.works i ≡ Some u → u.number ≡ r.number → mapping_at u.stage ≡ None
-    alone i u f same = by_place (i == p) refl
-      where
-        by_place : (b : Bool) → (i == p) ≡ b → mapping_at u.stage ≡ None
-        by_place true t' =
-            let here : i ≡ p = grind (arith, nat_tests) in
-            let it : t ≡ u = same_Some t u (sym is.place ∙ (ap (slice_get w.back.jobs.works) (sym here) ∙ f)) in
-            subst (λ (x : Work). mapping_at x.stage ≡ None) it (rw e refl)
-        by_place false t' =
-            let off : i ≢ p = grind (arith, nat_tests) in
-            absurd (other_number w.back.jobs.works p i t u h.works.ascending off is.place f (same ∙ own.number))
-
-    none : mappings_of (frame + 6) w.under.grants.live ≡ 0
-    none = unmapped config w g d w.front.stage w.back.stage h own.place r own.at moving.place moving.here alone (λ (x : Mapping). x.gref == frame + 6) (λ x apart. grind (arith, nat_tests))
-
-    flags : entry_word0 w.under.pages (frame + 6) ≡ grant_flags r.transfer
-    flags = granted.flags own.reached moving.place moving.here ∙ ap (λ (n : ℕ). flags_with r.transfer n) none
-
-    verdict : verdict_at w.under.pages (frame + 6) mode ≡ Ok frame
-    verdict =
-        ap (λ (n : ℕ). verdict_of (frame + 6) n (entry_word1 w.under.pages (frame + 6)) mode) flags
-        ∙ (ap (λ (n : ℕ). verdict_of (frame + 6) (grant_flags r.transfer) n mode) (granted.named own.reached moving.place moving.here)
-        ∙ may_map r.transfer frame (omega (arith, pooled.0)) pooled.1)
-
-    asked : ask_at job.Map t ≡ ask.Map (frame + 6) mode
+    asked : ask_at job.Map t ≡ ask.Map (frame_at r place + 6) (mode_of (is_only_read r place))
     asked = ap (λ (rest : List Segment). map_ask rest t.writes) (moving.rest ∙ own_here r moving.place own.shaped moving.here)
-        ∙ ap (λ (b : Bool). ask.Map (frame + 6) (mode_of b)) moving.writes
+        ∙ ap (λ (b : Bool). ask.Map (frame_at r place + 6) (mode_of b)) (moving.writes ∙ sym (only_data r place moving.here))
 
-    acted : back_act w.under (back_mover.Job number) (ask_at job.Map t) o ≡ Some (record { answer = answer.Mapped m; under = under; shown = moves.Map (back_mover.Job number) (frame + 6) mode (w.under.grants.made + 1) frame })
-    acted =
-        ap (λ (a : BackAsk). back_act w.under (back_mover.Job number) a o) asked
-        ∙ (ap (λ (x : Result ℕ MapRefusal). Some (map_act w.under (back_mover.Job number) (frame + 6) mode x)) verdict
-        ∙ (ap (λ (n : ℕ). Some (record { answer = answer.Mapped m; under = record w.under { pages = with_entry_word0 w.under.pages (frame + 6) (mapped_entry n mode); grants = grants }; shown = moves.Map (back_mover.Job number) (frame + 6) mode (w.under.grants.made + 1) frame })) flags
-        ∙ ap (λ (n : ℕ). Some (record { answer = answer.Mapped m; under = record w.under { pages = with_entry_word0 w.under.pages (frame + 6) n; grants = grants }; shown = moves.Map (back_mover.Job number) (frame + 6) mode (w.under.grants.made + 1) frame })) (set_flags r.transfer)))
+    acted : back_act w.under (back_mover.Job number) (ask_at job.Map t) o ≡ Some (act_with w r place number)
+    acted = ap (λ (a : BackAsk). back_act w.under (back_mover.Job number) a o) asked ∙ acted_so config w g d number p t r place o h maps
 
     stepped : step_at job.Map t (answer.Mapped m) ≡ later
     stepped = ap (λ (b : Bool). record t { stage = sector_stage b m }) moving.writes
@@ -215,25 +305,65 @@ map_goes config w g d number p t r o h is e at = subst (λ (x : Option BackAct).
     begun true writes = (still_moving, record { gref = refl; mode = refl }, omega arith, writes, λ i lt. absurd (omega arith))
     begun false reads = (still_moving, record { gref = refl; mode = refl }, reads)
 
-    counted : value ≡ flags_with r.transfer (mappings_of (frame + 6) grants.live)
-    counted =
-        let same : (frame + 6 == frame + 6) ≡ true = grind (arith, nat_tests) in
-        let one : ◌≡◌ {A = ℕ} (cond (frame + 6 == frame + 6) 1 0) 1 = rw same refl in
-        let free = none in
-        let all : mappings_of (frame + 6) grants.live ≡ 1 = more_mappings (frame + 6) w.under.grants.live held ∙ omega arith in
-        sym (ap (λ (n : ℕ). flags_with r.transfer n) all)
+-- the job maps the indirect page that it comes to
+pub map_page_goes : (config : Options) (w : World) (g : Flow) (d : Pipeline) (number p : ℕ) (t : Work) (r : Request) (o : Outcome)
+    → Holds config w g d w.front.stage w.back.stage
+    → IsAt w g d p t r
+    → t.stage ≡ job.MapPage
+    → AtWork r t job.MapPage
+    → JobGoesAt config w d number p t job.MapPage o
+map_page_goes config w g d number p t r o h is e at = subst (λ (x : Option BackAct). GoesBy None (CallOf (ask_at job.MapPage t) o) config (job_says t job.MapPage x) (job_next w p t job.MapPage x) d) (sym acted) (record {
+  flow = g;
+  steps = [];
+  does = nothing (CallOf (ask_at job.MapPage t) o) _ d (λ a b call. same_Some b a (subst (λ (x : BackAsk). CallOf x o a b) asked call).1);
+  holds = mapped_holds config w g d p t r place later h maps refl
+      (stations_stay config w g d p t later r w.under.pages h.stations is.place is.known refl (sym (ap (λ (j : JobStage). worked j t.moved) e))
+      (λ q was reads. read_was config w g d p t r h is e q was reads))
+      (work_of w g d d p t later r is refl refl refl now)
+      (comes w p t later r place job.MapPage is.place e asked refl);
+})
+  where
+    page : ℕ
+    page = at.0
 
-    others : (f : ℕ) → f ≢ frame → mappings_of (f + 6) grants.live ≡ mappings_of (f + 6) w.under.grants.live
-    others f apart =
-        let differs : (frame + 6 == f + 6) ≡ false = grind (arith, nat_tests) in
-        let zero_more : ◌≡◌ {A = ℕ} (cond (frame + 6 == f + 6) 1 0) 0 = rw differs refl in
-        more_mappings (f + 6) w.under.grants.live held ∙ omega arith
+    copies : IsCopying t r page
+    copies = at.1
 
-    more : HasOneMore m (hands_of w.back) (hands_at w.back.stage (record w.back { jobs = record w.back.jobs { works = slice_set w.back.jobs.works p later } }))
-    more =
-        subst (λ (x : Work). HasOneMore m (hands_of w.back) (hands_at w.back.stage (record w.back { jobs = record w.back.jobs { works = slice_set w.back.jobs.works p x } }))) stepped
-        (subst (λ (a : BackAsk). HandsAfter a (answer.Mapped m) (hands_of w.back) (hands_at w.back.stage (record w.back { jobs = record w.back.jobs { works = slice_set w.back.jobs.works p (step_at job.Map t (answer.Mapped m)) } }))) asked
-        (hands_step w p t job.Map (answer.Mapped m) is.place e (subst (λ (a : BackAsk). IsAnswer a (answer.Mapped m)) (sym asked) (refl, refl))))
+    place : ℕ
+    place = frames_for r.count + page
+
+    own : IsOwn w g t r
+    own = own_at config w g d p t r h is (at_work w g d p t r is e at)
+
+    in_it : place < frames_of r
+    in_it = let frames = own.shaped.frames in let here = copies.here in omega arith
+
+    maps : IsMapping w g d p t r place
+    maps = record { is = is; own = own; here = in_it; bare = rw e refl }
+
+    m : Mapping
+    m = made_of w r place
+
+    later : Work
+    later = record t { stage = job.PageReference m }
+
+    asked : ask_at job.MapPage t ≡ ask.Map (frame_at r place + 6) (mode_of (is_only_read r place))
+    asked = ap page_ask (copies.pages ∙ page_here r page (let few = few_pages_for r.count own.shaped.counted.few in let here = copies.here in omega arith))
+        ∙ (ap (λ (f : Option ℕ). ask.Map (reference_in f) (mode_of true)) (slice_get-get_or r.frames.items place 18 in_it)
+        ∙ ap (λ (b : Bool). ask.Map (frame_at r place + 6) (mode_of b)) (sym (only_page r page)))
+
+    acted : back_act w.under (back_mover.Job number) (ask_at job.MapPage t) o ≡ Some (act_with w r place number)
+    acted = ap (λ (a : BackAsk). back_act w.under (back_mover.Job number) a o) asked ∙ acted_so config w g d number p t r place o h maps
+
+    now : AtWork r later (job.PageReference m)
+    now = record {
+      page = page;
+      copies = copying later page copies refl refl refl refl refl refl refl refl;
+      hand = record { gref = refl; mode = refl };
+      from = (let count = at.2 in omega arith);
+      to = (let count = at.2 in omega arith);
+      left = at.3;
+    }
 
 -- how many mappings of a frame of the request there are while the job has its one in hand, and when it gave it up
 hand_counted : (config : Options) (w : World) (g : Flow) (d : Pipeline) (p : ℕ) (t t' : Work) (r : Request)
@@ -273,7 +403,7 @@ unmap_holds config w g d d' p t t' r m h held is work has a in_r hand none numbe
     (job_holds config w g d d' p t t' pages (unmap_table w.under.grants m) h is.free number stations now
     sized (ring_frame_same w (frame + 6) value (omega (arith, pooled.1)))
     (ring_entry_same w (frame + 6) value (omega (arith, pooled.1)) (omega (arith, pooled.0))) (pool_same w (frame + 6) value (omega (arith, pooled.1)))
-    (marked config w g d t r a left value h own in_r (sym (ap (λ (n : ℕ). flags_with r.transfer n) gone)) others) fewer)
+    (marked config w g d t r a left value h own in_r (sym (ap (λ (n : ℕ). flags_with r a n) gone)) others) fewer)
   where
     own : IsOwn w g t r
     own = own_at config w g d p t r h is work
@@ -285,7 +415,7 @@ unmap_holds config w g d d' p t t' r m h held is work has a in_r hand none numbe
     pooled = pooled_at r own.frames a
 
     value : ℕ
-    value = grant_flags r.transfer
+    value = flags_at r a
 
     pages : List ℕ
     pages = with_entry_word0 w.under.pages (frame + 6) value
@@ -332,13 +462,13 @@ unmap_holds config w g d d' p t t' r m h held is work has a in_r hand none numbe
     granted : IsGranted g.pushed w.under.pages w.under.grants.live w.front.stage r
     granted = all_at (IsGranted g.pushed w.under.pages w.under.grants.live w.front.stage) w.front.requests own.place r h.entries.each own.at
 
-    flags : entry_word0 w.under.pages (frame + 6) ≡ mapped_flags r.transfer
-    flags = granted.flags own.reached a in_r ∙ ap (λ (n : ℕ). flags_with r.transfer n) one_mapping
+    flags : entry_word0 w.under.pages (frame + 6) ≡ mapped_at r a
+    flags = granted.flags own.reached a in_r ∙ ap (λ (n : ℕ). flags_with r a n) one_mapping
 
     written_so : unmap_pages w.under.grants w.under.pages m ≡ pages
     written_so =
         ap (λ (n : ℕ). with_entry_word0 w.under.pages n (unmapped_entry (entry_word0 w.under.pages n) (mappings_of n left) (writers_of n left))) hand.gref
         ∙ (ap (λ (n : ℕ). with_entry_word0 w.under.pages (frame + 6) (unmapped_entry n (mappings_of (frame + 6) left) (writers_of (frame + 6) left))) flags
-        ∙ (ap (λ (n : ℕ). with_entry_word0 w.under.pages (frame + 6) (unmapped_entry (mapped_flags r.transfer) n (writers_of (frame + 6) left))) gone
-        ∙ (ap (λ (n : ℕ). with_entry_word0 w.under.pages (frame + 6) (unmapped_entry (mapped_flags r.transfer) 0 n)) none_writes
-        ∙ ap (λ (n : ℕ). with_entry_word0 w.under.pages (frame + 6) n) (cleared_flags r.transfer))))
+        ∙ (ap (λ (n : ℕ). with_entry_word0 w.under.pages (frame + 6) (unmapped_entry (mapped_at r a) n (writers_of (frame + 6) left))) gone
+        ∙ (ap (λ (n : ℕ). with_entry_word0 w.under.pages (frame + 6) (unmapped_entry (mapped_at r a) 0 n)) none_writes
+        ∙ ap (λ (n : ℕ). with_entry_word0 w.under.pages (frame + 6) n) (cleared_flags r a))))

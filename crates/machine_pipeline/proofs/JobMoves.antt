@@ -1,7 +1,7 @@
 -- Each move of a job, by its stage.
 use Rattle.std.proofs.Common.{◌≡◌, ◌≢◌, ℕ, zero, ◌+◌, ◌-◌, ◌*◌, ◌%◌, ◌^◌, ◌<◌, ◌≤◌, ◌==◌, if◌then◌else◌, Bool, true, false, List, [], ◌∷◌, refl, ap, sym, ◌∙◌, subst, arith, length-set, get_or-set_other}
 use Rattle.std.proofs.lemmas.Grind.{get_or-set_at}
-use Rattle.std.specs.Prelude.{All, Option, Some, None, slice_get, slice_set, slice_index}
+use Rattle.std.specs.Prelude.{All, Option, Some, None, slice_get, slice_set, slice_index, nat_lt, take, length}
 use Rattle.std.proofs.lemmas.Option.{same_Some}
 use Rattle.std.proofs.lemmas.Bool.{false≢true}
 use Rattle.std.proofs.lemmas.List.Elements.{All-contains}
@@ -20,7 +20,7 @@ use Rattle.pipeline_laws.specs.Station.{Working, Request as Asked}
 use Rattle.pipeline_laws.specs.Pipeline.{Pipeline}
 use Rattle.hypervisor.specs.Act.{BackAct, Outcome, back_act}
 use Rattle.blk_front.specs.declared.request.Request.{Request}
-use Rattle.blk_front.specs.Request.{is_write, tag_of, operation_of, words_in, frame_at, filling_at, IsShaped}
+use Rattle.blk_front.specs.Request.{is_write, tag_of, operation_of, frames_for, words_in, frame_at, filling_at, IsShaped}
 use Rattle.back_jobs.specs.declared.stage.Stage.{Stage as JobStage}
 use Rattle.back_jobs.specs.declared.stage.Stage.TheVariants as job
 use Rattle.back_jobs.specs.Task.{Work, ask_at, step_at, word_at, last_of, sector_stage, next_sector, IsAnswer}
@@ -33,10 +33,12 @@ use Rattle.blk_back.specs.Step.{told_effect}
 use Rattle.split_model.specs.World.{World}
 use Rattle.split_model.specs.Shown.{back_lines}
 use Rattle.split_model.specs.Safe.{AreHeld}
-use Rattle.machine_pipeline.proofs.Flow.{Flow, frames_of, data_word, worked}
+use Rattle.machine_pipeline.proofs.Flow.{Flow, data_word, own_segments, is_own, worked}
+use Rattle.blk_layout.specs.declared.segment.Segment.{Segment}
+use Rattle.machine_pipeline.proofs.Data.{own_among, data_value}
 use Rattle.machine_pipeline.proofs.Segments.{own_here, within_last, word_place, data_place}
 use Rattle.machine_pipeline.proofs.ReadBack.{ReadAt}
-use Rattle.machine_pipeline.proofs.Holds.{Holds, IsWork, IsPooled, IsHand, IsInSegment, IsMoving, IsReturning, AtWork, IsFilled, AreMapped, last_in, sector_word}
+use Rattle.machine_pipeline.proofs.Holds.{Holds, IsWork, IsPooled, IsHand, IsInSegment, IsMoving, IsReturning, IsCopying, AtWork, IsFilled, AreMapped, last_in, sector_word}
 use Rattle.machine_pipeline.proofs.Turns.{GoesBy, nothing, no_move}
 use Rattle.machine_pipeline.proofs.Lists.{all_at, all_same}
 use Rattle.machine_pipeline.proofs.Mapped.{frame_live}
@@ -135,15 +137,38 @@ filled_at : (config : Options) (w : World) (g : Flow) (d : Pipeline) (p : ℕ) (
 filled_at config w g d p t r h is work writes =
     let own = own_at config w g d p t r h is work in
     let filled = all_at (IsFilled g.pushed w.under.pages w.front.stage) w.front.requests own.place r h.frames own.at in
-    filled.whole writes own.reached
+    λ n lt.
+    let shaped = own.shaped in
+    let in_data : nat_lt n (1024 * frames_for r.count) ≡ true = grind (arith, nat_tests) in
+    let in_words : nat_lt n (words_in r) ≡ true = grind (arith, nat_tests) in
+    let it : is_own r n ≡ true = rw (in_data, writes, in_words) refl in
+    filled.whole own.reached n (own_among r n shaped it) it ∙ data_value r n lt
 
 -- the sector that a job is at is one of its request's
-pub sectors_left : (t : Work) (r : Request) (ahead : ℕ) → IsShaped r → IsInSegment t r ahead → (t.moved + ahead ≤ r.count) × (t.within ≤ 7) × (r.count ≤ 88)
+pub sectors_left : (t : Work) (r : Request) (ahead : ℕ) → IsShaped r → IsInSegment t r ahead → (t.moved + ahead ≤ r.count) × (t.within ≤ 7) × (r.count ≤ 7680)
 sectors_left t r ahead shaped x = (
-  within_last r.count (frames_of r) x.place t.within t.moved ahead shaped.frames x.here x.within x.moved,
+  within_last r.count (frames_for r.count) x.place t.within t.moved ahead refl x.here x.within x.moved,
   (let within = x.within in omega arith),
   shaped.counted.few,
 )
+
+-- a job that copies segments goes on with the same ones, where nothing of them changed
+pub copying : {t : Work} {r : Request} (t' : Work) (page : ℕ) → IsCopying t r page
+    → t'.writes ≡ t.writes → t'.named ≡ t.named → t'.rest ≡ t.rest → t'.pages ≡ t.pages → t'.moved ≡ t.moved → t'.disk ≡ t.disk → t'.size ≡ t.size → t'.words ≡ t.words
+    → IsCopying t' r page
+copying {t} {r} t' page x writes named rest pages moved disk size words = record {
+  here = x.here;
+  large = x.large;
+  writes = writes ∙ x.writes;
+  named = named ∙ x.named;
+  rest = rest ∙ (x.rest ∙ ap (λ (l : List Segment). take (length l) (own_segments r)) (sym rest));
+  few = (let same : length t'.rest ≡ length t.rest = ap length rest in let few = x.few in omega arith);
+  pages = pages ∙ x.pages;
+  moved = moved ∙ x.moved;
+  disk = disk ∙ x.disk;
+  fits = (let fits = x.fits in omega arith);
+  words = ap length words ∙ x.words;
+}
 
 -- a sector was moved: the job is at the next one of its segment, or gives the frame up where that was the last one
 abbrev pub further : Work → Request → Mapping → Bool → Work

@@ -244,7 +244,7 @@ sector_left : (config : Options) (w : World) (g : Flow) (d : Pipeline) (p : ℕ)
     → Holds config w g d w.front.stage w.back.stage
     → IsAt w g d p t r
     → IsMoving t r
-    → (t.moved < r.count) × (r.count ≤ 88)
+    → (t.moved < r.count) × (r.count ≤ 7680)
 sector_left config w g d p t r h is moving =
     let its = h.submitted.each (t.number - 1) r is.known in
     let left = sectors_left t r 1 its.shaped moving in
@@ -319,7 +319,7 @@ gives config w g d p t r m words h is e at sized =
     then : Work
     then = record (counted t) { words = words; stage = job.WriteWord m 0 }
 
-    left : (t.moved < r.count) × (r.count ≤ 88)
+    left : (t.moved < r.count) × (r.count ≤ 7680)
     left = sector_left config w g d p t r h is at.0
 
     one_more : (t.moved + 1) % 2 ^ 32 ≡ t.moved + 1

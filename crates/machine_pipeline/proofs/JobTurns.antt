@@ -17,19 +17,19 @@ use Rattle.schedule_text.specs.declared.line.Line.{Line}
 use Rattle.pipeline_laws.specs.Pipeline.{Pipeline, next}
 use Rattle.hypervisor.specs.Act.{BackAct, Outcome, back_act}
 use Rattle.blk_front.specs.declared.request.Request.{Request}
-use Rattle.blk_front.specs.Request.{IsShaped}
+use Rattle.blk_front.specs.Request.{frames_for, IsShaped}
 use Rattle.back_jobs.specs.declared.stage.Stage.{Stage as JobStage}
 use Rattle.back_jobs.specs.declared.stage.Stage.TheVariants as job
 use Rattle.back_jobs.specs.Task.{Work, ask_at, step_at, rest_of, next_segment}
-use Rattle.back_jobs.specs.Jobs.{place_of, is_done, is_done_at, is_fresh_at, is_held, is_behind, holds_barriers, holds_all}
+use Rattle.back_jobs.specs.Jobs.{place_of, is_done, is_done_at, is_fresh_at, is_held, is_held_by, holds_barriers, holds_all}
 use Rattle.blk_back.specs.Hands.{hands_of, hands_at}
 use Rattle.blk_back.specs.Step.{job_ask_of}
 use Rattle.split_model.specs.World.{World}
 use Rattle.split_model.specs.Safe.{AreHeld}
 use Rattle.hypervisor.specs.Act.{IsGiven}
 use Rattle.split_model.specs.Happening.{job_after, job_shows}
-use Rattle.machine_pipeline.proofs.Flow.{Flow, frames_of, own_segments, worked}
-use Rattle.machine_pipeline.proofs.Segments.{frame_segment, own_here, own_end, moves_sectors, all_moved, frame_moved}
+use Rattle.machine_pipeline.proofs.Flow.{Flow, own_segments, worked}
+use Rattle.machine_pipeline.proofs.Segments.{frame_segment, data_frames, own_here, own_end, moves_sectors, all_moved, frame_moved}
 use Rattle.machine_pipeline.proofs.Holds.{Holds, IsMoving, AtWork, IsWork, IsUnhindered, AreWorks}
 use Rattle.machine_pipeline.proofs.Removals.{taken_has}
 use Rattle.machine_pipeline.proofs.Turns.{GoesBy, Stepped, nothing, does_step, JobGoes}
@@ -40,7 +40,8 @@ use Rattle.machine_pipeline.proofs.JobSteps.{ends_well, ends_badly}
 use Rattle.machine_pipeline.proofs.JobDisk.{disk_goes, disk_gives}
 use Rattle.machine_pipeline.proofs.JobCalls.{flush_goes, trim_goes}
 use Rattle.machine_pipeline.proofs.JobWrites.{write_goes}
-use Rattle.machine_pipeline.proofs.JobMaps.{map_goes, unmap_holds}
+use Rattle.machine_pipeline.proofs.JobMaps.{map_goes, map_page_goes, unmap_holds}
+use Rattle.machine_pipeline.proofs.JobPages.{reference_goes, sectors_goes, unmap_page_goes}
 use Rattle.machine_pipeline.specs.Step.{CallOf}
 
 -- the last segment is done: the job is at its end
@@ -50,13 +51,13 @@ unmap_ends : (config : Options) (w : World) (g : Flow) (d : Pipeline) (number p 
     → IsAt w g d p t r
     → t.stage ≡ job.Unmap m
     → (at : AtWork r t (job.Unmap m))
-    → at.0.place + 1 ≡ frames_of r
+    → at.0.place + 1 ≡ frames_for r.count
     → JobGoesAt config w d number p t (job.Unmap m) o
 unmap_ends config w g d number p t r m o h held is e at over = subst (λ (x : Work). GoesBy None (CallOf (ask_at (job.Unmap m) t) o) config (job_says t (job.Unmap m) (act_at w number t (job.Unmap m) o)) (record { front = w.front; back = record w.back { jobs = record w.back.jobs { works = slice_set w.back.jobs.works p x }; told = None }; under = record w.under { pages = unmap_pages w.under.grants w.under.pages m; grants = unmap_table w.under.grants m } }) d) (sym stepped) (record {
   flow = g;
   steps = s.step ∷ [];
   does = does_step _ [] refl s;
-  holds = unmap_holds config w g d (next d s.step) p t later r m h held is (at_work w g d p t r is e at) (rw e refl) at.0.place at.0.here at.1 refl refl s.now
+  holds = unmap_holds config w g d (next d s.step) p t later r m h held is (at_work w g d p t r is e at) (rw e refl) at.0.place (data_frames r at.0.place shaped at.0.here) at.1 refl refl s.now
       (work_of w g d (next d s.step) p t later r is refl refl refl tt)
       (subst (λ (x : Work). HasOneMore m (hands_at w.back.stage (record w.back { jobs = record w.back.jobs { works = slice_set w.back.jobs.works p x } })) (hands_of w.back)) stepped (hands_step w p t (job.Unmap m) answer.Done is.place e tt));
 })
@@ -68,13 +69,13 @@ unmap_ends config w g d number p t r m o h held is e at over = subst (λ (x : Wo
     shaped = let its = h.submitted.each (t.number - 1) r is.known in its.shaped
 
     rest : rest_of t.rest ≡ []
-    rest = ap rest_of (at.0.rest ∙ own_here r at.0.place shaped at.0.here) ∙ own_end r (at.0.place + 1) shaped over
+    rest = ap rest_of (at.0.rest ∙ own_here r at.0.place shaped at.0.here) ∙ own_end r (at.0.place + 1) over
 
     stepped : step_at (job.Unmap m) t answer.Done ≡ later
     stepped = ap (next_segment t) rest
 
     s : Stepped None (CallOf (ask_at (job.Unmap m) t) o) d [] (λ x. StationsWith config w g x (slice_set w.back.jobs.works p later) w.under.pages)
-    s = ends_well o config w g d p t r m [] h is e (moves_sectors r at.0.place shaped at.0.here) (all_moved r.count (frames_of r) at.0.place t.within t.moved shaped.frames over at.2 at.0.moved)
+    s = ends_well o config w g d p t r m [] h is e (moves_sectors r at.0.place shaped at.0.here) (all_moved r.count (frames_for r.count) at.0.place t.within t.moved refl over at.2 at.0.moved)
 
 -- another segment comes: its frame is mapped next
 unmap_next : (config : Options) (w : World) (g : Flow) (d : Pipeline) (number p : ℕ) (t : Work) (r : Request) (m : Mapping) (o : Outcome)
@@ -83,13 +84,13 @@ unmap_next : (config : Options) (w : World) (g : Flow) (d : Pipeline) (number p 
     → IsAt w g d p t r
     → t.stage ≡ job.Unmap m
     → (at : AtWork r t (job.Unmap m))
-    → at.0.place + 1 < frames_of r
+    → at.0.place + 1 < frames_for r.count
     → JobGoesAt config w d number p t (job.Unmap m) o
 unmap_next config w g d number p t r m o h held is e at more = subst (λ (x : Work). GoesBy None (CallOf (ask_at (job.Unmap m) t) o) config (job_says t (job.Unmap m) (act_at w number t (job.Unmap m) o)) (record { front = w.front; back = record w.back { jobs = record w.back.jobs { works = slice_set w.back.jobs.works p x }; told = None }; under = record w.under { pages = unmap_pages w.under.grants w.under.pages m; grants = unmap_table w.under.grants m } }) d) (sym stepped) (record {
   flow = g;
   steps = [];
   does = nothing (CallOf (ask_at (job.Unmap m) t) o) _ d (λ a b call. same_Some b a call.1);
-  holds = unmap_holds config w g d d p t later r m h held is (at_work w g d p t r is e at) (rw e refl) at.0.place at.0.here at.1 refl refl
+  holds = unmap_holds config w g d d p t later r m h held is (at_work w g d p t r is e at) (rw e refl) at.0.place (data_frames r at.0.place shaped at.0.here) at.1 refl refl
       (stations_stay config w g d p t later r w.under.pages h.stations is.place is.known refl (sym (ap (λ (j : JobStage). worked j t.moved) e))
       (λ q was reads. read_was config w g d p t r h is e q was reads))
       (work_of w g d d p t later r is refl refl refl (next_moving, refl))
@@ -113,7 +114,7 @@ unmap_next config w g d number p t r m o h held is e at more = subst (λ (x : Wo
 
     next_moving : IsMoving later r
     next_moving =
-        let moved = frame_moved r.count (frames_of r) at.0.place t.within t.moved shaped.frames more at.2 at.0.moved in
+        let moved = frame_moved r.count (frames_for r.count) at.0.place t.within t.moved refl more at.2 at.0.moved in
         record {
           place = place;
           here = more;
@@ -133,9 +134,9 @@ unmap_goes : (config : Options) (w : World) (g : Flow) (d : Pipeline) (number p 
     → t.stage ≡ job.Unmap m
     → AtWork r t (job.Unmap m)
     → JobGoesAt config w d number p t (job.Unmap m) o
-unmap_goes config w g d number p t r m o h held is e at = by_rest (nat_lt (at.0.place + 1) (frames_of r)) refl
+unmap_goes config w g d number p t r m o h held is e at = by_rest (nat_lt (at.0.place + 1) (frames_for r.count)) refl
   where
-    by_rest : (b : Bool) → nat_lt (at.0.place + 1) (frames_of r) ≡ b → JobGoesAt config w d number p t (job.Unmap m) o
+    by_rest : (b : Bool) → nat_lt (at.0.place + 1) (frames_for r.count) ≡ b → JobGoesAt config w d number p t (job.Unmap m) o
     by_rest true more = unmap_next config w g d number p t r m o h held is e at (grind (arith, nat_tests))
     by_rest false over = unmap_ends config w g d number p t r m o h held is e at (let here = at.0.here in grind (arith, nat_tests))
 
@@ -150,11 +151,14 @@ give_up_goes config w g d number p t r m o h held is e at = record {
   flow = g;
   steps = s.step ∷ [];
   does = does_step _ [] refl s;
-  holds = unmap_holds config w g d (next d s.step) p t later r m h held is (at_work w g d p t r is e at) (rw e refl) at.0 at.1 at.2 refl refl s.now
+  holds = unmap_holds config w g d (next d s.step) p t later r m h held is (at_work w g d p t r is e at) (rw e refl) at.0 (data_frames r at.0 shaped at.1) at.2 refl refl s.now
       (work_of w g d (next d s.step) p t later r is refl refl refl tt)
       (hands_step w p t (job.GiveUp m) answer.Done is.place e tt);
 }
   where
+    shaped : IsShaped r
+    shaped = let its = h.submitted.each (t.number - 1) r is.known in its.shaped
+
     later : Work
     later = record t { stage = job.Done Error }
 
@@ -169,6 +173,10 @@ by_stage : (config : Options) (w : World) (g : Flow) (d : Pipeline) (number p : 
     → AtWork r t j
     → IsGiven o
     → JobGoesAt config w d number p t j o
+by_stage config w g d number p t r o job.MapPage h held is e at given = map_page_goes config w g d number p t r o h (is refl) e at
+by_stage config w g d number p t r o (job.PageReference m) h held is e at given = reference_goes config w g d number p t r m o h held (is refl) e at
+by_stage config w g d number p t r o (job.PageSectors m gref) h held is e at given = sectors_goes config w g d number p t r m gref o h held (is refl) e at
+by_stage config w g d number p t r o (job.UnmapPage m) h held is e at given = unmap_page_goes config w g d number p t r m o h held (is refl) e at
 by_stage config w g d number p t r o job.Map h held is e at given = map_goes config w g d number p t r o h (is refl) e at
 by_stage config w g d number p t r o (job.ReadWord m k) h held is e at given = read_goes config w g d number p t r m k o h held (is refl) e at
 by_stage config w g d number p t r o (job.DiskWrite m) h held is e at given = disk_goes config w g d number p t r m o h (is refl) e at
@@ -185,7 +193,7 @@ at_place : (config : Options) (w : World) (d : Pipeline) (number p : ℕ) (t : W
     → w.back.halted ≡ None
     → place_of w.back.jobs.works number ≡ Some p
     → slice_get w.back.jobs.works p ≡ Some t
-    → (is_fresh_at t.stage t.moved && is_behind (take p w.back.jobs.works) t) ≡ false
+    → (is_fresh_at t.stage t.moved && is_held_by (take p w.back.jobs.works) t) ≡ false
     → JobGoesAt config w d number p t t.stage o
     → JobGoes config w d number o
 at_place config w d number p t o unhalted place here free goes =
@@ -208,7 +216,7 @@ waits_goes config w g d number o h asked =
 
 -- one that asks something waits for none: neither at its beginning, nor once it has begun
 may_move : (submitted : List Request) (fetched : ℕ) (works : List Work) (p : ℕ) (t : Work) → AreWorks submitted fetched works → slice_get works p ≡ Some t
-    → (is_fresh_at t.stage t.moved && is_behind (take p works) t) ≡ false
+    → (is_fresh_at t.stage t.moved && is_held_by (take p works) t) ≡ false
     → is_done t ≡ false
     → MayMove works p t
 may_move submitted fetched works p t h here free undone = record {
@@ -221,7 +229,7 @@ may_move submitted fetched works p t h here free undone = record {
     by_stage false begun i u before at = pair_at IsUnhindered works i p u t h.clear before at here undone begun
     by_stage true fresh i u before at =
         let earlier = taken_has p works i u at before in
-        let none : is_behind (take p works) t ≡ false = sym (ap (λ (b : Bool). b && is_behind (take p works) t) fresh) ∙ free in
+        let none : is_held_by (take p works) t ≡ false = sym (ap (λ (b : Bool). b && is_held_by (take p works) t) fresh) ∙ free in
         held_less t (holds_barriers u) (holds_all u) (list_any holds_barriers (take p works)) (list_any holds_all (take p works))
         (any_at holds_barriers (take p works) i u earlier) (any_at holds_all (take p works) i u earlier) none
 
@@ -232,7 +240,7 @@ pub job_kept : (config : Options) (w : World) (g : Flow) (d : Pipeline) (number 
     → JobGoes config w d number o
 job_kept config w g d number o h held given = by_place (place_of w.back.jobs.works number) refl
   where
-    by_wait : (p : ℕ) (t : Work) → place_of w.back.jobs.works number ≡ Some p → slice_get w.back.jobs.works p ≡ Some t → (b : Bool) → (is_fresh_at t.stage t.moved && is_behind (take p w.back.jobs.works) t) ≡ b → JobGoes config w d number o
+    by_wait : (p : ℕ) (t : Work) → place_of w.back.jobs.works number ≡ Some p → slice_get w.back.jobs.works p ≡ Some t → (b : Bool) → (is_fresh_at t.stage t.moved && is_held_by (take p w.back.jobs.works) t) ≡ b → JobGoes config w d number o
     by_wait p t e here true waits = waits_goes config w g d number o h (rw (h.unhalted, e, here, waits) refl)
     by_wait p t e here false free =
         let work = all_at (IsWork g.submitted g.fetched) w.back.jobs.works p t h.works.each here in
@@ -244,4 +252,4 @@ job_kept config w g d number o h held given = by_place (place_of w.back.jobs.wor
     by_place None e = waits_goes config w g d number o h (rw (h.unhalted, e) refl)
     by_place (Some p) e =
         let found = found_at (λ (t : Work). t.number == number) w.back.jobs.works p e in
-        by_wait p found.0 e found.1 (let t : Work = found.0 in is_fresh_at t.stage t.moved && is_behind (take p w.back.jobs.works) t) refl
+        by_wait p found.0 e found.1 (let t : Work = found.0 in is_fresh_at t.stage t.moved && is_held_by (take p w.back.jobs.works) t) refl

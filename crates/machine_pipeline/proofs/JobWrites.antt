@@ -21,9 +21,9 @@ use Rattle.back_jobs.specs.Task.{Work, ask_at, step_at, word_at, sector_stage, n
 use Rattle.blk_back.specs.Hands.{hands_of, hands_at}
 use Rattle.split_model.specs.World.{World}
 use Rattle.split_model.specs.Safe.{AreHeld}
-use Rattle.machine_pipeline.proofs.Flow.{Flow, frames_of, data_word, worked, ending_at}
+use Rattle.machine_pipeline.proofs.Flow.{Flow, frames_of, data_word, span, is_own, worked, ending_at}
 use Rattle.machine_pipeline.proofs.Segments.{word_place}
-use Rattle.machine_pipeline.proofs.Data.{SameData, pooled_at, place_in, data_written, data_other, data_apart}
+use Rattle.machine_pipeline.proofs.Data.{SameData, pooled_at, place_in, place_among, own_before, data_written, data_other, data_apart}
 use Rattle.machine_pipeline.proofs.Growing.{push_was}
 use Rattle.machine_pipeline.proofs.ReadBack.{IsHeld, IsReadBack, IsReturned, ReadAt, AreReadBack, has_data_at}
 use Rattle.machine_pipeline.proofs.ReadsKept.{read_at_kept, back_kept}
@@ -109,11 +109,11 @@ after_word t r m j wrote last = record t {
 other_data : (config : Options) (w : World) (g : Flow) (d : Pipeline) (p : ℕ) (t : Work) (r : Request) (m : Mapping) (j : ℕ)
     → Holds config w g d w.front.stage w.back.stage
     → IsWriting w g d p t r m j
-    → (i : ℕ) → i < words_in r → i ≢ word_now t j → data_word (with_data w t r j) r i ≡ data_word w.under.pages r i
+    → (i : ℕ) → i < span r → i ≢ word_now t j → data_word (with_data w t r j) r i ≡ data_word w.under.pages r i
 other_data config w g d p t r m j h x i lt other =
     data_other w.under.pages r (word_now t j) (slice_index t.words j) i other
     (λ places. own_apart w.front.pool w.front.requests (ending_at w.front.stage w.front.ending) x.own.place r h.pool x.own.at (i / 1024)
-    (word_now t j / 1024) places (place_in r i x.own.shaped lt) (place_in r (word_now t j) x.own.shaped (now_in w g d p t r m j x))
+    (word_now t j / 1024) places (place_among r i x.own.shaped lt) (place_in r (word_now t j) x.own.shaped (now_in w g d p t r m j x))
     (pooled_at r x.own.frames (i / 1024)))
 
 -- so are the sectors that were moved before
@@ -281,8 +281,12 @@ frames_returned : (config : Options) (w : World) (g : Flow) (d : Pipeline) (p : 
 frames_returned config w g d p t r m j h x = all_from (IsFilled g.pushed (with_data w t r j) w.front.stage) w.front.requests (λ i y at. elim (cases_eq i x.own.place) [
   | inl same ↦
       let one : r ≡ y = same_Some r y (sym x.own.at ∙ (ap (slice_get w.front.requests) (sym same) ∙ at)) in
-      let reads : is_write y.transfer ≡ false = ap (λ (z : Request). is_write z.transfer) (sym one) ∙ x.at.3 in
-      record { whole = λ writes le k lt. absurd (false≢true (sym reads ∙ writes)); begun = λ writes number k lt lt'. absurd (false≢true (sym reads ∙ writes)) }
+      let was = all_at (IsFilled g.pushed w.under.pages w.front.stage) w.front.requests x.own.place r h.frames x.own.at in
+      let kept : (n : ℕ) → n < span r → is_own r n ≡ true → data_word (with_data w t r j) r n ≡ data_word w.under.pages r n = λ n lt own. other_data config w g d p t r m j h x n lt (pages_alone n own) in
+      subst (IsFilled g.pushed (with_data w t r j) w.front.stage) one (record {
+        whole = λ le n lt own. kept n lt own ∙ was.whole le n lt own;
+        begun = λ number n f lt own. kept n lt own ∙ was.begun number n f lt own;
+      })
   | inr other ↦
       let is = is_submitted config w g d w.front.stage w.back.stage h i y at in
       let kept : SameData w.under.pages (with_data w t r j) y = data_apart w.under.pages (frame_at r (word_now t j / 1024)) (word_now t j % 1024)
@@ -291,10 +295,14 @@ frames_returned config w g d p t r m j h x = all_from (IsFilled g.pushed (with_d
       (word_now t j / 1024) lt (place_in r (word_now t j) x.own.shaped (now_in w g d p t r m j x)) (pooled_at y is.frames a)) in
       let was = all_at (IsFilled g.pushed w.under.pages w.front.stage) w.front.requests i y h.frames at in
       record {
-        whole = λ writes le k lt. kept k lt ∙ was.whole writes le k lt;
-        begun = λ writes number k lt in_it. kept k in_it ∙ was.begun writes number k lt in_it;
+        whole = λ le k lt own. kept k lt ∙ was.whole le k lt own;
+        begun = λ number k f lt own. kept k lt ∙ was.begun number k f lt own;
       }
 ])
+  where
+    -- of a read the front's own words are those of its indirect pages, and no word of data
+    pages_alone : (n : ℕ) → is_own r n ≡ true → n ≢ word_now t j
+    pages_alone n own = λ same. false≢true (sym x.at.3 ∙ (own_before r n own (let in_data = now_in w g d p t r m j x in omega arith)).0)
 
 -- nor one of the data that are told
 data_returned : (config : Options) (w : World) (g : Flow) (d : Pipeline) (p : ℕ) (t : Work) (r : Request) (m : Mapping) (j : ℕ) → Holds config w g d w.front.stage w.back.stage → IsWriting w g d p t r m j → AreDataWords (with_data w t r j) w.front.words w.front.ending w.front.stage
@@ -373,7 +381,7 @@ write_goes config w g d number p t r m j o h held is e at = record {
     later : Work
     later = after_word t r m j (j == 127) last
 
-    left : (t.moved + 0 ≤ r.count) × (t.within ≤ 7) × (r.count ≤ 88)
+    left : (t.moved + 0 ≤ r.count) × (t.within ≤ 7) × (r.count ≤ 7680)
     left = sectors_left t r 0 own.shaped at.0
 
     written_so : with_word w.under.pages (frame_of w.under.grants m) (word_at t j) (slice_index t.words j) ≡ with_data w t r j

@@ -136,8 +136,8 @@ frames_kept pushed old new s requests same h k d lt =
     let here = same k d lt in
     let was = h k d lt in
     record {
-      whole = λ way le n l. here n l ∙ was.whole way le n l;
-      begun = λ way e n l m. here n m ∙ was.begun way e n l m;
+      whole = λ le n l own. here n l ∙ was.whole le n l own;
+      begun = λ e n f l own. here n l ∙ was.begun e n f l own;
     }
 
 -- the words of data that are told are as they were

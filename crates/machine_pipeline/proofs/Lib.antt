@@ -46,6 +46,7 @@ pub mod JobCalls
 pub mod JobWrites
 pub mod JobGrants
 pub mod JobMaps
+pub mod JobPages
 pub mod JobTurns
 pub mod Resting
 pub mod Looking

@@ -1,5 +1,5 @@
 -- The front pushes the request that it issued: its whole producer grows by one.
-use Rattle.std.proofs.Common.{◌≡◌, ℕ, ◌+◌, ◌-◌, ◌<◌, ◌≤◌, List, length, take, get_or, refl, ap, sym, ◌∙◌, subst, inl, inr, arith}
+use Rattle.std.proofs.Common.{◌≡◌, ℕ, ◌+◌, ◌-◌, ◌*◌, ◌<◌, ◌≤◌, List, length, take, get_or, refl, ap, sym, ◌∙◌, subst, inl, inr, true, arith}
 use Rattle.std.specs.Prelude.{All, Option, Some, slice_get, slice_index}
 use Rattle.std.proofs.lemmas.Bool.{cases_lt}
 use Rattle.std.proofs.lemmas.Option.{none-some, get_or_from_slice_get}
@@ -8,17 +8,18 @@ use Rattle.ring_words.specs.Ring.{Ring, next_of}
 use Rattle.grant_table.specs.declared.held.Held.{Held}
 use Rattle.grant_table.specs.Table.{mappings_of}
 use Rattle.blk_front.specs.declared.request.Request.{Request}
-use Rattle.blk_front.specs.Request.{frame_at, grant_flags, IsShaped}
+use Rattle.blk_front.specs.Request.{frame_at, flags_at, frames_for, IsShaped}
 use Rattle.blk_front.specs.declared.stage.Ending.{Ending}
 use Rattle.blk_front.specs.declared.stage.Stage.TheVariants as front
 use Rattle.blk_front.specs.Entry.{entry_of}
 use Rattle.blk_back.specs.declared.stage.Reply.{Reply}
 use Rattle.blk_back.specs.declared.stage.Stage.{Stage as BackStage}
-use Rattle.machine_pipeline.proofs.Flow.{Flow, wrapped, frames_of}
+use Rattle.machine_pipeline.proofs.Flow.{Flow, wrapped, frames_of, is_own}
 use Rattle.ring_words.specs.Shape.{Shape, entry_words_of}
 use Rattle.machine_pipeline.proofs.Holds.{AreIndices, AreQueued, AreSlots, IsFilled, AreEntries, flags_with, slot_of}
 use Rattle.machine_pipeline.proofs.Kept.{SameGrants, responded_few}
-use Rattle.machine_pipeline.proofs.Data.{SameData}
+use Rattle.machine_pipeline.proofs.Data.{SameData, own_upto}
+use Rattle.machine_pipeline.proofs.Segments.{few_frames}
 use Rattle.machine_pipeline.proofs.Next.{IsNext}
 use Rattle.machine_pipeline.proofs.Slots.{SameSlots, slot_kept, entry_few, response_fits}
 
@@ -94,6 +95,13 @@ slots_pushed shape start fetched pushed taken replied old_word submitted replies
     here : (index i : ℕ) → i < entry_words_of shape.abi → slot_of new shape index i ≡ slot_of old shape index i
     here index i lt = slot_kept shape index i old new narrow lt same
 
+-- all of them were written then
+own_reached : (q : Request) (n : ℕ) → IsShaped q → is_own q n ≡ true → n < 1024 * frames_for q.count + 1920
+own_reached q n shaped own = elim (cases_lt n (1024 * frames_for q.count)) [
+  | inl lt ↦ omega arith
+  | inr le ↦ let its = own_upto q n own le in let upto = its.1 in let few = shaped.counted.few in omega arith
+]
+
 pub frames_pushed : (pushed old_word : ℕ) (old new : List ℕ) (requests : List Request)
     → All IsShaped requests
     → All (SameData old new) requests
@@ -103,13 +111,12 @@ frames_pushed pushed old_word old new requests shaped same h k d lt =
     let here = same k d lt in
     let was = h k d lt in
     let shape = shaped k d lt in
-    let few = shape.counted.few in
     record {
-      whole = λ way le n l. here n l ∙ (elim (cases_lt pushed (let q = get_or requests k d in q.number)) [
-        | inl above ↦ was.begun way (omega arith) n (omega arith) l
-        | inr below ↦ was.whole way below n l
+      whole = λ le n l own. here n l ∙ (elim (cases_lt pushed (let q = get_or requests k d in q.number)) [
+        | inl above ↦ was.begun (omega arith) n (own_reached (get_or requests k d) n shape own) l own
+        | inr below ↦ was.whole below n l own
       ]);
-      begun = λ way e n l m. absurd (omega arith);
+      begun = λ e n l. absurd (omega arith);
     }
 
 pub entries_pushed : (submitted requests : List Request) (pushed waiting old_word : ℕ) (old new : List ℕ) (live : List Held) (ending : Option Ending)
@@ -125,8 +132,7 @@ entries_pushed submitted requests pushed waiting old_word old new live ending r 
       let was = h.each k d lt in
       let only = next.only k d lt in
       let shape = next.shaped k d lt in
-      let few = shape.counted.few in
-      let sized = shape.frames in
+      let few = few_frames (get_or requests k d) shape in
       record {
         named = λ le place in_it. let entry = here place in_it in entry.frame ∙ (elim (cases_lt pushed (let q = get_or requests k d in q.number)) [
           | inl above ↦ was.named_next (omega arith) place (omega arith) in_it
@@ -143,7 +149,7 @@ entries_pushed submitted requests pushed waiting old_word old new live ending r 
 }
   where
     Unmapped : Request → Type 0
-    Unmapped q = (place : ℕ) → place < frames_of q → grant_flags q.transfer ≡ flags_with q.transfer (mappings_of (frame_at q place + 6) live)
+    Unmapped q = (place : ℕ) → place < frames_of q → flags_at q place ≡ flags_with q place (mappings_of (frame_at q place + 6) live)
 
     unmapped : (q : Request) → q ≡ r → Unmapped q
     unmapped q is = subst Unmapped (sym is) (λ place in_it. rw (none place in_it) refl)

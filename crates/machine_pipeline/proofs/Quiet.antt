@@ -15,6 +15,7 @@ use Rattle.pipeline_laws.specs.Allowed.{AreFinished, is_aside}
 use Rattle.blk_front.specs.declared.request.Request.{Request}
 use Rattle.blk_front.specs.declared.request.Transfer.{Transfer}
 use Rattle.blk_front.specs.declared.request.Transfer.TheVariants as transfer
+use Rattle.blk_front.specs.Request.{is_indirect}
 use Rattle.blk_front.specs.declared.stage.Ending.{Ending}
 use Rattle.blk_front.specs.declared.stage.Stage.{Stage as FrontStage}
 use Rattle.blk_front.specs.declared.stage.Stage.TheVariants as front
@@ -57,7 +58,7 @@ front_acts true x y e f t = true≢false (sym t ∙ e)
 front_acts false x y e f t = true≢false (sym t ∙ f)
 
 issue_acts : (v : front_view.View) (r : Request) (way : Transfer) → front_submit.is_wait (front_ask.issue_ask v r way) ≡ true → ⊥
-issue_acts v r transfer.Read t = true≢false (sym t)
+issue_acts v r transfer.Read t = front_acts (is_indirect r.count) (front_ask.page_ask (Some r) 0) (front_ask.name_ask (Some r) 0) refl refl t
 issue_acts v r (transfer.Write tag) t = true≢false (sym t)
 issue_acts v r (transfer.Barrier tag) t = true≢false (sym t)
 issue_acts v r transfer.Flush t = true≢false (sym t)
@@ -80,6 +81,8 @@ front_sleeps shape start pushed taken seen submitted replies entry v front.Loop 
         by_through false through u = absurd (front_acts (responses_of v.ring v.seen == 0) _ _ refl refl u)
 front_sleeps shape start pushed taken seen submitted replies entry v (front.Data n) ready waits at =
     absurd (true≢false (sym waits ∙ ap (λ (x : Option Request). front_submit.is_wait (front_ask.data_ask x n)) at.1))
+front_sleeps shape start pushed taken seen submitted replies entry v (front.Pages n) ready waits at =
+    absurd (true≢false (sym waits ∙ ap (λ (x : Option Request). front_submit.is_wait (front_ask.page_ask x n)) at.1))
 front_sleeps shape start pushed taken seen submitted replies entry v (front.GrantFrame place) ready waits at =
     absurd (true≢false (sym waits ∙ ap (λ (x : Option Request). front_submit.is_wait (front_ask.name_ask x place)) at.1))
 front_sleeps shape start pushed taken seen submitted replies entry v (front.GrantFlags place) ready waits at =

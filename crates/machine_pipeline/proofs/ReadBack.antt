@@ -32,6 +32,10 @@ pub record IsReturned (pages : List ℕ) (r : Request) (moved : ℕ) (hand : Lis
 
 -- what a read's job has in hand, by its stage and how many sectors it moved; one that flushes or trims has read nothing
 abbrev pub ReadAt : (pages : List ℕ) (r : Request) (moved : ℕ) (hand : List ℕ) (noted : List (List ℕ)) → JobStage → Type 0
+ReadAt pages r moved hand noted job.MapPage = IsReadBack pages r moved noted
+ReadAt pages r moved hand noted (job.PageReference m) = IsReadBack pages r moved noted
+ReadAt pages r moved hand noted (job.PageSectors m gref) = IsReadBack pages r moved noted
+ReadAt pages r moved hand noted (job.UnmapPage m) = IsReadBack pages r moved noted
 ReadAt pages r moved hand noted job.Map = IsReadBack pages r moved noted
 ReadAt pages r moved hand noted (job.DiskRead m) = IsReadBack pages r moved noted
 ReadAt pages r moved hand noted (job.WriteWord m j) = IsReturned pages r moved hand noted j

@@ -177,6 +177,10 @@ returned_kept old new r moved hand noted j same h = record {
 }
 
 pub read_at_kept : (old new : List ℕ) (r : Request) (moved : ℕ) (hand : List ℕ) (noted : List (List ℕ)) (s : JobStage) → SameData old new r → ReadAt old r moved hand noted s → ReadAt new r moved hand noted s
+read_at_kept old new r moved hand noted job.MapPage same h = back_kept old new r moved noted same h
+read_at_kept old new r moved hand noted (job.PageReference m) same h = back_kept old new r moved noted same h
+read_at_kept old new r moved hand noted (job.PageSectors m gref) same h = back_kept old new r moved noted same h
+read_at_kept old new r moved hand noted (job.UnmapPage m) same h = back_kept old new r moved noted same h
 read_at_kept old new r moved hand noted job.Map same h = back_kept old new r moved noted same h
 read_at_kept old new r moved hand noted (job.DiskRead m) same h = back_kept old new r moved noted same h
 read_at_kept old new r moved hand noted (job.WriteWord m j) same h = returned_kept old new r moved hand noted j same h

@@ -1,6 +1,6 @@
 -- The front refuses a submission exactly where the pipeline does, by the rule of the plain disk.
-use Rattle.std.proofs.Common.{◌≡◌, ℕ, zero, suc, ◌+◌, ◌-◌, ◌/◌, ◌<◌, ◌≤◌, Bool, true, false, true≢false, not, cond, List, [], ◌∷◌, ◌++◌, length, refl, ap, sym, ◌∙◌, arith, length-set, ◌⊎◌, inl, inr}
-use Rattle.std.specs.Prelude.{◌&&◌, ◌||◌, slice_get, Option, Some, None, Result, Ok, Err, count_by, nat_lt, nat_le, if◌then◌else◌, map}
+use Rattle.std.proofs.Common.{◌≡◌, ℕ, zero, suc, ◌+◌, ◌-◌, ◌/◌, ◌<◌, ◌≤◌, Bool, true, false, true≢false, not, cond, List, [], ◌∷◌, ◌++◌, length, refl, ap, sym, subst, ◌∙◌, arith, length-set, ◌⊎◌, inl, inr}
+use Rattle.std.specs.Prelude.{◌&&◌, ◌||◌, slice_get, Option, Some, None, Result, Ok, Err, count_by, nat_lt, min, max, if◌then◌else◌, map}
 use Rattle.std.specs.List.{sum_by, position_or_len}
 use Rattle.std.proofs.lemmas.Bool.Decides.{nat_tests}
 use Rattle.std.proofs.lemmas.List.Sums.{sum_by-cons, count_by-le-length}
@@ -27,7 +27,7 @@ use Rattle.blk_front.specs.declared.told.Refusal.{Refusal}
 use Rattle.blk_front.specs.declared.told.Refusal.TheVariants as refusal
 use Rattle.blk_front.specs.Pool.{lowest_of, with_taken, taking}
 use Rattle.blk_front.specs.View.{View, next_request}
-use Rattle.blk_front.specs.Submit.{is_ready, ending_of, unfinished, wished, submit_with, submit_one, submit_of}
+use Rattle.blk_front.specs.Submit.{is_ready, ending_of, unfinished, wished, frames_taken, submit_with, submit_one, submit_of}
 use Rattle.blk_back.specs.declared.stage.Reply.{Reply}
 use Rattle.split_model.specs.World.{World}
 use Rattle.split_model.specs.Shown.{refusal_word}
@@ -35,12 +35,12 @@ use Rattle.machine_pipeline.specs.Allowed.{IsServable}
 use Rattle.machine_pipeline.specs.Plain.{IsPlain}
 use Rattle.machine_pipeline.proofs.Flow.{Flow, ending_at, count_of}
 use Rattle.machine_pipeline.proofs.Holds.{FrontAt, AreOffered, IsOffered, Holds}
-use Rattle.ring_words.specs.Shape.{Shape, entries_of}
+use Rattle.ring_words.specs.Shape.{Shape}
 use Rattle.std.proofs.lemmas.Bool.{cases_lt}
 use Rattle.machine_pipeline.proofs.Lists.{count_set}
 use Rattle.machine_pipeline.proofs.Stations.{AreKnown}
 use Rattle.std.proofs.lemmas.List.{length-map}
-use Rattle.machine_pipeline.proofs.Holding.{frames_alike, same_stage}
+use Rattle.machine_pipeline.proofs.Holding.{ruled_frames, frames_alike, same_stage}
 
 -- an answer, as the rule gives it: none where the submission is accepted
 abbrev pub answer_of : Result ℕ Refusal → Option RefusalWord
@@ -48,9 +48,9 @@ answer_of (Ok number) = None
 answer_of (Err r) = Some (refusal_word r)
 
 -- what a ready front knows of its back
-pub offered_is : (ready fixed : Bool) (offers : Offers) (pushed last : ℕ) → ready ≡ true → IsOffered ready fixed offers pushed last → AreOffered fixed offers
-offered_is true fixed offers pushed last is h = h
-offered_is false fixed offers pushed last is h = absurd (true≢false (sym is))
+pub offered_is : (ready fixed : Bool) (limit : ℕ) (offers : Offers) (pushed last : ℕ) → ready ≡ true → IsOffered ready fixed limit offers pushed last → AreOffered fixed limit offers
+offered_is true fixed limit offers pushed last is h = h
+offered_is false fixed limit offers pushed last is h = absurd (true≢false (sym is))
 
 -- as many requests end as the front's stage says
 pub same_ending : (shape : Shape) (start pushed taken front_seen : ℕ) (submitted : List Request) (replies : List Reply) (next : Option Request) (entry : List ℕ)
@@ -147,8 +147,8 @@ as_unfinished (x ∷ carried) =
 abbrev pub AreTaken : (n : ℕ) (pool : List Bool) (lacks : Bool) → Type 0
 AreTaken n pool lacks = ((lacks ≡ false) × ((taken : List ℕ × List Bool) × (taking n pool [] ≡ Some taken))) ⊎ ((lacks ≡ true) × (taking n pool [] ≡ None))
 
-frames_taken : (n : ℕ) (pool : List Bool) → length pool ≡ 1000 → AreTaken n pool (nat_lt 1000 (count_by (λ (b : Bool). b) pool + n))
-frames_taken n pool size = by_test (nat_lt 1000 (count_by (λ (b : Bool). b) pool + n)) refl
+frames_fit : (n : ℕ) (pool : List Bool) → length pool ≡ 1000 → AreTaken n pool (nat_lt 1000 (count_by (λ (b : Bool). b) pool + n))
+frames_fit n pool size = by_test (nat_lt 1000 (count_by (λ (b : Bool). b) pool + n)) refl
   where
     by_test : (b : Bool) → nat_lt 1000 (count_by (λ (b : Bool). b) pool + n) ≡ b → AreTaken n pool b
     by_test false t = inl (refl, taking_fits n pool [] (let few : count_by (λ (b : Bool). b) pool + n ≤ 1000 = grind (arith, nat_tests) in omega arith))
@@ -177,7 +177,7 @@ same_last v wish false false false false lacks taken fits = elim (fits refl refl
 
 same_answer : (v : View) (wish : Wish) (one : Option Wish → Result ℕ Refusal × View) (spent closing connected unsupported offered refuses past long full lacks : Bool) (taken : Option (List ℕ × List Bool))
     → one None ≡ (Err refusal.Unsupported, v)
-    → (unsupported ≡ false → one (Some wish) ≡ tested_last v wish refuses past long full taken)
+    → (connected ≡ true → unsupported ≡ false → one (Some wish) ≡ tested_last v wish refuses past long full taken)
     → (connected ≡ true → offered ≡ not unsupported)
     → (long ≡ false → full ≡ false → IsLacking lacks taken)
     → (if spent then Some words.Spent else (if not closing && (not connected || false) then Some words.NotReady else (if closing then Some words.Closing else (if unsupported then Some words.Unsupported else ruled_last refuses past long full lacks))))
@@ -185,7 +185,7 @@ same_answer : (v : View) (wish : Wish) (one : Option Wish → Result ℕ Refusal
 same_answer v wish one true closing connected unsupported offered refuses past long full lacks taken none some serves fits = refl
 same_answer v wish one false true connected unsupported offered refuses past long full lacks taken none some serves fits = refl
 same_answer v wish one false false false unsupported offered refuses past long full lacks taken none some serves fits = refl
-same_answer v wish one false false true unsupported offered refuses past long full lacks taken none some serves fits = by_offer unsupported offered some (serves refl)
+same_answer v wish one false false true unsupported offered refuses past long full lacks taken none some serves fits = by_offer unsupported offered (some refl) (serves refl)
   where
     by_offer : (u o : Bool) → (u ≡ false → one (Some wish) ≡ tested_last v wish refuses past long full taken) → o ≡ not u → (if u then Some words.Unsupported else ruled_last refuses past long full lacks) ≡ answer_of (one (wished o wish)).0
     by_offer false true some e = same_last v wish refuses past long full lacks taken fits ∙ sym (ap (λ (y : Result ℕ Refusal × View). answer_of y.0) (some refl))
@@ -213,28 +213,36 @@ ruled config w g d job plain h one = by_job job one
     order : config.order ≡ w.front.shape.order
     order = sym (ap (λ (x : Shape). x.order) (h.shaped.known ∙ h.shaped.whole))
 
-    offers : is_ready w.front.stage ≡ true → AreOffered config.read_only w.front.offers
-    offers ready = offered_is (is_ready w.front.stage) config.read_only w.front.offers g.pushed w.front.last ready h.offered
+    offers : is_ready w.front.stage ≡ true → AreOffered config.read_only config.indirect w.front.offers
+    offers ready = offered_is (is_ready w.front.stage) config.read_only config.indirect w.front.offers g.pushed w.front.last ready h.offered
 
-    free : (count : ℕ) → AreTaken (frames_for count) w.front.pool (nat_lt 1000 (sum_by frames_held (map asked d.requests) + (count + 7) / 8))
-    free count = rw (frames_alike config w g d h) (frames_taken (frames_for count) w.front.pool h.pool.size)
+    -- the front's limit is the rule's
+    most : is_ready w.front.stage ≡ true → max 11 (min 960 w.front.offers.indirect) ≡ max 11 config.indirect
+    most ready = let limit = (offers ready).indirect in let few = plain.indirect in omega arith
 
-    fits : (count : ℕ) → nat_lt 11 (frames_for count) ≡ false → nat_le (entries_of w.front.shape.order) (unfinished w.front) ≡ false
-        → AreTaken (frames_for count) w.front.pool (nat_lt 1000 (sum_by frames_held (map asked d.requests) +
+    free : (count : ℕ) → AreTaken (frames_taken count) w.front.pool (nat_lt 1000 (sum_by frames_held (map asked d.requests) + frames_taken count))
+    free count = rw (frames_alike config w g d h) (frames_fit (frames_taken count) w.front.pool h.pool.size)
+
+    fits : (count : ℕ) → AreTaken (frames_taken count) w.front.pool (nat_lt 1000 (sum_by frames_held (map asked d.requests) +
         (if nat_lt 11 ((count + 7) / 8) then (count + 7) / 8 + ((count + 7) / 8 + 511) / 512 else (count + 7) / 8)))
-    fits count short full = rw short (free count)
+    fits count = rw (ruled_frames count) (free count)
+
+    bare : (count : ℕ) → nat_lt 11 (frames_for count) ≡ false → AreTaken (frames_taken count) w.front.pool (nat_lt 1000 (sum_by frames_held (map asked d.requests) + (count + 7) / 8))
+    bare count short =
+        let all : frames_taken count ≡ (count + 7) / 8 = rw short (omega arith) in
+        subst (λ (n : ℕ). AreTaken (frames_taken count) w.front.pool (nat_lt 1000 (sum_by frames_held (map asked d.requests) + n))) all (free count)
 
     by_job : (x : Job) → IsServable x → refusal_by (record { config = Some config; connected = is_ready w.front.stage; closing = w.front.closing; broken = false }) config (map asked d.requests) x ≡ answer_of (submit_of w.front x).0
-    by_job (Read sector count) some = rw (spent, order, plain.indirect, past (sector + count), open_ones)
-        (same_answer w.front (record { sector = sector; count = count; transfer = transfer.Read }) (submit_one w.front) _ _ _ false true false _ _ _ _ _ refl (λ served. refl) (λ ready. refl) (fits count))
-    by_job (Write sector count tag) some = rw (spent, sym h.sized.read_only, order, plain.indirect, past (sector + count), open_ones)
-        (same_answer w.front (record { sector = sector; count = count; transfer = transfer.Write tag }) (submit_one w.front) _ _ _ false true _ _ _ _ _ _ refl (λ served. refl) (λ ready. refl) (fits count))
+    by_job (Read sector count) some = rw (spent, order, past (sector + count), open_ones)
+        (same_answer w.front (record { sector = sector; count = count; transfer = transfer.Read }) (submit_one w.front) _ _ _ false true false _ _ _ _ _ refl (λ ready served. rw (most ready) refl) (λ ready. refl) (λ short full. fits count))
+    by_job (Write sector count tag) some = rw (spent, sym h.sized.read_only, order, past (sector + count), open_ones)
+        (same_answer w.front (record { sector = sector; count = count; transfer = transfer.Write tag }) (submit_one w.front) _ _ _ false true _ _ _ _ _ _ refl (λ ready served. rw (most ready) refl) (λ ready. refl) (λ short full. fits count))
     by_job (Barrier sector count tag) some = rw (spent, order, past (sector + count), open_ones)
-        (same_answer w.front (record { sector = sector; count = count; transfer = transfer.Barrier tag }) (submit_one w.front) _ _ _ config.read_only w.front.offers.barrier false _ _ _ _ _ refl (λ served. rw (h.sized.read_only ∙ served) refl) (λ ready. (offers ready).barrier) (λ short full. free count))
+        (same_answer w.front (record { sector = sector; count = count; transfer = transfer.Barrier tag }) (submit_one w.front) _ _ _ config.read_only w.front.offers.barrier false _ _ _ _ _ refl (λ ready served. rw (h.sized.read_only ∙ served) refl) (λ ready. (offers ready).barrier) (λ short full. bare count short))
     by_job Flush some = rw (spent, order, past 0, open_ones)
-        (same_answer w.front (record { sector = 0; count = 0; transfer = transfer.Flush }) (submit_one w.front) _ _ _ config.read_only w.front.offers.flush false _ false _ _ _ refl (λ served. refl) (λ ready. (offers ready).flush) (fits 0))
+        (same_answer w.front (record { sector = 0; count = 0; transfer = transfer.Flush }) (submit_one w.front) _ _ _ config.read_only w.front.offers.flush false _ false _ _ _ refl (λ ready served. refl) (λ ready. (offers ready).flush) (λ short full. fits 0))
     by_job (Discard sector count) some = rw (spent, order, past (sector + count), open_ones)
-        (same_answer w.front (record { sector = sector; count = 0; transfer = transfer.Discard count }) (submit_one w.front) _ _ _ config.read_only w.front.offers.discard false _ false _ _ _ refl (λ served. refl) (λ ready. (offers ready).discard) (fits 0))
+        (same_answer w.front (record { sector = sector; count = 0; transfer = transfer.Discard count }) (submit_one w.front) _ _ _ config.read_only w.front.offers.discard false _ false _ _ _ refl (λ ready served. refl) (λ ready. (offers ready).discard) (λ short full. fits 0))
 
 -- so is the pipeline's
 pub refused_rightly : (config : Options) (w : World) (g : Flow) (d : Pipeline) (job : Job) → IsPlain config → Holds config w g d w.front.stage w.back.stage → IsServable job → refusal_now d job ≡ answer_of (submit_of w.front job).0

@@ -1,8 +1,8 @@
 -- A step of the front while it issues nothing and ends no grant: it looks at the ring, takes up a response, or goes to sleep.
-use Rattle.std.proofs.Common.{◌≡◌, ◌≢◌, ℕ, ◌+◌, ◌<◌, ◌≤◌, ◌⊎◌, inl, inr, Bool, true, false, List, length, refl, sym, ◌∙◌, subst, arith, ◌^◌}
+use Rattle.std.proofs.Common.{◌≡◌, ◌≢◌, ℕ, ◌+◌, ◌<◌, ◌≤◌, ◌⊎◌, inl, inr, Bool, true, false, List, length, get_or, refl, sym, ◌∙◌, subst, arith, ◌^◌}
 use Rattle.std.specs.Prelude.{◌/◌, All, Option, Some, None, slice_get, slice_index_or}
 use Rattle.grant_table.specs.declared.held.Held.{Held}
-use Rattle.blk_front.specs.Request.{frame_at}
+use Rattle.blk_front.specs.Request.{frame_at, frames_for}
 use Rattle.blk_back.specs.declared.stage.Reply.{Reply}
 use Rattle.std.proofs.lemmas.Option.{none-some}
 use Rattle.blk_base.specs.Options.{Options}
@@ -38,7 +38,7 @@ pub record IsResting (s : FrontStage) : Type 0 where
   pub granted : (pages : ℕ) → granted_pages s pages ≡ pages
   pub begun : (start : ℕ) (pages : List ℕ) → RingBegun start pages s
   pub ready : is_ready s ≡ true
-  pub filled_none : filled s ≡ 0
+  pub filled_none : (frames : ℕ) → filled s frames ≡ 0
   pub unnamed : named_frames s ≡ 0
   pub ungranted : granted_frames s ≡ 0
   pub entered_none : entered s ≡ 0
@@ -46,31 +46,31 @@ pub record IsResting (s : FrontStage) : Type 0 where
   pub quiet : (pushed fetched : ℕ) → FrontSends s pushed fetched → ⊥
 
 pub at_loop : IsResting front.Loop
-at_loop = record { ring = refl; named = λ pages. refl; granted = λ pages. refl; begun = λ start pages. tt; ready = refl; filled_none = refl; unnamed = refl; ungranted = refl; entered_none = refl; unissued = refl; quiet = λ p f x. x }
+at_loop = record { ring = refl; named = λ pages. refl; granted = λ pages. refl; begun = λ start pages. tt; ready = refl; filled_none = λ frames. refl; unnamed = refl; ungranted = refl; entered_none = refl; unissued = refl; quiet = λ p f x. x }
 
 pub at_high : (low : ℕ) → IsResting (front.ResponseHigh low)
-at_high low = record { ring = refl; named = λ pages. refl; granted = λ pages. refl; begun = λ start pages. tt; ready = refl; filled_none = refl; unnamed = refl; ungranted = refl; entered_none = refl; unissued = refl; quiet = λ p f x. x }
+at_high low = record { ring = refl; named = λ pages. refl; granted = λ pages. refl; begun = λ start pages. tt; ready = refl; filled_none = λ frames. refl; unnamed = refl; ungranted = refl; entered_none = refl; unissued = refl; quiet = λ p f x. x }
 
 pub at_last : (low high : ℕ) → IsResting (front.ResponseLast low high)
-at_last low high = record { ring = refl; named = λ pages. refl; granted = λ pages. refl; begun = λ start pages. tt; ready = refl; filled_none = refl; unnamed = refl; ungranted = refl; entered_none = refl; unissued = refl; quiet = λ p f x. x }
+at_last low high = record { ring = refl; named = λ pages. refl; granted = λ pages. refl; begun = λ start pages. tt; ready = refl; filled_none = λ frames. refl; unnamed = refl; ungranted = refl; entered_none = refl; unissued = refl; quiet = λ p f x. x }
 
 pub at_read : (place : ℕ) → IsResting (front.GrantRead place)
-at_read place = record { ring = refl; named = λ pages. refl; granted = λ pages. refl; begun = λ start pages. tt; ready = refl; filled_none = refl; unnamed = refl; ungranted = refl; entered_none = refl; unissued = refl; quiet = λ p f x. x }
+at_read place = record { ring = refl; named = λ pages. refl; granted = λ pages. refl; begun = λ start pages. tt; ready = refl; filled_none = λ frames. refl; unnamed = refl; ungranted = refl; entered_none = refl; unissued = refl; quiet = λ p f x. x }
 
 pub at_end : (place before : ℕ) → IsResting (front.GrantEnd place before)
-at_end place before = record { ring = refl; named = λ pages. refl; granted = λ pages. refl; begun = λ start pages. tt; ready = refl; filled_none = refl; unnamed = refl; ungranted = refl; entered_none = refl; unissued = refl; quiet = λ p f x. x }
+at_end place before = record { ring = refl; named = λ pages. refl; granted = λ pages. refl; begun = λ start pages. tt; ready = refl; filled_none = λ frames. refl; unnamed = refl; ungranted = refl; entered_none = refl; unissued = refl; quiet = λ p f x. x }
 
 pub at_data : (n : ℕ) → IsResting (front.ReadData n)
-at_data n = record { ring = refl; named = λ pages. refl; granted = λ pages. refl; begun = λ start pages. tt; ready = refl; filled_none = refl; unnamed = refl; ungranted = refl; entered_none = refl; unissued = refl; quiet = λ p f x. x }
+at_data n = record { ring = refl; named = λ pages. refl; granted = λ pages. refl; begun = λ start pages. tt; ready = refl; filled_none = λ frames. refl; unnamed = refl; ungranted = refl; entered_none = refl; unissued = refl; quiet = λ p f x. x }
 
 pub at_store : IsResting front.StoreEvent
-at_store = record { ring = refl; named = λ pages. refl; granted = λ pages. refl; begun = λ start pages. tt; ready = refl; filled_none = refl; unnamed = refl; ungranted = refl; entered_none = refl; unissued = refl; quiet = λ p f x. x }
+at_store = record { ring = refl; named = λ pages. refl; granted = λ pages. refl; begun = λ start pages. tt; ready = refl; filled_none = λ frames. refl; unnamed = refl; ungranted = refl; entered_none = refl; unissued = refl; quiet = λ p f x. x }
 
 pub at_fence : IsResting front.EventFence
-at_fence = record { ring = refl; named = λ pages. refl; granted = λ pages. refl; begun = λ start pages. tt; ready = refl; filled_none = refl; unnamed = refl; ungranted = refl; entered_none = refl; unissued = refl; quiet = λ p f x. x }
+at_fence = record { ring = refl; named = λ pages. refl; granted = λ pages. refl; begun = λ start pages. tt; ready = refl; filled_none = λ frames. refl; unnamed = refl; ungranted = refl; entered_none = refl; unissued = refl; quiet = λ p f x. x }
 
 pub at_look : IsResting front.LookAgain
-at_look = record { ring = refl; named = λ pages. refl; granted = λ pages. refl; begun = λ start pages. tt; ready = refl; filled_none = refl; unnamed = refl; ungranted = refl; entered_none = refl; unissued = refl; quiet = λ p f x. x }
+at_look = record { ring = refl; named = λ pages. refl; granted = λ pages. refl; begun = λ start pages. tt; ready = refl; filled_none = λ frames. refl; unnamed = refl; ungranted = refl; entered_none = refl; unissued = refl; quiet = λ p f x. x }
 
 -- where no request ends, no grant is ended and no data are told
 pub unending : (s : FrontStage) (ending : Option Ending) → ending_of s ≡ 0 → ending_at s ending ≡ None
@@ -120,7 +120,7 @@ slots_rest shape start fetched pushed taken replied submitted replies pages s s'
 pub frames_rest : (pushed : ℕ) (pages : List ℕ) (s s' : FrontStage) (requests : List Request) → IsResting s' → All (IsFilled pushed pages s) requests → All (IsFilled pushed pages s') requests
 frames_rest pushed pages s s' requests i' h k d lt =
     let was = h k d lt in
-    record { whole = was.whole; begun = λ way e i l. let none = i'.filled_none in absurd (omega arith) }
+    record { whole = was.whole; begun = λ e i l. let none = i'.filled_none (frames_for (let q : Request = get_or requests k d in q.count)) in absurd (omega arith) }
 
 pub granted_rests : (pushed : ℕ) (pages : List ℕ) (live : List Held) (s s' : FrontStage) (r : Request) → IsResting s' → IsGranted pushed pages live s r → IsGranted pushed pages live s' r
 granted_rests pushed pages live s s' r i' h = record {
@@ -175,7 +175,7 @@ rest_kept config w g d s s' seen whole asleep pages channels i i' zero zero' h a
   info = h.info;
   replies = h.replies;
   front_at = at;
-  offered = subst (λ (b : Bool). IsOffered b config.read_only w.front.offers g.pushed w.front.last) (i.ready ∙ sym i'.ready) h.offered;
+  offered = subst (λ (b : Bool). IsOffered b config.read_only config.indirect w.front.offers g.pushed w.front.last) (i.ready ∙ sym i'.ready) h.offered;
   back_at = h.back_at;
   unhalted = h.unhalted;
   memory = sized;

@@ -1,6 +1,6 @@
 -- The segments of a request's entry: one for each of its frames, and no sector more than it has.
 use Rattle.std.proofs.Common.{◌≡◌, ℕ, zero, suc, ◌+◌, ◌-◌, ◌*◌, ◌/◌, ◌%◌, ◌^◌, ◌<◌, ◌≤◌, Bool, true, false, List, [], ◌∷◌, length, drop, refl, ap, sym, ◌∙◌, arith}
-use Rattle.std.specs.Prelude.{All, Option, Some, None, map, min, sum_by, slice_get, nat_lt}
+use Rattle.std.specs.Prelude.{All, Option, Some, None, map, min, sum_by, take, slice_get, nat_lt, if◌then◌else◌}
 use Rattle.std.specs.List.{range_with_len, list_any}
 use Rattle.std.proofs.lemmas.Bool.Decides.{nat_tests}
 use Rattle.std.proofs.lemmas.Option.{slice_get-get_or}
@@ -9,7 +9,7 @@ use Rattle.blk_layout.specs.declared.segment.Segment.{Segment}
 use Rattle.blk_layout.specs.Range.{AreSegments}
 use Rattle.segment_list.specs.Segments.{fails_test, length_of, sectors_of}
 use Rattle.blk_front.specs.declared.request.Request.{Request}
-use Rattle.blk_front.specs.Request.{is_moving, frame_at, frames_for, segment_in, segment_at, segments_of, IsShaped}
+use Rattle.blk_front.specs.Request.{is_moving, is_indirect, pages_for, frame_at, frames_for, segment_in, segment_at, segments_of, page_reference, page_references, IsShaped}
 use Rattle.xen_pages.specs.Pages.{word_of}
 use Rattle.machine_pipeline.proofs.Flow.{frames_of, own_segments, data_word}
 use Rattle.machine_pipeline.proofs.Holds.{IsPooled, last_in}
@@ -46,55 +46,66 @@ frame_segment r place = record { gref = frame_at r place + 6; first = 0; last = 
 pub segment_is : (r : Request) (place : ℕ) → place < frames_of r → segment_at r place ≡ frame_segment r place
 segment_is r place lt = ap (segment_in r.count place) (slice_get-get_or r.frames.items place 18 lt)
 
+-- the frames of its data are the first of its frames
+pub data_frames : (r : Request) (place : ℕ) → IsShaped r → place < frames_for r.count → place < frames_of r
+data_frames r place shaped lt = let frames = shaped.frames in omega arith
+
 -- a request that has a frame moves sectors
-pub moves_sectors : (r : Request) (place : ℕ) → IsShaped r → place < frames_of r → is_moving r.transfer ≡ true
+pub moves_sectors : (r : Request) (place : ℕ) → IsShaped r → place < frames_for r.count → is_moving r.transfer ≡ true
 moves_sectors r place shaped within = by_test (is_moving r.transfer) refl
   where
     by_test : (b : Bool) → is_moving r.transfer ≡ b → is_moving r.transfer ≡ true
     by_test true e = e
-    by_test false e = let none = shaped.counted.none e in let frames = shaped.frames in absurd (omega arith)
+    by_test false e = let none = shaped.counted.none e in absurd (omega arith)
 
--- it has no more frames than an entry can name
-pub few_frames : (r : Request) → IsShaped r → frames_of r ≤ 11
-few_frames r shaped = let few = shaped.counted.few in let frames = shaped.frames in omega arith
+-- it has no more frames than 960 segments take, and two indirect pages
+pub few_pages_for : (count : ℕ) → count ≤ 7680 → pages_for count ≤ 2
+few_pages_for count few = by_size (is_indirect count)
+  where
+    by_size : (b : Bool) → (if b then (frames_for count + 511) / 512 else 0) ≤ 2
+    by_size true = omega arith
+    by_size false = omega arith
 
-own_made : (r : Request) → IsShaped r → own_segments r ≡ map (segment_at r) (range_with_len 0 (frames_of r))
-own_made r shaped =
-    let few = few_frames r shaped in
+pub few_frames : (r : Request) → IsShaped r → frames_of r ≤ 962
+few_frames r shaped =
+    let few = shaped.counted.few in
+    let pages = few_pages_for r.count few in
     let frames = shaped.frames in
-    take-map-range_with_len (segment_at r) 0 11 (frames_for r.count) (omega (arith, few))
-    ∙ ap (λ (n : ℕ). map (segment_at r) (range_with_len 0 n)) (sym frames)
+    omega arith
+
+-- those of a request that isn't indirect are the first that its entry has
+pub own_direct : (r : Request) → frames_for r.count ≤ 11 → take (frames_for r.count) (segments_of r) ≡ own_segments r
+own_direct r few = take-map-range_with_len (segment_at r) 0 11 (frames_for r.count) few
 
 -- its segments from this place on
 pub own_here : (r : Request) (place : ℕ)
     → IsShaped r
-    → place < frames_of r
+    → place < frames_for r.count
     → drop place (own_segments r) ≡ frame_segment r place ∷ drop (place + 1) (own_segments r)
 own_here r place shaped lt =
-    let whole = own_made r shaped in
     let from : 0 + place ≡ place = omega arith in
     let next : 0 + (place + 1) ≡ place + 1 = omega arith in
-    let left : frames_of r - place ≡ suc (frames_of r - (place + 1)) = omega arith in
-    let first : drop place (own_segments r) ≡ map (segment_at r) (range_with_len place (suc (frames_of r - (place + 1)))) = ap (drop place) whole
-    ∙ (drop-range (segment_at r) 0 (frames_of r) place (omega arith)
-    ∙ (ap (λ (n : ℕ). map (segment_at r) (range_with_len n (frames_of r - place))) from
-    ∙ ap (λ (n : ℕ). map (segment_at r) (range_with_len place n)) left)) in
-    let rest : drop (place + 1) (own_segments r) ≡ map (segment_at r) (range_with_len (place + 1) (frames_of r - (place + 1))) = ap (drop (place + 1)) whole
-    ∙ (drop-range (segment_at r) 0 (frames_of r) (place + 1) (omega arith)
-    ∙ ap (λ (n : ℕ). map (segment_at r) (range_with_len n (frames_of r - (place + 1)))) next) in
-    first ∙ (ap (λ (s : Segment). s ∷ map (segment_at r) (range_with_len (place + 1) (frames_of r - (place + 1)))) (segment_is r place lt)
+    let left : frames_for r.count - place ≡ suc (frames_for r.count - (place + 1)) = omega arith in
+    let first : drop place (own_segments r) ≡ map (segment_at r) (range_with_len place (suc (frames_for r.count - (place + 1)))) =
+    drop-range (segment_at r) 0 (frames_for r.count) place (omega arith)
+    ∙ (ap (λ (n : ℕ). map (segment_at r) (range_with_len n (frames_for r.count - place))) from
+    ∙ ap (λ (n : ℕ). map (segment_at r) (range_with_len place n)) left) in
+    let rest : drop (place + 1) (own_segments r) ≡ map (segment_at r) (range_with_len (place + 1) (frames_for r.count - (place + 1))) =
+    drop-range (segment_at r) 0 (frames_for r.count) (place + 1) (omega arith)
+    ∙ ap (λ (n : ℕ). map (segment_at r) (range_with_len n (frames_for r.count - (place + 1)))) next in
+    first ∙ (ap (λ (s : Segment). s ∷ map (segment_at r) (range_with_len (place + 1) (frames_for r.count - (place + 1)))) (segment_is r place (data_frames r place shaped lt))
     ∙ ap (λ (ss : List Segment). frame_segment r place ∷ ss) (sym rest))
 
-pub own_end : (r : Request) (place : ℕ) → IsShaped r → place ≡ frames_of r → drop place (own_segments r) ≡ []
-own_end r place shaped at =
-    let none : frames_of r - place ≡ 0 = omega arith in
-    ap (drop place) (own_made r shaped) ∙ (drop-range (segment_at r) 0 (frames_of r) place (omega arith)
-    ∙ ap (λ (n : ℕ). map (segment_at r) (range_with_len (0 + place) n)) none)
+pub own_end : (r : Request) (place : ℕ) → place ≡ frames_for r.count → drop place (own_segments r) ≡ []
+own_end r place at =
+    let none : frames_for r.count - place ≡ 0 = omega arith in
+    drop-range (segment_at r) 0 (frames_for r.count) place (omega arith)
+    ∙ ap (λ (n : ℕ). map (segment_at r) (range_with_len (0 + place) n)) none
 
 -- each is sound
 pub own_sound : (r : Request) → IsShaped r → list_any fails_test (own_segments r) ≡ false
-own_sound r shaped = ap (list_any fails_test) (own_made r shaped)
-    ∙ none_passes fails_test (segment_at r) 0 (frames_of r) (λ i low lt. ap fails_test (segment_is r i (omega arith)) ∙ passes i)
+own_sound r shaped =
+    none_passes fails_test (segment_at r) 0 (frames_for r.count) (λ i low lt. ap fails_test (segment_is r i (data_frames r i shaped (omega arith))) ∙ passes i)
   where
     passes : (i : ℕ) → fails_test (frame_segment r i) ≡ false
     passes i =
@@ -103,22 +114,32 @@ own_sound r shaped = ap (list_any fails_test) (own_made r shaped)
         rw (inside, nonempty) refl
 
 -- together they have its sectors
-first_sectors : (r : Request) (n : ℕ) → IsShaped r → n ≤ frames_of r → sum_by length_of (map (segment_at r) (range_with_len 0 n)) ≡ min (8 * n) r.count
+first_sectors : (r : Request) (n : ℕ) → IsShaped r → n ≤ frames_for r.count → sum_by length_of (map (segment_at r) (range_with_len 0 n)) ≡ min (8 * n) r.count
 first_sectors r zero shaped le = omega arith
 first_sectors r (suc n) shaped le =
     let before = first_sectors r n shaped (omega arith) in
     let more : sum_by length_of (map (segment_at r) (range_with_len 0 (n + 1))) ≡ sum_by length_of (map (segment_at r) (range_with_len 0 n)) + length_of (segment_at r n) =
     sum_by-map-range_with_len_more length_of (segment_at r) 0 n n (omega arith) in
-    let last : length_of (segment_at r n) ≡ last_in r n - 0 + 1 = ap length_of (segment_is r n (omega arith)) in
-    let frames = shaped.frames in
+    let last : length_of (segment_at r n) ≡ last_in r n - 0 + 1 = ap length_of (segment_is r n (data_frames r n shaped (omega arith))) in
     let next : suc n ≡ n + 1 = omega arith in
     ap (λ (k : ℕ). sum_by length_of (map (segment_at r) (range_with_len 0 k))) next ∙ (more ∙ omega arith)
 
 pub own_sectors : (r : Request) → IsShaped r → sectors_of (own_segments r) ≡ r.count
-own_sectors r shaped =
-    let all = first_sectors r (frames_of r) shaped (omega arith) in
-    let frames = shaped.frames in
-    ap sectors_of (own_made r shaped) ∙ (all ∙ omega arith)
+own_sectors r shaped = first_sectors r (frames_for r.count) shaped (omega arith) ∙ omega arith
+
+pub own_count : (r : Request) → length (own_segments r) ≡ frames_for r.count
+own_count r = length-map-range_with_len (segment_at r) 0 (frames_for r.count)
+
+-- the references of its indirect pages from this one on
+pub page_here : (r : Request) (page : ℕ) → page < 8 → drop page (page_references r) ≡ page_reference r page ∷ drop (page + 1) (page_references r)
+page_here r page lt =
+    let from : 0 + page ≡ page = omega arith in
+    let next : 0 + (page + 1) ≡ page + 1 = omega arith in
+    let left : 8 - page ≡ suc (8 - (page + 1)) = omega arith in
+    drop-range (page_reference r) 0 8 page (omega arith)
+    ∙ (ap (λ (n : ℕ). map (page_reference r) (range_with_len n (8 - page))) from
+    ∙ (ap (λ (n : ℕ). map (page_reference r) (range_with_len page n)) left
+    ∙ ap (λ (l : List ℕ). page_reference r page ∷ l) (ap (λ (n : ℕ). map (page_reference r) (range_with_len n (8 - (page + 1)))) (sym next) ∙ sym (drop-range (page_reference r) 0 8 (page + 1) (omega arith)))))
 
 -- its entry's segments have the ranges of their words
 pub ranged : (r : Request) → All IsPooled r.frames.items → AreSegments (segments_of r)

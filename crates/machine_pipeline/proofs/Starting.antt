@@ -27,38 +27,38 @@ use Rattle.machine_pipeline.proofs.Slots.{SameSlots}
 -- a stage at which no request is in the front's hands
 pub record IsBare (s : FrontStage) : Type 0 where
   pub none_ends : ending_of s ≡ 0
-  pub filled_none : filled s ≡ 0
+  pub filled_none : (frames : ℕ) → filled s frames ≡ 0
   pub entered_none : entered s ≡ 0
   pub unarmed : is_front_arming s ≡ false
   pub unissued : is_issuing s ≡ false
   pub unready : is_ready s ≡ false
 
 pub bare_word : (k : ℕ) → IsBare (front.RingWord k)
-bare_word k = record { none_ends = refl; filled_none = refl; entered_none = refl; unarmed = refl; unissued = refl; unready = refl }
+bare_word k = record { none_ends = refl; filled_none = λ frames. refl; entered_none = refl; unarmed = refl; unissued = refl; unready = refl }
 
 pub bare_frame : (page : ℕ) → IsBare (front.RingFrame page)
-bare_frame page = record { none_ends = refl; filled_none = refl; entered_none = refl; unarmed = refl; unissued = refl; unready = refl }
+bare_frame page = record { none_ends = refl; filled_none = λ frames. refl; entered_none = refl; unarmed = refl; unissued = refl; unready = refl }
 
 pub bare_fence : (page : ℕ) → IsBare (front.RingFence page)
-bare_fence page = record { none_ends = refl; filled_none = refl; entered_none = refl; unarmed = refl; unissued = refl; unready = refl }
+bare_fence page = record { none_ends = refl; filled_none = λ frames. refl; entered_none = refl; unarmed = refl; unissued = refl; unready = refl }
 
 pub bare_flags : (page : ℕ) → IsBare (front.RingFlags page)
-bare_flags page = record { none_ends = refl; filled_none = refl; entered_none = refl; unarmed = refl; unissued = refl; unready = refl }
+bare_flags page = record { none_ends = refl; filled_none = λ frames. refl; entered_none = refl; unarmed = refl; unissued = refl; unready = refl }
 
 pub bare_port : IsBare front.NewPort
-bare_port = record { none_ends = refl; filled_none = refl; entered_none = refl; unarmed = refl; unissued = refl; unready = refl }
+bare_port = record { none_ends = refl; filled_none = λ frames. refl; entered_none = refl; unarmed = refl; unissued = refl; unready = refl }
 
 pub bare_initialised : IsBare front.Initialised
-bare_initialised = record { none_ends = refl; filled_none = refl; entered_none = refl; unarmed = refl; unissued = refl; unready = refl }
+bare_initialised = record { none_ends = refl; filled_none = λ frames. refl; entered_none = refl; unarmed = refl; unissued = refl; unready = refl }
 
 -- what was submitted and pushed before the front is ready
 pub record AreNone (pushed last : ℕ) : Type 0 where
   pub unpushed : pushed ≡ 0
   pub unsubmitted : last ≡ 0
 
-none_of : (ready fixed : Bool) (offers : Offers) (pushed last : ℕ) → ready ≡ false → IsOffered ready fixed offers pushed last → AreNone pushed last
-none_of false fixed offers pushed last e h = record { unpushed = h.0; unsubmitted = h.1 }
-none_of true fixed offers pushed last e h = absurd (true≢false e)
+none_of : (ready fixed : Bool) (limit : ℕ) (offers : Offers) (pushed last : ℕ) → ready ≡ false → IsOffered ready fixed limit offers pushed last → AreNone pushed last
+none_of false fixed limit offers pushed last e h = record { unpushed = h.0; unsubmitted = h.1 }
+none_of true fixed limit offers pushed last e h = absurd (true≢false e)
 
 pub unbound_of : (connected bound : Bool) (made : ℕ) (ports : _) → connected ≡ false → PortsAt connected bound made ports → (made ≡ 0) × (ports ≡ List.[]) × (bound ≡ false)
 unbound_of false bound made ports e h = h
@@ -72,7 +72,7 @@ back_awake back.Bind e = (refl, refl)
 back_awake b e = absurd (true≢false e)
 
 pub none_yet : (config : Options) (w : World) (g : Flow) (d : Pipeline) (s : FrontStage) → is_ready s ≡ false → Holds config w g d s w.back.stage → AreNone g.pushed w.front.last
-none_yet config w g d s unready h = none_of (is_ready s) config.read_only w.front.offers g.pushed w.front.last unready h.offered
+none_yet config w g d s unready h = none_of (is_ready s) config.read_only config.indirect w.front.offers g.pushed w.front.last unready h.offered
 
 pub starts_on : (config : Options) (w : World) (g : Flow) (d : Pipeline) (s s' : FrontStage) (pages : List ℕ) (channels : ChannelState)
     → is_connected s ≡ false → may_front_sleep s ≡ false → IsBare s → IsBare s'
@@ -97,7 +97,7 @@ starts_on config w g d s s' pages channels starting restless i i' h at sized wor
   info = h.info;
   replies = h.replies;
   front_at = at;
-  offered = subst (λ (b : Bool). IsOffered b config.read_only w.front.offers g.pushed w.front.last) (i.unready ∙ sym i'.unready) h.offered;
+  offered = subst (λ (b : Bool). IsOffered b config.read_only config.indirect w.front.offers g.pushed w.front.last) (i.unready ∙ sym i'.unready) h.offered;
   back_at = h.back_at;
   unhalted = h.unhalted;
   memory = sized;

@@ -63,7 +63,7 @@ start_holds config plain = record {
   holds = record {
     started = record { whole = refl; known = refl; closing = refl };
     shaped = record { whole = refl; narrow = plain.order; known = refl };
-    sized = record { sectors = refl; read_only = refl; writable = λ k r e. absurd (none-some r e); served = λ k r e. absurd (none-some r e) };
+    sized = record { sectors = refl; read_only = refl; writable = λ k r e. absurd (none-some r e); served = λ k r e. absurd (none-some r e); short = λ k r e. absurd (none-some r e) };
     indices = indices_first config plain;
     queue = record {
       known = λ k d lt. absurd (omega arith);

@@ -1,6 +1,6 @@
 -- A submission is refused, and changes nothing, or accepted, and then the pipeline has its request.
 use Rattle.std.proofs.Common.{◌≡◌, ◌≢◌, ℕ, ◌+◌, ◌-◌, ◌<◌, ◌≤◌, ◌==◌, ◌&&◌, Bool, true, false, true≢false, not, List, [], ◌∷◌, ◌++◌, length, refl, ap, sym, ◌∙◌, subst, arith}
-use Rattle.std.specs.Prelude.{All, Option, Some, None, Result, Err, slice_get, nat_lt, nat_le, if◌then◌else◌}
+use Rattle.std.specs.Prelude.{All, Option, Some, None, Result, Err, slice_get, nat_lt, nat_le, min, max, if◌then◌else◌}
 use Rattle.std.proofs.lemmas.Bool.Decides.{nat_tests}
 use Rattle.blk_base.specs.Options.{Options}
 use Rattle.blk_base.specs.declared.config.Job.{Job}
@@ -11,12 +11,13 @@ use Rattle.blk_front.specs.declared.request.Request.{Request}
 use Rattle.blk_front.specs.declared.request.Transfer.{Transfer}
 use Rattle.blk_front.specs.declared.request.Transfer.TheVariants as transfer
 use Rattle.blk_front.specs.declared.request.Wish.{Wish}
-use Rattle.blk_front.specs.Request.{is_write, is_moving, named_of, frames_for, IsCounted}
+use Rattle.blk_front.specs.Request.{is_write, is_moving, is_indirect, may_be_indirect, named_of, frames_for, IsCounted}
+use Rattle.blk_front.specs.declared.state.Offers.{Offers}
 use Rattle.blk_front.specs.Pool.{taking}
 use Rattle.blk_front.specs.declared.told.Refusal.{Refusal}
 use Rattle.blk_front.specs.declared.told.Refusal.TheVariants as refusal
 use Rattle.blk_front.specs.View.{View, next_request}
-use Rattle.blk_front.specs.Submit.{is_ready, unfinished, request_with, accepted, wished, wish_of, submit_one, submit_of, submit_with}
+use Rattle.blk_front.specs.Submit.{is_ready, unfinished, most_segments, frames_taken, request_with, accepted, wished, wish_of, submit_one, submit_of, submit_with}
 use Rattle.split_model.specs.World.{World}
 use Rattle.split_model.specs.Happening.{Submits, submit_line, lines_at, happens}
 use Rattle.machine_pipeline.specs.Allowed.{IsServable}
@@ -42,16 +43,16 @@ accepting w wish taken = record { front = accepted w.front wish taken; back = w.
 accepted_on : (config : Options) (w : World) (g : Flow) (d d' : Pipeline) (wish : Wish) (taken : List ℕ × List Bool)
     → Holds config w g d w.front.stage w.back.stage
     → is_ready w.front.stage ≡ true → w.front.last ≢ 4294967295 → unfinished w.front < entries_of g.shape.order
-    → (is_write wish.transfer && w.front.read_only) ≡ false → (is_moving wish.transfer ≡ false → config.read_only ≡ false)
+    → (is_write wish.transfer && w.front.read_only) ≡ false → (is_moving wish.transfer ≡ false → config.read_only ≡ false) → (is_indirect wish.count ≡ true → frames_for wish.count ≤ config.indirect)
     → wish.sector + named_of wish.transfer wish.count ≤ w.front.sectors → AreNumbers wish.transfer wish.sector → IsCounted wish.transfer wish.count
-    → taking (frames_for wish.count) w.front.pool [] ≡ Some taken
+    → taking (frames_taken wish.count) w.front.pool [] ≡ Some taken
     → AreStations config (submitted_flow g (request_with w.front wish taken.0)) d' (is_ready w.front.stage) (is_issuing w.front.stage) (is_fetching w.back.stage) (ending_at w.front.stage w.front.ending) (telling_at w.front.stage) (reply_at w.back.stage) (w.front.requests ++ request_with w.front wish taken.0 ∷ []) w.back.jobs.works w.under.pages
     → Holds config (accepting w wish taken) (submitted_flow g (request_with w.front wish taken.0)) d' w.front.stage w.back.stage
-accepted_on config w g d d' wish taken h ready unspent free may serves on_disk numbers counted frames stations =
+accepted_on config w g d d' wish taken h ready unspent free may serves limit on_disk numbers counted frames stations =
     record {
       started = h.started;
       shaped = h.shaped;
-      sized = disk_more config w.front.sectors w.front.read_only g.submitted x may serves h.sized;
+      sized = disk_more config w.front.sectors w.front.read_only g.submitted x may serves limit h.sized;
       indices = indices_more g x w.front.ring w.back.ring w.front.seen w.back.seen w.back.fetched w.front.last w.front.waiting (length w.front.requests) _ _ (longer w.front.requests x) unspent free h.indices;
       queue = queue_more g.submitted g.pushed w.front.sectors w.front.last w.front.requests w.front.waiting x refl (let i = h.indices in i.all) (waiting_few h.indices) h.submitted h.queue;
       submitted = submitted_more g.submitted w.front.sectors w.front.last x refl on_disk numbers (record { counted = counted; frames = pooled.2 }) pooled.1
@@ -64,7 +65,7 @@ accepted_on config w g d d' wish taken h ready unspent free may serves on_disk n
       replies = h.replies;
       front_at = front_at_more g.shape g.start g.pushed g.taken g.front_seen (g.submitted ++ x ∷ []) g.replies (next_request w.front) (next_request (accepted w.front wish taken)) w.front.entry w.front.ending w.front.stage (λ r e. next_more w.front.requests w.front.waiting x r e)
           (front_at_grown g.shape g.start g.pushed g.taken g.front_seen g.submitted g.replies (next_request w.front) w.front.entry w.front.ending x w.front.stage h.front_at);
-      offered = offered_more (is_ready w.front.stage) config.read_only w.front.offers g.pushed w.front.last (w.front.last + 1) ready h.offered;
+      offered = offered_more (is_ready w.front.stage) config.read_only config.indirect w.front.offers g.pushed w.front.last (w.front.last + 1) ready h.offered;
       back_at = back_at_grown g.shape g.start g.fetched g.back_seen g.replied g.submitted w.back.jobs.works w.back.entry x w.back.stage h.back_at;
       unhalted = h.unhalted;
       memory = h.memory;
@@ -84,8 +85,8 @@ accepted_on config w g d d' wish taken h ready unspent free may serves on_disk n
     x = request_with w.front wish taken.0
 
     pooled : ArePooled taken.1 (w.front.requests ++ x ∷ []) (ending_at w.front.stage w.front.ending) × All IsPooled x.frames.items
-        × (length x.frames.items ≡ frames_for wish.count)
-    pooled = pooled_more w.front.pool taken.1 w.front.requests (ending_at w.front.stage w.front.ending) (frames_for wish.count) x frames h.pool
+        × (length x.frames.items ≡ frames_taken wish.count)
+    pooled = pooled_more w.front.pool taken.1 w.front.requests (ending_at w.front.stage w.front.ending) (frames_taken wish.count) x frames h.pool
 
     pushed_few : g.pushed ≤ w.front.last
     pushed_few = let i = h.indices in let all = i.all in omega arith
@@ -98,6 +99,17 @@ accepted_on config w g d d' wish taken h ready unspent free may serves on_disk n
 
         none_waits : (waiting : ℕ) (requests : List Request) → waiting ≡ 0 → (if waiting == 0 then None else slice_get requests (length requests - waiting)) ≡ None
         none_waits waiting requests e = rw e refl
+
+-- where a request goes through indirect pages the back takes as many segments
+short_enough : (offers : Offers) (way : Transfer) (count limit : ℕ) → nat_lt (most_segments offers way) (frames_for count) ≡ false → offers.indirect ≡ limit → is_indirect count ≡ true → frames_for count ≤ limit
+short_enough offers way count limit short published large = by_way (may_be_indirect way) short
+  where
+    by_way : (b : Bool) → nat_lt (if b then max 11 (min 960 offers.indirect) else 11) (frames_for count) ≡ false → frames_for count ≤ limit
+    by_way true short =
+        let few : frames_for count ≤ max 11 (min 960 offers.indirect) = grind (arith, nat_tests) in
+        let many : 11 < frames_for count = grind (arith, nat_tests) in
+        omega arith
+    by_way false short = absurd (true≢false (sym large ∙ short))
 
 -- what a submission with this answer makes of all, where the pipeline answers so too
 abbrev SubmitGoes : Options → World → Pipeline → Job → Result ℕ Refusal × View → Type 0
@@ -119,7 +131,7 @@ refused config w g d job r h same = record {
 submit_wish : (config : Options) (w : World) (g : Flow) (d : Pipeline) (wish : Wish) (offered : Bool) → (let job : Job = job_of wish.transfer wish.sector wish.count in
     wish_of w.front.offers job ≡ wished offered wish
     → (is_ready w.front.stage ≡ true → offered ≡ true → is_moving wish.transfer ≡ false → config.read_only ≡ false)
-    → (nat_lt 11 (frames_for wish.count) ≡ false → IsCounted wish.transfer wish.count)
+    → (nat_lt (most_segments w.front.offers wish.transfer) (frames_for wish.count) ≡ false → IsCounted wish.transfer wish.count)
     → AreNumbers wish.transfer wish.sector → Holds config w g d w.front.stage w.back.stage → SubmitGoes config w d job (submit_of w.front job))
 submit_wish config w g d wish offered asks serves counted numbers h =
     subst (λ (o : Option Wish). SubmitGoes config w d job (if w.front.last == 4294967295 then (Err refusal.Spent, w.front) else (if w.front.closing then (Err refusal.Closing, w.front) else (if not (is_ready w.front.stage) then (Err refusal.NotReady, w.front) else submit_one w.front o)))) (sym asks) (
@@ -150,9 +162,9 @@ submit_wish config w g d wish offered asks serves counted numbers h =
     above n m e = grind (arith, nat_tests)
 
     by_frames : (is_moving wish.transfer ≡ false → config.read_only ≡ false) → is_ready w.front.stage ≡ true → (w.front.last == 4294967295) ≡ false
-        → (is_write wish.transfer && w.front.read_only) ≡ false → nat_lt w.front.sectors (wish.sector + named_of wish.transfer wish.count) ≡ false → nat_lt 11 (frames_for wish.count) ≡ false
+        → (is_write wish.transfer && w.front.read_only) ≡ false → nat_lt w.front.sectors (wish.sector + named_of wish.transfer wish.count) ≡ false → nat_lt (most_segments w.front.offers wish.transfer) (frames_for wish.count) ≡ false
         → nat_le (entries_of w.front.shape.order) (unfinished w.front) ≡ false
-        → (o : Option (List ℕ × List Bool)) → taking (frames_for wish.count) w.front.pool [] ≡ o → SubmitGoes config w d job (submit_with w.front wish o)
+        → (o : Option (List ℕ × List Bool)) → taking (frames_taken wish.count) w.front.pool [] ≡ o → SubmitGoes config w d job (submit_with w.front wish o)
     by_frames serves ready unspent may on_disk short free None none = refused config w g d job refusal.Buffers h
     by_frames serves ready unspent may on_disk short free (Some taken) some_taken = λ same.
         let s = stepped taken same in
@@ -162,7 +174,7 @@ submit_wish config w g d wish offered asks serves counted numbers h =
           does = does_alone s;
           holds = accepted_on config w g d (next d s.step) wish taken h ready (differs w.front.last unspent)
               (subst (λ (x : Shape). unfinished w.front < entries_of x.order) h.shaped.known (below (entries_of w.front.shape.order) (unfinished w.front) free))
-              may serves (above w.front.sectors (wish.sector + named_of wish.transfer wish.count) on_disk) numbers (counted short) some_taken s.now;
+              may serves (short_enough w.front.offers wish.transfer wish.count config.indirect short (offered_is (is_ready w.front.stage) config.read_only config.indirect w.front.offers g.pushed w.front.last ready h.offered).indirect) (above w.front.sectors (wish.sector + named_of wish.transfer wish.count) on_disk) numbers (counted short) some_taken s.now;
         }
 
     by_offer : (b : Bool) → (b ≡ true → is_moving wish.transfer ≡ false → config.read_only ≡ false) → is_ready w.front.stage ≡ true → (w.front.last == 4294967295) ≡ false → SubmitGoes config w d job (submit_one w.front (wished b wish))
@@ -170,20 +182,27 @@ submit_wish config w g d wish offered asks serves counted numbers h =
     by_offer true serves ready unspent =
         either config w d job (is_write wish.transfer && w.front.read_only) (Err refusal.ReadOnly, w.front) _ (λ t. refused config w g d job refusal.ReadOnly h) (λ may.
         either config w d job (nat_lt w.front.sectors (wish.sector + named_of wish.transfer wish.count)) (Err refusal.Range, w.front) _ (λ t. refused config w g d job refusal.Range h) (λ on_disk.
-        either config w d job (nat_lt 11 (frames_for wish.count)) (Err refusal.Long, w.front) _ (λ t. refused config w g d job refusal.Long h) (λ short.
+        either config w d job (nat_lt (most_segments w.front.offers wish.transfer) (frames_for wish.count)) (Err refusal.Long, w.front) _ (λ t. refused config w g d job refusal.Long h) (λ short.
         either config w d job (nat_le (entries_of w.front.shape.order) (unfinished w.front)) (Err refusal.Full, w.front) _ (λ t. refused config w g d job refusal.Full h) (λ free.
-        by_frames (serves refl) ready unspent may on_disk short free (taking (frames_for wish.count) w.front.pool []) refl))))
+        by_frames (serves refl) ready unspent may on_disk short free (taking (frames_taken wish.count) w.front.pool []) refl))))
 
--- a read, a write or a barrier moves a sector, and no more than an entry can name; another request moves none
-moves_some : (way : Transfer) (count : ℕ) → is_moving way ≡ true → 1 ≤ count → nat_lt 11 (frames_for count) ≡ false → IsCounted way count
-moves_some way count moving some short = record {
-  some = λ t. some;
-  none = λ t. absurd (true≢false (sym moving ∙ t));
-  few = (let few : frames_for count ≤ 11 = grind (arith, nat_tests) in omega arith);
-}
+-- a read, a write or a barrier moves a sector, and has no more segments than it may; another request moves none
+moves_some : (offers : Offers) (way : Transfer) (count : ℕ) → is_moving way ≡ true → 1 ≤ count → nat_lt (most_segments offers way) (frames_for count) ≡ false → IsCounted way count
+moves_some offers way count moving some short = by_way (may_be_indirect way) refl short
+  where
+    by_way : (b : Bool) → may_be_indirect way ≡ b → nat_lt (if b then max 11 (min 960 offers.indirect) else 11) (frames_for count) ≡ false → IsCounted way count
+    by_way true may short = record {
+      some = λ t. some;
+      none = λ t. absurd (true≢false (sym moving ∙ t));
+      few = (let few : frames_for count ≤ max 11 (min 960 offers.indirect) = grind (arith, nat_tests) in omega arith);
+      direct = λ t. absurd (true≢false (sym may ∙ t));
+    }
+    by_way false may short =
+        let few : frames_for count ≤ 11 = grind (arith, nat_tests) in
+        record { some = λ t. some; none = λ t. absurd (true≢false (sym moving ∙ t)); few = omega arith; direct = λ t. omega arith }
 
 moves_none : (way : Transfer) → is_moving way ≡ false → IsCounted way 0
-moves_none way still = record { some = λ t. absurd (true≢false (sym t ∙ still)); none = λ t. refl; few = omega arith }
+moves_none way still = record { some = λ t. absurd (true≢false (sym t ∙ still)); none = λ t. refl; few = omega arith; direct = λ t. omega arith }
 
 -- a flush or a discard is offered where the disk may be written alone
 may_write : (offered fixed : Bool) → offered ≡ not fixed → offered ≡ true → fixed ≡ false
@@ -194,12 +213,12 @@ may_write false fixed e t = absurd (true≢false (sym t))
 pub submit_kept : (config : Options) (w : World) (g : Flow) (d : Pipeline) (job : Job) → IsPlain config → Holds config w g d w.front.stage w.back.stage → IsServable job → GoesBy (Some job) IsSame config (lines_at w (Submits job)) (happens w (Submits job)) d
 submit_kept config w g d job plain h one = by_job job one (refused_rightly config w g d job plain h one)
   where
-    offers : is_ready w.front.stage ≡ true → AreOffered config.read_only w.front.offers
-    offers ready = offered_is (is_ready w.front.stage) config.read_only w.front.offers g.pushed w.front.last ready h.offered
+    offers : is_ready w.front.stage ≡ true → AreOffered config.read_only config.indirect w.front.offers
+    offers ready = offered_is (is_ready w.front.stage) config.read_only config.indirect w.front.offers g.pushed w.front.last ready h.offered
 
     by_job : (x : Job) → IsServable x → SubmitGoes config w d x (submit_of w.front x)
-    by_job (Write sector count tag) some = submit_wish config w g d (record { sector = sector; count = count; transfer = transfer.Write tag }) true refl (λ ready t still. absurd (true≢false still)) (moves_some (transfer.Write tag) count refl some.0) some.1 h
-    by_job (Read sector count) some = submit_wish config w g d (record { sector = sector; count = count; transfer = transfer.Read }) true refl (λ ready t still. absurd (true≢false still)) (moves_some transfer.Read count refl some) (omega arith) h
-    by_job (Barrier sector count tag) some = submit_wish config w g d (record { sector = sector; count = count; transfer = transfer.Barrier tag }) w.front.offers.barrier refl (λ ready t still. absurd (true≢false still)) (moves_some (transfer.Barrier tag) count refl some.0) some.1 h
+    by_job (Write sector count tag) some = submit_wish config w g d (record { sector = sector; count = count; transfer = transfer.Write tag }) true refl (λ ready t still. absurd (true≢false still)) (moves_some w.front.offers (transfer.Write tag) count refl some.0) some.1 h
+    by_job (Read sector count) some = submit_wish config w g d (record { sector = sector; count = count; transfer = transfer.Read }) true refl (λ ready t still. absurd (true≢false still)) (moves_some w.front.offers transfer.Read count refl some) (omega arith) h
+    by_job (Barrier sector count tag) some = submit_wish config w g d (record { sector = sector; count = count; transfer = transfer.Barrier tag }) w.front.offers.barrier refl (λ ready t still. absurd (true≢false still)) (moves_some w.front.offers (transfer.Barrier tag) count refl some.0) some.1 h
     by_job Flush some = submit_wish config w g d (record { sector = 0; count = 0; transfer = transfer.Flush }) w.front.offers.flush refl (λ ready t still. may_write w.front.offers.flush config.read_only (offers ready).flush t) (λ short. moves_none transfer.Flush refl) (omega arith) h
     by_job (Discard sector count) some = submit_wish config w g d (record { sector = sector; count = 0; transfer = transfer.Discard count }) w.front.offers.discard refl (λ ready t still. may_write w.front.offers.discard config.read_only (offers ready).discard t) (λ short. moves_none (transfer.Discard count) refl) some h

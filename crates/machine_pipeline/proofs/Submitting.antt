@@ -8,6 +8,7 @@ use Rattle.ring_words.specs.Ring.{Ring}
 use Rattle.grant_table.specs.declared.held.Held.{Held}
 use Rattle.blk_front.specs.declared.request.Request.{Request}
 use Rattle.blk_front.specs.declared.state.Offers.{Offers}
+use Rattle.blk_front.specs.Request.{frames_for}
 use Rattle.blk_front.specs.declared.stage.Stage.{Stage as FrontStage}
 use Rattle.blk_front.specs.declared.stage.Stage.TheVariants as front
 use Rattle.blk_back.specs.declared.stage.Reply.{Reply}
@@ -74,6 +75,7 @@ pub front_at_more : (shape : Shape) (start pushed taken front_seen : ℕ) (submi
     → FrontAt shape start pushed taken front_seen submitted replies next entry ending s
     → FrontAt shape start pushed taken front_seen submitted replies next' entry ending s
 front_at_more shape start pushed taken front_seen submitted replies next next' entry ending (front.Data n) stays h = (h.0, stays h.0 h.1, h.2)
+front_at_more shape start pushed taken front_seen submitted replies next next' entry ending (front.Pages n) stays h = (h.0, stays h.0 h.1, h.2)
 front_at_more shape start pushed taken front_seen submitted replies next next' entry ending (front.GrantFrame place) stays h = (h.0, stays h.0 h.1, h.2)
 front_at_more shape start pushed taken front_seen submitted replies next next' entry ending (front.GrantFence place) stays h = (h.0, stays h.0 h.1, h.2)
 front_at_more shape start pushed taken front_seen submitted replies next next' entry ending (front.GrantFlags place) stays h = (h.0, stays h.0 h.1, h.2)
@@ -83,7 +85,7 @@ front_at_more shape start pushed taken front_seen submitted replies next next' e
 
 -- nothing of a request is begun
 pub record IsIdle (s : FrontStage) : Type 0 where
-  pub unfilled : filled s ≡ 0
+  pub unfilled : (frames : ℕ) → filled s frames ≡ 0
   pub unnamed : named_frames s ≡ 0
   pub ungranted : granted_frames s ≡ 0
   pub unentered : entered s ≡ 0
@@ -92,13 +94,14 @@ pub record IsIdle (s : FrontStage) : Type 0 where
 pub idle_at : (shape : Shape) (start pushed taken front_seen : ℕ) (submitted : List Request) (replies : List Reply) (next : Option Request) (entry : List ℕ) (ending : Option Ending) (s : FrontStage)
     → next ≡ None → FrontAt shape start pushed taken front_seen submitted replies next entry ending s → IsIdle s
 idle_at shape start pushed taken front_seen submitted replies next entry ending (front.Data n) none h = absurd (none-some h.0 (sym none ∙ h.1))
+idle_at shape start pushed taken front_seen submitted replies next entry ending (front.Pages n) none h = absurd (none-some h.0 (sym none ∙ h.1))
 idle_at shape start pushed taken front_seen submitted replies next entry ending (front.GrantFrame place) none h = absurd (none-some h.0 (sym none ∙ h.1))
 idle_at shape start pushed taken front_seen submitted replies next entry ending (front.GrantFence place) none h = absurd (none-some h.0 (sym none ∙ h.1))
 idle_at shape start pushed taken front_seen submitted replies next entry ending (front.GrantFlags place) none h = absurd (none-some h.0 (sym none ∙ h.1))
 idle_at shape start pushed taken front_seen submitted replies next entry ending (front.Slot k) none h = absurd (none-some h.1.0 (sym none ∙ h.1.1))
 idle_at shape start pushed taken front_seen submitted replies next entry ending front.Producer none h = absurd (none-some h.0 (sym none ∙ h.1))
 idle_at shape start pushed taken front_seen submitted replies next entry ending s none h =
-    record { unfilled = refl; unnamed = refl; ungranted = refl; unentered = refl }
+    record { unfilled = λ frames. refl; unnamed = refl; ungranted = refl; unentered = refl }
 
 pub slots_more : (shape : Shape) (start fetched pushed taken replied : ℕ) (submitted : List Request) (replies : List Reply) (pages : List ℕ) (s : FrontStage) (b : BackStage) (x : Request)
     → pushed ≤ length submitted → (pushed ≡ length submitted → IsIdle s)
@@ -122,8 +125,8 @@ pub frames_more : (pushed last : ℕ) (pages : List ℕ) (s : FrontStage) (reque
     → All (IsFilled pushed pages s) requests
     → All (IsFilled pushed pages s) (requests ++ x ∷ [])
 frames_more pushed last pages s requests x number few idle h = All-push (IsFilled pushed pages s) requests x h (record {
-  whole = λ way le i l. absurd (omega arith);
-  begun = λ way e n l. absurd (let rest = idle (omega arith) in let none = rest.unfilled in omega arith);
+  whole = λ le i l. absurd (omega arith);
+  begun = λ e n l. absurd (let rest = idle (omega arith) in let none = rest.unfilled (frames_for x.count) in omega arith);
 })
 
 pub entries_more : (pushed last : ℕ) (pages : List ℕ) (live : List Held) (s : FrontStage) (ending : Option Ending) (requests : List Request) (x : Request)
@@ -141,9 +144,9 @@ entries_more pushed last pages live s ending requests x number few idle h = reco
 }
 
 -- what the back serves is as it was
-pub offered_more : (ready fixed : Bool) (offers : Offers) (pushed last last' : ℕ) → ready ≡ true → IsOffered ready fixed offers pushed last → IsOffered ready fixed offers pushed last'
-offered_more true fixed offers pushed last last' is h = h
-offered_more false fixed offers pushed last last' is h = absurd (true≢false (sym is))
+pub offered_more : (ready fixed : Bool) (limit : ℕ) (offers : Offers) (pushed last last' : ℕ) → ready ≡ true → IsOffered ready fixed limit offers pushed last → IsOffered ready fixed limit offers pushed last'
+offered_more true fixed limit offers pushed last last' is h = h
+offered_more false fixed limit offers pushed last last' is h = absurd (true≢false (sym is))
 
 -- what is known of the requests that were there stays known
 pub works_more : (submitted : List Request) (fetched : ℕ) (works : List Work) (x : Request) → AreWorks submitted fetched works → AreWorks (submitted ++ x ∷ []) fetched works

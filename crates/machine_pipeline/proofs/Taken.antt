@@ -19,7 +19,7 @@ use Rattle.blk_base.specs.declared.moves.Move.{Move as Shown}
 use Rattle.blk_base.specs.declared.operation.Status.{Status}
 use Rattle.blk_front.specs.declared.request.Transfer.{Transfer}
 use Rattle.blk_front.specs.declared.request.Transfer.TheVariants as transfer
-use Rattle.blk_front.specs.Request.{is_moving, has_data, grant_flags, frame_at, IsShaped}
+use Rattle.blk_front.specs.Request.{is_moving, has_data, flags_at, frame_at, IsShaped}
 use Rattle.blk_front.specs.Pool.{with_all_free}
 use Rattle.blk_front.specs.declared.stage.Ending.{Ending}
 use Rattle.blk_front.specs.declared.stage.Stage.{Stage as FrontStage}
@@ -85,7 +85,7 @@ freed_holds config w g d d' low high rep s ending i untold unarmed few h oldest 
   info = h.info;
   replies = replies_without g.fetched g.taken g.replied g.replies rep oldest h.replies;
   front_at = at;
-  offered = subst (λ (b : Bool). IsOffered b config.read_only w.front.offers g.pushed w.front.last) (sym i.ready) h.offered;
+  offered = subst (λ (b : Bool). IsOffered b config.read_only config.indirect w.front.offers g.pushed w.front.last) (sym i.ready) h.offered;
   back_at = h.back_at;
   unhalted = h.unhalted;
   memory = h.memory;
@@ -170,11 +170,11 @@ ending_taken config w g d s rep h oldest f = record {
 
 -- and none of its frames is mapped any more
 flags_left : (config : Options) (w : World) (g : Flow) (d : Pipeline) (s : FrontStage) (rep : Reply) → Holds config w g d s w.back.stage → slice_get g.replies 0 ≡ Some rep → (f : IsFound w g rep.id)
-    → (place : ℕ) → place < frames_of f.r → entry_word0 w.under.pages (frame_at f.r place + 6) ≡ grant_flags f.r.transfer
+    → (place : ℕ) → place < frames_of f.r → entry_word0 w.under.pages (frame_at f.r place + 6) ≡ flags_at f.r place
 flags_left config w g d s rep h oldest f place lt =
     let none = unmapped config w g d s w.back.stage h f.place f.r f.here place lt no_job
     (λ (m : Mapping). m.gref == frame_at f.r place + 6) (λ m apart. grind (arith, nat_tests)) in
-    granted.flags reached place lt ∙ ap (flags_with f.r.transfer) none
+    granted.flags reached place lt ∙ ap (flags_with f.r place) none
   where
     granted : IsGranted g.pushed w.under.pages w.under.grants.live s f.r
     granted = let entries = h.entries in all_at (IsGranted g.pushed w.under.pages w.under.grants.live s) w.front.requests f.place f.r entries.each f.here
@@ -289,7 +289,7 @@ last_goes config w g d low high told h =
       holds = freed_holds config w g d (next d s.step) low high rep (front.GrantRead 0) (Some e) (at_read 0) refl refl (omega arith) h place.0.oldest place.0.seen found
           (pooled_without w.front.pool w.front.requests found.place found.r e found.here refl h.pool) s.now (e, refl, ends, some_frame)
           (λ x same. subst (λ (y : Ending). (place : ℕ) → 0 ≤ place → place < frames_of y.request
-          → entry_word0 w.under.pages (frame_at y.request place + 6) ≡ grant_flags y.request.transfer) (same_Some e x same)
+          → entry_word0 w.under.pages (frame_at y.request place + 6) ≡ flags_at y.request place) (same_Some e x same)
           (λ at le lt. flags_left config w g d (front.ResponseLast low high) rep h place.0.oldest found at lt));
     }
       where

@@ -18,7 +18,7 @@ use Rattle.machine_pipeline.proofs.Over.{Over, IsKept, HasGone, goes_on}
 use Rattle.machine_pipeline.proofs.Turns.{FrontGoes}
 use Rattle.machine_pipeline.proofs.StartingMoves.{start_moves}
 use Rattle.machine_pipeline.proofs.StartingHolds.{start_holds}
-use Rattle.machine_pipeline.proofs.Filling.{data_goes}
+use Rattle.machine_pipeline.proofs.Filling.{data_goes, pages_goes}
 use Rattle.machine_pipeline.proofs.Granting.{frame_goes, fence_goes, flags_goes}
 use Rattle.machine_pipeline.proofs.Beginning.{loop_issues}
 use Rattle.machine_pipeline.proofs.Entering.{slot_goes}
@@ -61,6 +61,7 @@ front_goes config w g d front.NewPort plain safe e h = start_moves config w g d 
 front_goes config w g d front.Initialised plain safe e h = waits_goes config w g d safe.front_told e h
 front_goes config w g d front.Loop plain safe e h = loop_goes config w g d safe e h
 front_goes config w g d (front.Data n) plain safe e h = data_goes config w g d n safe h
+front_goes config w g d (front.Pages n) plain safe e h = pages_goes config w g d n safe h
 front_goes config w g d (front.GrantFrame place) plain safe e h = frame_goes config w g d place safe h
 front_goes config w g d (front.GrantFence place) plain safe e h = fence_goes config w g d place safe h
 front_goes config w g d (front.GrantFlags place) plain safe e h = flags_goes config w g d place safe h

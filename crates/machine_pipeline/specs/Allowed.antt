@@ -51,6 +51,7 @@ pub record ArePublished (w : World) (offers : Offers) : Type 0 where
   pub barrier : offers.barrier ≡ (let v : back.View = w.back in v.jobs.info.barrier)
   pub flush : offers.flush ≡ (let v : back.View = w.back in v.jobs.info.flush)
   pub discard : offers.discard ≡ (let v : back.View = w.back in v.jobs.info.discard)
+  pub indirect : offers.indirect ≡ (let v : back.View = w.back in v.jobs.info.max_indirect)
 
 -- the order that is agreed is the one that the front wished; as it connects it knows what the back published; the front leaves once the back has done all that follows its halt, is closed once the back has halted, and finds no state that breaks it
 abbrev pub MayEnter : World → FrontState → Type 0

@@ -3,13 +3,13 @@
 //! jobs have of it. Whatever happens is some steps of the pipeline, most often none or one. No word of
 //! the plain disk stands here: what a report of the machine is follows from the pipeline's laws.
 //!
-//! The premises: a ring of 1 to 16 pages, under either layout of entries (`IsPlain`); the order that is
-//! agreed is the one that the front wished, and the terms that the back takes are the front's own; the
-//! back moves only once the front made its ring and its port, and halts only where the front closes,
-//! has no request left and is at nothing; the front leaves after the back, and finds nothing that
-//! breaks it; as it connects it knows what the back published; what is submitted moves or discards some
-//! sectors, or is a flush, keys are spelled as the grammar has them, and all is quiet where it is found
-//! so (`AreServed`).
+//! The premises: a ring of 1 to 16 pages, under either layout of entries, and at most 960 segments in
+//! indirect pages (`IsPlain`); the order that is agreed is the one that the front wished, and the terms
+//! that the back takes are the front's own; the back moves only once the front made its ring and its
+//! port, and halts only where the front closes, has no request left and is at nothing; the front leaves
+//! after the back, and finds nothing that breaks it; as it connects it knows what the back published;
+//! what is submitted moves or discards some sectors, or is a flush, keys are spelled as the grammar has
+//! them, and all is quiet where it is found so (`AreServed`).
 //! What a schedule makes happen (`vbd_model`) is such until a word is overwritten.
 #![tactic(auto)]
 

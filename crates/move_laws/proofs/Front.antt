@@ -11,6 +11,7 @@ use Rattle.blk_base.specs.Distance.{distance_of}
 use Rattle.blk_base.specs.Options.{Options}
 use Rattle.blk_base.specs.declared.operation.Abi.{Abi}
 use Rattle.blk_base.specs.declared.config.Job.{Job}
+use Rattle.blk_base.specs.declared.ask.FrontAsk.{FrontAsk}
 use Rattle.blk_base.specs.declared.ask.FrontAsk.TheVariants as ask
 use Rattle.blk_base.specs.declared.ask.FrontAnswer.{FrontAnswer}
 use Rattle.blk_base.specs.declared.ask.FrontAnswer.TheVariants as answer
@@ -30,12 +31,12 @@ use Rattle.blk_front.specs.declared.told.Refusal.{Refusal}
 use Rattle.blk_front.specs.declared.told.Refusal.TheVariants as refusal
 use Rattle.blk_front.specs.declared.request.Wish.{Wish}
 use Rattle.blk_front.specs.Pool.{lowest_of, with_taken, with_free, with_all_free, taking}
-use Rattle.blk_front.specs.Request.{is_write, named_of, has_data, frame_at, frames_for, words_in}
+use Rattle.blk_front.specs.Request.{is_write, named_of, has_data, frame_at, frames_for, words_in, is_indirect, naming_words}
 use Rattle.blk_front.specs.View.{View, next_request, start_of, slot_frame, slot_word, ring_frame, ring_page_frame, entry_frame, entry_word}
-use Rattle.blk_front.specs.Ask.{ask_at, ask_of, data_ask, name_ask, grant_ask, revoke_ask, end_ask, read_ask, issue_ask, is_through, loop_ask, StaysInMemory}
-use Rattle.blk_front.specs.Step.{at, broken, looked, entered, begun, answered, freed, revokes, data_stage, granted, ring_granted, ring_left, loop_step, found_at, issued, response_at, is_mapped, finished, ended, revoked, sector_told, data_step, step_at, step_of}
+use Rattle.blk_front.specs.Ask.{ask_at, ask_of, data_ask, page_ask, name_ask, grant_ask, revoke_ask, end_ask, read_ask, issue_ask, is_through, loop_ask, StaysInMemory}
+use Rattle.blk_front.specs.Step.{at, broken, looked, entered, begun, answered, freed, revokes, after_data, data_stage, page_stage, granted, ring_granted, ring_left, loop_step, found_at, issued, response_at, is_mapped, finished, ended, revoked, sector_told, data_step, step_at, step_of}
 use Rattle.blk_front.specs.State.{is_unmade, may_enter, in_state, enters}
-use Rattle.blk_front.specs.Submit.{is_ready, unfinished, wish_of, submit_with, submit_one, submit_of}
+use Rattle.blk_front.specs.Submit.{is_ready, unfinished, wish_of, most_segments, frames_taken, submit_with, submit_one, submit_of}
 use Rattle.blk_front.proofs.Shapes.{few_pages, wide_entries}
 use Rattle.blk_back.proofs.Slots.{slot_within}
 use Rattle.split_model.proofs.States.{enters_cases}
@@ -111,6 +112,13 @@ entry_within frame shared = (omega arith, omega arith)
 data_within : (r : Request) (n : ℕ) → Shared r → StaysInMemory (data_ask (Some r) n)
 data_within r n shared = (shared_frame r (n / 1024) shared, omega arith)
 
+page_within : (r : Request) (n : ℕ) → Shared r → StaysInMemory (page_ask (Some r) n)
+page_within r n shared = (shared_frame r (frames_for r.count + n / 1024) shared, omega arith)
+
+either_within : (b : Bool) (x y : FrontAsk) → StaysInMemory x → StaysInMemory y → StaysInMemory (if b then x else y)
+either_within true x y p q = p
+either_within false x y p q = q
+
 name_within : (r : Request) (place : ℕ) → Shared r → StaysInMemory (name_ask (Some r) place)
 name_within r place shared = entry_within (frame_at r place) (shared_frame r place shared)
 
@@ -121,13 +129,17 @@ first_word : (v : View) → v.shape.order ≤ 4 → (slot_frame v.shape v.ring.p
 first_word v narrow = let some = some_words v.shape.abi in in_slot v.shape v.ring.prod 0 narrow (omega arith)
 
 issue_within : (v : View) (r : Request) (way : Transfer) → v.shape.order ≤ 4 → Shared r → StaysInMemory (issue_ask v r way)
-issue_within v r transfer.Read narrow shared = name_within r 0 shared
+issue_within v r transfer.Read narrow shared = either_within (is_indirect r.count) (page_ask (Some r) 0) (name_ask (Some r) 0) (page_within r 0 shared) (name_within r 0 shared)
 issue_within v r (transfer.Write tag) narrow shared = data_within r 0 shared
 issue_within v r (transfer.Barrier tag) narrow shared = data_within r 0 shared
 issue_within v r transfer.Flush narrow shared = first_word v narrow
 issue_within v r (transfer.Discard sectors) narrow shared = first_word v narrow
 
 -- while a request is issued
+next_page_within : (v : View) (n : ℕ) (r : Option Request) → All Shared v.requests → next_request v ≡ r → StaysInMemory (page_ask r n)
+next_page_within v n None all e = tt
+next_page_within v n (Some r) all e = page_within r n (next_shared v r all e)
+
 next_data_within : (v : View) (n : ℕ) (r : Option Request) → All Shared v.requests → next_request v ≡ r → StaysInMemory (data_ask r n)
 next_data_within v n None all e = tt
 next_data_within v n (Some r) all e = data_within r n (next_shared v r all e)
@@ -171,6 +183,7 @@ within_at (stage.RingFrame page) v p f = page_name v page f.order p
 within_at (stage.RingFlags page) v p f = page_flags v page f.order p
 within_at stage.Loop v p f = loop_ask_within v (next_request v) f.order f.shared refl
 within_at (stage.Data n) v p f = next_data_within v n (next_request v) f.shared refl
+within_at (stage.Pages n) v p f = next_page_within v n (next_request v) f.shared refl
 within_at (stage.GrantFrame place) v p f = next_name_within v place (next_request v) f.shared refl
 within_at (stage.GrantFlags place) v p f = next_grant_within v place (next_request v) f.shared refl
 within_at (stage.Slot k) v p f = in_slot v.shape v.ring.prod k f.order p
@@ -216,7 +229,7 @@ entered_kept : (v : View) (r : Request) (s : Stage) → IsPlaced s v.shape → I
 entered_kept v r s p f = record { order = f.order; placed = p; shared = f.shared; ending = f.ending; pool = f.pool }
 
 begun_kept : (v : View) (r : Request) (way : Transfer) → IsFront v → IsFront (begun v r way)
-begun_kept v r transfer.Read f = at_stage (stage.GrantFence 0) v tt f
+begun_kept v r transfer.Read f = at_stage _ v (either_stage (is_indirect r.count) (stage.Pages 1) (stage.GrantFence 0) v.shape (λ t. tt) (λ t. tt)) f
 begun_kept v r (transfer.Write tag) f = at_stage (stage.Data 1) v tt f
 begun_kept v r (transfer.Barrier tag) f = at_stage (stage.Data 1) v tt f
 begun_kept v r transfer.Flush f = entered_kept v r (stage.Slot 1) (some_words v.shape.abi) f
@@ -279,7 +292,13 @@ data_kept v (Some e) n word f =
 
 data_placed : (r : Option Request) (n : ℕ) (shape : Shape) → IsPlaced (data_stage r n) shape
 data_placed None n shape = tt
-data_placed (Some r) n shape = either_stage (nat_lt (n + 1) (words_in r)) (stage.Data (n + 1)) (stage.GrantFrame 0) shape (λ t. tt) (λ t. tt)
+data_placed (Some r) n shape =
+    either_stage (nat_lt (n + 1) (words_in r)) (stage.Data (n + 1)) (after_data r) shape (λ t. tt)
+    (λ t. either_stage (is_indirect r.count) (stage.Pages 0) (stage.GrantFrame 0) shape (λ u. tt) (λ u. tt))
+
+page_placed : (r : Option Request) (n : ℕ) (shape : Shape) → IsPlaced (page_stage r n) shape
+page_placed None n shape = tt
+page_placed (Some r) n shape = either_stage (nat_lt (n + 1) (naming_words r)) (stage.Pages (n + 1)) (stage.GrantFrame 0) shape (λ t. tt) (λ t. tt)
 
 granted_kept : (v : View) (r : Option Request) (place : ℕ) → IsFront v → IsFront (granted r place v)
 granted_kept v None place f = f
@@ -300,6 +319,7 @@ step_kept (stage.RingFlags page) v x p f = at_stage _ v (page_granted v page) f
 step_kept stage.NewPort v x p f = at_stage _ v tt f
 step_kept stage.Loop v x p f = loop_kept v (next_request v) x f refl
 step_kept (stage.Data n) v x p f = at_stage _ v (data_placed (next_request v) n v.shape) f
+step_kept (stage.Pages n) v x p f = at_stage _ v (page_placed (next_request v) n v.shape) f
 step_kept (stage.GrantFrame place) v x p f = at_stage _ v tt f
 step_kept (stage.GrantFence place) v x p f = at_stage _ v tt f
 step_kept (stage.GrantFlags place) v x p f = granted_kept v (next_request v) place f
@@ -396,13 +416,13 @@ submit_frames v wish n (Some taken) e f =
 submit_wish : (v : View) (wish : Option Wish) → IsFront v → IsFront (submit_one v wish).1
 submit_wish v None f = f
 submit_wish v (Some wish) f =
-    let frames = taking (frames_for wish.count) v.pool [] in
+    let frames = taking (frames_taken wish.count) v.pool [] in
     let unless_full = if nat_le (entries_of v.shape.order) (unfinished v) then (Err refusal.Full, v) else submit_with v wish frames in
-    let unless_long = if nat_lt 11 (frames_for wish.count) then (Err refusal.Long, v) else unless_full in
+    let unless_long = if nat_lt (most_segments v.offers wish.transfer) (frames_for wish.count) then (Err refusal.Long, v) else unless_full in
     either_submit (is_write wish.transfer && v.read_only) (Err refusal.ReadOnly, v) (if nat_lt v.sectors (wish.sector + named_of wish.transfer wish.count) then (Err refusal.Range, v) else unless_long) f
     (either_submit (nat_lt v.sectors (wish.sector + named_of wish.transfer wish.count)) (Err refusal.Range, v) unless_long f
-    (either_submit (nat_lt 11 (frames_for wish.count)) (Err refusal.Long, v) unless_full f
-    (either_submit (nat_le (entries_of v.shape.order) (unfinished v)) (Err refusal.Full, v) (submit_with v wish frames) f (submit_frames v wish (frames_for wish.count) frames refl f))))
+    (either_submit (nat_lt (most_segments v.offers wish.transfer) (frames_for wish.count)) (Err refusal.Long, v) unless_full f
+    (either_submit (nat_le (entries_of v.shape.order) (unfinished v)) (Err refusal.Full, v) (submit_with v wish frames) f (submit_frames v wish (frames_taken wish.count) frames refl f))))
 
 pub front_submit : (v : View) (job : Job) → IsFront v → IsFront (submit_of v job).1
 front_submit v job f =

@@ -1,5 +1,5 @@
 -- The jobs of a read-only disk move no word to it and trim no sector of it, whatever happens.
-use Rattle.std.proofs.Common.{◌≡◌, ℕ, ◌+◌, ◌==◌, zero, suc, Bool, true, false, true≢false, cond, if◌then◌else◌, List, [], ◌∷◌, ◌++◌, take, refl, sym, ap, ◌∙◌, subst, arith}
+use Rattle.std.proofs.Common.{◌≡◌, ℕ, ◌+◌, ◌==◌, zero, suc, Bool, true, false, true≢false, cond, if◌then◌else◌, List, [], ◌∷◌, ◌++◌, length, take, drop, refl, sym, ap, ◌∙◌, subst, arith}
 use Rattle.std.specs.Prelude.{All, Option, Some, None, is_some, nat_le, not, position}
 use Rattle.std.proofs.lemmas.Option.{none-some, slice_get_within, get_or_from_slice_get}
 use Rattle.std.proofs.lemmas.List.Elements.{All-nil, All-tail, All-set, All-push, All-append, All-take, All-drop, All-get_or}
@@ -16,14 +16,16 @@ use Rattle.blk_io.specs.Disk.{DiskSeen}
 use Rattle.blk_layout.specs.declared.segment.Segment.{Segment}
 use Rattle.blk_layout.specs.declared.request.RawRequest.{RawRequest}
 use Rattle.blk_layout.specs.declared.request.RawRequest.TheVariants.{Direct, Discard, Indirect}
-use Rattle.blk_layout.specs.Entry.{request_of}
+use Rattle.blk_layout.specs.Entry.{segment_of, request_of}
 use Rattle.segment_list.specs.declared.verdict.DiskInfo.{DiskInfo}
+use Rattle.segment_list.specs.declared.verdict.Why.{Why}
+use Rattle.segment_list.specs.declared.verdict.Why.TheVariants as why
 use Rattle.segment_list.specs.declared.verdict.Verdict.{Verdict}
 use Rattle.segment_list.specs.declared.verdict.Verdict.TheVariants as verdict
 use Rattle.segment_list.specs.Verdict.{verdict_of}
 use Rattle.back_jobs.specs.declared.stage.Stage.{Stage as JobStage}
 use Rattle.back_jobs.specs.declared.stage.Stage.TheVariants as job
-use Rattle.back_jobs.specs.Task.{Work, ask_at, map_ask, step_of, step_at as job_step_at, sector_stage, next_sector, next_segment, counted, rest_of, last_of, begun, moving, ended, frameless}
+use Rattle.back_jobs.specs.Task.{Work, ask_at, map_ask, page_ask, is_copied_out, passes, judged, page_done, paging, first_of, step_of, step_at as job_step_at, sector_stage, next_sector, next_segment, counted, rest_of, last_of, begun, moving, ended, frameless}
 use Rattle.back_jobs.specs.Jobs.{Held, work_at, work_of, place_of, waits, asked, ask_job, told_at, removed_at, behind_mapping, mapping_at, is_done, start_job}
 use Rattle.blk_back.specs.declared.stage.Reply.{Reply}
 use Rattle.blk_back.specs.declared.stage.Stage.{Stage}
@@ -67,7 +69,22 @@ segment_reads : (t : Work) (rest : List Segment) → t.writes ≡ false → Read
 segment_reads t [] reads = (reads, tt)
 segment_reads t (s ∷ rest) reads = (reads, tt)
 
+judged_reads : (t : Work) → t.writes ≡ false → Reads (judged t)
+judged_reads t reads = either_reads (passes t) (record t { within = first_of t.rest; stage = job.Map }) (record t { stage = job.Done Error }) (λ passed. (reads, tt)) (reads, tt)
+
+page_reads : (t : Work) → t.writes ≡ false → Reads (page_done t)
+page_reads t reads = either_reads (length t.rest == t.named) (judged t) (record t { pages = drop 1 t.pages; stage = job.MapPage }) (λ all. judged_reads t reads) (reads, tt)
+
 step_reads : (s : JobStage) (t : Work) (given : BackAnswer) → Reads t → Reads (job_step_at s t given)
+step_reads job.MapPage t (answer.Mapped m) r = (r.0, tt)
+step_reads job.MapPage t (answer.MapRefused status) r = (r.0, tt)
+step_reads (job.PageReference m) t (answer.Word word) r = (r.0, tt)
+step_reads (job.PageSectors m gref) t (answer.Word word) r = (r.0, by_last (is_copied_out t (t.rest ++ segment_of gref word ∷ [])))
+  where
+    by_last : (b : Bool) → TrimsNone (if b then job.UnmapPage m else job.PageReference m)
+    by_last true = tt
+    by_last false = tt
+step_reads (job.UnmapPage m) t answer.Done r = page_reads t r.0
 step_reads job.Map t (answer.Mapped m) r = (r.0, begins_none t.writes m)
 step_reads job.Map t (answer.MapRefused status) r = (r.0, tt)
 step_reads (job.ReadWord m k) t (answer.Word word) r = (r.0, by_last (k == 127))
@@ -115,12 +132,27 @@ begun_reads number (Direct code count device id sector segments) size info u = b
         too_many : (m : ℕ) → nat_le (suc (suc (suc m))) 2 ≡ true → ⊥
         too_many m few = grind (arith, nat_tests)
 begun_reads number (Discard flag device id sector count) size info u = rw u.1 (refl, tt)
-begun_reads number (Indirect code count device id sector pages) size info u = by_verdict (verdict_of (Indirect code count device id sector pages) info)
+begun_reads number (Indirect code count device id sector pages) size info u = by_code code
   where
-    by_verdict : (v : Verdict) → Reads (begun number (Indirect code count device id sector pages) size v)
-    by_verdict (verdict.Serve plan) = (refl, tt)
+    request : ℕ → RawRequest
+    request n = Indirect n count device id sector pages
+
+    by_verdict : (v : Verdict) → Reads (begun number (request 0) size v)
+    by_verdict (verdict.Serve plan) = either_reads (nat_le count 960) (paging number (request 0) size false sector count pages) (ended number (request 0) size (job.Done Error)) (λ few. (refl, tt)) (refl, tt)
     by_verdict (verdict.Error why) = (refl, tt)
     by_verdict verdict.Unsupported = (refl, tt)
+
+    refused : (n : ℕ) (w : Why) (b : Bool) → Reads (begun number (request n) size (if b then verdict.Unsupported else verdict.Error w))
+    refused n w true = (refl, tt)
+    refused n w false = (refl, tt)
+
+    by_code : (n : ℕ) → Reads (begun number (request n) size (verdict_of (request n) info))
+    by_code zero = by_verdict (verdict_of (request 0) info)
+    by_code (suc zero) = rw u.0 (refused 1 why.ReadOnly (info.max_indirect == 0))
+    by_code (suc (suc n)) =
+        let other : (suc (suc n) == 0) ≡ false = grind (arith, nat_tests) in
+        let another : (suc (suc n) == 1) ≡ false = grind (arith, nat_tests) in
+        rw (other, another) (refused (suc (suc n)) why.Op (info.max_indirect == 0))
 
 -- the back's disk is such a one, and its jobs leave it its content
 abbrev pub OnlyReads : Held → Type 0
@@ -220,7 +252,12 @@ map_called : (rest : List Segment) (outcome : Outcome) (a b : DiskSeen) → Disk
 map_called [] outcome a b does = none_called outcome a b does
 map_called (s ∷ rest) outcome a b does = none_called outcome a b does
 
+page_called : (pages : List ℕ) (outcome : Outcome) (a b : DiskSeen) → DiskDoes (page_ask pages) outcome a b → b.content ≡ a.content
+page_called [] outcome a b does = none_called outcome a b does
+page_called (gref ∷ pages) outcome a b does = none_called outcome a b does
+
 stage_called : (s : JobStage) (t : Work) (outcome : Outcome) (a b : DiskSeen) → t.writes ≡ false → TrimsNone s → IsPlaced s t → DiskDoes (ask_at s t) outcome a b → b.content ≡ a.content
+stage_called job.MapPage t outcome a b reads none placed does = page_called t.pages outcome a b does
 stage_called job.Map t outcome a b reads none placed does = map_called t.rest outcome a b (subst (λ (w : Bool). DiskDoes (map_ask t.rest w) outcome a b) reads does)
 stage_called (job.DiskWrite m) t outcome a b reads none placed does = absurd (true≢false (sym placed.1.1 ∙ reads))
 stage_called (job.DiskRead m) t (Gave words) a b reads none placed does = ap (λ (d : DiskSeen). d.content) does.1

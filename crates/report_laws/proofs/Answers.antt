@@ -28,7 +28,7 @@ use Rattle.blk_front.specs.View.{View}
 use Rattle.blk_front.specs.Step.{step_of}
 use Rattle.blk_front.specs.Ask.{is_through}
 use Rattle.blk_front.specs.State.{is_made, is_bare, is_unmade, may_enter, in_state, enters}
-use Rattle.blk_front.specs.Submit.{is_ready, is_initialised, unfinished, wish_of, submit_with, submit_one, submit_of}
+use Rattle.blk_front.specs.Submit.{is_ready, is_initialised, unfinished, wish_of, most_segments, frames_taken, submit_with, submit_one, submit_of}
 use Rattle.split_model.specs.World.{World, start_of}
 use Rattle.split_model.specs.Safe.{IsSafe}
 use Rattle.split_model.specs.Shown.{front_lines, state_lines}
@@ -120,12 +120,12 @@ with_frames v wish (Some taken) = record { start = refl; cons = refl; stage = re
 wish_submitted : (v : View) (wish : Option Wish) → IsUntaken v (submit_one v wish).1
 wish_submitted v None = untaken v
 wish_submitted v (Some wish) =
-    let frames = taking (frames_for wish.count) v.pool [] in
+    let frames = taking (frames_taken wish.count) v.pool [] in
     let unless_full = if nat_le (entries_of v.shape.order) (unfinished v) then (Err refusal.Full, v) else submit_with v wish frames in
-    let unless_long = if nat_lt 11 (frames_for wish.count) then (Err refusal.Long, v) else unless_full in
+    let unless_long = if nat_lt (most_segments v.offers wish.transfer) (frames_for wish.count) then (Err refusal.Long, v) else unless_full in
     either_submit (is_write wish.transfer && v.read_only) v (Err refusal.ReadOnly, v) (if nat_lt v.sectors (wish.sector + named_of wish.transfer wish.count) then (Err refusal.Range, v) else unless_long) (untaken v)
     (either_submit (nat_lt v.sectors (wish.sector + named_of wish.transfer wish.count)) v (Err refusal.Range, v) unless_long (untaken v)
-    (either_submit (nat_lt 11 (frames_for wish.count)) v (Err refusal.Long, v) unless_full (untaken v)
+    (either_submit (nat_lt (most_segments v.offers wish.transfer) (frames_for wish.count)) v (Err refusal.Long, v) unless_full (untaken v)
     (either_submit (nat_le (entries_of v.shape.order) (unfinished v)) v (Err refusal.Full, v) (submit_with v wish frames) (untaken v) (with_frames v wish frames))))
 
 submit_untaken : (v : View) (job : Job) → IsUntaken v (submit_of v job).1

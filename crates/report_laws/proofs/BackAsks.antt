@@ -1,7 +1,8 @@
 -- What the back and its jobs ask has the widths of the grammar.
 use Rattle.std.proofs.Common.{◌≡◌, ℕ, ◌^◌, ◌<◌, ◌≤◌, ◌==◌, ◌⊎◌, inl, inr, Bool, true, false, if◌then◌else◌, List, [], ◌∷◌, length, refl, ap, sym, subst, arith}
-use Rattle.std.specs.Prelude.{Option, Some, None, is_some, nat_lt}
+use Rattle.std.specs.Prelude.{All, Option, Some, None, is_some, nat_lt}
 use Rattle.std.specs.List.{AllByRecursion}
+use Rattle.std.proofs.lemmas.List.Elements.{All-head}
 use Rattle.std.proofs.lemmas.Bool.Decides.{nat_tests}
 use Rattle.blk_base.specs.declared.operation.Status.{Status}
 use Rattle.blk_base.specs.declared.operation.Status.TheVariants.{Okay, Error, Unsupported}
@@ -15,7 +16,7 @@ use Rattle.blk_layout.specs.declared.segment.Segment.{Segment}
 use Rattle.back_jobs.specs.declared.stage.Stage.{Stage as JobStage}
 use Rattle.back_jobs.specs.declared.stage.Stage.TheVariants as job
 use Rattle.back_jobs.specs.Task as task
-use Rattle.back_jobs.specs.Task.{Work, map_ask}
+use Rattle.back_jobs.specs.Task.{Work, map_ask, page_ask}
 use Rattle.back_jobs.specs.Jobs.{place_of, work_at, waits, asked, ask_job}
 use Rattle.blk_back.specs.declared.stage.Reply.{Reply}
 use Rattle.blk_back.specs.declared.stage.Stage.{Stage}
@@ -25,9 +26,9 @@ use Rattle.blk_back.specs.Ask.{ask_at, ask_of, loop_ask, unmap_ask, next_reply, 
 use Rattle.blk_back.specs.Step.{job_ask_of}
 use Rattle.machine_pipeline.specs.Allowed.{AreSaid}
 use Rattle.machine_pipeline.proofs.Lists.{all_at, found_at}
-use Rattle.report_laws.proofs.Words.{each_fits, index_fits}
+use Rattle.report_laws.proofs.Words.{AreWords, each_fits, index_fits}
 use Rattle.report_laws.proofs.Acts.{IsMover, BackFits}
-use Rattle.report_laws.proofs.BackNumbers.{Lies, LiesAt, IsWork, IsReply, IsNext, HasWords, IsFit, next_fits}
+use Rattle.report_laws.proofs.BackNumbers.{HasGref, Lies, LiesAt, IsWork, IsReply, IsNext, HasWords, IsFit, next_fits}
 
 -- the words of a response
 response_words : (id op : ℕ) (status : Status) → id < 2 ^ 64 → op < 2 ^ 8 → AllByRecursion (λ (v : ℕ). v < 2 ^ 32) (response_words_of (record { id = id; op = op; status = status }))
@@ -71,15 +72,23 @@ pub record JobAsks (number : ℕ) (x : BackAsk) : Type 0 where
   pub mover : IsMover (Job number)
   pub fits : BackFits (Job number) x
 
-map_fits : (number : ℕ) (rest : List Segment) (writes : Bool) → AllByRecursion (λ (s : Segment). s.gref < 2 ^ 32) rest → BackFits (Job number) (map_ask rest writes)
+map_fits : (number : ℕ) (rest : List Segment) (writes : Bool) → All HasGref rest → BackFits (Job number) (map_ask rest writes)
 map_fits number [] writes grefs = tt
-map_fits number (s ∷ rest) writes grefs = grefs.0
+map_fits number (s ∷ rest) writes grefs = All-head HasGref s rest grefs
+
+page_fits : (number : ℕ) (pages : List ℕ) → AreWords pages → BackFits (Job number) (page_ask pages)
+page_fits number [] listed = tt
+page_fits number (gref ∷ pages) listed = All-head (λ (v : ℕ). v < 2 ^ 32) gref pages listed
 
 disk_fits : (disk within : ℕ) (rest : List Segment) → Lies disk within 1 rest → disk < 2 ^ 64
 disk_fits disk within [] h = absurd h
 disk_fits disk within (s ∷ rest) h = let fits = h.1 in omega arith
 
 work_fits : (number : ℕ) (s : JobStage) (t : Work) → number < 2 ^ 64 → nat_lt 0 number ≡ true → LiesAt s t.disk t.within t.rest → IsWork t → BackFits (Job number) (task.ask_at s t)
+work_fits number job.MapPage t long positive lies is = page_fits number t.pages is.0.listed
+work_fits number (job.PageReference m) t long positive lies is = tt
+work_fits number (job.PageSectors m gref) t long positive lies is = tt
+work_fits number (job.UnmapPage m) t long positive lies is = tt
 work_fits number job.Map t long positive lies is = map_fits number t.rest t.writes is.0.grefs
 work_fits number (job.ReadWord m k) t long positive lies is = tt
 work_fits number (job.DiskWrite m) t long positive lies is = (disk_fits t.disk t.within t.rest lies, (long, positive))

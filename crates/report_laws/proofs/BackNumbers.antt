@@ -1,7 +1,7 @@
 -- The numbers that the back and its jobs keep have the widths of the grammar, and so has what they tell, whatever words they read.
-use Rattle.std.proofs.Common.{◌≡◌, ℕ, zero, suc, ◌+◌, ◌-◌, ◌%◌, ◌^◌, ◌<◌, ◌≤◌, Bool, true, false, cond, if◌then◌else◌, List, [], ◌∷◌, ◌++◌, length, take, replicate, refl, arith}
-use Rattle.std.specs.Prelude.{All, Option, Some, None, is_some, option_and_then, not, nat_lt, nat_le, ◌==◌, slice_get, slice_set, slice_index, position}
-use Rattle.std.specs.List.{AllByRecursion}
+use Rattle.std.proofs.Common.{◌≡◌, ℕ, zero, suc, ◌+◌, ◌-◌, ◌%◌, ◌^◌, ◌<◌, ◌≤◌, Bool, true, false, cond, if◌then◌else◌, List, [], ◌∷◌, ◌++◌, length, take, drop, replicate, refl, arith, length-append}
+use Rattle.std.specs.Prelude.{All, Option, Some, None, is_some, option_and_then, not, ◌||◌, nat_lt, nat_le, ◌==◌, slice_get, slice_set, slice_index, position}
+use Rattle.std.specs.List.{AllByRecursion, list_any}
 use Rattle.std.proofs.lemmas.Bool.Decides.{nat_tests}
 use Rattle.std.proofs.lemmas.List.{length-take}
 use Rattle.std.proofs.lemmas.List.Sums.{sum_by-cons}
@@ -15,7 +15,7 @@ use Rattle.blk_base.specs.declared.ask.BackAnswer.TheVariants as answer
 use Rattle.ring_words.specs.Ring.{requests_of, overruns, notifies}
 use Rattle.ring_words.specs.Shape.{Shape, entry_words_of}
 use Rattle.blk_layout.specs.Places.{places_of}
-use Rattle.blk_layout.specs.Entry.{double_at, segments_at, request_of}
+use Rattle.blk_layout.specs.Entry.{double_at, segment_of, segments_at, pages_at, request_of}
 use Rattle.blk_layout.specs.declared.segment.Segment.{Segment}
 use Rattle.blk_layout.specs.declared.request.RawRequest.{RawRequest}
 use Rattle.blk_layout.specs.declared.request.RawRequest.TheVariants.{Direct, Discard, Indirect}
@@ -23,14 +23,14 @@ use Rattle.segment_list.specs.declared.verdict.DiskInfo.{DiskInfo}
 use Rattle.segment_list.specs.declared.verdict.Plan.{Plan}
 use Rattle.segment_list.specs.declared.verdict.Verdict.{Verdict}
 use Rattle.segment_list.specs.declared.verdict.Verdict.TheVariants as verdict
-use Rattle.segment_list.specs.Segments.{IsSound, length_of, sectors_of}
+use Rattle.segment_list.specs.Segments.{IsSound, fails_test, length_of, sectors_of}
 use Rattle.segment_list.specs.Verdict.{verdict_of}
 use Rattle.schedule_text.specs.declared.line.Line.TheVariants as lines
 use Rattle.schedule_text.specs.Range.{AreOptions}
 use Rattle.back_jobs.specs.declared.stage.Stage.{Stage as JobStage}
 use Rattle.back_jobs.specs.declared.stage.Stage.TheVariants as job
 use Rattle.back_jobs.specs.Task as task
-use Rattle.back_jobs.specs.Task.{Work, sector_stage, next_sector, next_segment, counted, first_of, last_of, rest_of, id_of, response_op, ended, frameless, moving, served, begun}
+use Rattle.back_jobs.specs.Task.{Work, sector_stage, next_sector, next_segment, counted, first_of, last_of, rest_of, is_copied_out, copied, passes, judged, page_done, id_of, response_op, ended, frameless, moving, paging, served, begun}
 use Rattle.back_jobs.specs.Jobs.{place_of, work_at, work_of, told_at, removed_at, behind_mapping, first_mapping, mapping_at, is_done, response_of, response_at, effect_at, effect_of}
 use Rattle.blk_back.specs.declared.stage.Reply.{Reply}
 use Rattle.blk_back.specs.declared.stage.Stage.{Stage}
@@ -51,60 +51,66 @@ use Rattle.report_laws.proofs.Told.{AreGood, good}
 use Rattle.report_laws.proofs.Words.{AreWords, index_fits}
 use Rattle.report_laws.proofs.Acts.{BackTells}
 
-abbrev HasGref : Segment → Type 0
+abbrev pub HasGref : Segment → Type 0
 HasGref s = s.gref < 2 ^ 32
 
--- a job's numbers and words, and the segments that it isn't done with
-pub record HasNumbers (number id op moved : ℕ) (words : List ℕ) (rest : List Segment) : Type 0 where
+-- a job's numbers and words, the segments that it isn't done with, and the references of its indirect pages
+pub record HasNumbers (number id op size moved : ℕ) (words : List ℕ) (rest : List Segment) (pages : List ℕ) : Type 0 where
   pub positive : 1 ≤ number
   pub long : number < 2 ^ 64
   pub named : id < 2 ^ 64
   pub small : op < 2 ^ 8
+  pub sized : size ≤ 2 ^ 64
   pub few : moved < 2 ^ 32
   pub held : AreWords words
-  pub sound : AllByRecursion IsSound rest
-  pub grefs : AllByRecursion HasGref rest
+  pub grefs : All HasGref rest
+  pub listed : AreWords pages
 
--- the sectors that it comes to lie below 2 ^ 64: after `ahead` more of the present segment, those of the others
+-- the sectors that it comes to lie below 2 ^ 64: after `ahead` more of the present segment, those of the others, which passed the tests
 abbrev pub Lies : (disk within ahead : ℕ) → List Segment → Type 0
 Lies disk within ahead [] = ⊥
-Lies disk within ahead (s ∷ rest) = (within ≤ s.last) × (disk + (s.last - within) + ahead + sectors_of rest ≤ 2 ^ 64)
+Lies disk within ahead (s ∷ rest) = (within ≤ s.last) × (disk + (s.last - within) + ahead + sectors_of rest ≤ 2 ^ 64) × AllByRecursion IsSound rest
 
--- so it is at each stage; the first sector of a trim, and how many it trims, lie below 2 ^ 64 too
+-- so it is at each stage, once the segments are copied; the first sector of a trim, and how many it trims, lie below 2 ^ 64 too
 abbrev pub LiesAt : JobStage → (disk within : ℕ) → List Segment → Type 0
 LiesAt job.Map disk within rest = Lies disk within 1 rest
 LiesAt (job.ReadWord m k) disk within rest = Lies disk within 1 rest
 LiesAt (job.DiskWrite m) disk within rest = Lies disk within 1 rest
 LiesAt (job.DiskRead m) disk within rest = Lies disk within 1 rest
 LiesAt (job.WriteWord m k) disk within rest = Lies disk within 0 rest
-LiesAt (job.Unmap m) disk within rest = disk + sectors_of (rest_of rest) ≤ 2 ^ 64
+LiesAt (job.PageSectors m gref) disk within rest = gref < 2 ^ 32
+LiesAt (job.UnmapPage m) disk within rest = 0 < length rest
+LiesAt (job.Unmap m) disk within rest = (disk + sectors_of (rest_of rest) ≤ 2 ^ 64) × AllByRecursion IsSound (rest_of rest)
 LiesAt (job.Trim count) disk within rest = (disk < 2 ^ 64) × (count < 2 ^ 64)
 LiesAt s disk within rest = Unit {0}
 
 abbrev pub IsWork : Work → Type 0
-IsWork t = HasNumbers t.number t.id t.op t.moved t.words t.rest × LiesAt t.stage t.disk t.within t.rest
+IsWork t = HasNumbers t.number t.id t.op t.size t.moved t.words t.rest t.pages × LiesAt t.stage t.disk t.within t.rest
 
-lies_left : (disk within : ℕ) (rest : List Segment) → Lies disk within 0 rest → disk + sectors_of (rest_of rest) ≤ 2 ^ 64
+lies_left : (disk within : ℕ) (rest : List Segment) → Lies disk within 0 rest → (disk + sectors_of (rest_of rest) ≤ 2 ^ 64) × AllByRecursion IsSound (rest_of rest)
 lies_left disk within [] h = absurd h
-lies_left disk within (s ∷ rest) h = let fits = h.1 in omega arith
+lies_left disk within (s ∷ rest) h = let fits = h.1 in (omega arith, h.2)
 
 lies_on : (disk within : ℕ) (rest : List Segment) → (within == last_of rest) ≡ false → Lies disk within 0 rest → Lies disk (within + 1) 1 rest
 lies_on disk within [] other h = absurd h
-lies_on disk within (s ∷ rest) other h = further s.last (sectors_of rest) other h.0 h.1
+lies_on disk within (s ∷ rest) other h = let on = further s.last (sectors_of rest) other h.0 h.1 in (on.0, on.1, h.2)
   where
     further : (last more : ℕ) → (within == last) ≡ false → within ≤ last → disk + (last - within) + 0 + more ≤ 2 ^ 64 → (within + 1 ≤ last) × (disk + (last - (within + 1)) + 1 + more ≤ 2 ^ 64)
     further last more other low fits = let above : within + 1 ≤ last = grind (arith, nat_tests) in (above, omega arith)
 
 one_done : (disk within : ℕ) (rest : List Segment) → Lies disk within 1 rest → Lies (disk + 1) within 0 rest
 one_done disk within [] h = absurd h
-one_done disk within (s ∷ rest) h = let fits = h.1 in (h.0, omega arith)
+one_done disk within (s ∷ rest) h = let fits = h.1 in (h.0, omega arith, h.2)
 
-lies_begun : (disk : ℕ) (s : Segment) (rest : List Segment) → s.first ≤ s.last → disk + sectors_of (s ∷ rest) ≤ 2 ^ 64 → Lies disk s.first 1 (s ∷ rest)
-lies_begun disk s rest nonempty fits = let all = sum_by-cons length_of s rest in (nonempty, omega arith)
+lies_begun : (disk : ℕ) (s : Segment) (rest : List Segment) → AllByRecursion IsSound (s ∷ rest) → disk + sectors_of (s ∷ rest) ≤ 2 ^ 64 → Lies disk s.first 1 (s ∷ rest)
+lies_begun disk s rest sound fits =
+    let all = sum_by-cons length_of s rest in
+    let nonempty = sound.0.nonempty in
+    (nonempty, omega arith, sound.1)
 
 lies_first : (disk : ℕ) (rest : List Segment) → 0 < length rest → AllByRecursion IsSound rest → disk + sectors_of rest ≤ 2 ^ 64 → Lies disk (first_of rest) 1 rest
 lies_first disk [] some sound fits = absurd (omega arith)
-lies_first disk (s ∷ rest) some sound fits = lies_begun disk s rest sound.0.nonempty fits
+lies_first disk (s ∷ rest) some sound fits = lies_begun disk s rest sound fits
 
 sector_lies : (b : Bool) (m : Mapping) (disk within : ℕ) (rest : List Segment) → Lies disk within 1 rest → LiesAt (sector_stage b m) disk within rest
 sector_lies true m disk within rest h = h
@@ -114,23 +120,70 @@ either_work : (b : Bool) (x y : Work) → (b ≡ true → IsWork x) → (b ≡ f
 either_work true x y p q = p refl
 either_work false x y p q = q refl
 
-words_now : {number id op moved : ℕ} {words : List ℕ} {rest : List Segment} (now : ℕ) (read : List ℕ) → now < 2 ^ 32 → AreWords read → HasNumbers number id op moved words rest → HasNumbers number id op now read rest
-words_now now read few held n = record { positive = n.positive; long = n.long; named = n.named; small = n.small; few = few; held = held; sound = n.sound; grefs = n.grefs }
+words_now : {number id op size moved : ℕ} {words : List ℕ} {rest : List Segment} {pages : List ℕ} (now : ℕ) (read : List ℕ) → now < 2 ^ 32 → AreWords read
+    → HasNumbers number id op size moved words rest pages → HasNumbers number id op size now read rest pages
+words_now now read few held n = record { positive = n.positive; long = n.long; named = n.named; small = n.small; sized = n.sized; few = few; held = held; grefs = n.grefs; listed = n.listed }
 
-rest_now : {number id op moved : ℕ} {words : List ℕ} (rest : List Segment) → HasNumbers number id op moved words rest → HasNumbers number id op moved words (rest_of rest)
-rest_now [] n = n
-rest_now (s ∷ rest) n = record { positive = n.positive; long = n.long; named = n.named; small = n.small; few = n.few; held = n.held; sound = n.sound.1; grefs = n.grefs.1 }
+lists_now : {number id op size moved : ℕ} {words : List ℕ} {rest : List Segment} {pages : List ℕ} (now : List Segment) (left : List ℕ) → All HasGref now → AreWords left
+    → HasNumbers number id op size moved words rest pages → HasNumbers number id op size moved words now left
+lists_now now left grefs listed n = record { positive = n.positive; long = n.long; named = n.named; small = n.small; sized = n.sized; few = n.few; held = n.held; grefs = grefs; listed = listed }
 
-next_sector_fits : (t : Work) (m : Mapping) → HasNumbers t.number t.id t.op t.moved t.words t.rest → Lies t.disk t.within 0 t.rest → IsWork (next_sector t m)
+rest_grefs : (rest : List Segment) → All HasGref rest → All HasGref (rest_of rest)
+rest_grefs [] all = all
+rest_grefs (s ∷ rest) all = All-tail HasGref s rest all
+
+next_sector_fits : (t : Work) (m : Mapping) → HasNumbers t.number t.id t.op t.size t.moved t.words t.rest t.pages → Lies t.disk t.within 0 t.rest → IsWork (next_sector t m)
 next_sector_fits t m n h =
     either_work (t.within == last_of t.rest) (record t { stage = job.Unmap m }) (record t { within = t.within + 1; stage = sector_stage t.writes m })
     (λ last. (n, lies_left t.disk t.within t.rest h)) (λ other. (n, sector_lies t.writes m t.disk (t.within + 1) t.rest (lies_on t.disk t.within t.rest other h)))
 
-next_segment_fits : (t : Work) (rest : List Segment) → HasNumbers t.number t.id t.op t.moved t.words rest → t.disk + sectors_of rest ≤ 2 ^ 64 → IsWork (next_segment t rest)
-next_segment_fits t [] n h = (n, tt)
-next_segment_fits t (s ∷ rest) n h = (n, lies_begun t.disk s rest n.sound.0.nonempty h)
+next_segment_fits : (t : Work) (rest : List Segment) → HasNumbers t.number t.id t.op t.size t.moved t.words rest t.pages → t.disk + sectors_of rest ≤ 2 ^ 64 → AllByRecursion IsSound rest → IsWork (next_segment t rest)
+next_segment_fits t [] n h sound = (n, tt)
+next_segment_fits t (s ∷ rest) n h sound = (n, lies_begun t.disk s rest sound h)
+
+-- a segment more is copied, whatever its words say
+copied_fits : (t : Work) (m : Mapping) (gref sectors : ℕ) → gref < 2 ^ 32 → IsWork t → IsWork (copied t m (t.rest ++ segment_of gref sectors ∷ []))
+copied_fits t m gref sectors small w =
+    (lists_now segments t.pages (All-push HasGref t.rest (segment_of gref sectors) w.0.grefs small) w.0.listed w.0, by_last (is_copied_out t segments))
+  where
+    segments : List Segment
+    segments = t.rest ++ segment_of gref sectors ∷ []
+
+    by_last : (b : Bool) → LiesAt (if b then job.UnmapPage m else job.PageReference m) t.disk t.within segments
+    by_last true = let longer = length-append t.rest (segment_of gref sectors ∷ []) in omega arith
+    by_last false = tt
+
+-- segments that pass the tests are sound, and lie on the disk
+tested_sound : (segments : List Segment) → list_any fails_test segments ≡ false → AllByRecursion IsSound segments
+tested_sound [] passed = tt
+tested_sound (s ∷ segments) passed = both s (list_any fails_test segments) passed (tested_sound segments)
+  where
+    both : (s : Segment) (bad : Bool) → (fails_test s || bad) ≡ false → (bad ≡ false → AllByRecursion IsSound segments) → IsSound s × AllByRecursion IsSound segments
+    both s bad passed others = (record { nonempty = grind (arith, nat_tests); inside = grind (arith, nat_tests) }, others (grind (arith, nat_tests)))
+
+judged_fits : (t : Work) → 0 < length t.rest → IsWork t → IsWork (judged t)
+judged_fits t some w =
+    either_work (passes t) (record t { within = first_of t.rest; stage = job.Map }) (record t { stage = job.Done Error })
+    (λ passed. (w.0, lies_first t.disk t.rest some (tested_sound t.rest (unfailed (list_any fails_test t.rest) (nat_lt t.size (t.disk + sectors_of t.rest)) passed)) (within (list_any fails_test t.rest) (t.disk + sectors_of t.rest) passed w.0.sized))) (λ failed. (w.0, tt))
+  where
+    unfailed : (bad far : Bool) → not (bad || far) ≡ true → bad ≡ false
+    unfailed true far passed = absurd (cc)
+    unfailed false far passed = refl
+
+    within : (bad : Bool) (end : ℕ) → not (bad || nat_lt t.size end) ≡ true → t.size ≤ 2 ^ 64 → end ≤ 2 ^ 64
+    within bad end passed sized = let on_disk : end ≤ t.size = grind (arith, nat_tests) in omega arith
+
+page_done_fits : (t : Work) → 0 < length t.rest → IsWork t → IsWork (page_done t)
+page_done_fits t some w =
+    either_work (length t.rest == t.named) (judged t) (record t { pages = drop 1 t.pages; stage = job.MapPage }) (λ whole. judged_fits t some w)
+    (λ more. (lists_now t.rest (drop 1 t.pages) w.0.grefs (All-drop (λ (v : ℕ). v < 2 ^ 32) 1 t.pages w.0.listed) w.0, tt))
 
 step_work : (s : JobStage) (t : Work) (a : BackAnswer) → LiesAt s t.disk t.within t.rest → IsWork t → BackTells a → IsWork (task.step_at s t a)
+step_work job.MapPage t (answer.Mapped m) h w told = (w.0, tt)
+step_work job.MapPage t (answer.MapRefused status) h w told = (w.0, tt)
+step_work (job.PageReference m) t (answer.Word word) h w told = (w.0, told)
+step_work (job.PageSectors m gref) t (answer.Word word) h w told = copied_fits t m gref word h w
+step_work (job.UnmapPage m) t answer.Done h w told = page_done_fits t h w
 step_work job.Map t (answer.Mapped m) h w told = (w.0, sector_lies t.writes m t.disk t.within t.rest h)
 step_work job.Map t (answer.MapRefused status) h w told = (w.0, tt)
 step_work (job.ReadWord m k) t (answer.Word word) h w told = (words_now t.moved (slice_set t.words k word) w.0.few (All-set (λ (v : ℕ). v < 2 ^ 32) t.words k word told w.0.held) w.0, by_last (k == 127))
@@ -144,7 +197,7 @@ step_work (job.DiskRead m) t (answer.Sector words) h w told = (words_now ((t.mov
 step_work (job.DiskRead m) t answer.DiskFailed h w told = (w.0, tt)
 step_work (job.WriteWord m k) t answer.Done h w told =
     either_work (k == 127) (next_sector t m) (record t { stage = job.WriteWord m (k + 1) }) (λ last. next_sector_fits t m w.0 h) (λ more. (w.0, h))
-step_work (job.Unmap m) t answer.Done h w told = next_segment_fits t (rest_of t.rest) (rest_now t.rest w.0) h
+step_work (job.Unmap m) t answer.Done h w told = next_segment_fits t (rest_of t.rest) (lists_now (rest_of t.rest) t.pages (rest_grefs t.rest w.0.grefs) w.0.listed w.0) h.0 h.1
 step_work (job.GiveUp m) t answer.Done h w told = (w.0, tt)
 step_work job.Flush t answer.Done h w told = (w.0, tt)
 step_work job.Flush t answer.DiskFailed h w told = (w.0, tt)
@@ -156,7 +209,7 @@ step_work s t a h w told = w
 abbrev IsRead : RawRequest → Type 0
 IsRead (Direct op count device id sector segments) = (op < 2 ^ 8) × (id < 2 ^ 64) × (0 < length segments) × All HasGref segments
 IsRead (Discard flag device id sector count) = (id < 2 ^ 64) × (sector < 2 ^ 64) × (count < 2 ^ 64)
-IsRead (Indirect op count device id sector pages) = (op < 2 ^ 8) × (id < 2 ^ 64)
+IsRead (Indirect op count device id sector pages) = (op < 2 ^ 8) × (id < 2 ^ 64) × AreWords pages
 
 double_fits : (words : List ℕ) (at : ℕ) → AreWords words → double_at words at < 2 ^ 64
 double_fits words at all =
@@ -168,6 +221,11 @@ grefs_fit : (words : List ℕ) (at count : ℕ) → AreWords words → AllByRecu
 unfolding segments_at
 grefs_fit words at zero all = tt
 grefs_fit words at (suc count) all = (index_fits words at all, grefs_fit words (at + 2) count all)
+
+references_fit : (words : List ℕ) (at count : ℕ) → AreWords words → AllByRecursion (λ (v : ℕ). v < 2 ^ 32) (pages_at words at count)
+unfolding pages_at
+references_fit words at zero all = tt
+references_fit words at (suc count) all = (index_fits words at all, references_fit words (at + 1) count all)
 
 some_segments : (words : List ℕ) (at : ℕ) → 0 < length (segments_at words at 11)
 unfolding segments_at
@@ -183,7 +241,7 @@ unfolding request_of
 request_read abi words all =
     let at = places_of abi in
     either_read (slice_index words 0 % 2 ^ 8 == 5) (slice_index words 0 % 2 ^ 8 == 6) _ _ _
-    (double_fits words at.id all, double_fits words at.sector all, double_fits words at.discard_count all) (omega arith, double_fits words at.id all)
+    (double_fits words at.id all, double_fits words at.sector all, double_fits words at.discard_count all) (omega arith, double_fits words at.id all, All-from_recursion (λ (v : ℕ). v < 2 ^ 32) (pages_at words at.pages 8) (references_fit words at.pages 8 all))
     (omega arith, double_fits words at.id all, some_segments words at.segments, All-from_recursion HasGref (segments_at words at.segments 11) (grefs_fit words at.segments 11 all))
 
 named_read : (request : RawRequest) → IsRead request → (id_of request < 2 ^ 64) × (response_op request < 2 ^ 8)
@@ -191,15 +249,20 @@ named_read (Direct op count device id sector segments) h = (h.1, h.0)
 named_read (Discard flag device id sector count) h = (h.0, omega arith)
 named_read (Indirect op count device id sector pages) h = (h.1, h.0)
 
-begun_numbers : (number : ℕ) (request : RawRequest) (rest : List Segment) → 1 ≤ number → number < 2 ^ 64 → IsRead request → AllByRecursion IsSound rest → AllByRecursion HasGref rest → HasNumbers number (id_of request) (response_op request) 0 (replicate 128 0) rest
-begun_numbers number request rest positive long read sound grefs =
+begun_numbers : (number : ℕ) (request : RawRequest) (size : ℕ) (rest : List Segment) (pages : List ℕ) → size ≤ 2 ^ 64 → 1 ≤ number → number < 2 ^ 64 → IsRead request → All HasGref rest → AreWords pages
+    → HasNumbers number (id_of request) (response_op request) size 0 (replicate 128 0) rest pages
+begun_numbers number request size rest pages sized positive long read grefs listed =
     let named = named_read request read in
-    record { positive = positive; long = long; named = named.0; small = named.1; few = omega arith; held = All-replicate (λ (v : ℕ). v < 2 ^ 32) 128 0 (omega arith); sound = sound; grefs = grefs }
+    record { positive = positive; long = long; named = named.0; small = named.1; sized = sized; few = omega arith; held = All-replicate (λ (v : ℕ). v < 2 ^ 32) 128 0 (omega arith); grefs = grefs; listed = listed }
+
+-- one without segments and pages
+bare_numbers : (number : ℕ) (request : RawRequest) (size : ℕ) → size ≤ 2 ^ 64 → 1 ≤ number → number < 2 ^ 64 → IsRead request → HasNumbers number (id_of request) (response_op request) size 0 (replicate 128 0) [] []
+bare_numbers number request size sized positive long read = begun_numbers number request size [] [] sized positive long read (All-nil HasGref) (All-nil (λ (v : ℕ). v < 2 ^ 32))
 
 served_fits : (number : ℕ) (request : RawRequest) (info : DiskInfo) (plan : Plan) → verdict_of request info ≡ verdict.Serve plan → info.sectors ≤ 2 ^ 64 → 1 ≤ number → number < 2 ^ 64 → IsRead request → IsWork (served number request info.sectors)
 served_fits number (Direct op count device id sector segments) info plan e sized positive long read =
     let request : RawRequest = Direct op count device id sector segments in
-    let alone = begun_numbers number request [] positive long read tt tt in
+    let alone = bare_numbers number request info.sectors sized positive long read in
     either_work (nat_le op 2) (moving number request info.sectors (not (op == 0)) sector (take count segments)) _
     (λ few.
     let is = direct_served op count device id sector segments info plan few e in
@@ -208,17 +271,20 @@ served_fits number (Direct op count device id sector segments) info plan e sized
     let some = is.0 in
     let all = read.2 in
     let long_is = length-take count segments in (
-      begun_numbers number request (take count segments) positive long read sound (recursion_from_All HasGref (take count segments) (All-take HasGref count segments read.3)),
+      begun_numbers number request info.sectors (take count segments) [] sized positive long read (All-take HasGref count segments read.3) (All-nil (λ (v : ℕ). v < 2 ^ 32)),
       lies_first sector (take count segments) (omega arith) sound (omega arith),
     ))
     (λ more. either_work (op == 3) (frameless number request info.sectors sector job.Flush) (ended number request info.sectors (job.Done Error)) (λ flush. (alone, tt)) (λ other. (alone, tt)))
-served_fits number (Discard flag device id sector count) info plan e sized positive long read = (begun_numbers number (Discard flag device id sector count) [] positive long read tt tt, (read.1, read.2))
-served_fits number (Indirect op count device id sector pages) info plan e sized positive long read = (begun_numbers number (Indirect op count device id sector pages) [] positive long read tt tt, tt)
+served_fits number (Discard flag device id sector count) info plan e sized positive long read = (bare_numbers number (Discard flag device id sector count) info.sectors sized positive long read, (read.1, read.2))
+served_fits number (Indirect op count device id sector pages) info plan e sized positive long read =
+    let request : RawRequest = Indirect op count device id sector pages in
+    either_work (nat_le count 960) (paging number request info.sectors (not (op == 0)) sector count pages) (ended number request info.sectors (job.Done Error))
+    (λ few. (begun_numbers number request info.sectors [] pages sized positive long read (All-nil HasGref) read.2, tt)) (λ many. (bare_numbers number request info.sectors sized positive long read, tt))
 
 begun_fits : (number : ℕ) (request : RawRequest) (info : DiskInfo) (v : Verdict) → verdict_of request info ≡ v → info.sectors ≤ 2 ^ 64 → 1 ≤ number → number < 2 ^ 64 → IsRead request → IsWork (begun number request info.sectors v)
 begun_fits number request info (verdict.Serve plan) e sized positive long read = served_fits number request info plan e sized positive long read
-begun_fits number request info (verdict.Error why) e sized positive long read = (begun_numbers number request [] positive long read tt tt, tt)
-begun_fits number request info verdict.Unsupported e sized positive long read = (begun_numbers number request [] positive long read tt tt, tt)
+begun_fits number request info (verdict.Error why) e sized positive long read = (bare_numbers number request info.sectors sized positive long read, tt)
+begun_fits number request info verdict.Unsupported e sized positive long read = (bare_numbers number request info.sectors sized positive long read, tt)
 
 -- a job that is found is one of them
 abbrev IsWorkFound : Option Work → Type 0

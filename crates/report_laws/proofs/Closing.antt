@@ -26,7 +26,7 @@ use Rattle.blk_front.specs.Request.{is_write, named_of, has_data, words_in, fram
 use Rattle.blk_front.specs.View.{View, next_request}
 use Rattle.blk_front.specs.Step.{at, broken, looked, begun, answered, freed, revokes, granted, loop_step, issued, response_at, is_mapped, ring_left, ended, revoked, sector_told, data_step, step_at}
 use Rattle.blk_front.specs.State.{in_state}
-use Rattle.blk_front.specs.Submit.{is_ready, unfinished, wish_of, submit_with, submit_one, submit_of}
+use Rattle.blk_front.specs.Submit.{is_ready, unfinished, wish_of, most_segments, frames_taken, submit_with, submit_one, submit_of}
 use Rattle.split_model.specs.Shown.{state_lines}
 use Rattle.report_laws.specs.States.{says_closing}
 use Rattle.report_laws.proofs.Announced.{Has, IsAnnounced}
@@ -110,12 +110,12 @@ with_keeps v wish (Some taken) = refl
 wish_keeps : (v : View) (wish : Option Wish) → Keeps v (submit_one v wish).1
 wish_keeps v None = refl
 wish_keeps v (Some wish) =
-    let frames = taking (frames_for wish.count) v.pool [] in
+    let frames = taking (frames_taken wish.count) v.pool [] in
     let unless_full = if nat_le (entries_of v.shape.order) (unfinished v) then (Err refusal.Full, v) else submit_with v wish frames in
-    let unless_long = if nat_lt 11 (frames_for wish.count) then (Err refusal.Long, v) else unless_full in
+    let unless_long = if nat_lt (most_segments v.offers wish.transfer) (frames_for wish.count) then (Err refusal.Long, v) else unless_full in
     either_submit (is_write wish.transfer && v.read_only) v (Err refusal.ReadOnly, v) (if nat_lt v.sectors (wish.sector + named_of wish.transfer wish.count) then (Err refusal.Range, v) else unless_long) refl
     (either_submit (nat_lt v.sectors (wish.sector + named_of wish.transfer wish.count)) v (Err refusal.Range, v) unless_long refl
-    (either_submit (nat_lt 11 (frames_for wish.count)) v (Err refusal.Long, v) unless_full refl
+    (either_submit (nat_lt (most_segments v.offers wish.transfer) (frames_for wish.count)) v (Err refusal.Long, v) unless_full refl
     (either_submit (nat_le (entries_of v.shape.order) (unfinished v)) v (Err refusal.Full, v) (submit_with v wish frames) refl (with_keeps v wish frames))))
 
 submit_keeps : (v : View) (job : Job) → Keeps v (submit_of v job).1

@@ -12,13 +12,13 @@ use Rattle.blk_front.specs.declared.request.Request.{Request}
 use Rattle.blk_front.specs.declared.request.Transfer.{Transfer}
 use Rattle.blk_front.specs.declared.request.Transfer.TheVariants as transfer
 use Rattle.blk_front.specs.declared.stage.Ending.{Ending}
-use Rattle.blk_front.specs.Request.{has_data, words_in}
+use Rattle.blk_front.specs.Request.{has_data, words_in, is_indirect, naming_words}
 use Rattle.blk_front.specs.declared.stage.Stage.{Stage}
 use Rattle.blk_front.specs.declared.stage.Stage.TheVariants as stage
 use Rattle.blk_front.specs.declared.told.Told.{Told}
 use Rattle.blk_front.specs.declared.told.Told.TheVariants as told
 use Rattle.blk_front.specs.View.{View, next_request}
-use Rattle.blk_front.specs.Step.{broken, looked, entered, begun, answered, freed, revokes, data_stage, granted, loop_step, issued, response_at, is_mapped, at, ring_granted, ring_left, finished, ended, revoked, sector_told, data_step, step_at}
+use Rattle.blk_front.specs.Step.{broken, looked, entered, begun, answered, freed, revokes, after_data, data_stage, page_stage, granted, loop_step, issued, response_at, is_mapped, at, ring_granted, ring_left, finished, ended, revoked, sector_told, data_step, step_at}
 use Rattle.machine_pipeline.proofs.Flow.{wrapped}
 use Rattle.machine_pipeline.proofs.Wrapped.{next_wrapped}
 
@@ -55,7 +55,8 @@ looked_counts start answers v word otherwise e h p =
     (either start answers (word == v.ring.cons) otherwise (record v { seen = word; stage = stage.Loop }) p (untold start answers v.start v.ring.cons v.told stage.Loop e h))
 
 begun_counts : (start answers : ℕ) (v : View) (r : Request) (way : Transfer) → v.told ≡ None → v.ring.cons ≡ wrapped start answers → Counts start answers (begun v r way)
-begun_counts start answers v r transfer.Read e h = untold start answers v.start v.ring.cons v.told (stage.GrantFence 0) e h
+begun_counts start answers v r transfer.Read e h =
+    untold start answers v.start v.ring.cons v.told (if is_indirect r.count then stage.Pages 1 else stage.GrantFence 0) e (either_stage start answers v.start v.ring.cons (is_indirect r.count) (stage.Pages 1) (stage.GrantFence 0) h h)
 begun_counts start answers v r (transfer.Write tag) e h = untold start answers v.start v.ring.cons v.told (stage.Data 1) e h
 begun_counts start answers v r (transfer.Barrier tag) e h = untold start answers v.start v.ring.cons v.told (stage.Data 1) e h
 begun_counts start answers v r transfer.Flush e h = untold start answers v.start v.ring.cons v.told (stage.Slot 1) e h
@@ -63,7 +64,12 @@ begun_counts start answers v r (transfer.Discard sectors) e h = untold start ans
 
 data_counts : (start answers begins cons : ℕ) (next : Option Request) (n : ℕ) → cons ≡ wrapped start answers → CountsAt start answers begins cons (data_stage next n)
 data_counts start answers begins cons None n h = h
-data_counts start answers begins cons (Some r) n h = either_stage start answers begins cons (nat_lt (n + 1) (words_in r)) (stage.Data (n + 1)) (stage.GrantFrame 0) h h
+data_counts start answers begins cons (Some r) n h =
+    either_stage start answers begins cons (nat_lt (n + 1) (words_in r)) (stage.Data (n + 1)) (after_data r) h (either_stage start answers begins cons (is_indirect r.count) (stage.Pages 0) (stage.GrantFrame 0) h h)
+
+page_counts : (start answers begins cons : ℕ) (next : Option Request) (n : ℕ) → cons ≡ wrapped start answers → CountsAt start answers begins cons (page_stage next n)
+page_counts start answers begins cons None n h = h
+page_counts start answers begins cons (Some r) n h = either_stage start answers begins cons (nat_lt (n + 1) (naming_words r)) (stage.Pages (n + 1)) (stage.GrantFrame 0) h h
 
 granted_counts : (start answers : ℕ) (v : View) (next : Option Request) (place : ℕ) → v.told ≡ None → v.stage ≡ stage.GrantFlags place → v.ring.cons ≡ wrapped start answers → Counts start answers (granted next place v)
 granted_counts start answers v None place e s h = untold start answers v.start v.ring.cons v.told v.stage e (subst (CountsAt start answers v.start v.ring.cons) (sym s) h)
@@ -124,6 +130,7 @@ front_counts start answers (stage.RingFlags page) v a e same h =
 front_counts start answers stage.NewPort v a e same h = untold start answers v.start v.ring.cons v.told stage.Initialised e h
 front_counts start answers stage.Loop v a e same h = loop_counts start answers v (next_request v) a e same h
 front_counts start answers (stage.Data n) v a e same h = untold start answers v.start v.ring.cons v.told (data_stage (next_request v) n) e (data_counts start answers v.start v.ring.cons (next_request v) n h)
+front_counts start answers (stage.Pages n) v a e same h = untold start answers v.start v.ring.cons v.told (page_stage (next_request v) n) e (page_counts start answers v.start v.ring.cons (next_request v) n h)
 front_counts start answers (stage.GrantFrame place) v a e same h = untold start answers v.start v.ring.cons v.told (stage.GrantFence place) e h
 front_counts start answers (stage.GrantFence place) v a e same h = untold start answers v.start v.ring.cons v.told (stage.GrantFlags place) e h
 front_counts start answers (stage.GrantFlags place) v a e same h = granted_counts start answers v (next_request v) place e same h

@@ -1,6 +1,6 @@
 -- What the front asks has the widths of the grammar.
-use Rattle.std.proofs.Common.{ℕ, ◌≡◌, ◌^◌, ◌<◌, ◌==◌, ◌||◌, Bool, true, false, if◌then◌else◌, refl, arith}
-use Rattle.std.specs.Prelude.{Option, Some, None}
+use Rattle.std.proofs.Common.{ℕ, ◌≡◌, ◌/◌, ◌%◌, ◌^◌, ◌<◌, ◌==◌, ◌||◌, Bool, true, false, if◌then◌else◌, refl, arith}
+use Rattle.std.specs.Prelude.{All, Option, Some, None, nat_lt}
 use Rattle.std.specs.List.{AllByRecursion}
 use Rattle.blk_base.specs.declared.ask.FrontAsk.TheVariants.{Wait, Read}
 use Rattle.ring_words.specs.Ring.{next_of, responses_of}
@@ -11,14 +11,15 @@ use Rattle.blk_front.specs.declared.request.Transfer.TheVariants as transfer
 use Rattle.blk_front.specs.declared.stage.Stage.{Stage}
 use Rattle.blk_front.specs.declared.stage.Stage.TheVariants as stage
 use Rattle.blk_front.specs.declared.stage.Ending.{Ending}
-use Rattle.blk_front.specs.Request.{filling_at}
+use Rattle.blk_front.specs.Request.{filling_at, frames_for, grant_flags, is_indirect, segment_at, naming_at}
+use Rattle.blk_layout.specs.Written.{segment_words_of}
 use Rattle.blk_front.specs.Entry.{entry_of}
 use Rattle.blk_front.specs.View.{View, fresh_word, next_request, ring_frame, slot_frame, slot_word}
-use Rattle.blk_front.specs.Ask.{is_through, ask_at, ask_of, data_ask, name_ask, grant_ask, revoke_ask, end_ask, read_ask, issue_ask, loop_ask, StaysInMemory}
+use Rattle.blk_front.specs.Ask.{is_through, ask_at, ask_of, data_ask, page_ask, name_ask, grant_ask, revoke_ask, end_ask, read_ask, issue_ask, loop_ask, StaysInMemory}
 use Rattle.split_model.specs.Safe.{IsPorted}
 use Rattle.report_laws.proofs.Words.{each_fits}
 use Rattle.report_laws.proofs.Acts.{FrontFits}
-use Rattle.report_laws.proofs.FrontNumbers.{HasWords, IsFit, AreShared, flags_few, issued_entry}
+use Rattle.report_laws.proofs.FrontNumbers.{HasWords, IsFit, AreShared, flags_few, words_fit, next_holds, issued_entry}
 
 fresh_fits : (start k : ℕ) → start < 2 ^ 32 → fresh_word start k < 2 ^ 32
 fresh_fits start k small = by_tests (k == 0) (k == 1) (k == 2) (k == 3)
@@ -42,6 +43,14 @@ data_fits : (h : Hypervisor) (next : Option Request) (n : ℕ) → FrontFits h (
 data_fits h None n = tt
 data_fits h (Some r) n = filling_fits r.transfer n
 
+-- the words of its segments, which its indirect pages hold
+naming_fits : (r : Request) (n : ℕ) → All (λ (frame : ℕ). frame < 1018) r.frames.items → naming_at r n < 2 ^ 32
+naming_fits r n all = each_fits (segment_words_of (segment_at r (n / 2))) (words_fit r (n / 2) all) (n % 2)
+
+page_fits : (h : Hypervisor) (next : Option Request) (n : ℕ) → ((r : Request) → next ≡ Some r → All (λ (frame : ℕ). frame < 1018) r.frames.items) → FrontFits h (page_ask next n)
+page_fits h None n shared = tt
+page_fits h (Some r) n shared = naming_fits r n (shared r refl)
+
 -- a frame whose entry lies in memory
 name_fits : (h : Hypervisor) (next : Option Request) (place : ℕ) → StaysInMemory (name_ask next place) → FrontFits h (name_ask next place)
 name_fits h None place within = tt
@@ -49,7 +58,11 @@ name_fits h (Some r) place within = let framed = within.0 in omega arith
 
 grant_fits : (h : Hypervisor) (next : Option Request) (place : ℕ) → FrontFits h (grant_ask next place)
 grant_fits h None place = tt
-grant_fits h (Some r) place = omega (arith, flags_few r.transfer)
+grant_fits h (Some r) place = by_place (nat_lt place (frames_for r.count))
+  where
+    by_place : (b : Bool) → (if b then grant_flags r.transfer else 5) < 2 ^ 32
+    by_place true = omega (arith, flags_few r.transfer)
+    by_place false = omega arith
 
 revoke_fits : (h : Hypervisor) (ending : Option Ending) (place : ℕ) → FrontFits h (revoke_ask ending place)
 revoke_fits h None place = tt
@@ -63,15 +76,20 @@ read_fits : (h : Hypervisor) (ending : Option Ending) (n : ℕ) → FrontFits h 
 read_fits h None n = tt
 read_fits h (Some e) n = tt
 
-issue_fits : (h : Hypervisor) (v : View) (r : Request) (way : Transfer) → AllByRecursion (λ (n : ℕ). n < 2 ^ 32) (entry_of v.shape.abi r) → StaysInMemory (issue_ask v r way) → FrontFits h (issue_ask v r way)
-issue_fits h v r transfer.Read entry within = name_fits h (Some r) 0 within
-issue_fits h v r (transfer.Write tag) entry within = filling_fits r.transfer 0
-issue_fits h v r (transfer.Barrier tag) entry within = filling_fits r.transfer 0
-issue_fits h v r transfer.Flush entry within = each_fits (entry_of v.shape.abi r) entry 0
-issue_fits h v r (transfer.Discard sectors) entry within = each_fits (entry_of v.shape.abi r) entry 0
+issue_fits : (h : Hypervisor) (v : View) (r : Request) (way : Transfer) → All (λ (frame : ℕ). frame < 1018) r.frames.items → AllByRecursion (λ (n : ℕ). n < 2 ^ 32) (entry_of v.shape.abi r) → StaysInMemory (issue_ask v r way) → FrontFits h (issue_ask v r way)
+issue_fits h v r transfer.Read shared entry within = by_size (is_indirect r.count) within
+  where
+    by_size : (b : Bool) → StaysInMemory (if b then page_ask (Some r) 0 else name_ask (Some r) 0) → FrontFits h (if b then page_ask (Some r) 0 else name_ask (Some r) 0)
+    by_size true within = naming_fits r 0 shared
+    by_size false within = name_fits h (Some r) 0 within
+issue_fits h v r (transfer.Write tag) shared entry within = filling_fits r.transfer 0
+issue_fits h v r (transfer.Barrier tag) shared entry within = filling_fits r.transfer 0
+issue_fits h v r transfer.Flush shared entry within = each_fits (entry_of v.shape.abi r) entry 0
+issue_fits h v r (transfer.Discard sectors) shared entry within = each_fits (entry_of v.shape.abi r) entry 0
 
 loop_fits : (h : Hypervisor) (v : View) (next : Option Request) → AreShared v.requests → IsFit v → next_request v ≡ next → StaysInMemory (loop_ask v next) → FrontFits h (loop_ask v next)
-loop_fits h v (Some r) shared f e within = issue_fits h v r r.transfer (issued_entry v r f.0.asked shared e) within
+loop_fits h v (Some r) shared f e within =
+    issue_fits h v r r.transfer (next_holds (λ (x : Request). All (λ (frame : ℕ). frame < 1018) x.frames.items) v r shared e) (issued_entry v r f.0.asked shared e) within
 loop_fits h v None shared f e within = unvalued h (v.asleep || is_through v) (responses_of v.ring v.seen == 0) ring_frame 2 (slot_frame v.shape v.ring.cons 0) (slot_word v.shape v.ring.cons 0)
 
 asks_at : (h : Hypervisor) (s : Stage) (v : View) → AreShared v.requests → IsPorted s h.channels → StaysInMemory (ask_at s v) → HasWords s → IsFit v → FrontFits h (ask_at s v)
@@ -81,6 +99,7 @@ asks_at h (stage.RingFlags page) v shared ported within words f = omega arith
 asks_at h stage.NewPort v shared ported within words f = omega (arith, ported.0)
 asks_at h stage.Loop v shared ported within words f = loop_fits h v (next_request v) shared f refl within
 asks_at h (stage.Data n) v shared ported within words f = data_fits h (next_request v) n
+asks_at h (stage.Pages n) v shared ported within words f = page_fits h (next_request v) n (λ r e. next_holds (λ (x : Request). All (λ (frame : ℕ). frame < 1018) x.frames.items) v r shared e)
 asks_at h (stage.GrantFrame place) v shared ported within words f = name_fits h (next_request v) place within
 asks_at h (stage.GrantFlags place) v shared ported within words f = grant_fits h (next_request v) place
 asks_at h (stage.Slot k) v shared ported within words f = each_fits v.entry f.0.written k

@@ -1,6 +1,6 @@
 -- The numbers that the front keeps have the widths of the grammar, and so has what it tells and answers, whatever word it reads.
 use Rattle.std.proofs.Common.{◌≡◌, ℕ, zero, suc, ◌≤◌, ◌+◌, ◌-◌, ◌*◌, ◌/◌, ◌%◌, ◌^◌, ◌<◌, Bool, true, false, not, if◌then◌else◌, List, [], ◌∷◌, length, take, map, refl, arith, length-set}
-use Rattle.std.specs.Prelude.{◌&&◌, All, Option, Some, None, Result, Ok, Err, nat_lt, nat_le, ◌==◌, slice_get, slice_set, slice_index, position}
+use Rattle.std.specs.Prelude.{◌&&◌, max, min, All, Option, Some, None, Result, Ok, Err, nat_lt, nat_le, ◌==◌, slice_get, slice_set, slice_index, position}
 use Rattle.std.specs.Option.{option_map}
 use Rattle.std.specs.List.{AllByRecursion, range_with_len}
 use Rattle.std.proofs.lemmas.Bool.Decides.{nat_tests}
@@ -20,7 +20,8 @@ use Rattle.ring_words.specs.Ring.{responses_of, notifies}
 use Rattle.ring_words.specs.Shape.{entries_of, entry_words_of}
 use Rattle.line_text.specs.Sector.{IsSector}
 use Rattle.blk_layout.specs.Entry.{words_of}
-use Rattle.blk_layout.specs.declared.request.RawRequest.TheVariants.{Direct, Discard}
+use Rattle.blk_layout.specs.Written.{segment_words_of}
+use Rattle.blk_layout.specs.declared.request.RawRequest.TheVariants.{Direct, Discard, Indirect}
 use Rattle.blk_layout.specs.Response.{status_of, response_with, response_of}
 use Rattle.blk_layout.specs.declared.response.Response.{Response}
 use Rattle.blk_layout.specs.declared.segment.Segment.{Segment}
@@ -38,11 +39,12 @@ use Rattle.blk_front.specs.declared.told.Told.TheVariants as told
 use Rattle.blk_front.specs.declared.told.Refusal.{Refusal}
 use Rattle.blk_front.specs.declared.told.Refusal.TheVariants as refusal
 use Rattle.blk_front.specs.Pool.{taking}
-use Rattle.blk_front.specs.Request.{operation_of, is_write, named_of, segments_of, grant_flags, has_data, frames_for, words_in, segment_in, segment_at}
+use Rattle.blk_front.specs.Request.{operation_of, is_write, named_of, segments_of, grant_flags, has_data, frames_for, words_in, segment_in, segment_at, is_indirect, may_be_indirect, naming_words, reference_in, page_reference, page_references}
 use Rattle.blk_front.specs.View.{View, next_request, start_of}
 use Rattle.blk_front.specs.Entry.{entry_as, entry_of}
-use Rattle.blk_front.specs.Step.{at, broken, looked, entered, begun, freed, revokes, answered, data_stage, granted, loop_step, found_at, issued, response_at, is_mapped, ring_left, finished, ended, revoked, sector_told, data_step, step_at, step_of}
-use Rattle.blk_front.specs.Submit.{is_ready, unfinished, wished, wish_of, request_with, submit_with, submit_one, submit_of}
+use Rattle.blk_front.specs.Step.{at, broken, looked, entered, begun, freed, revokes, answered, after_data, data_stage, page_stage, granted, loop_step, found_at, issued, response_at, is_mapped, ring_left, finished, ended, revoked, sector_told, data_step, step_at, step_of}
+use Rattle.blk_front.specs.Submit.{is_ready, unfinished, wished, wish_of, most_segments, frames_taken, request_with, submit_with, submit_one, submit_of}
+use Rattle.blk_front.specs.declared.state.Offers.{Offers}
 use Rattle.blk_front.specs.declared.state.FrontState.{FrontState}
 use Rattle.blk_front.specs.declared.state.FrontState.TheVariants as state
 use Rattle.blk_front.specs.State.{in_state, enters}
@@ -81,6 +83,12 @@ gref_fits r place all = let few = segment_few r.count place (slice_get r.frames.
 ends_fit : (r : Request) (place : ℕ) → All (λ (frame : ℕ). frame < 1018) r.frames.items → (let s : Segment = segment_at r place in s.first * 1 + (s.last * 256 + 0) < 2 ^ 32)
 ends_fit r place all = let few = segment_few r.count place (slice_get r.frames.items place) (λ f e. all_at (λ (frame : ℕ). frame < 1018) r.frames.items place f all e) in omega (arith, few.1, few.2)
 
+-- as its indirect pages hold them
+pub words_fit : (r : Request) (place : ℕ) → All (λ (frame : ℕ). frame < 1018) r.frames.items → AllByRecursion (λ (v : ℕ). v < 2 ^ 32) (segment_words_of (segment_at r place))
+words_fit r place all =
+    let few = segment_few r.count place (slice_get r.frames.items place) (λ f e. all_at (λ (frame : ℕ). frame < 1018) r.frames.items place f all e) in
+    (omega (arith, few.0), (omega (arith, few.1, few.2), tt))
+
 operation_few : (way : Transfer) → operation_of way ≤ 5
 operation_few transfer.Read = omega arith
 operation_few (transfer.Write tag) = omega arith
@@ -101,13 +109,13 @@ segments_fit r [] all = tt
 segments_fit r (place ∷ places) all = (gref_fits r place all, (ends_fit r place all, segments_fit r places all))
 
 -- under each layout: the first word, one that is 0 where 64-bit fields need it, the id, the sector and eleven segments
-direct_words : (abi : Abi) (op : ℕ) (r : Request) → op ≤ 5 → r.number < 2 ^ 64 → r.sector < 2 ^ 64 → r.count ≤ 88 → All (λ (frame : ℕ). frame < 1018) r.frames.items
+direct_words : (abi : Abi) (op : ℕ) (r : Request) → op ≤ 5 → r.number < 2 ^ 64 → r.sector < 2 ^ 64 → frames_for r.count ≤ 11 → All (λ (frame : ℕ). frame < 1018) r.frames.items
     → AllByRecursion (λ (v : ℕ). v < 2 ^ 32) (words_of abi (Direct op (frames_for r.count) 51712 r.number r.sector (segments_of r)))
 unfolding words_of
-direct_words X64 op r small number sector count all =
-    (first_fits op (frames_for r.count) small (omega arith), (none_fits, (low_half r.number, (high_half r.number number, (low_half r.sector, (high_half r.sector sector, segments_fit r (range_with_len 0 11) all))))))
-direct_words X32 op r small number sector count all =
-    (first_fits op (frames_for r.count) small (omega arith), (low_half r.number, (high_half r.number number, (low_half r.sector, (high_half r.sector sector, segments_fit r (range_with_len 0 11) all)))))
+direct_words X64 op r small number sector few all =
+    (first_fits op (frames_for r.count) small few, (none_fits, (low_half r.number, (high_half r.number number, (low_half r.sector, (high_half r.sector sector, segments_fit r (range_with_len 0 11) all))))))
+direct_words X32 op r small number sector few all =
+    (first_fits op (frames_for r.count) small few, (low_half r.number, (high_half r.number number, (low_half r.sector, (high_half r.sector sector, segments_fit r (range_with_len 0 11) all)))))
 
 -- a discard has its count in their place, and then zeros
 abbrev zeros : ℕ → List ℕ
@@ -125,15 +133,48 @@ discard_words X64 number sector sectors numbered placed long =
 discard_words X32 number sector sectors numbered placed long =
     (first_fits 5 0 (omega arith) (omega arith), (low_half number, (high_half number numbered, (low_half sector, (high_half sector placed, (low_half sectors, (high_half sectors long, zeros_fit 20)))))))
 
-entry_words : (abi : Abi) (way : Transfer) (r : Request) → r.number < 2 ^ 64 → r.sector < 2 ^ 64 → r.count ≤ 88 → named_of way r.count < 2 ^ 32 → All (λ (frame : ℕ). frame < 1018) r.frames.items → AllByRecursion (λ (v : ℕ). v < 2 ^ 32) (words_of abi (entry_as way r))
-entry_words abi (transfer.Discard sectors) r number sector count named all = discard_words abi r.number r.sector sectors number sector (omega arith)
-entry_words abi way r number sector count named all = direct_words abi (operation_of way) r (operation_few way) number sector count all
+-- one through indirect pages has their references, of which each is that of a frame or 0
+reference_fits : (r : Request) (page : ℕ) → All (λ (frame : ℕ). frame < 1018) r.frames.items → page_reference r page * 1 + 0 < 2 ^ 32
+reference_fits r page all = by_frame (slice_get r.frames.items (frames_for r.count + page)) refl
+  where
+    by_frame : (frame : Option ℕ) → slice_get r.frames.items (frames_for r.count + page) ≡ frame → reference_in frame * 1 + 0 < 2 ^ 32
+    by_frame None e = omega arith
+    by_frame (Some frame) e = let shared = all_at (λ (f : ℕ). f < 1018) r.frames.items (frames_for r.count + page) frame all e in omega arith
 
--- a request: one entry names its sectors, and its numbers have the widths of their fields
+-- and zeros follow them
+abbrev page_words : List ℕ → List ℕ
+page_words [] = zeros 13
+page_words (gref ∷ pages) = (gref * 1 + 0) ∷ page_words pages
+
+pages_fit : (r : Request) (pages : List ℕ) → All (λ (frame : ℕ). frame < 1018) r.frames.items → AllByRecursion (λ (v : ℕ). v < 2 ^ 32) (page_words (map (page_reference r) pages))
+pages_fit r [] all = zeros_fit 13
+pages_fit r (page ∷ pages) all = (reference_fits r page all, pages_fit r pages all)
+
+named_fits : (op frames : ℕ) → op ≤ 5 → frames ≤ 960 → 6 + (op * 256 + (frames * 65536 + 0)) < 2 ^ 32
+named_fits op frames small few = omega arith
+
+indirect_words : (abi : Abi) (op : ℕ) (r : Request) → op ≤ 5 → r.number < 2 ^ 64 → r.sector < 2 ^ 64 → frames_for r.count ≤ 960 → All (λ (frame : ℕ). frame < 1018) r.frames.items
+    → AllByRecursion (λ (v : ℕ). v < 2 ^ 32) (words_of abi (Indirect op (frames_for r.count) 51712 r.number r.sector (page_references r)))
+unfolding words_of
+indirect_words X64 op r small number sector few all =
+    (named_fits op (frames_for r.count) small few, (none_fits, (low_half r.number, (high_half r.number number, (low_half r.sector, (high_half r.sector sector, (omega arith, pages_fit r (range_with_len 0 8) all)))))))
+indirect_words X32 op r small number sector few all =
+    (named_fits op (frames_for r.count) small few, (low_half r.number, (high_half r.number number, (low_half r.sector, (high_half r.sector sector, (omega arith, pages_fit r (range_with_len 0 8) all))))))
+
+moved_words : (abi : Abi) (op : ℕ) (r : Request) → op ≤ 5 → r.number < 2 ^ 64 → r.sector < 2 ^ 64 → r.count ≤ 7680 → All (λ (frame : ℕ). frame < 1018) r.frames.items → (b : Bool) → is_indirect r.count ≡ b
+    → AllByRecursion (λ (v : ℕ). v < 2 ^ 32) (words_of abi (if b then Indirect op (frames_for r.count) 51712 r.number r.sector (page_references r) else Direct op (frames_for r.count) 51712 r.number r.sector (segments_of r)))
+moved_words abi op r small number sector count all true e = indirect_words abi op r small number sector (omega arith) all
+moved_words abi op r small number sector count all false e = direct_words abi op r small number sector (grind (arith, nat_tests)) all
+
+entry_words : (abi : Abi) (way : Transfer) (r : Request) → r.number < 2 ^ 64 → r.sector < 2 ^ 64 → r.count ≤ 7680 → named_of way r.count < 2 ^ 32 → All (λ (frame : ℕ). frame < 1018) r.frames.items → AllByRecursion (λ (v : ℕ). v < 2 ^ 32) (words_of abi (entry_as way r))
+entry_words abi (transfer.Discard sectors) r number sector count named all = discard_words abi r.number r.sector sectors number sector (omega arith)
+entry_words abi way r number sector count named all = moved_words abi (operation_of way) r (operation_few way) number sector count all (is_indirect r.count) refl
+
+-- a request: it moves no more sectors than 960 segments have, and its numbers have the widths of their fields
 pub record IsAsked (r : Request) : Type 0 where
   pub number : r.number < 2 ^ 32
   pub sector : r.sector < 2 ^ 64
-  pub few : r.count ≤ 88
+  pub few : r.count ≤ 7680
   pub named : named_of r.transfer r.count < 2 ^ 32
 
 abbrev pub IsAskedEnding : Option Ending → Type 0
@@ -153,13 +194,13 @@ pub record AreNumbers (sectors start last : ℕ) (requests : List Request) (endi
   pub written : AllByRecursion (λ (v : ℕ). v < 2 ^ 32) entry
   pub read : IsSector words
 
--- the words that a stage carries have 32 bits, and the word of data that is read is one of 88 sectors
+-- the words that a stage carries have 32 bits, and the word of data that is read is one of 7680 sectors
 abbrev pub HasWords : Stage → Type 0
 HasWords (stage.ResponseHigh low) = low < 2 ^ 32
 HasWords (stage.ResponseLast low high) = low < 2 ^ 32
 HasWords (stage.GrantEnd place before) = before < 2 ^ 32
 HasWords (stage.RingEnd page seen) = seen < 2 ^ 32
-HasWords (stage.ReadData n) = n < 11264
+HasWords (stage.ReadData n) = n < 983040
 HasWords s = Unit {0}
 
 abbrev pub TellsWords : Option Told → Type 0
@@ -205,7 +246,11 @@ looked_fits v word otherwise small f h =
 
 data_words : (r : Option Request) (n : ℕ) → HasWords (data_stage r n)
 data_words None n = tt
-data_words (Some r) n = either_stage (nat_lt (n + 1) (words_in r)) (stage.Data (n + 1)) (stage.GrantFrame 0) tt tt
+data_words (Some r) n = either_stage (nat_lt (n + 1) (words_in r)) (stage.Data (n + 1)) (after_data r) tt (either_stage (is_indirect r.count) (stage.Pages 0) (stage.GrantFrame 0) tt tt)
+
+naming_had : (r : Option Request) (n : ℕ) → HasWords (page_stage r n)
+naming_had None n = tt
+naming_had (Some r) n = either_stage (nat_lt (n + 1) (naming_words r)) (stage.Pages (n + 1)) (stage.GrantFrame 0) tt tt
 
 -- what holds of each request holds of the one that is issued next
 pub next_holds : (P : Request → Type 0) (v : View) (r : Request) → All P v.requests → next_request v ≡ Some r → P r
@@ -230,7 +275,7 @@ granted_fits v (Some r) place entry f =
     either (nat_lt (place + 1) (length r.frames.items)) (at (stage.GrantFrame (place + 1)) v) (entered v r (stage.Slot 0)) (λ t. (f.0, tt, f.2)) (λ t. entered_fits v r (stage.Slot 0) tt (entry r refl) f)
 
 begun_fits : (v : View) (r : Request) (way : Transfer) → AllByRecursion (λ (n : ℕ). n < 2 ^ 32) (entry_of v.shape.abi r) → IsFit v → IsFit (begun v r way)
-begun_fits v r transfer.Read entry f = (f.0, tt, f.2)
+begun_fits v r transfer.Read entry f = (f.0, either_stage (is_indirect r.count) (stage.Pages 1) (stage.GrantFence 0) tt tt, f.2)
 begun_fits v r (transfer.Write tag) entry f = (f.0, tt, f.2)
 begun_fits v r (transfer.Barrier tag) entry f = (f.0, tt, f.2)
 begun_fits v r transfer.Flush entry f = entered_fits v r (stage.Slot 1) tt entry f
@@ -287,7 +332,7 @@ revoked_fits : (v : View) (ending : Option Ending) (place : ℕ) → IsAskedEndi
 revoked_fits v None place is f = f
 revoked_fits v (Some e) place is f = either (nat_lt (place + 1) (length e.request.frames.items)) (at (stage.GrantRead (place + 1)) v) (ended e v) (λ t. (f.0, tt, f.2)) (λ t. ended_fits v e is f)
 
-told_fits : (v : View) (e : Ending) (n : ℕ) (words : List ℕ) → IsAsked e.request → n < 11264 → IsSector words → IsFit v → IsFit (sector_told e n words v)
+told_fits : (v : View) (e : Ending) (n : ℕ) (words : List ℕ) → IsAsked e.request → n < 983040 → IsSector words → IsFit v → IsFit (sector_told e n words v)
 told_fits v e n words is below sector f =
     let number = is.number in
     let k = f.0 in
@@ -295,10 +340,10 @@ told_fits v e n words is below sector f =
     either (n % 128 == 127) (record v { words = words; told = Some (told.Sector e.request.number (n / 128) words) }) (record v { words = words })
     (λ t. (now, f.1, (omega arith, omega arith, sector))) (λ t. (now, f.1, f.2))
 
-still_below : (n count : ℕ) → count ≤ 88 → nat_lt (n + 1) (128 * count) ≡ true → n + 1 < 11264
+still_below : (n count : ℕ) → count ≤ 7680 → nat_lt (n + 1) (128 * count) ≡ true → n + 1 < 983040
 still_below n count few more = grind (arith, nat_tests)
 
-data_fits : (v : View) (ending : Option Ending) (n word : ℕ) → n < 11264 → word < 2 ^ 32 → IsAskedEnding ending → IsFit v → IsFit (data_step ending n word v)
+data_fits : (v : View) (ending : Option Ending) (n word : ℕ) → n < 983040 → word < 2 ^ 32 → IsAskedEnding ending → IsFit v → IsFit (data_step ending n word v)
 data_fits v None n word below small is f = f
 data_fits v (Some e) n word below small is f =
     let words = slice_set v.words (n % 128) word in
@@ -318,6 +363,7 @@ step_fits (stage.RingFlags page) v x shared h f small = (f.0, either_stage (nat_
 step_fits stage.NewPort v x shared h f small = (f.0, tt, f.2)
 step_fits stage.Loop v x shared h f small = loop_fits v (next_request v) x (λ r e. issued_entry v r f.0.asked shared e) f small
 step_fits (stage.Data n) v x shared h f small = (f.0, data_words (next_request v) n, f.2)
+step_fits (stage.Pages n) v x shared h f small = (f.0, naming_had (next_request v) n, f.2)
 step_fits (stage.GrantFrame place) v x shared h f small = (f.0, tt, f.2)
 step_fits (stage.GrantFence place) v x shared h f small = (f.0, tt, f.2)
 step_fits (stage.GrantFlags place) v x shared h f small = granted_fits v (next_request v) place (λ r e. issued_entry v r f.0.asked shared e) f
@@ -376,7 +422,7 @@ either_submit job false x y p q = q refl
 refused : (v : View) (job : Job) (why : Refusal) → IsFit v → IsSubmitted job (Err why, v)
 refused v job why f = (good (lines.Refuse (refusal_word why)) tt refl, f)
 
-accepted_fits : (v : View) (job : Job) (wish : Wish) (frames : Option (List ℕ × List Bool)) → v.last + 1 < 2 ^ 32 → wish.sector < 2 ^ 64 → wish.count ≤ 88 → named_of wish.transfer wish.count < 2 ^ 32 → JobHasWidths job → IsFit v → IsSubmitted job (submit_with v wish frames)
+accepted_fits : (v : View) (job : Job) (wish : Wish) (frames : Option (List ℕ × List Bool)) → v.last + 1 < 2 ^ 32 → wish.sector < 2 ^ 64 → wish.count ≤ 7680 → named_of wish.transfer wish.count < 2 ^ 32 → JobHasWidths job → IsFit v → IsSubmitted job (submit_with v wish frames)
 accepted_fits v job wish None last sector few named widths f = refused v job refusal.Buffers f
 accepted_fits v job wish (Some taken) last sector few named widths f =
     let k = f.0 in (
@@ -396,24 +442,35 @@ accepted_fits v job wish (Some taken) last sector few named widths f =
       ),
     )
 
-wish_fits : (v : View) (job : Job) (wish : Wish) → (wish.count ≤ 88 → named_of wish.transfer wish.count < 2 ^ 32) → (wish.sector < 2 ^ 64 → wish.count ≤ 88 → JobHasWidths job) → v.last + 1 < 2 ^ 32 → IsFit v → IsSubmitted job (submit_one v (Some wish))
+-- no request has more segments
+few_segments : (offers : Offers) (way : Transfer) → most_segments offers way ≤ 960
+few_segments offers way = by_way (may_be_indirect way)
+  where
+    by_way : (b : Bool) → (if b then max 11 (min 960 offers.indirect) else 11) ≤ 960
+    by_way true = omega arith
+    by_way false = omega arith
+
+wish_fits : (v : View) (job : Job) (wish : Wish) → (wish.count ≤ 7680 → named_of wish.transfer wish.count < 2 ^ 32) → (wish.sector < 2 ^ 64 → wish.count ≤ 7680 → JobHasWidths job) → v.last + 1 < 2 ^ 32 → IsFit v → IsSubmitted job (submit_one v (Some wish))
 wish_fits v job wish named widths last f =
     let sized = f.0.sized in
-    let frames = taking (frames_for wish.count) v.pool [] in
+    let frames = taking (frames_taken wish.count) v.pool [] in
     let unless_full = if nat_le (entries_of v.shape.order) (unfinished v) then (Err refusal.Full, v) else submit_with v wish frames in
-    let unless_long = if nat_lt 11 (frames_for wish.count) then (Err refusal.Long, v) else unless_full in
+    let unless_long = if nat_lt (most_segments v.offers wish.transfer) (frames_for wish.count) then (Err refusal.Long, v) else unless_full in
     let unless_past = if nat_lt v.sectors (wish.sector + named_of wish.transfer wish.count) then (Err refusal.Range, v) else unless_long in
     either_submit job (is_write wish.transfer && v.read_only) (Err refusal.ReadOnly, v) unless_past (λ t. refused v job refusal.ReadOnly f)
     (λ free. either_submit job (nat_lt v.sectors (wish.sector + named_of wish.transfer wish.count)) (Err refusal.Range, v) unless_long (λ t. refused v job refusal.Range f)
-    (λ range. either_submit job (nat_lt 11 (frames_for wish.count)) (Err refusal.Long, v) unless_full (λ t. refused v job refusal.Long f)
+    (λ range. either_submit job (nat_lt (most_segments v.offers wish.transfer) (frames_for wish.count)) (Err refusal.Long, v) unless_full (λ t. refused v job refusal.Long f)
     (λ long. either_submit job (nat_le (entries_of v.shape.order) (unfinished v)) (Err refusal.Full, v) (submit_with v wish frames) (λ t. refused v job refusal.Full f)
     (λ t. accepted_fits v job wish frames last (low (named_of wish.transfer wish.count) range sized) (short long) (named (short long)) (widths (low (named_of wish.transfer wish.count) range sized) (short long)) f))))
   where
     low : (n : ℕ) → nat_lt v.sectors (wish.sector + n) ≡ false → v.sectors < 2 ^ 64 → wish.sector < 2 ^ 64
     low n range sized = let fits : wish.sector + n ≤ v.sectors = grind (arith, nat_tests) in omega arith
 
-    short : nat_lt 11 (frames_for wish.count) ≡ false → wish.count ≤ 88
-    short long = let few : frames_for wish.count ≤ 11 = grind (arith, nat_tests) in omega arith
+    short : nat_lt (most_segments v.offers wish.transfer) (frames_for wish.count) ≡ false → wish.count ≤ 7680
+    short long =
+        let most = few_segments v.offers wish.transfer in
+        let few : frames_for wish.count ≤ 960 = grind (arith, nat_tests, most) in
+        omega arith
 
 -- where the back doesn't serve it, it is refused
 wished_fits : (v : View) (job : Job) (offered : Bool) (wish : Wish) → IsFit v → IsSubmitted job (submit_one v (Some wish)) → IsSubmitted job (submit_one v (wished offered wish))

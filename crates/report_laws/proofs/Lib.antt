@@ -8,6 +8,7 @@ pub mod AtRest
 pub mod Counts
 pub mod Answers
 pub mod Ports
+pub mod FewPorts
 pub mod QuietRing
 pub mod States
 pub mod Inline

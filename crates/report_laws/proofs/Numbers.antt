@@ -1,6 +1,6 @@
 -- The numbers of mappings and of fetched requests, which go up by one: where a report has fewer than 2 ^ 64 lines there is always a next one.
-use Rattle.std.proofs.Common.{◌≡◌, ℕ, ◌+◌, ◌^◌, ◌%◌, ◌<◌, ◌≤◌, Bool, true, false, if◌then◌else◌, List, [], ◌∷◌, ◌++◌, length, refl, ap, arith, length-append}
-use Rattle.std.specs.Prelude.{Option, Some, None, ◌==◌, position}
+use Rattle.std.proofs.Common.{◌≡◌, ℕ, ◌+◌, ◌^◌, ◌<◌, ◌≤◌, Bool, true, false, if◌then◌else◌, List, [], ◌∷◌, ◌++◌, length, refl, ap, arith, length-append}
+use Rattle.std.specs.Prelude.{Option, Some, None, ◌==◌}
 use Rattle.blk_base.specs.Options.{Options}
 use Rattle.blk_base.specs.declared.ask.BackAnswer.{BackAnswer}
 use Rattle.blk_base.specs.declared.ask.BackAnswer.TheVariants as answer
@@ -11,7 +11,7 @@ use Rattle.grant_table.specs.Table.{GrantTable}
 use Rattle.hypervisor.specs.Hypervisor.{Hypervisor}
 use Rattle.hypervisor.specs.Act.{FrontAct, BackAct, Outcome, Took}
 use Rattle.ring_words.specs.Shape.{Shape, entry_words_of}
-use Rattle.ring_words.specs.Ring.{requests_of, overruns, notifies}
+use Rattle.ring_words.specs.Ring.{requests_of, overruns}
 use Rattle.blk_back.specs.declared.stage.Reply.{Reply}
 use Rattle.blk_front.specs.Ask as front_ask
 use Rattle.blk_back.specs.declared.stage.Stage.{Stage}
@@ -20,7 +20,7 @@ use Rattle.blk_back.specs.declared.told.Halt.{Halt}
 use Rattle.blk_back.specs.View.{View}
 use Rattle.blk_back.specs.Ask as back_ask
 use Rattle.blk_back.specs.Ask.{next_reply}
-use Rattle.blk_back.specs.Step.{attached, halts, overrun, looked, loop_step, fetched, fetch_step, step_at, step_of, job_step}
+use Rattle.blk_back.specs.Step.{attached, halts, overrun, looked, loop_step, fetched, step_at}
 use Rattle.split_model.specs.World.{World, start_of}
 use Rattle.split_model.specs.Happening.{Happening, FrontMoves, BackMoves, JobMoves, Negotiates, FrontEnters, BackAttaches, BackHalts, Submits, Notifies, Pokes, Dumps, Looks, Settles, happens, lines_at, lines_of, front_after, front_shows, back_after, back_shows, job_after, job_shows, front_turn, back_turn, job_turn, is_guest_word, attaches_at}
 use Rattle.split_model.specs.Report.{report_of}

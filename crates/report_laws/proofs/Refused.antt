@@ -1,12 +1,12 @@
 -- Wrong reports that the rules refuse.
-use Rattle.std.proofs.Common.{◌≡◌, ◌⊎◌, ℕ, ◌+◌, ◌%◌, ◌^◌, ◌≤◌, inl, inr, true, false, List, [], ◌∷◌, refl, ap, sym, subst, arith, true≢false}
+use Rattle.std.proofs.Common.{◌≡◌, ◌⊎◌, ℕ, ◌+◌, ◌%◌, ◌^◌, ◌≤◌, ◌<◌, inl, inr, true, false, List, [], ◌∷◌, refl, ap, sym, subst, arith, true≢false}
 use Rattle.std.specs.Prelude.{All, codes}
 use Rattle.std.specs.List.{list_any}
 use Rattle.std.proofs.lemmas.List.Elements.{recursion_from_All}
 use Rattle.blk_base.specs.Options.{Options}
 use Rattle.blk_base.specs.declared.operation.Status.{Status}
 use Rattle.blk_base.specs.declared.moves.Move.{Move}
-use Rattle.blk_base.specs.declared.moves.Move.TheVariants.{FrontWrite, SetKey}
+use Rattle.blk_base.specs.declared.moves.Move.TheVariants.{FrontWrite, FrontPort, SetKey}
 use Rattle.blk_base.specs.declared.moves.Mover.TheVariants.{Front, Back}
 use Rattle.schedule_text.specs.declared.line.Detail.{Detail}
 use Rattle.schedule_text.specs.declared.line.Detail.TheVariants.{Lines, Moves}
@@ -17,6 +17,7 @@ use Rattle.report_laws.specs.Begun.{is_begin, is_move, IsBegun}
 use Rattle.report_laws.specs.Ready.{IsReadyFirst}
 use Rattle.report_laws.specs.QuietRing.{IsQuietRing, IsServedRing}
 use Rattle.report_laws.specs.States.{front_state, back_state, SayBoth, says_closing, AreStatesAgreed}
+use Rattle.report_laws.specs.Ports.{AreFewPorts}
 use Rattle.report_laws.specs.Grammar.{AreInGrammar}
 
 -- what stands after the first line
@@ -74,6 +75,12 @@ closed_unsaid config h = by_states (h before [] lines.Quiet refl)
     by_states : SayBoth (codes "4") before ⊎ (SayBoth (codes "6") before × (list_any says_closing before ≡ true)) → ⊥
     by_states (inl both) = let back : ◌≡◌ {A = ℕ} 54 52 = ap first both.back in omega arith
     by_states (inr closed) = true≢false (sym closed.1)
+
+pub five_ports : (config : Options) → AreFewPorts (lines.Begin config Moves ∷ lines.Move (FrontPort 1) ∷ lines.Move (FrontPort 2) ∷ lines.Move (FrontPort 3) ∷ lines.Move (FrontPort 4) ∷ lines.Move (FrontPort 5) ∷ []) → ⊥
+five_ports config h =
+    let before : List Line = lines.Begin config Moves ∷ lines.Move (FrontPort 1) ∷ lines.Move (FrontPort 2) ∷ lines.Move (FrontPort 3) ∷ lines.Move (FrontPort 4) ∷ [] in
+    let few : 4 < 4 = h before [] (lines.Move (FrontPort 5)) refl in
+    omega arith
 
 pub out_of_range : (id : ℕ) (status : Status) → 2 ^ 64 ≤ id → AreInGrammar (lines.Answer id status ∷ []) → ⊥
 out_of_range id status far h =

@@ -3,6 +3,7 @@ pub mod Ready
 pub mod AtRest
 pub mod QuietRing
 pub mod States
+pub mod Ports
 pub mod Agreed
 pub mod Reports
 pub mod Grammar

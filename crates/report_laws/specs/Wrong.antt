@@ -2,7 +2,7 @@
 use Rattle.std.specs.Prelude.{List, [], ◌∷◌, codes}
 use Rattle.blk_base.specs.Options.{Options}
 use Rattle.blk_base.specs.declared.moves.Move.{Move}
-use Rattle.blk_base.specs.declared.moves.Move.TheVariants.{FrontWrite, SetKey}
+use Rattle.blk_base.specs.declared.moves.Move.TheVariants.{FrontWrite, FrontPort, SetKey}
 use Rattle.blk_base.specs.declared.moves.Mover.TheVariants.{Front, Back}
 use Rattle.schedule_text.specs.declared.line.Detail.{Detail}
 use Rattle.schedule_text.specs.declared.line.Detail.TheVariants.{Lines, Moves}
@@ -37,3 +37,7 @@ connected_alone config = lines.Begin config Moves ∷ lines.Move (SetKey Front f
 -- it is quiet where both have said that they are closed, and the front hasn't said that it closes
 abbrev pub closed_unsaid : Options → List Line
 closed_unsaid config = lines.Begin config Moves ∷ lines.Move (SetKey Back back_state (codes "6")) ∷ lines.Move (SetKey Front front_state (codes "6")) ∷ lines.Closed ∷ lines.Quiet ∷ []
+
+-- the front makes five ports in one epoch
+abbrev pub five_ports : Options → List Line
+five_ports config = lines.Begin config Moves ∷ lines.Move (FrontPort 1) ∷ lines.Move (FrontPort 2) ∷ lines.Move (FrontPort 3) ∷ lines.Move (FrontPort 4) ∷ lines.Move (FrontPort 5) ∷ []

@@ -2,13 +2,14 @@
 //! else, says `quiet` only of a front that was connected, is closed or is broken, of a ring that is
 //! served and read (`io/ring.h`), and of two ends that have both said last that they are connected,
 //! or that they are closed after a `closing` line, where the directory of keys says so (`AreAgreed`),
-//! and its text gives back exactly its lines. The machine is the pure function of `split_model`; each
-//! law is over every list of happenings, of what a recorder keeps of the report, so with and without
-//! the lines of moves (`OfEachReport`), and where it says `OfPlain` the premises are those of
-//! `machine_pipeline`: reads, of which the disk gives 128 words of 32 bits, writes, barriers, flushes
-//! and discards, and a machine that is quiet where it is found so. `OfPossible` lets a hostile hand
-//! overwrite words too, and so does `OfShort`, of reports of fewer than 2^64 lines. What obeys a rule
-//! obeys it up to each of its lines.
+//! shows at most 4 ports that the front makes in an epoch (`event_channel.h`), and its text gives
+//! back exactly its lines. The machine is the pure function of `split_model`; each law is over every
+//! list of happenings, of what a recorder keeps of the report, so with and without the lines of moves
+//! (`OfEachReport`), and where it says `OfPlain` the premises are those of `machine_pipeline`: reads,
+//! of which the disk gives 128 words of 32 bits, writes, barriers, flushes and discards, and a machine
+//! that is quiet where it is found so. `OfPossible` lets a hostile hand overwrite words too, and so
+//! does `OfShort`, of reports of fewer than 2^64 lines. What obeys a rule obeys it up to each of its
+//! lines.
 #![tactic(auto)]
 
 ghost use Rattle.std.specs.Prelude.{◌≡◌, ℕ, ◌≤◌, ◌^◌, List, [], ◌∷◌, ◌++◌, Contains};
@@ -27,9 +28,10 @@ ghost use Rattle.report_laws.specs.Ready.{IsReadyFirst};
 ghost use Rattle.report_laws.specs.AtRest.{IsAtRest};
 ghost use Rattle.report_laws.specs.QuietRing.{IsQuietRing};
 ghost use Rattle.report_laws.specs.States.{AreStatesAgreed};
+ghost use Rattle.report_laws.specs.Ports.{AreFewPorts};
 ghost use Rattle.report_laws.specs.Grammar.{AreInGrammar, IsInGrammar};
 ghost use Rattle.report_laws.specs.Reports.{OfEachReport, OfEachEnded, OfPossibleReports, OfPossibleEnded, OfShortReports, OfShortEnded, OfPlainReports, OfPlainEnded, OfPlainMachines, OfAgreedReports, OfAgreedEnded};
-ghost use Rattle.report_laws.specs.Wrong.{begun_twice, moved, ready_late, unserved, unread, connected_alone, closed_unsaid};
+ghost use Rattle.report_laws.specs.Wrong.{begun_twice, moved, ready_late, unserved, unread, connected_alone, closed_unsaid, five_ports};
 
 /// `begin` is its first line and stands nowhere else, and lines of moves stand only where it says
 /// `moves`.
@@ -73,6 +75,14 @@ pub fn the_states_agree_where_a_report_is_quiet()
     ensures before { (first more : List Line) → AreStatesAgreed (first ++ more) → AreStatesAgreed first }
 {}
 
+/// The front makes at most 4 ports in an epoch (`event_channel.h`), whatever happens: it makes one, and
+/// no other once that is made.
+pub fn no_front_makes_more_than_four_ports()
+    ensures report { OfEachReport (λ config detail report. AreFewPorts report) }
+    ensures ended { OfEachEnded (λ config detail report. AreFewPorts report) }
+    ensures before { (first more : List Line) → AreFewPorts (first ++ more) → AreFewPorts first }
+{}
+
 /// Each line is one of the grammar, and the report's text gives back exactly its lines, whatever
 /// words of memory are overwritten.
 pub fn every_report_is_in_the_grammar()
@@ -88,8 +98,8 @@ pub fn one_text_has_one_reading()
 
 /// The rules refuse a second `begin`, a move where none is shown, `quiet` before `ready`, `quiet`
 /// over a request without a response, over a response that wasn't read, over one end that alone is
-/// connected or over two that are closed without a `closing` line, and a number that has more than
-/// 64 bits.
+/// connected or over two that are closed without a `closing` line, a fifth port in one epoch, and a
+/// number that has more than 64 bits.
 pub fn wrong_reports_are_refused()
     ensures begun_twice { (config : Options) (detail : Detail) → ¬ IsBegun config detail (begun_twice config detail) }
     ensures moved { (config : Options) (move : Move) → ¬ IsBegun config Lines (moved config move) }
@@ -98,5 +108,6 @@ pub fn wrong_reports_are_refused()
     ensures unread { (config : Options) → config.start ≡ 0 → ¬ IsQuietRing (unread config) }
     ensures connected_alone { (config : Options) → ¬ AreStatesAgreed (connected_alone config) }
     ensures closed_unsaid { (config : Options) → ¬ AreStatesAgreed (closed_unsaid config) }
+    ensures five_ports { (config : Options) → ¬ AreFewPorts (five_ports config) }
     ensures out_of_range { (id : ℕ) (status : Status) → 2 ^ 64 ≤ id → ¬ AreInGrammar (Answer id status ∷ []) }
 {}

@@ -22,7 +22,7 @@ use Rattle.segment_list.specs.Verdict.{verdict_of}
 use Rattle.report_rules.specs.Standing.{this_epoch}
 use Rattle.report_rules.specs.Job.{entry_values}
 use Rattle.back_jobs.specs.declared.stage.Stage.TheVariants as job_stage
-use Rattle.back_jobs.specs.Task.{Work, begun, moving, ended, frameless}
+use Rattle.back_jobs.specs.Task.{Work, begun, moving, paging, ended, frameless}
 use Rattle.back_jobs.specs.Jobs.{is_done}
 use Rattle.blk_back.specs.declared.told.BackTold.{BackTold}
 use Rattle.blk_back.specs.declared.told.Halt.{Halt}
@@ -55,7 +55,9 @@ begun_number n size (Direct op count device id sector segments) (verdict.Serve p
     let other = number_if n (op == 3) (frameless n request size sector job_stage.Flush) (ended n request size (job_stage.Done Error)) refl refl in
     number_if n (nat_le op 2) (moving n request size (not (op == 0)) sector (take count segments)) _ refl other
 begun_number n size (Discard flag device id sector count) (verdict.Serve plan) = refl
-begun_number n size (Indirect op count device id sector pages) (verdict.Serve plan) = refl
+begun_number n size (Indirect op count device id sector pages) (verdict.Serve plan) =
+    let request : RawRequest = Indirect op count device id sector pages in
+    number_if n (nat_le count 960) (paging n request size (not (op == 0)) sector count pages) (ended n request size (job_stage.Done Error)) refl refl
 begun_number n size r (verdict.Error why) = refl
 begun_number n size r verdict.Unsupported = refl
 
@@ -80,16 +82,16 @@ last_entry x v s few =
     facts X32 n count fetched e few number = (omega arith, omega arith, λ some. omega arith)
 
 -- the job of an entry that was just read
-fetched_jobs : (terms : Terms) (values : List ℕ) (epoch : List Line) (old : View) (entry : List ℕ) (fetched : ℕ) (info : DiskInfo) → old.jobs.info ≡ info → info ≡ back_info terms.config → old.fetched < 2 ^ 64 → fetched ≡ next_number old → IsLast terms.abi values entry fetched → 0 < fetched → list_any (is_of (old.fetched + 1)) epoch ≡ false
+fetched_jobs : (terms : Terms) (values : List ℕ) (epoch : List Line) (old : View) (entry : List ℕ) (fetched : ℕ) (info : DiskInfo) → (let c : Options = terms.config in c.indirect ≤ 960) → old.jobs.info ≡ info → info ≡ back_info terms.config → old.fetched < 2 ^ 64 → fetched ≡ next_number old → IsLast terms.abi values entry fetched → 0 < fetched → list_any (is_of (old.fetched + 1)) epoch ≡ false
     → AreJobs terms values epoch old.fetched old.jobs.works
     → AreJobs terms values epoch fetched (old.jobs.works ++ begun (next_number old) (request_of terms.abi entry) old.jobs.info.sectors (verdict_of (request_of terms.abi entry) old.jobs.info) ∷ [])
-fetched_jobs terms values epoch old entry fetched info here is small number last some none jobs =
+fetched_jobs terms values epoch old entry fetched info room here is small number last some none jobs =
     let next : next_number old ≡ old.fetched + 1 = above old.fetched fetched small number some in
     let same : fetched ≡ old.fetched + 1 = number ∙ next in
     let request : request_of terms.abi entry ≡ request_at terms.abi values fetched = ap (λ (ws : List ℕ). request_of terms.abi ws) (last.entry_is some) in
     let fresh : IsFresh terms.abi fetched (request_of terms.abi entry) values epoch = record { first = some; read = last.read; is = request; none = ap (λ (k : ℕ). list_any (is_of k) epoch) same ∙ none } in
     let verdict_is : verdict_of (request_of terms.abi entry) (back_info terms.config) ≡ verdict_of (request_of terms.abi entry) old.jobs.info = ap (λ (i : DiskInfo). verdict_of (request_of terms.abi entry) i) (sym (here ∙ is)) in
-    let job : IsJobOf terms values epoch (begun fetched (request_of terms.abi entry) old.jobs.info.sectors (verdict_of (request_of terms.abi entry) old.jobs.info)) = begun_job terms fetched old.jobs.info.sectors (request_of terms.abi entry) values epoch (verdict_of (request_of terms.abi entry) old.jobs.info) fresh verdict_is in
+    let job : IsJobOf terms values epoch (begun fetched (request_of terms.abi entry) old.jobs.info.sectors (verdict_of (request_of terms.abi entry) old.jobs.info)) = begun_job terms fetched old.jobs.info.sectors (request_of terms.abi entry) values epoch (verdict_of (request_of terms.abi entry) old.jobs.info) (record { few = room; size_is = ap (λ (i : DiskInfo). i.sectors) (here ∙ is) }) fresh verdict_is in
     let numbered = begun_number fetched old.jobs.info.sectors (request_of terms.abi entry) (verdict_of (request_of terms.abi entry) old.jobs.info) ∙ same in
     let all : AreJobs terms values epoch (old.fetched + 1) (old.jobs.works ++ begun fetched (request_of terms.abi entry) old.jobs.info.sectors (verdict_of (request_of terms.abi entry) old.jobs.info) ∷ []) = jobs_added terms values epoch old.fetched old.jobs.works (begun fetched (request_of terms.abi entry) old.jobs.info.sectors (verdict_of (request_of terms.abi entry) old.jobs.info)) numbered job jobs in
     same_jobs terms values values epoch epoch (old.fetched + 1) fetched _ _ refl refl (sym same) (ap (λ (k : ℕ). old.jobs.works ++ begun k (request_of terms.abi entry) old.jobs.info.sectors (verdict_of (request_of terms.abi entry) old.jobs.info) ∷ []) number) all
@@ -97,18 +99,18 @@ fetched_jobs terms values epoch old entry fetched info here is small number last
     above : (n f : ℕ) → n < 2 ^ 64 → f ≡ (n + 1) % 2 ^ 64 → 0 < f → (n + 1) % 2 ^ 64 ≡ n + 1
     above n f lt e some = omega arith
 
-changed_jobs : (config : Options) (x y : Sight) (epoch now : List Line) (old new : View) → Change (length x.values) old new → new.shape ≡ old.shape → old.jobs.info ≡ back_info config → old.fetched < 2 ^ 64 → is_some new.halted ≡ false → Knows y new → length y.values < 2 ^ 64 → length x.values ≤ length y.values
+changed_jobs : (config : Options) (x y : Sight) (epoch now : List Line) (old new : View) → config.indirect ≤ 960 → Change (length x.values) old new → new.shape ≡ old.shape → old.jobs.info ≡ back_info config → old.fetched < 2 ^ 64 → is_some new.halted ≡ false → Knows y new → length y.values < 2 ^ 64 → length x.values ≤ length y.values
     → ((k : ℕ) → old.fetched < k → list_any (is_of k) now ≡ false) → AreJobs (terms_of config old) y.values now old.fetched old.jobs.works → AreJobs (terms_of config old) y.values now new.fetched new.jobs.works
-changed_jobs config x y epoch now old new (kept works fetched) shape info small running knows few more unseen jobs = same_jobs (terms_of config old) y.values y.values now now old.fetched new.fetched old.jobs.works new.jobs.works refl refl (sym fetched) (sym works) jobs
-changed_jobs config x y epoch now old new (replies works fetched) shape info small running knows few more unseen jobs =
+changed_jobs config x y epoch now old new room (kept works fetched) shape info small running knows few more unseen jobs = same_jobs (terms_of config old) y.values y.values now now old.fetched new.fetched old.jobs.works new.jobs.works refl refl (sym fetched) (sym works) jobs
+changed_jobs config x y epoch now old new room (replies works fetched) shape info small running knows few more unseen jobs =
     let terms : Terms = terms_of config old in
     same_jobs terms y.values y.values now now old.fetched new.fetched _ new.jobs.works refl refl (sym fetched) (sym works) (jobs_removed terms y.values now old.fetched old.jobs.works (position (λ (t : Work). is_done t) old.jobs.works) jobs)
-changed_jobs config x y epoch now old new (halts over fetched) shape info small running knows few more unseen jobs = absurd (cc)
-changed_jobs config x y epoch now old new (fetches works fetched at_loop some) shape info small running knows few more unseen jobs =
+changed_jobs config x y epoch now old new room (halts over fetched) shape info small running knows few more unseen jobs = absurd (cc)
+changed_jobs config x y epoch now old new room (fetches works fetched at_loop some) shape info small running knows few more unseen jobs =
     let serves : Serves 0 y new = subst (λ (s : Stage). KnowsAt s y new) at_loop knows in
     let last : IsLast old.shape.abi y.values new.entry new.fetched = subst (λ (s : Shape). IsLast s.abi y.values new.entry new.fetched) shape (last_entry y new serves few) in
     same_jobs (terms_of config old) y.values y.values now now new.fetched new.fetched _ new.jobs.works refl refl refl (sym works)
-    (fetched_jobs (terms_of config old) y.values now old new.entry new.fetched old.jobs.info refl info small fetched last (last.some (omega arith)) (unseen (old.fetched + 1) (omega arith)) jobs)
+    (fetched_jobs (terms_of config old) y.values now old new.entry new.fetched old.jobs.info room refl info small fetched last (last.some (omega arith)) (unseen (old.fetched + 1) (omega arith)) jobs)
 
 -- the number of fetched entries never falls
 grows : (x y : Sight) (old new : View) → Change (length x.values) old new → (is_some new.halted ≡ false → old.fetched < 2 ^ 64) → Knows y new → length y.values < 2 ^ 64 → length x.values ≤ length y.values → old.fetched ≤ new.fetched
@@ -154,11 +156,12 @@ back_tells config start before h v o a f told t earlier e few =
       tale = go.tale;
       quiet = go.quiet;
       info = c.info ∙ t.info;
+      room = t.room;
       jobs = λ runs.
           let terms : Terms = terms_of config v in
           subst (λ (s : Shape). AreJobs (record { config = config; abi = s.abi }) (entry_values (before ++ lines_of_back v a)) (this_epoch (before ++ lines_of_back v a)) new.fetched new.jobs.works) (sym (back_shape v a.answer))
           (same_jobs terms gone.sight.values (entry_values (before ++ lines_of_back v a)) _ _ new.fetched new.fetched new.jobs.works new.jobs.works (sym gone.shows.values) refl refl refl
-          (changed_jobs config f.sight gone.sight (this_epoch before) (this_epoch (before ++ lines_of_back v a)) v (step_of v a.answer) c.change (back_shape v a.answer) t.info (small_number v.stage v f.sight f.knows (c.running runs)) runs gone.knows small more unseen
+          (changed_jobs config f.sight gone.sight (this_epoch before) (this_epoch (before ++ lines_of_back v a)) v (step_of v a.answer) t.room c.change (back_shape v a.answer) t.info (small_number v.stage v f.sight f.knows (c.running runs)) runs gone.knows small more unseen
           (same_jobs terms (entry_values before ++ gone.more) gone.sight.values (this_epoch before ++ lines_of_back v a) (this_epoch (before ++ lines_of_back v a)) v.fetched v.fetched v.jobs.works v.jobs.works values (sym go.epoch) refl refl
           (jobs_kept terms (entry_values before) gone.more (this_epoch before) (lines_of_back v a) v.fetched v.jobs.works (λ k. bystanders_aside k (lines_of_back v a) all) (t.jobs (c.running runs))))));
       unseen = λ k above. unseen k (omega arith);

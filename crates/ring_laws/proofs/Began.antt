@@ -1,6 +1,6 @@
 -- A job, where its entry was fetched; and one that begins.
-use Rattle.std.proofs.Common.{◌≡◌, ℕ, zero, suc, ◌+◌, ◌-◌, ◌*◌, ◌%◌, ◌≤◌, ◌==◌, ◌||◌, not, Bool, true, false, if◌then◌else◌, List, [], ◌∷◌, length, take, refl, ap, sym, ◌∙◌, subst, arith}
-use Rattle.std.specs.Prelude.{nat_le, nat_lt, Option, Some}
+use Rattle.std.proofs.Common.{◌≡◌, ℕ, zero, suc, ◌+◌, ◌-◌, ◌*◌, ◌%◌, ◌≤◌, ◌==◌, ◌||◌, not, Bool, true, false, if◌then◌else◌, List, [], ◌∷◌, ◌++◌, ◌<◌, length, take, refl, ap, sym, ◌∙◌, subst, arith}
+use Rattle.std.specs.Prelude.{nat_le, nat_lt, ◌&&◌, Option, Some, None, is_none, unwrap_or}
 use Rattle.std.specs.List.{AllByRecursion, list_any}
 use Rattle.std.proofs.lemmas.Bool.Decides.{nat_tests}
 use Rattle.std.proofs.lemmas.List.Sums.{sum_by-cons}
@@ -30,16 +30,18 @@ use Rattle.segment_list.proofs.Served.{IsTransfer, transfer_served}
 use Rattle.report_rules.specs.declared.walk.Spot.{Spot}
 use Rattle.report_rules.specs.declared.work.Task.{Task}
 use Rattle.report_rules.specs.declared.work.Task.TheVariants as tasks
-use Rattle.report_rules.specs.Work.{planned_tasks, served_tasks, settled, work_verdict, indirect_tasks, work_tasks, status_by, response_to, work_response}
+use Rattle.report_rules.specs.Work.{pages_of, planned_tasks, served_tasks, settled, work_verdict, indirect_tasks, work_tasks, status_by, response_to, work_response}
 use Rattle.report_rules.specs.Job.{words_of_job, id_of}
 use Rattle.report_rules.specs.Walk.{walk_of}
 use Rattle.report_rules.specs.Reply.{end_of}
 use Rattle.back_jobs.specs.declared.stage.Stage.{Stage}
 use Rattle.back_jobs.specs.declared.stage.Stage.TheVariants as stage
-use Rattle.back_jobs.specs.Task.{Work, id_of as job_id, response_op, begun, served, moving, ended, frameless}
+use Rattle.back_jobs.specs.Task.{Work, id_of as job_id, response_op, begun, served, moving, paging, ended, frameless}
 use Rattle.blk_back.specs.View.{info_of as back_info}
-use Rattle.ring_laws.proofs.JobLines.{is_of, walk_aside, moves_aside, failed_skip}
+use Rattle.ring_laws.proofs.JobLines.{is_of, read_by, read_aside, walk_aside, moves_aside, failed_skip}
+use Rattle.report_rules.proofs.Copied.{no_segments}
 use Rattle.ring_laws.proofs.Places.{tasks_of, Before, Alone, ending, IsAt}
+use Rattle.ring_laws.proofs.Copies.{IsCopying}
 
 -- what is to be done for a request: this work, with this status where it is done in full; and the id and the operation that the response names
 pub record IsPlan (request : RawRequest) (info : DiskInfo) (work : List Task) (served : Status) (id op : ℕ) : Type 0 where
@@ -47,10 +49,28 @@ pub record IsPlan (request : RawRequest) (info : DiskInfo) (work : List Task) (s
   pub tasks : (indirect : List ℕ) → work_tasks request info false indirect ≡ work
   pub verdict : (indirect : List ℕ) → status_by (work_verdict request info indirect) ≡ served
 
--- the job is in its work, or it was done as it began
-pub data HasCome (served : Status) (work : List Task) (k : ℕ) (epoch : List Line) (s : Stage) (t : Work) : Type 0 where
-  serves : served ≡ Okay → IsAt work k epoch s t → HasCome served work k epoch s t
-  over : s ≡ stage.Done served → ending work k epoch served ≡ Some served → HasCome served work k epoch s t
+-- so it is by these words of its indirect pages
+pub record IsDue (request : RawRequest) (info : DiskInfo) (words : List ℕ) (work : List Task) (served : Status) (id op : ℕ) : Type 0 where
+  pub names : (status : Status) → work_response request status ≡ response_to id op status
+  pub tasks : work_tasks request info false words ≡ work
+  pub verdict : status_by (work_verdict request info words) ≡ served
+
+-- and by whatever words are read later
+pub record IsSettled (request : RawRequest) (info : DiskInfo) (words : List ℕ) (work : List Task) (served : Status) : Type 0 where
+  pub tasks : (later : List ℕ) → work_tasks request info false (words ++ later) ≡ work
+  pub verdict : (later : List ℕ) → status_by (work_verdict request info (words ++ later)) ≡ served
+
+due_of : (request : RawRequest) (info : DiskInfo) (words : List ℕ) (work : List Task) (served : Status) (id op : ℕ) → IsPlan request info work served id op → IsDue request info words work served id op
+due_of request info words work served id op p = record { names = p.names; tasks = p.tasks words; verdict = p.verdict words }
+
+settled_of : (request : RawRequest) (info : DiskInfo) (words : List ℕ) (work : List Task) (served : Status) (id op : ℕ) → IsPlan request info work served id op → IsSettled request info words work served
+settled_of request info words work served id op p = record { tasks = λ later. p.tasks (words ++ later); verdict = λ later. p.verdict (words ++ later) }
+
+-- the job is in its work, it is done, or it copies the segments of its request
+pub data HasCome (request : RawRequest) (info : DiskInfo) (served : Status) (work : List Task) (k : ℕ) (epoch : List Line) (s : Stage) (t : Work) : Type 0 where
+  serves : IsSettled request info (read_by k epoch) work served → served ≡ Okay → IsAt work k epoch s t → HasCome request info served work k epoch s t
+  over : (status : Status) → s ≡ stage.Done status → ending work k epoch served ≡ Some status → HasCome request info served work k epoch s t
+  reads : IsCopying request info k epoch s t → HasCome request info served work k epoch s t
 
 -- the options of the machine, and the layout of the entries that it serves
 pub record Terms : Type 0 where
@@ -81,8 +101,8 @@ pub record IsJobOf (terms : Terms) (values : List ℕ) (epoch : List Line) (t : 
   pub first : 1 ≤ t.number
   pub read : entry_words_of terms.abi * t.number ≤ length values
   pub id : id_of (request_at terms.abi values t.number) ≡ t.id
-  pub plan : IsPlan (request_at terms.abi values t.number) (back_info terms.config) work served t.id t.op
-  pub at : HasCome served work t.number epoch t.stage t
+  pub plan : IsDue (request_at terms.abi values t.number) (back_info terms.config) (read_by t.number epoch) work served t.id t.op
+  pub at : HasCome (request_at terms.abi values t.number) (back_info terms.config) served work t.number epoch t.stage t
 
 same_id : (r : RawRequest) → id_of r ≡ job_id r
 same_id (Direct op count device id sector segments) = refl
@@ -102,7 +122,7 @@ few_sectors (suc n) (s ∷ segments) sound =
     omega arith
 
 -- before its first move
-begins : (k : ℕ) (epoch : List Line) (segments : List Segment) (disk : ℕ) (writes : Bool) → list_any (is_of k) epoch ≡ false → AllByRecursion IsSound segments → sectors_of segments ≤ 88 → Before (tasks_of writes disk segments) k epoch segments disk 0 writes
+begins : (k : ℕ) (epoch : List Line) (segments : List Segment) (disk : ℕ) (writes : Bool) → list_any (is_of k) epoch ≡ false → AllByRecursion IsSound segments → sectors_of segments ≤ 7680 → Before (tasks_of writes disk segments) k epoch segments disk 0 writes
 begins k epoch segments disk writes none sound few = record {
   done = [];
   tail = refl;
@@ -169,8 +189,8 @@ idle terms k size request values epoch v fresh refused e = record {
   first = fresh.first;
   read = fresh.read;
   id = ap id_of (sym fresh.is) ∙ same_id request;
-  plan = subst (λ (r : RawRequest). IsPlan r (back_info terms.config) [] (status_by v) (job_id request) (response_op request)) fresh.is (refused_plan request (back_info terms.config) v refused e);
-  at = over refl (nothing_done k epoch (status_by v) fresh.none);
+  plan = due_of (request_at terms.abi values k) (back_info terms.config) (read_by k epoch) [] (status_by v) (job_id request) (response_op request) (subst (λ (r : RawRequest). IsPlan r (back_info terms.config) [] (status_by v) (job_id request) (response_op request)) fresh.is (refused_plan request (back_info terms.config) v refused e));
+  at = over (status_by v) refl (nothing_done k epoch (status_by v) fresh.none);
 }
 
 -- a read, a write or a barrier: the verdict is that of a transfer of its kind, and the work that of its segments
@@ -183,18 +203,19 @@ moves kind writes terms k size op count device id sector segments values epoch p
     let sound = recursion_from_All IsSound (take count segments) t.on_disk.sound in
     let few = few_sectors count segments sound in
     let small = t.few in
+    let all : IsPlan (request_at terms.abi values k) info (tasks_of writes sector (take count segments)) Okay id op = record {
+      names = λ status. ap (λ (r : RawRequest). work_response r status) (sym fresh.is);
+      tasks = λ indirect. ap (λ (r : RawRequest). work_tasks r info false indirect) (sym fresh.is) ∙ (ap (λ (v : Verdict). served_tasks false v (take count segments)) e ∙ (ap (λ (p : Plan). planned_tasks false p p.kind (take count segments)) t.plan_is ∙ work));
+      verdict = λ indirect. ap (λ (r : RawRequest). status_by (work_verdict r info indirect)) (sym fresh.is) ∙ ap status_by e;
+    } in
     record {
       work = tasks_of writes sector (take count segments);
       served = Okay;
       first = fresh.first;
       read = fresh.read;
       id = ap id_of (sym fresh.is);
-      plan = record {
-        names = λ status. ap (λ (r : RawRequest). work_response r status) (sym fresh.is);
-        tasks = λ indirect. ap (λ (r : RawRequest). work_tasks r info false indirect) (sym fresh.is) ∙ (ap (λ (v : Verdict). served_tasks false v (take count segments)) e ∙ (ap (λ (p : Plan). planned_tasks false p p.kind (take count segments)) t.plan_is ∙ work));
-        verdict = λ indirect. ap (λ (r : RawRequest). status_by (work_verdict r info indirect)) (sym fresh.is) ∙ ap status_by e;
-      };
-      at = serves refl (begins k epoch (take count segments) sector writes fresh.none sound (omega arith), refl);
+      plan = due_of (request_at terms.abi values k) info (read_by k epoch) (tasks_of writes sector (take count segments)) Okay id op all;
+      at = serves (settled_of (request_at terms.abi values k) info (read_by k epoch) (tasks_of writes sector (take count segments)) Okay id op all) refl (begins k epoch (take count segments) sector writes fresh.none sound (omega arith), refl);
     }
 
 -- where no test before it applies, a request is served as it was planned
@@ -234,15 +255,17 @@ alone k epoch task none = record { is = refl; came = walk_aside (task ∷ []) k 
 
 calls : (terms : Terms) (k size sector : ℕ) (request : RawRequest) (values : List ℕ) (epoch : List Line) (task : Task) (s : Stage) → IsFresh terms.abi k request values epoch → IsPlan request (back_info terms.config) (task ∷ []) Okay (job_id request) (response_op request)
     → IsAt (task ∷ []) k epoch s (frameless k request size sector s) → IsJobOf terms values epoch (frameless k request size sector s)
-calls terms k size sector request values epoch task s fresh plan at = record {
-  work = task ∷ [];
-  served = Okay;
-  first = fresh.first;
-  read = fresh.read;
-  id = ap id_of (sym fresh.is) ∙ same_id request;
-  plan = subst (λ (r : RawRequest). IsPlan r (back_info terms.config) (task ∷ []) Okay (job_id request) (response_op request)) fresh.is plan;
-  at = serves refl at;
-}
+calls terms k size sector request values epoch task s fresh plan at =
+    let all : IsPlan (request_at terms.abi values k) (back_info terms.config) (task ∷ []) Okay (job_id request) (response_op request) = subst (λ (r : RawRequest). IsPlan r (back_info terms.config) (task ∷ []) Okay (job_id request) (response_op request)) fresh.is plan in
+    record {
+      work = task ∷ [];
+      served = Okay;
+      first = fresh.first;
+      read = fresh.read;
+      id = ap id_of (sym fresh.is) ∙ same_id request;
+      plan = due_of (request_at terms.abi values k) (back_info terms.config) (read_by k epoch) (task ∷ []) Okay (job_id request) (response_op request) all;
+      at = serves (settled_of (request_at terms.abi values k) (back_info terms.config) (read_by k epoch) (task ∷ []) Okay (job_id request) (response_op request) all) refl at;
+    }
 
 flushes : (terms : Terms) (k size count device id sector : ℕ) (segments : List Segment) (values : List ℕ) (epoch : List Line) (plan : Plan) → IsFresh terms.abi k (Direct 3 count device id sector segments) values epoch → verdict_of (Direct 3 count device id sector segments) (back_info terms.config) ≡ verdict.Serve plan
     → IsJobOf terms values epoch (frameless k (Direct 3 count device id sector segments) size sector stage.Flush)
@@ -254,9 +277,112 @@ trims : (terms : Terms) (k size flag device id sector count : ℕ) (values : Lis
 trims terms k size flag device id sector count values epoch plan fresh e =
     calls terms k size sector (Discard flag device id sector count) values epoch (tasks.Trim sector count) (stage.Trim count) fresh (trim_plan flag device id sector count (back_info terms.config) plan e) (alone k epoch (tasks.Trim sector count) fresh.none)
 
--- of other operations this back serves none
-unsupported : {plan : Plan} → verdict.Unsupported ≡ verdict.Serve plan → ⊥
-unsupported e = cc
+-- an indirect request, of no more segments than the job has room for: its pages are read first
+pub record HasRoom (terms : Terms) (size : ℕ) : Type 0 where
+  pub few : let c : Options = terms.config in c.indirect ≤ 960
+  pub size_is : let i : DiskInfo = back_info terms.config in size ≡ i.sectors
+
+past : (b : Bool) (v next : Verdict) (plan : Plan) → IsRefused v → (if b then v else next) ≡ verdict.Serve plan → (b ≡ false) × (next ≡ verdict.Serve plan)
+past true (verdict.Serve p) next plan refused e = absurd refused
+past true (verdict.Error w) next plan refused e = absurd (cc)
+past true verdict.Unsupported next plan refused e = absurd (cc)
+past false v next plan refused e = (refl, e)
+
+abbrev kind_by : (read write : Bool) → Option Kind
+kind_by read write = if read then Some kind.IndirectRead else (if write then Some kind.IndirectWrite else None)
+
+indirect_tasks_of : (read write : Bool) (count sector : ℕ) (segments : List Segment) → is_none (kind_by read write) ≡ false
+    → (let k : Kind = unwrap_or (kind_by read write) kind.IndirectRead in planned_tasks false (planned k sector count) k segments) ≡ tasks_of (not read) sector segments
+indirect_tasks_of true write count sector segments some = refl
+indirect_tasks_of false true count sector segments some = refl
+indirect_tasks_of false false count sector segments some = absurd (cc)
+
+indirect : (terms : Terms) (k size op count device id sector : ℕ) (pages : List ℕ) (values : List ℕ) (epoch : List Line) (plan : Plan) → HasRoom terms size → IsFresh terms.abi k (Indirect op count device id sector pages) values epoch
+    → verdict_of (Indirect op count device id sector pages) (back_info terms.config) ≡ verdict.Serve plan → IsJobOf terms values epoch (served k (Indirect op count device id sector pages) size)
+indirect terms k size op count device id sector pages values epoch plan room fresh e = by_room (nat_le count 960) refl
+  where
+    info : DiskInfo
+    info = back_info terms.config
+
+    config : Options
+    config = terms.config
+
+    request : RawRequest
+    request = Indirect op count device id sector pages
+
+    tests : List (Bool × Verdict)
+    tests =
+        (info.max_indirect == 0, verdict.Unsupported) ∷ (is_none (kind_by (op == 0) (op == 1)), verdict.Error why.Op) ∷ ((op == 1) && info.read_only, verdict.Error why.ReadOnly)
+        ∷ ((count == 0) || nat_lt info.max_indirect count, verdict.Error why.Count) ∷ []
+
+    kind_is : Kind
+    kind_is = unwrap_or (kind_by (op == 0) (op == 1)) kind.IndirectRead
+
+    plan_is : plan ≡ planned kind_is sector count
+    plan_is = served_plan tests (planned kind_is sector count) plan (tt, (tt, (tt, (tt, tt)))) e
+
+    passes : (is_none (kind_by (op == 0) (op == 1)) ≡ false) × (((count == 0) || nat_lt info.max_indirect count) ≡ false)
+    passes =
+        let first = past (info.max_indirect == 0) verdict.Unsupported _ plan tt e in
+        let second = past (is_none (kind_by (op == 0) (op == 1))) (verdict.Error why.Op) _ plan tt first.1 in
+        let third = past ((op == 1) && info.read_only) (verdict.Error why.ReadOnly) _ plan tt second.1 in
+        let fourth = past ((count == 0) || nat_lt info.max_indirect count) (verdict.Error why.Count) _ plan tt third.1 in
+        (second.0, fourth.0)
+
+    counted : (n most : ℕ) → ((n == 0) || nat_lt most n) ≡ false → (0 < n) × (n ≤ most)
+    counted n most h = (grind (arith, nat_tests), grind (arith, nat_tests))
+
+    few : (0 < count) × (count ≤ config.indirect)
+    few = counted count config.indirect passes.1
+
+    job : Work
+    job = paging k request size (not (op == 0)) sector count pages
+
+    copying : IsCopying request info k epoch stage.MapPage job
+    copying = record {
+      pages = pages;
+      page = 0;
+      copies = record {
+        is = record {
+          op = op;
+          device = device;
+          id = id;
+          request_is = refl;
+          plan = plan;
+          served = e;
+          sector = ap (λ (p : Plan). p.sector) plan_is;
+          work = λ segments. ap (λ (p : Plan). planned_tasks false p p.kind segments) plan_is ∙ indirect_tasks_of (op == 0) (op == 1) count sector segments passes.0;
+          size = room.size_is;
+          moved = refl;
+          few = let most = few.1 in let room_few = room.few in omega arith;
+        };
+        words = [];
+        read = read_aside k [] epoch fresh.none;
+        long = refl;
+        copied = sym (no_segments [] 0);
+        left = refl;
+        came = walk_aside (pages_of count pages) k [] epoch fresh.none;
+        counted = moves_aside k [] epoch fresh.none;
+        whole = failed_skip k epoch fresh.none;
+      };
+      at = omega arith;
+      more = few.0;
+    }
+
+    by_room : (b : Bool) → nat_le count 960 ≡ b → IsJobOf terms values epoch (if b then paging k request size (not (op == 0)) sector count pages else ended k request size (stage.Done Error))
+    by_room false h = absurd (too_many count config.indirect few.1 room.few h)
+      where
+        too_many : (n most : ℕ) → n ≤ most → most ≤ 960 → nat_le n 960 ≡ false → ⊥
+        too_many n most le room_few t = grind (arith, nat_tests)
+    by_room true h = record {
+      work = work_tasks (request_at terms.abi values k) info false (read_by k epoch);
+      served = status_by (work_verdict (request_at terms.abi values k) info (read_by k epoch));
+      first = fresh.first;
+      read = fresh.read;
+      id = ap id_of (sym fresh.is);
+      plan = record { names = λ status. ap (λ (r : RawRequest). work_response r status) (sym fresh.is); tasks = refl; verdict = refl };
+      at = reads (subst (λ (r : RawRequest). IsCopying r info k epoch stage.MapPage job) fresh.is copying);
+    }
 
 no_other : (terms : Terms) (op count device id sector : ℕ) (segments : List Segment) (plan : Plan) → nat_le op 2 ≡ false → (op == 3) ≡ false → verdict_of (Direct op count device id sector segments) (back_info terms.config) ≡ verdict.Serve plan → ⊥
 no_other terms op count device id sector segments plan high other e = by_tests (op == 0) (op == 1) (op == 2) (op == 3) (grind (arith, nat_tests)) (grind (arith, nat_tests)) (grind (arith, nat_tests)) other e
@@ -296,12 +422,12 @@ direct terms k op size count device id sector segments values epoch plan false t
     (flushes terms k size count device id sector segments values epoch plan) fresh e
 direct terms k op size count device id sector segments values epoch plan false false few three fresh e = absurd (no_other terms op count device id sector segments plan few three e)
 
-served_job : (terms : Terms) (k size : ℕ) (request : RawRequest) (values : List ℕ) (epoch : List Line) (plan : Plan) → IsFresh terms.abi k request values epoch → verdict_of request (back_info terms.config) ≡ verdict.Serve plan → IsJobOf terms values epoch (served k request size)
-served_job terms k size (Direct op count device id sector segments) values epoch plan fresh e = direct terms k op size count device id sector segments values epoch plan (nat_le op 2) (op == 3) refl refl fresh e
-served_job terms k size (Discard flag device id sector count) values epoch plan fresh e = trims terms k size flag device id sector count values epoch plan fresh e
-served_job terms k size (Indirect op count device id sector pages) values epoch plan fresh e = absurd (unsupported e)
+served_job : (terms : Terms) (k size : ℕ) (request : RawRequest) (values : List ℕ) (epoch : List Line) (plan : Plan) → HasRoom terms size → IsFresh terms.abi k request values epoch → verdict_of request (back_info terms.config) ≡ verdict.Serve plan → IsJobOf terms values epoch (served k request size)
+served_job terms k size (Direct op count device id sector segments) values epoch plan room fresh e = direct terms k op size count device id sector segments values epoch plan (nat_le op 2) (op == 3) refl refl fresh e
+served_job terms k size (Discard flag device id sector count) values epoch plan room fresh e = trims terms k size flag device id sector count values epoch plan fresh e
+served_job terms k size (Indirect op count device id sector pages) values epoch plan room fresh e = indirect terms k size op count device id sector pages values epoch plan room fresh e
 
-pub begun_job : (terms : Terms) (k size : ℕ) (request : RawRequest) (values : List ℕ) (epoch : List Line) (v : Verdict) → IsFresh terms.abi k request values epoch → verdict_of request (back_info terms.config) ≡ v → IsJobOf terms values epoch (begun k request size v)
-begun_job terms k size request values epoch (verdict.Serve plan) fresh e = served_job terms k size request values epoch plan fresh e
-begun_job terms k size request values epoch (verdict.Error why) fresh e = idle terms k size request values epoch (verdict.Error why) fresh tt e
-begun_job terms k size request values epoch verdict.Unsupported fresh e = idle terms k size request values epoch verdict.Unsupported fresh tt e
+pub begun_job : (terms : Terms) (k size : ℕ) (request : RawRequest) (values : List ℕ) (epoch : List Line) (v : Verdict) → HasRoom terms size → IsFresh terms.abi k request values epoch → verdict_of request (back_info terms.config) ≡ v → IsJobOf terms values epoch (begun k request size v)
+begun_job terms k size request values epoch (verdict.Serve plan) room fresh e = served_job terms k size request values epoch plan room fresh e
+begun_job terms k size request values epoch (verdict.Error why) room fresh e = idle terms k size request values epoch (verdict.Error why) fresh tt e
+begun_job terms k size request values epoch verdict.Unsupported room fresh e = idle terms k size request values epoch verdict.Unsupported fresh tt e

@@ -20,6 +20,7 @@ use Rattle.report_rules.specs.Walk.{walk_of}
 use Rattle.report_rules.specs.Steps.{failed_in}
 use Rattle.report_rules.specs.Made.{left_to}
 use Rattle.report_rules.specs.Reply.{end_of, response_due, values_written, reply_pushed, lines_before, is_one_of, most_jobs, answered_in, IsReplyAt}
+use Rattle.ring_laws.proofs.JobLines.{read_by}
 use Rattle.ring_laws.proofs.Began.{Terms, request_at}
 
 -- by these words of entries and these lines of the epoch the work of job k is over, and this is its response
@@ -29,8 +30,8 @@ pub record IsWorkOver (terms : Terms) (values : List ℕ) (epoch : List Line) (k
   pub first : 1 ≤ k
   pub read : entry_words_of terms.abi * k ≤ length values
   pub names : work_response (request_at terms.abi values k) r.status ≡ r
-  pub tasks : (indirect : List ℕ) → work_tasks (request_at terms.abi values k) (back_info terms.config) false indirect ≡ work
-  pub verdict : (indirect : List ℕ) → status_by (work_verdict (request_at terms.abi values k) (back_info terms.config) indirect) ≡ served
+  pub tasks : work_tasks (request_at terms.abi values k) (back_info terms.config) false (read_by k epoch) ≡ work
+  pub verdict : status_by (work_verdict (request_at terms.abi values k) (back_info terms.config) (read_by k epoch)) ≡ served
   pub ended : end_of (failed_in k epoch) (length work) served (walk_of false work k epoch) ≡ Some r.status
   pub left : left_to k epoch ≡ []
 

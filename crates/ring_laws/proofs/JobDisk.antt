@@ -50,7 +50,7 @@ take_goes work k epoch t m at =
     past : {a b : ℕ} → a + 1 ≤ b → a ≡ b → ⊥
     past h e = omega arith
 
-    wrapped : (n a b c : ℕ) → n + 1 + a + b ≤ 88 → (n + 1) % 2 ^ 32 ≡ n + 1
+    wrapped : (n a b c : ℕ) → n + 1 + a + b ≤ 7680 → (n + 1) % 2 ^ 32 ≡ n + 1
     wrapped n a b c h = omega arith
 
     small : (t.moved + 1) % 2 ^ 32 ≡ t.moved + 1

@@ -1,19 +1,20 @@
 -- What the rules make of a job by the lines so far, after some lines more: others' lines change none of it.
-use Rattle.std.proofs.Common.{◌≡◌, ℕ, ◌+◌, ◌&&◌, ◌||◌, Bool, true, false, cond, if◌then◌else◌, List, [], ◌∷◌, ◌++◌, count_by, refl, ap, ◌∙◌, arith}
+use Rattle.std.proofs.Common.{◌≡◌, ℕ, ◌+◌, ◌&&◌, ◌||◌, Bool, true, false, cond, if◌then◌else◌, List, [], ◌∷◌, ◌++◌, count_by, refl, ap, ◌∙◌, append-nil, arith}
 use Rattle.std.specs.Prelude.{fold, Option, Some, None, option_and_then}
-use Rattle.std.specs.List.{list_any}
+use Rattle.std.specs.List.{filter_map, list_any}
 use Rattle.std.proofs.lemmas.List.Sums.{sum_by-cons, sum_by-append, fold-append}
+use Rattle.std.proofs.lemmas.List.Elements.{filter_map-append}
 use Rattle.blk_base.specs.declared.moves.Move.{Move}
 use Rattle.blk_base.specs.declared.moves.Move.TheVariants as moves
 use Rattle.schedule_text.specs.declared.line.Line.{Line}
 use Rattle.schedule_text.specs.declared.line.Line.TheVariants as lines
 use Rattle.report_rules.specs.declared.work.Task.{Task}
 use Rattle.report_rules.specs.Job.{disk_mover, is_job}
-use Rattle.report_rules.specs.Step.{stepper, move_in, job_step}
+use Rattle.report_rules.specs.Step.{stepper, move_in, job_step, value_read}
 use Rattle.report_rules.specs.Walk.{spot, advanced, walked, walk_of}
 use Rattle.report_rules.specs.Steps.{is_fault, begins_with_fault, failed_in}
 use Rattle.report_rules.specs.Data.{words_in, words_behind, words_from}
-use Rattle.ring_laws.proofs.Lists.{or_false, either_false, fold_none, count_none}
+use Rattle.ring_laws.proofs.Lists.{or_false, either_false, fold_none, count_none, gathered_none}
 
 -- a step of job k
 abbrev pub is_of : ℕ → Line → Bool
@@ -29,11 +30,26 @@ disk_aside k (lines.Move (moves.DiskFlush j)) e = e
 disk_aside k (lines.Move (moves.DiskTrim j sector count)) e = e
 disk_aside k line e = refl
 
+-- the words that job k read in these lines
+abbrev pub read_by : ℕ → List Line → List ℕ
+read_by k epoch = filter_map (value_read k) epoch
+
 -- lines of which none is a step of job k, and that tell nothing of a move of the disk before them
 pub record IsAside (k : ℕ) (ls : List Line) : Type 0 where
   pub none : list_any (is_of k) ls ≡ false
   pub calm : begins_with_fault ls ≡ false
   pub silent : words_behind ls ≡ None
+
+unread : (k : ℕ) (line : Line) → is_of k line ≡ false → value_read k line ≡ None
+unread k (lines.Move (moves.Read who number frame word value)) e = rw e refl
+unread k line e = refl
+
+pub read_aside : (k : ℕ) (epoch ys : List Line) → list_any (is_of k) ys ≡ false → read_by k (epoch ++ ys) ≡ read_by k epoch
+read_aside k epoch ys none = filter_map-append (value_read k) epoch ys ∙ (ap (λ (vs : List ℕ). read_by k epoch ++ vs) (gathered_none (value_read k) (is_of k) (unread k) ys none) ∙ append-nil (read_by k epoch))
+
+-- more lines
+pub read_more : (k : ℕ) (epoch ys : List Line) → read_by k (epoch ++ ys) ≡ read_by k epoch ++ read_by k ys
+read_more k epoch ys = filter_map-append (value_read k) epoch ys
 
 walk_skips : (work : List Task) (k : ℕ) (ys epoch : List Line) → list_any (is_of k) ys ≡ false → fold (λ s line. walked false work (job_step k line) s) (walk_of false work k epoch) ys ≡ walk_of false work k epoch
 walk_skips work k ys epoch none =

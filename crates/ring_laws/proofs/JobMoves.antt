@@ -66,6 +66,10 @@ alone_aside work k epoch ys task moved aside w = record {
 }
 
 pub at_aside : (work : List Task) (k : ℕ) (epoch ys : List Line) (s : Stage) (t : Work) → IsAside k ys → IsAt work k epoch s t → IsAt work k (epoch ++ ys) s t
+at_aside work k epoch ys stage.MapPage t aside at = absurd at
+at_aside work k epoch ys (stage.PageReference m) t aside at = absurd at
+at_aside work k epoch ys (stage.PageSectors m gref) t aside at = absurd at
+at_aside work k epoch ys (stage.UnmapPage m) t aside at = absurd at
 at_aside work k epoch ys stage.Map t aside at = (before_aside work k epoch ys t.rest t.disk t.moved t.writes aside at.0, at.1)
 at_aside work k epoch ys (stage.ReadWord m j) t aside at = (within_aside work k epoch ys t.rest t.within t.disk t.moved t.writes j 1 m aside at.0, at.1, at.2)
 at_aside work k epoch ys (stage.DiskWrite m) t aside at = (within_aside work k epoch ys t.rest t.within t.disk t.moved t.writes 128 1 m aside at.0, at.1)
@@ -171,7 +175,7 @@ segment_over work k epoch now rest within disk moved writes j ahead disk' moved'
     let p : Passed work w.done writes (w.begin + length_of w.segment) w.more = passed work w.done w.segment w.more writes w.begin w.tail in
     let left : rest_of rest ≡ w.more = ap rest_of w.rest_is in
     let end : w.begin + length_of w.segment ≡ disk' = omega arith in
-    let within_few : moved' + sectors_of w.more ≤ 88 = omega arith in
+    let within_few : moved' + sectors_of w.more ≤ 7680 = omega arith in
     subst (λ (l : List Segment). Before work k now l disk' moved' writes) (sym left)
     (record {
       done = p.all;

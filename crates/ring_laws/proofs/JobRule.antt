@@ -76,12 +76,12 @@ through_hand before task s shown step hand = record {
         let here : is_step_at (step_at task 0) shown ≡ true = ap (λ (n : ℕ). is_step_at (step_at task n) shown) (sym zero_place) ∙ is in
         cc
 
-step_rule : (terms : Terms) (before : List Line) (values : List ℕ) (k : ℕ) (shown : Move) (work : List Task) → fetched_of before k ≡ Some (fetched_in terms values k) → ((indirect : List ℕ) → work_tasks (request_at terms.abi values k) (back_info terms.config) false indirect ≡ work)
+step_rule : (terms : Terms) (before : List Line) (values : List ℕ) (k : ℕ) (shown : Move) (work : List Task) → fetched_of before k ≡ Some (fetched_in terms values k) → work_tasks (request_at terms.abi values k) (back_info terms.config) false (values_read before k) ≡ work
     → stepper (lines.Move shown) ≡ Some k → Steps work k (this_epoch before) shown → IsStepAt before (lines.Move shown)
 step_rule terms before values k shown work asked plan own s =
     let on : IsStepOn work k (this_epoch before) shown = s.on in
     let takes : IsTaking work on.here shown = taking work on.here on.after shown (sym (ap (λ (o : Option Spot). option_and_then (advanced false work shown) o) on.came) ∙ on.taken) in
-    let same : work_of before k (fetched_in terms values k) ≡ work = plan (values_read before k) in
+    let same : work_of before k (fetched_in terms values k) ≡ work = plan in
     let at : spot_of before k (fetched_in terms values k) ≡ Some on.here = ap (λ (w : List Task). walk_of false w k (this_epoch before)) same ∙ on.came in
     let next : IsNextStep before false on.here shown takes.task = record { unrefused = takes.unrefused; step = ap (λ (b : Bool). b || is_unmapped_step false takes.task (let h : Spot = on.here in h.place) shown) takes.step; through = through_hand before takes.task on.here shown takes.step on.hand } in
     let of_request : IsStepOf before k shown (fetched_in terms values k) = step_of_next before k shown (fetched_in terms values k) (some_and _ at (some_and _ (ap (λ (w : List Task). slice_get w (let h : Spot = on.here in h.done)) same ∙ takes.found) next)) on.whole in
@@ -92,7 +92,7 @@ data_rule before k (moves.Write (back.Job j) number frame word value) own moved 
 data_rule before k shown own moved = tt
 
 -- a step of a job
-pub own_rule : (terms : Terms) (before : List Line) (values : List ℕ) (k : ℕ) (shown : Move) (work : List Task) → disk_move_shown before ≡ None → fetched_of before k ≡ Some (fetched_in terms values k) → ((indirect : List ℕ) → work_tasks (request_at terms.abi values k) (back_info terms.config) false indirect ≡ work)
+pub own_rule : (terms : Terms) (before : List Line) (values : List ℕ) (k : ℕ) (shown : Move) (work : List Task) → disk_move_shown before ≡ None → fetched_of before k ≡ Some (fetched_in terms values k) → work_tasks (request_at terms.abi values k) (back_info terms.config) false (values_read before k) ≡ work
     → is_plain (lines.Move shown) ≡ true → stepper (lines.Move shown) ≡ Some k → Steps work k (this_epoch before) shown → IsRule before (lines.Move shown)
 own_rule terms before values k shown work quiet asked plan plain own s = record {
   step = step_rule terms before values k shown work asked plan own s;

@@ -1,5 +1,5 @@
 -- Whatever happens from the start, the lines keep the rules on jobs.
-use Rattle.std.proofs.Common.{◌≡◌, ℕ, ◌<◌, ◌^◌, Bool, true, false, if◌then◌else◌, ◌*◌, List, [], ◌∷◌, ◌++◌, refl, ap, sym, ◌∙◌, subst, append-nil}
+use Rattle.std.proofs.Common.{◌≡◌, ℕ, ◌<◌, ◌≤◌, ◌^◌, Bool, true, false, if◌then◌else◌, ◌*◌, List, [], ◌∷◌, ◌++◌, refl, ap, sym, ◌∙◌, subst, append-nil}
 use Rattle.std.specs.Prelude.{Option, Some, None, is_some, Result, Ok, Err}
 use Rattle.blk_base.specs.Options.{Options}
 use Rattle.blk_base.specs.declared.config.Job.{Job}
@@ -85,7 +85,7 @@ no_lines : (config : Options) (before : List Line) (v : back.View) → Tells con
 no_lines config before v t = subst (λ (ls : List Line). Tells config ls v) (sym (append-nil before)) t
 
 retold : (config : Options) (before : List Line) (v : back.View) → Tells config before v → Tells config before (record v { told = None })
-retold config before v t = record { tale = t.tale; quiet = t.quiet; info = t.info; jobs = t.jobs; unseen = t.unseen }
+retold config before v t = record { tale = t.tale; quiet = t.quiet; info = t.info; room = t.room; jobs = t.jobs; unseen = t.unseen }
 
 front_tells : (config : Options) (w : World) (before : List Line) (act : Option FrontAct) → FollowsTo config.start before w → Tells config before w.back → front_turn w ≡ act → Tells config (before ++ front_shows w act) w.back
 front_tells config w before None f t e = no_lines config before w.back t
@@ -110,7 +110,7 @@ job_goes_on config w before k o (Some a) s e =
     let free : AreFree (is_some w.back.halted) (job_shows w k (Some a)) = (job_free (is_some w.back.halted) w.under k (back_step.job_ask_of w.back k) o a running (jobs_of w.back k) e, free_told (is_some w.back.halted) _ a.answer running) in
     let told : JobTells config before (job_shows w k (Some a)) w.back k _ = job_tells config config.start before w.under w.back k o a (place_of w.back.jobs.works k) (waits w.back.jobs.works k) (work_of w.back.jobs.works k) refl refl running s.ring.follows s.fetched free s.tells asks in
     let behind : After config before (job_shows w k (Some a)) = told.after in
-    record { tale = behind.tale; quiet = behind.quiet; info = t.info; jobs = λ r. told.jobs; unseen = told.unseen }
+    record { tale = behind.tale; quiet = behind.quiet; info = t.info; room = t.room; jobs = λ r. told.jobs; unseen = told.unseen }
 
 pub submit_by : (job : Job) (r : Result ℕ Refusal) → IsBystander (submit_line job r)
 submit_by job (Ok number) = record { plain = refl; unstepped = refl }
@@ -155,7 +155,7 @@ halted_tells config w before why s = stops_cases (λ (new : back.View). Tells co
     stops new p =
         let t : Tells config (before ++ halt_lines w.back.halted new.halted) w.back = told new.halted in
         let over : is_some new.halted ≡ true = p.over in
-        record { tale = t.tale; quiet = t.quiet; info = p.info ∙ t.info; jobs = λ running. absurd (cc); unseen = λ k above. t.unseen k (subst (λ (n : ℕ). n < k) p.fetched above) }
+        record { tale = t.tale; quiet = t.quiet; info = p.info ∙ t.info; room = t.room; jobs = λ running. absurd (cc); unseen = λ k above. t.unseen k (subst (λ (n : ℕ). n < k) p.fetched above) }
 
 -- the line of the key that names the layout
 pub layout_by : (w : World) → AreBystanders (lines.Move (layout_read w) ∷ [])
@@ -169,7 +169,7 @@ attached_tells config w before shape grefs port s = attach_cases (λ (new : back
     takes may layout says =
         let same = values_aside (lines.Move (layout_read w) ∷ []) before (refl, tt) in
         let t : Tells config (before ++ lines.Move (layout_read w) ∷ []) w.back = tells_aside config before (lines.Move (layout_read w) ∷ []) w.back (layout_by w) same s.tells in
-        record { tale = t.tale; quiet = t.quiet; info = t.info; jobs = λ runs. jobs_anew (terms_of config w.back) _ _ _ w.back.fetched w.back.jobs.works (same ∙ unread config.start w before shape grefs s.ring may) (t.jobs runs); unseen = t.unseen }
+        record { tale = t.tale; quiet = t.quiet; info = t.info; room = t.room; jobs = λ runs. jobs_anew (terms_of config w.back) _ _ _ w.back.fetched w.back.jobs.works (same ∙ unread config.start w before shape grefs s.ring may) (t.jobs runs); unseen = t.unseen }
 
 tells_happens : (config : Options) (w : World) (h : Happening) (before : List Line) → Stand config before w → reads_of (before ++ lines_at w h) < 2 ^ 64 → (let n : World = happens w h in Tells config (before ++ lines_at w h) n.back)
 tells_happens config w FrontMoves before s few = front_after_tells config w (before ++ front_shows w (front_turn w)) (front_turn w) (front_tells config w before (front_turn w) s.ring s.tells refl)
@@ -338,8 +338,8 @@ stand_happens config w h before s few = record {
 begin_rule : (config : Options) (detail : Detail) → IsRule [] (lines.Begin config detail)
 begin_rule config detail = record { step = tt; moved = tt; effect = no_effect [] (lines.Begin config detail) refl refl }
 
-pub stand_start : (config : Options) (detail : Detail) → Stand config (lines.Begin config detail ∷ []) (start_of config)
-stand_start config detail = record {
+pub stand_start : (config : Options) (detail : Detail) → config.indirect ≤ 960 → Stand config (lines.Begin config detail ∷ []) (start_of config)
+stand_start config detail room = record {
   ring = record { follows = follows_begin config detail; told = refl };
   standing = refl;
   safe = safe_start config;
@@ -347,6 +347,7 @@ stand_start config detail = record {
     tale = record { obeys = obeys_more IsRule [] (lines.Begin config detail) (obeys_none IsRule) (begin_rule config detail); keeping = refl; told = refl };
     quiet = refl;
     info = refl;
+    room = room;
     jobs = λ running. no_jobs (terms_of config (back.start_of config)) [] (lines.Begin config detail ∷ []) 0;
     unseen = λ k above. refl;
   };
@@ -354,15 +355,15 @@ stand_start config detail = record {
   published = record { told = refl; says = λ ready. absurd (cc) };
 }
 
-report_stands : (config : Options) (detail : Detail) (history : List Happening) → reads_of (report_of config detail history) < 2 ^ 64 → Stand config (report_of config detail history) (after history (start_of config))
-report_stands config detail history few = kept_after (Stand config) (stand_happens config) history (start_of config) (lines.Begin config detail ∷ []) (stand_start config detail) few
+report_stands : (config : Options) (detail : Detail) (history : List Happening) → config.indirect ≤ 960 → reads_of (report_of config detail history) < 2 ^ 64 → Stand config (report_of config detail history) (after history (start_of config))
+report_stands config detail history room few = kept_after (Stand config) (stand_happens config) history (start_of config) (lines.Begin config detail ∷ []) (stand_start config detail room) few
 
-pub report_rules : (config : Options) (detail : Detail) (history : List Happening) → reads_of (report_of config detail history) < 2 ^ 64 → Obeys IsRule (report_of config detail history)
-report_rules config detail history few = (report_stands config detail history few).tells.tale.obeys
+pub report_rules : (config : Options) (detail : Detail) (history : List Happening) → config.indirect ≤ 960 → reads_of (report_of config detail history) < 2 ^ 64 → Obeys IsRule (report_of config detail history)
+report_rules config detail history room few = (report_stands config detail history room few).tells.tale.obeys
 
-pub ended_rules : (config : Options) (detail : Detail) (history : List Happening) → reads_of (report_of config detail history) < 2 ^ 64 → Obeys IsRule (ended_report_of config detail history)
-ended_rules config detail history few =
-    let t : Tells config (report_of config detail history) (let w : World = after history (start_of config) in w.back) = (report_stands config detail history few).tells in
+pub ended_rules : (config : Options) (detail : Detail) (history : List Happening) → config.indirect ≤ 960 → reads_of (report_of config detail history) < 2 ^ 64 → Obeys IsRule (ended_report_of config detail history)
+ended_rules config detail history room few =
+    let t : Tells config (report_of config detail history) (let w : World = after history (start_of config) in w.back) = (report_stands config detail history room few).tells in
     obeys_more IsRule (report_of config detail history) lines.End t.tale.obeys (record { step = tt; moved = tt; effect = no_effect (report_of config detail history) lines.End t.quiet refl })
 
 pub steps_of : (ls : List Line) → Obeys IsRule ls → AreSteps ls

@@ -1,12 +1,13 @@
 -- A move of a job: its lines obey the rules on jobs, and the jobs are as their entries say.
-use Rattle.std.proofs.Common.{◌≡◌, ◌≢◌, ℕ, ◌+◌, ◌*◌, ◌≤◌, ◌==◌, ◌||◌, Bool, true, false, if◌then◌else◌, List, [], ◌∷◌, ◌++◌, length, count_by, refl, ap, sym, ◌∙◌, subst, append_assoc, arith}
+use Rattle.std.proofs.Common.{◌≡◌, ◌≢◌, ℕ, ◌+◌, ◌*◌, ◌≤◌, ◌==◌, ◌||◌, Bool, true, false, if◌then◌else◌, List, [], ◌∷◌, ◌++◌, length, drop, count_by, refl, ap, sym, ◌∙◌, subst, append_assoc, append-nil, arith}
 use Rattle.std.specs.Prelude.{Option, Some, None, IsSomeAnd, slice_get, Result, Ok, Err}
 use Rattle.std.proofs.lemmas.Option.{none-some}
 use Rattle.std.proofs.lemmas.Bool.Decides.{nat_tests}
 use Rattle.blk_base.specs.Options.{Options}
 use Rattle.blk_base.specs.declared.operation.Status.{Status}
-use Rattle.blk_base.specs.declared.operation.Status.TheVariants.{Okay}
+use Rattle.blk_base.specs.declared.operation.Status.TheVariants.{Error}
 use Rattle.blk_base.specs.declared.parts.Mapping.{Mapping}
+use Rattle.blk_base.specs.declared.parts.Mode.TheVariants.{ReadOnly}
 use Rattle.blk_base.specs.declared.ask.BackAnswer.{BackAnswer}
 use Rattle.blk_base.specs.declared.ask.BackAnswer.TheVariants as answers
 use Rattle.blk_base.specs.declared.moves.BackMover.TheVariants as back
@@ -23,7 +24,8 @@ use Rattle.segment_list.specs.declared.verdict.DiskInfo.{DiskInfo}
 use Rattle.report_rules.specs.declared.work.Task.{Task}
 use Rattle.report_rules.specs.declared.work.Task.TheVariants as tasks
 use Rattle.report_rules.specs.Standing.{this_epoch}
-use Rattle.report_rules.specs.Work.{work_tasks}
+use Rattle.report_rules.specs.Work.{pages_of, work_tasks, work_verdict, status_by, response_to, work_response}
+use Rattle.report_rules.specs.Step.{values_read}
 use Rattle.report_rules.specs.declared.job.Fetched.{Fetched}
 use Rattle.report_rules.specs.Job.{is_job, entry_values, fetched_of, id_of}
 use Rattle.report_rules.specs.Published.{info_of}
@@ -32,18 +34,21 @@ use Rattle.report_rules.specs.Effect.{disk_move_shown}
 use Rattle.blk_back.specs.View.{info_of as back_info}
 use Rattle.back_jobs.specs.declared.stage.Stage.{Stage}
 use Rattle.back_jobs.specs.declared.stage.Stage.TheVariants as stage
-use Rattle.back_jobs.specs.Task.{Work, IsDoneStage, ask_at, step_at, map_ask, mode_of, last_of, rest_of, next_sector, next_segment, counted, sector_stage}
+use Rattle.back_jobs.specs.Task.{Work, IsDoneStage, ask_at, step_at, map_ask, page_ask, passes, judged, page_done, first_of, mode_of, last_of, rest_of, next_sector, next_segment, counted, sector_stage}
 use Rattle.back_jobs.specs.Jobs.{asked, told_at as told_works}
 use Rattle.split_model.proofs.SafeActs.{of_back}
 use Rattle.ring_words.specs.Shape.{entry_words_of}
 use Rattle.ring_laws.proofs.Shows.{Sight, epoch_longer}
 use Rattle.ring_laws.proofs.Sight.{is_other, other_touch, untouched_word}
-use Rattle.ring_laws.proofs.JobLines.{is_of, is_disk_of, IsAside, moves_own}
+use Rattle.ring_laws.proofs.JobLines.{is_of, is_disk_of, IsAside, read_by, read_more, moves_own}
 use Rattle.ring_laws.proofs.Places.{Within, Alone, IsAt}
 use Rattle.ring_laws.proofs.JobMoves.{itself}
 use Rattle.ring_laws.proofs.JobSteps.{StepsBy, takes, rests, JobGoes, told_at}
 use Rattle.ring_laws.proofs.JobStages.{job_goes}
-use Rattle.ring_laws.proofs.Began.{Terms, IsPlan, HasCome, serves, over, IsJobOf, request_at}
+use Rattle.ring_laws.proofs.PageTasks.{steps_more}
+use Rattle.ring_laws.proofs.Copies.{IsIndirect, IsCopying, behind_pages, indirect_work}
+use Rattle.ring_laws.proofs.PageMoves.{PageGoes, Goes, page_goes}
+use Rattle.ring_laws.proofs.Began.{Terms, IsDue, IsSettled, HasCome, serves, over, reads, IsJobOf, request_at}
 use Rattle.ring_laws.proofs.Works.{AreJobs, jobs_told, job_found}
 use Rattle.ring_laws.proofs.Bystanders.{IsRule, Tale, shown_last, tale_more, is_plain, plain_keeps, plain_tells, bystander_rule, some_and}
 use Rattle.ring_laws.proofs.Fetched.{AreFetched, fetched_in, fetched_still, fetched_is}
@@ -63,6 +68,10 @@ map_asked epoch h k t o a [] e = absurd (none-some a e)
 map_asked epoch h k t o a (s ∷ more) e = of_back (IsSpoken epoch k stage.Map t) _ a (map_tells epoch h k t s (verdict_at h.pages s.gref (mode_of t.writes))) e
 
 job_tells : (work : List Task) (epoch : List Line) (h : Hypervisor) (k : ℕ) (s : Stage) (t : Work) (o : Outcome) (a : BackAct) → IsAt work k epoch s t → back_act h (back.Job k) (ask_at s t) o ≡ Some a → IsSpoken epoch k s t a
+job_tells work epoch h k stage.MapPage t o a at e = absurd at
+job_tells work epoch h k (stage.PageReference m) t o a at e = absurd at
+job_tells work epoch h k (stage.PageSectors m gref) t o a at e = absurd at
+job_tells work epoch h k (stage.UnmapPage m) t o a at e = absurd at
 job_tells work epoch h k stage.Map t o a at e = map_asked epoch h k t o a t.rest e
 job_tells work epoch h k (stage.ReadWord m j) t o a at e = of_back (IsSpoken epoch k (stage.ReadWord m j) t) _ a (record { plain = refl; told = nothing refl refl }) e
 job_tells work epoch h k (stage.DiskWrite m) t Took a at e =
@@ -97,6 +106,22 @@ job_tells work epoch h k (stage.Trim count) t Failed a at e =
     of_back (IsSpoken epoch k (stage.Trim count) t) _ a (record { plain = refl; told = one _ refl (call_failed k t.id t.moved _ calls.Trim refl) (itself k) w.counted }) e
 job_tells work epoch h k (stage.Trim count) t (Gave words) a at e = absurd (none-some a e)
 job_tells work epoch h k (stage.Done status) t o a at e = absurd (none-some a e)
+
+-- and of one that copies segments
+page_map_tells : (epoch : List Line) (h : Hypervisor) (k : ℕ) (t : Work) (gref : ℕ) (verdict : Result ℕ MapRefusal) → IsSpoken epoch k stage.MapPage t (map_act h (back.Job k) gref ReadOnly verdict)
+page_map_tells epoch h k t gref (Ok frame) = record { plain = refl; told = nothing refl refl }
+page_map_tells epoch h k t gref (Err refusal) = record { plain = refl; told = nothing refl refl }
+
+page_asked : (epoch : List Line) (h : Hypervisor) (k : ℕ) (t : Work) (o : Outcome) (a : BackAct) (pages : List ℕ) → back_act h (back.Job k) (page_ask pages) o ≡ Some a → IsSpoken epoch k stage.MapPage t a
+page_asked epoch h k t o a [] e = absurd (none-some a e)
+page_asked epoch h k t o a (gref ∷ pages) e = of_back (IsSpoken epoch k stage.MapPage t) _ a (page_map_tells epoch h k t gref (verdict_at h.pages gref ReadOnly)) e
+
+page_tells : (request : RawRequest) (info : DiskInfo) (epoch : List Line) (h : Hypervisor) (k : ℕ) (s : Stage) (t : Work) (o : Outcome) (a : BackAct) → IsCopying request info k epoch s t → back_act h (back.Job k) (ask_at s t) o ≡ Some a → IsSpoken epoch k s t a
+page_tells request info epoch h k stage.MapPage t o a p e = page_asked epoch h k t o a t.pages e
+page_tells request info epoch h k (stage.PageReference m) t o a p e = of_back (IsSpoken epoch k (stage.PageReference m) t) _ a (record { plain = refl; told = nothing refl refl }) e
+page_tells request info epoch h k (stage.PageSectors m gref) t o a p e = of_back (IsSpoken epoch k (stage.PageSectors m gref) t) _ a (record { plain = refl; told = nothing refl refl }) e
+page_tells request info epoch h k (stage.UnmapPage m) t o a p e = of_back (IsSpoken epoch k (stage.UnmapPage m) t) _ a (record { plain = refl; told = nothing refl refl }) e
+page_tells request info epoch h k s t o a p e = absurd p
 
 -- the lines after a job's own
 pub record After (config : Options) (before ys : List Line) : Type 0 where
@@ -137,7 +162,7 @@ mover_aside : (work : List Task) (k j : ℕ) (epoch : List Line) (shown : Move) 
 mover_aside work k j epoch shown other (takes own s) = ap (λ (o : Option ℕ). is_job j o) own ∙ other_number j k other
 mover_aside work k j epoch shown other (rests none) = ap (λ (o : Option ℕ). is_job j o) none
 
-own_line : (terms : Terms) (before : List Line) (values : List ℕ) (k : ℕ) (shown : Move) (work : List Task) → disk_move_shown before ≡ None → fetched_of before k ≡ Some (fetched_in terms values k) → ((indirect : List ℕ) → work_tasks (request_at terms.abi values k) (back_info terms.config) false indirect ≡ work)
+own_line : (terms : Terms) (before : List Line) (values : List ℕ) (k : ℕ) (shown : Move) (work : List Task) → disk_move_shown before ≡ None → fetched_of before k ≡ Some (fetched_in terms values k) → work_tasks (request_at terms.abi values k) (back_info terms.config) false (values_read before k) ≡ work
     → is_plain (lines.Move shown) ≡ true → StepsBy work k (this_epoch before) shown → IsRule before (lines.Move shown)
 own_line terms before values k shown work quiet asked tasks plain (takes own steps) = own_rule terms before values k shown work quiet asked tasks plain own steps
 own_line terms before values k shown work quiet asked tasks plain (rests none) = bystander_rule before (lines.Move shown) quiet (record { plain = plain; unstepped = none })
@@ -145,15 +170,6 @@ own_line terms before values k shown work quiet asked tasks plain (rests none) =
 done_waits : (h : Hypervisor) (k : ℕ) (s : Stage) (t : Work) (o : Outcome) (a : BackAct) → back_act h (back.Job k) (ask_at s t) o ≡ Some a → IsDoneStage s → ⊥
 done_waits h k (stage.Done status) t o a e done = none-some a e
 done_waits h k s t o a e done = done
-
--- a job that moves is in its work
-pub record IsRunning (served : Status) (work : List Task) (k : ℕ) (epoch : List Line) (s : Stage) (t : Work) : Type 0 where
-  pub okay : served ≡ Okay
-  pub at : IsAt work k epoch s t
-
-running : (served : Status) (work : List Task) (k : ℕ) (epoch : List Line) (s : Stage) (t : Work) → (IsDoneStage s → ⊥) → HasCome served work k epoch s t → IsRunning served work k epoch s t
-running served work k epoch s t busy (serves okay at) = record { okay = okay; at = at }
-running served work k epoch s t busy (over done ends) = absurd (busy (subst IsDoneStage (sym done) tt))
 
 -- a job keeps its number, its id and its operation
 pub record IsSame (old new : Work) : Type 0 where
@@ -172,7 +188,18 @@ segment_same : (t : Work) (rest : List Segment) → IsSame t (next_segment t res
 segment_same t [] = record { number = refl; id = refl; op = refl }
 segment_same t (s ∷ rest) = record { number = refl; id = refl; op = refl }
 
+judged_same : (t : Work) → IsSame t (judged t)
+judged_same t = either_same t (passes t) (record t { within = first_of t.rest; stage = stage.Map }) (record t { stage = stage.Done Error }) (record { number = refl; id = refl; op = refl }) (record { number = refl; id = refl; op = refl })
+
+page_same : (t : Work) → IsSame t (page_done t)
+page_same t = either_same t (length t.rest == t.named) (judged t) (record t { pages = drop 1 t.pages; stage = stage.MapPage }) (judged_same t) (record { number = refl; id = refl; op = refl })
+
 pub step_same : (s : Stage) (t : Work) (a : BackAnswer) → IsSame t (step_at s t a)
+step_same stage.MapPage t (answers.Mapped m) = record { number = refl; id = refl; op = refl }
+step_same stage.MapPage t (answers.MapRefused status) = record { number = refl; id = refl; op = refl }
+step_same (stage.PageReference m) t (answers.Word word) = record { number = refl; id = refl; op = refl }
+step_same (stage.PageSectors m gref) t (answers.Word word) = record { number = refl; id = refl; op = refl }
+step_same (stage.UnmapPage m) t answers.Done = page_same t
 step_same stage.Map t (answers.Mapped m) = record { number = refl; id = refl; op = refl }
 step_same stage.Map t (answers.MapRefused status) = record { number = refl; id = refl; op = refl }
 step_same (stage.ReadWord m k) t (answers.Word word) = record { number = refl; id = refl; op = refl }
@@ -196,11 +223,12 @@ pub record IsNumbered (terms : Terms) (values : List ℕ) (epoch : List Line) (t
   pub first : 1 ≤ k
   pub read : entry_words_of terms.abi * k ≤ length values
   pub id : id_of (request_at terms.abi values k) ≡ t.id
-  pub plan : IsPlan (request_at terms.abi values k) (back_info terms.config) work served t.id t.op
-  pub at : HasCome served work k epoch t.stage t
+  pub plan : IsDue (request_at terms.abi values k) (back_info terms.config) (read_by k epoch) work served t.id t.op
+  pub at : HasCome (request_at terms.abi values k) (back_info terms.config) served work k epoch t.stage t
 
-renamed : (request : RawRequest) (info : DiskInfo) (work : List Task) (served : Status) (id id' op op' : ℕ) → id ≡ id' → op ≡ op' → IsPlan request info work served id op → IsPlan request info work served id' op'
-renamed request info work served id id' op op' p q plan = subst (λ (n : ℕ). IsPlan request info work served id' n) q (subst (λ (n : ℕ). IsPlan request info work served n op) p plan)
+-- it answers under the same id and operation
+renamed : (request : RawRequest) (id id' op op' : ℕ) → id ≡ id' → op ≡ op' → ((status : Status) → work_response request status ≡ response_to id op status) → (status : Status) → work_response request status ≡ response_to id' op' status
+renamed request id id' op op' p q names status = names status ∙ (ap (λ (n : ℕ). response_to n op status) p ∙ ap (λ (n : ℕ). response_to id' n status) q)
 
 renumbered : (terms : Terms) (values : List ℕ) (epoch : List Line) (t : Work) (k : ℕ) → k ≡ t.number → IsNumbered terms values epoch t k → IsJobOf terms values epoch t
 renumbered terms values epoch t k is n =
@@ -222,21 +250,93 @@ found_turn terms before x fetched k works h o a place t found is same_values are
     go : back_act h (back.Job t.number) (ask_at t.stage t) o ≡ Some a → Turned terms before x.values fetched t.number (lines.Move a.shown ∷ told_at t.stage t a.answer) (told_works works (Some place) (Some t) a.answer)
     go act =
         let j : IsJobOf terms x.values (this_epoch before) t = job_found terms x.values (this_epoch before) fetched works place t found jobs in
-        let plan : IsPlan (request_at terms.abi x.values t.number) (back_info terms.config) j.work j.served t.id t.op = j.plan in
-        let runs : IsRunning j.served j.work t.number (this_epoch before) t.stage t = running j.served j.work t.number (this_epoch before) t.stage t (done_waits h t.number t.stage t o a act) j.at in
-        let goes : JobGoes j.work t.number (this_epoch before) a.shown (told_at t.stage t a.answer) (step_at t.stage t a.answer) = job_goes j.work t.number (this_epoch before) h t.stage t o a runs.at act in
-        let tells : IsSpoken (this_epoch before) t.number t.stage t a = job_tells j.work (this_epoch before) h t.number t.stage t o a runs.at act in
-        let asked : fetched_of before t.number ≡ Some (fetched_in terms x.values t.number) = fetched_is terms before x.values t.number same_values are j.first j.read in
-        let rule : IsRule before (lines.Move a.shown) = own_line terms before x.values t.number a.shown j.work quiet asked plan.tasks tells.plain goes.steps in
-        let longer : Tale terms.config (before ++ lines.Move a.shown ∷ []) = tale_more terms.config before (lines.Move a.shown) tale refl (plain_keeps (lines.Move a.shown) tells.plain) (plain_tells (info_of terms.config) (lines.Move a.shown) tells.plain) rule in
-        let asked_then : fetched_of (before ++ lines.Move a.shown ∷ []) t.number ≡ Some (fetched_in terms x.values t.number) = fetched_still before (lines.Move a.shown) t.number refl (untouched_word before (lines.Move a.shown) (other_touch (lines.Move a.shown) other)) ∙ asked in
-        let same : IsSame t (step_at t.stage t a.answer) = step_same t.stage t a.answer in
-        let aside : (n : ℕ) → n ≢ t.number → IsAside n (lines.Move a.shown ∷ told_at t.stage t a.answer) = λ n apart. told_aside (this_epoch before) n t.number t.id t.moved a.shown (told_at t.stage t a.answer) (mover_aside j.work t.number n (this_epoch before) a.shown apart goes.steps) tells.told in
-        let now : List Line = this_epoch before ++ lines.Move a.shown ∷ told_at t.stage t a.answer in
-        let new : Work = step_at t.stage t a.answer in
-        let fresh : IsJobOf terms x.values (this_epoch before ++ lines.Move a.shown ∷ told_at t.stage t a.answer) (step_at t.stage t a.answer) = renumbered terms x.values now new t.number (sym same.number) (record { work = j.work; served = j.served; first = j.first; read = j.read; id = j.id ∙ sym same.id; plan = renamed (request_at terms.abi x.values t.number) (back_info terms.config) j.work j.served t.id new.id t.op new.op (sym same.id) (sym same.op) plan; at = serves runs.okay goes.at }) in
-        record {
-          after = after_told terms.config before t.number t.id t.moved a.shown (told_at t.stage t a.answer) longer tells.told (some_and _ asked_then j.id);
-          jobs = jobs_told terms x.values (this_epoch before) (lines.Move a.shown ∷ told_at t.stage t a.answer) fetched works place t new found same.number aside fresh jobs;
-          aside = aside;
-        }
+        by_come j j.at
+      where
+        ys : List Line
+        ys = lines.Move a.shown ∷ told_at t.stage t a.answer
+
+        now : List Line
+        now = this_epoch before ++ lines.Move a.shown ∷ told_at t.stage t a.answer
+
+        new : Work
+        new = step_at t.stage t a.answer
+
+        same : IsSame t (step_at t.stage t a.answer)
+        same = step_same t.stage t a.answer
+
+        request : RawRequest
+        request = request_at terms.abi x.values t.number
+
+        info : DiskInfo
+        info = back_info terms.config
+
+        names : (j : IsJobOf terms x.values (this_epoch before) t) → (status : Status) → work_response request status ≡ response_to new.id new.op status
+        names j = let plan : IsDue request info (read_by t.number (this_epoch before)) j.work j.served t.id t.op = j.plan in renamed request t.id new.id t.op new.op (sym same.id) (sym same.op) plan.names
+
+        -- the lines of the move obey the rules, and the job goes on so
+        turned : (j : IsJobOf terms x.values (this_epoch before) t) → StepsBy j.work t.number (this_epoch before) a.shown → IsSpoken (this_epoch before) t.number t.stage t a → IsNumbered terms x.values now new t.number
+            → Turned terms before x.values fetched t.number (lines.Move a.shown ∷ told_at t.stage t a.answer) (told_works works (Some place) (Some t) a.answer)
+        turned j steps tells next =
+            let plan : IsDue request info (read_by t.number (this_epoch before)) j.work j.served t.id t.op = j.plan in
+            let asked : fetched_of before t.number ≡ Some (fetched_in terms x.values t.number) = fetched_is terms before x.values t.number same_values are j.first j.read in
+            let rule : IsRule before (lines.Move a.shown) = own_line terms before x.values t.number a.shown j.work quiet asked plan.tasks tells.plain steps in
+            let longer : Tale terms.config (before ++ lines.Move a.shown ∷ []) = tale_more terms.config before (lines.Move a.shown) tale refl (plain_keeps (lines.Move a.shown) tells.plain) (plain_tells (info_of terms.config) (lines.Move a.shown) tells.plain) rule in
+            let asked_then : fetched_of (before ++ lines.Move a.shown ∷ []) t.number ≡ Some (fetched_in terms x.values t.number) = fetched_still before (lines.Move a.shown) t.number refl (untouched_word before (lines.Move a.shown) (other_touch (lines.Move a.shown) other)) ∙ asked in
+            let aside : (n : ℕ) → n ≢ t.number → IsAside n (lines.Move a.shown ∷ told_at t.stage t a.answer) = λ n apart. told_aside (this_epoch before) n t.number t.id t.moved a.shown (told_at t.stage t a.answer) (mover_aside j.work t.number n (this_epoch before) a.shown apart steps) tells.told in
+            let fresh : IsJobOf terms x.values now new = renumbered terms x.values now new t.number (sym same.number) next in
+            record {
+              after = after_told terms.config before t.number t.id t.moved a.shown (told_at t.stage t a.answer) longer tells.told (some_and _ asked_then j.id);
+              jobs = jobs_told terms x.values (this_epoch before) (lines.Move a.shown ∷ told_at t.stage t a.answer) fetched works place t new found same.number aside fresh jobs;
+              aside = aside;
+            }
+
+        -- what is settled stays so after words more
+        later_than : (j : IsJobOf terms x.values (this_epoch before) t) → IsSettled request info (read_by t.number (this_epoch before)) j.work j.served → IsSettled request info (read_by t.number now) j.work j.served
+        later_than j settled =
+            let words : List ℕ = read_by t.number (this_epoch before) in
+            let more : List ℕ = read_by t.number ys in
+            subst (λ (vs : List ℕ). IsSettled request info vs j.work j.served) (sym (read_more t.number (this_epoch before) ys))
+            (record {
+              tasks = λ later. ap (λ (vs : List ℕ). work_tasks request info false vs) (append_assoc words more later) ∙ settled.tasks (more ++ later);
+              verdict = λ later. ap (λ (vs : List ℕ). status_by (work_verdict request info vs)) (append_assoc words more later) ∙ settled.verdict (more ++ later);
+            })
+
+        by_come : (j : IsJobOf terms x.values (this_epoch before) t) → HasCome request info j.served j.work t.number (this_epoch before) t.stage t
+            → Turned terms before x.values fetched t.number (lines.Move a.shown ∷ told_at t.stage t a.answer) (told_works works (Some place) (Some t) a.answer)
+        by_come j (over status done ends) = absurd (done_waits h t.number t.stage t o a act (subst IsDoneStage (sym done) tt))
+        by_come j (serves settled okay at) =
+            let goes : JobGoes j.work t.number (this_epoch before) a.shown (told_at t.stage t a.answer) (step_at t.stage t a.answer) = job_goes j.work t.number (this_epoch before) h t.stage t o a at act in
+            let tells : IsSpoken (this_epoch before) t.number t.stage t a = job_tells j.work (this_epoch before) h t.number t.stage t o a at act in
+            let still : IsSettled request info (read_by t.number now) j.work j.served = later_than j settled in
+            let none = append-nil (read_by t.number now) in
+            turned j goes.steps tells (record {
+              work = j.work;
+              served = j.served;
+              first = j.first;
+              read = j.read;
+              id = j.id ∙ sym same.id;
+              plan = record {
+                names = names j;
+                tasks = ap (λ (vs : List ℕ). work_tasks request info false vs) (sym none) ∙ still.tasks [];
+                verdict = ap (λ (vs : List ℕ). status_by (work_verdict request info vs)) (sym none) ∙ still.verdict [];
+              };
+              at = serves still okay goes.at;
+            })
+        by_come j (reads copying) =
+            let plan : IsDue request info (read_by t.number (this_epoch before)) j.work j.served t.id t.op = j.plan in
+            let g : Goes request info t.number (this_epoch before) t.stage t a = page_goes request info t.number (this_epoch before) h t.stage t o a copying act in
+            let goes : PageGoes request info t.number (this_epoch before) t g.pages a.shown (told_at t.stage t a.answer) (step_at t.stage t a.answer) = g.goes in
+            let tells : IsSpoken (this_epoch before) t.number t.stage t a = page_tells request info (this_epoch before) h t.number t.stage t o a copying act in
+            let is : IsIndirect request info t g.pages = goes.is in
+            let words : List ℕ = read_by t.number (this_epoch before) in
+            let whole : pages_of t.named g.pages ++ behind_pages is.plan t.named words info ≡ j.work = sym (indirect_work request info t g.pages words is) ∙ plan.tasks in
+            let steps : StepsBy j.work t.number (this_epoch before) a.shown = subst (λ (w : List Task). StepsBy w t.number (this_epoch before) a.shown) whole (steps_more (pages_of t.named g.pages) (behind_pages is.plan t.named words info) t.number (this_epoch before) a.shown goes.steps) in
+            turned j steps tells (record {
+              work = work_tasks request info false (read_by t.number now);
+              served = status_by (work_verdict request info (read_by t.number now));
+              first = j.first;
+              read = j.read;
+              id = j.id ∙ sym same.id;
+              plan = record { names = names j; tasks = refl; verdict = refl };
+              at = goes.comes (work_tasks request info false (read_by t.number now)) (status_by (work_verdict request info (read_by t.number now))) refl refl;
+            })

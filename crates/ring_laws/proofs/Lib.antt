@@ -24,7 +24,10 @@ pub mod JobWords
 pub mod JobDisk
 pub mod JobCall
 pub mod JobStages
+pub mod PageTasks
+pub mod Copies
 pub mod Began
+pub mod PageMoves
 pub mod Due
 pub mod Works
 pub mod Matching

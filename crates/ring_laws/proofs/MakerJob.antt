@@ -1,9 +1,11 @@
 -- What a job's own move makes of the mapping in its hand.
-use Rattle.std.proofs.Common.{◌≡◌, ℕ, ◌+◌, ◌==◌, Bool, true, false, if◌then◌else◌, List, [], ◌∷◌, ◌++◌, refl, sym, subst}
+use Rattle.std.proofs.Common.{◌≡◌, ℕ, ◌+◌, ◌==◌, Bool, true, false, if◌then◌else◌, List, [], ◌∷◌, ◌++◌, length, drop, refl, sym, subst}
 use Rattle.std.specs.Prelude.{Option, Some, None, Result, Ok, Err}
 use Rattle.std.proofs.lemmas.Option.{none-some}
 use Rattle.blk_base.specs.declared.parts.Mapping.{Mapping}
 use Rattle.blk_base.specs.declared.parts.Mode.{Mode}
+use Rattle.blk_base.specs.declared.parts.Mode.TheVariants.{ReadOnly}
+use Rattle.blk_base.specs.declared.operation.Status.TheVariants.{Error}
 use Rattle.blk_base.specs.declared.ask.BackAnswer.{BackAnswer}
 use Rattle.blk_base.specs.declared.moves.BackMover.TheVariants as back
 use Rattle.blk_base.specs.declared.moves.Move.TheVariants as moves
@@ -14,11 +16,12 @@ use Rattle.hypervisor.specs.Act.{BackAct, Outcome, Gave, Took, Failed, back_act,
 use Rattle.schedule_text.specs.declared.line.Line.{Line}
 use Rattle.schedule_text.specs.declared.line.Line.TheVariants as lines
 use Rattle.blk_layout.specs.declared.segment.Segment.{Segment}
+use Rattle.blk_layout.specs.Entry.{segment_of}
 use Rattle.report_rules.specs.Standing.{this_epoch}
 use Rattle.report_rules.specs.Made.{left_to}
 use Rattle.back_jobs.specs.declared.stage.Stage.{Stage}
 use Rattle.back_jobs.specs.declared.stage.Stage.TheVariants as stage
-use Rattle.back_jobs.specs.Task.{Work, ask_at, step_at, map_ask, mode_of, last_of, rest_of, sector_stage, next_sector, next_segment, counted}
+use Rattle.back_jobs.specs.Task.{Work, ask_at, step_at, map_ask, page_ask, is_copied_out, passes, judged, page_done, first_of, mode_of, last_of, rest_of, sector_stage, next_sector, next_segment, counted}
 use Rattle.back_jobs.specs.Jobs.{mapping_at, effect_at}
 use Rattle.blk_back.specs.Step.{told_effect}
 use Rattle.split_model.proofs.SafeActs.{of_back}
@@ -86,7 +89,38 @@ map_asked : (before : List Line) (h : Hypervisor) (k : ℕ) (t : Work) (o : Outc
 map_asked before h k t o a [] old e = absurd (none-some a e)
 map_asked before h k t o a (s ∷ more) old e = of_back (Makes before k stage.Map t) _ a (map_makes before h k t s (verdict_at h.pages s.gref (mode_of t.writes)) old) e
 
+-- a page is mapped
+page_makes : (before : List Line) (h : Hypervisor) (k : ℕ) (t : Work) (gref : ℕ) (verdict : Result ℕ MapRefusal) → left_to k (this_epoch before) ≡ [] → Makes before k stage.MapPage t (map_act h (back.Job k) gref ReadOnly verdict)
+page_makes before h k t gref (Ok frame) old = record {
+  hand = holds_made k gref frame ReadOnly (next_mapping h.grants gref ReadOnly) (this_epoch before) old;
+  way = takes gref (h.grants.made + 1) frame ReadOnly refl;
+  mine = record { unmap = tt; touch = tt };
+}
+page_makes before h k t gref (Err refusal) old = still before k stage.MapPage t _ refl (record { same_epoch = refl; none_gone = λ n. refl; none_made = λ j. refl }) (record { unmap = tt; touch = tt }) old
+
+page_asked : (before : List Line) (h : Hypervisor) (k : ℕ) (t : Work) (o : Outcome) (a : BackAct) (pages : List ℕ) → left_to k (this_epoch before) ≡ [] → back_act h (back.Job k) (page_ask pages) o ≡ Some a → Makes before k stage.MapPage t a
+page_asked before h k t o a [] old e = absurd (none-some a e)
+page_asked before h k t o a (gref ∷ pages) old e = of_back (Makes before k stage.MapPage t) _ a (page_makes before h k t gref (verdict_at h.pages gref ReadOnly) old) e
+
+-- after a page the hand is empty
+empty_either : (b : Bool) (x y : Work) → hand x ≡ None → hand y ≡ None → hand (if b then x else y) ≡ None
+empty_either true x y p q = p
+empty_either false x y p q = q
+
+page_hand : (t : Work) → hand (page_done t) ≡ None
+page_hand t =
+    empty_either (length t.rest == t.named) (judged t) (record t { pages = drop 1 t.pages; stage = stage.MapPage })
+    (empty_either (passes t) (record t { within = first_of t.rest; stage = stage.Map }) (record t { stage = stage.Done Error }) refl refl) refl
+
 pub job_makes : (before : List Line) (h : Hypervisor) (k : ℕ) (s : Stage) (t : Work) (o : Outcome) (a : BackAct) → Holds (mapping_at s) (left_to k (this_epoch before)) → back_act h (back.Job k) (ask_at s t) o ≡ Some a → Makes before k s t a
+job_makes before h k stage.MapPage t o a old e = page_asked before h k t o a t.pages old e
+job_makes before h k (stage.PageReference m) t o a old e = of_back (Makes before k (stage.PageReference m) t) _ a (still before k (stage.PageReference m) t _ refl (record { same_epoch = refl; none_gone = λ n. refl; none_made = λ j. refl }) (record { unmap = tt; touch = holds_has k m (this_epoch before) old }) old) e
+job_makes before h k (stage.PageSectors m gref) t o a old e =
+    of_back (Makes before k (stage.PageSectors m gref) t) _ a
+    (still before k (stage.PageSectors m gref) t _ (either (is_copied_out t (t.rest ++ segment_of gref _ ∷ [])) (stage.UnmapPage m) (stage.PageReference m) m refl refl) (record { same_epoch = refl; none_gone = λ n. refl; none_made = λ j. refl }) (record { unmap = tt; touch = holds_has k m (this_epoch before) old }) old) e
+job_makes before h k (stage.UnmapPage m) t o a old e =
+    of_back (Makes before k (stage.UnmapPage m) t) _ a
+    (record { hand = subst (λ (x : Option Mapping). Holds x (left_to k (this_epoch before ++ lines.Move (moves.Unmap (back.Job k) m.number) ∷ []))) (sym (page_hand t)) (holds_gone k m (this_epoch before) old); way = gives m refl refl; mine = record { unmap = holds_has k m (this_epoch before) old; touch = tt } }) e
 job_makes before h k stage.Map t o a old e = map_asked before h k t o a t.rest old e
 job_makes before h k (stage.ReadWord m j) t o a old e = of_back (Makes before k (stage.ReadWord m j) t) _ a (still before k (stage.ReadWord m j) t _ (either (j == 127) (stage.DiskWrite m) (stage.ReadWord m (j + 1)) m refl refl) (record { same_epoch = refl; none_gone = λ n. refl; none_made = λ j. refl }) (record { unmap = tt; touch = holds_has k m (this_epoch before) old }) old) e
 job_makes before h k (stage.DiskWrite m) t Took a old e = of_back (Makes before k (stage.DiskWrite m) t) _ a (still before k (stage.DiskWrite m) t _ (next_hand (counted t) m) (record { same_epoch = refl; none_gone = λ n. refl; none_made = λ j. refl }) (record { unmap = tt; touch = tt }) old) e

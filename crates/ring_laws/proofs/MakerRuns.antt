@@ -148,14 +148,14 @@ stand_made_happens config w h before s few =
     let t : Stand config (before ++ lines_at w h) (happens w h) = stand_happens config w h before s.stand few in
     record { stand = t; made = made_happens config w h before s.stand t s.made }
 
-report_made : (config : Options) (detail : Detail) (history : List Happening) → reads_of (report_of config detail history) < 2 ^ 64 → Obeys IsMine (report_of config detail history)
-report_made config detail history few =
-    let all : StandMade config (report_of config detail history) (after history (start_of config)) = kept_after (StandMade config) (stand_made_happens config) history (start_of config) (lines.Begin config detail ∷ []) (record { stand = stand_start config detail; made = made_start config detail }) few in
+report_made : (config : Options) (detail : Detail) (history : List Happening) → config.indirect ≤ 960 → reads_of (report_of config detail history) < 2 ^ 64 → Obeys IsMine (report_of config detail history)
+report_made config detail history room few =
+    let all : StandMade config (report_of config detail history) (after history (start_of config)) = kept_after (StandMade config) (stand_made_happens config) history (start_of config) (lines.Begin config detail ∷ []) (record { stand = stand_start config detail room; made = made_start config detail }) few in
     let made : Made (report_of config detail history) (let w : World = after history (start_of config) in w.back) = all.made in
     made.obeys
 
-ended_made : (config : Options) (detail : Detail) (history : List Happening) → reads_of (report_of config detail history) < 2 ^ 64 → Obeys IsMine (ended_report_of config detail history)
-ended_made config detail history few = obeys_more IsMine (report_of config detail history) lines.End (report_made config detail history few) (record { unmap = tt; touch = tt })
+ended_made : (config : Options) (detail : Detail) (history : List Happening) → config.indirect ≤ 960 → reads_of (report_of config detail history) < 2 ^ 64 → Obeys IsMine (ended_report_of config detail history)
+ended_made config detail history room few = obeys_more IsMine (report_of config detail history) lines.End (report_made config detail history room few) (record { unmap = tt; touch = tt })
 
 unmaps_of : (ls : List Line) → Obeys IsMine ls → AreUnmaps ls
 unmaps_of ls obeys before rest line e = (obeys before rest line e).unmap
@@ -163,14 +163,14 @@ unmaps_of ls obeys before rest line e = (obeys before rest line e).unmap
 own_of : (ls : List Line) → Obeys IsMine ls → AreOwn ls
 own_of ls obeys before rest line e = (obeys before rest line e).touch
 
-pub report_unmaps : (config : Options) (detail : Detail) (history : List Happening) → reads_of (report_of config detail history) < 2 ^ 64 → AreUnmaps (report_of config detail history)
-report_unmaps config detail history few = unmaps_of _ (report_made config detail history few)
+pub report_unmaps : (config : Options) (detail : Detail) (history : List Happening) → config.indirect ≤ 960 → reads_of (report_of config detail history) < 2 ^ 64 → AreUnmaps (report_of config detail history)
+report_unmaps config detail history room few = unmaps_of _ (report_made config detail history room few)
 
-pub ended_unmaps : (config : Options) (detail : Detail) (history : List Happening) → reads_of (report_of config detail history) < 2 ^ 64 → AreUnmaps (ended_report_of config detail history)
-ended_unmaps config detail history few = unmaps_of _ (ended_made config detail history few)
+pub ended_unmaps : (config : Options) (detail : Detail) (history : List Happening) → config.indirect ≤ 960 → reads_of (report_of config detail history) < 2 ^ 64 → AreUnmaps (ended_report_of config detail history)
+ended_unmaps config detail history room few = unmaps_of _ (ended_made config detail history room few)
 
-pub report_own : (config : Options) (detail : Detail) (history : List Happening) → reads_of (report_of config detail history) < 2 ^ 64 → AreOwn (report_of config detail history)
-report_own config detail history few = own_of _ (report_made config detail history few)
+pub report_own : (config : Options) (detail : Detail) (history : List Happening) → config.indirect ≤ 960 → reads_of (report_of config detail history) < 2 ^ 64 → AreOwn (report_of config detail history)
+report_own config detail history room few = own_of _ (report_made config detail history room few)
 
-pub ended_own : (config : Options) (detail : Detail) (history : List Happening) → reads_of (report_of config detail history) < 2 ^ 64 → AreOwn (ended_report_of config detail history)
-ended_own config detail history few = own_of _ (ended_made config detail history few)
+pub ended_own : (config : Options) (detail : Detail) (history : List Happening) → config.indirect ≤ 960 → reads_of (report_of config detail history) < 2 ^ 64 → AreOwn (ended_report_of config detail history)
+ended_own config detail history room few = own_of _ (ended_made config detail history room few)

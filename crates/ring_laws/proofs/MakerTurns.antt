@@ -24,7 +24,7 @@ use Rattle.report_rules.specs.Made.{left_to}
 use Rattle.report_rules.proofs.Obeys.{obeys_more}
 use Rattle.back_jobs.specs.declared.stage.Stage.{Stage}
 use Rattle.back_jobs.specs.declared.stage.Stage.TheVariants as stage
-use Rattle.back_jobs.specs.Task.{Work, step_of, begun, moving, ended, frameless}
+use Rattle.back_jobs.specs.Task.{Work, step_of, begun, moving, paging, ended, frameless}
 use Rattle.back_jobs.specs.Jobs.{place_of, work_at, asked, told_at as told_works, effect_at, mapping_at, removed_at}
 use Rattle.back_jobs.proofs.Hands.{IsAmong, place_among}
 use Rattle.blk_back.specs.View.{View}
@@ -70,7 +70,9 @@ begun_empty n (Direct op count device id sector segments) size (verdict.Serve pl
     let other = either_empty (op == 3) (frameless n request size sector stage.Flush) (ended n request size (stage.Done Error)) refl refl in
     either_empty (nat_le op 2) (moving n request size (not (op == 0)) sector (take count segments)) _ refl other
 begun_empty n (Discard flag device id sector count) size (verdict.Serve plan) = refl
-begun_empty n (Indirect op count device id sector pages) size (verdict.Serve plan) = refl
+begun_empty n (Indirect op count device id sector pages) size (verdict.Serve plan) =
+    let request : RawRequest = Indirect op count device id sector pages in
+    either_empty (nat_le count 960) (paging n request size (not (op == 0)) sector count pages) (ended n request size (stage.Done Error)) refl refl
 begun_empty n request size (verdict.Error why) = refl
 begun_empty n request size verdict.Unsupported = refl
 

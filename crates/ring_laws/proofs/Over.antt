@@ -8,7 +8,9 @@ use Rattle.ring_words.specs.Shape.{entry_words_of}
 use Rattle.blk_base.specs.declared.operation.Status.{Status}
 use Rattle.blk_base.specs.declared.moves.Move.TheVariants as moves
 use Rattle.blk_layout.specs.declared.segment.Segment.{Segment}
+use Rattle.blk_layout.specs.declared.request.RawRequest.{RawRequest}
 use Rattle.blk_layout.specs.declared.request.RawRequest.TheVariants.{Direct, Discard, Indirect}
+use Rattle.segment_list.specs.declared.verdict.DiskInfo.{DiskInfo}
 use Rattle.blk_layout.specs.declared.response.Response.{Response}
 use Rattle.blk_layout.specs.Entry.{request_of}
 use Rattle.blk_layout.specs.Response.{response_words_of}
@@ -30,9 +32,10 @@ use Rattle.back_jobs.specs.declared.stage.Stage.TheVariants as stage
 use Rattle.back_jobs.specs.Task.{Work}
 use Rattle.blk_back.specs.View.{info_of as back_info}
 use Rattle.ring_laws.proofs.Lists.{either_false}
-use Rattle.ring_laws.proofs.JobLines.{is_of, IsAside}
+use Rattle.ring_laws.proofs.JobLines.{is_of, IsAside, read_by, read_aside}
 use Rattle.ring_laws.proofs.Places.{ending, ending_aside, IsAt}
-use Rattle.ring_laws.proofs.Began.{Terms, IsPlan, HasCome, serves, over, IsJobOf, request_at}
+use Rattle.ring_laws.proofs.Began.{Terms, IsDue, HasCome, serves, over, reads, IsJobOf, request_at}
+use Rattle.ring_laws.proofs.Copies.{IsCopying}
 use Rattle.ring_laws.proofs.Due.{IsWorkOver}
 use Rattle.ring_laws.proofs.Works.{entry_kept}
 use Rattle.ring_laws.proofs.Fetched.{AreFetched, fetched_in, fetched_is}
@@ -84,23 +87,26 @@ over_kept terms values more epoch ys k r aside o =
       first = o.first;
       read = omega arith;
       names = ap (λ (ws : List ℕ). work_response (request_of terms.abi ws) r.status) kept ∙ o.names;
-      tasks = λ indirect. ap (λ (ws : List ℕ). work_tasks (request_of terms.abi ws) (back_info terms.config) false indirect) kept ∙ o.tasks indirect;
-      verdict = λ indirect. ap (λ (ws : List ℕ). status_by (work_verdict (request_of terms.abi ws) (back_info terms.config) indirect)) kept ∙ o.verdict indirect;
+      tasks = ap (λ (words : List ℕ). work_tasks (request_at terms.abi (values ++ more) k) (back_info terms.config) false words) (read_aside k epoch ys aside.none)
+          ∙ (ap (λ (ws : List ℕ). work_tasks (request_of terms.abi ws) (back_info terms.config) false (read_by k epoch)) kept ∙ o.tasks);
+      verdict = ap (λ (words : List ℕ). status_by (work_verdict (request_at terms.abi (values ++ more) k) (back_info terms.config) words)) (read_aside k epoch ys aside.none)
+          ∙ (ap (λ (ws : List ℕ). status_by (work_verdict (request_of terms.abi ws) (back_info terms.config) (read_by k epoch))) kept ∙ o.verdict);
       ended = ending_aside o.work k epoch ys o.served aside ∙ o.ended;
       left = left_aside k ys epoch aside.none o.left;
     }
 
-ended_as : (served : Status) (work : List Task) (k : ℕ) (epoch : List Line) (s : Stage) (t : Work) (status : Status) → s ≡ stage.Done status → HasCome served work k epoch s t → ending work k epoch served ≡ Some status
-ended_as served work k epoch s t status done (serves okay at) = ap (λ (x : Status). ending work k epoch x) okay ∙ subst (λ (x : Stage). IsAt work k epoch x t) done at
-ended_as served work k epoch s t status done (over was ends) = ends ∙ ap (λ (x : Status). Some x) (same_done (sym was ∙ done))
+ended_as : (request : RawRequest) (info : DiskInfo) (served : Status) (work : List Task) (k : ℕ) (epoch : List Line) (s : Stage) (t : Work) (status : Status) → s ≡ stage.Done status → HasCome request info served work k epoch s t → ending work k epoch served ≡ Some status
+ended_as request info served work k epoch s t status done (serves settled okay at) = ap (λ (x : Status). ending work k epoch x) okay ∙ subst (λ (x : Stage). IsAt work k epoch x t) done at
+ended_as request info served work k epoch s t status done (over other was ends) = ends ∙ ap (λ (x : Status). Some x) (same_done (sym was ∙ done))
   where
     same_done : {a b : Status} → stage.Done a ≡ stage.Done b → a ≡ b
     same_done e = cc
+ended_as request info served work k epoch s t status done (reads copying) = absurd (subst (λ (x : Stage). IsCopying request info k epoch x t) done copying)
 
 -- a job that is done, and left no mapping
 pub over_of_done : (terms : Terms) (values : List ℕ) (epoch : List Line) (t : Work) (status : Status) → IsJobOf terms values epoch t → t.stage ≡ stage.Done status → left_to t.number epoch ≡ [] → IsWorkOver terms values epoch t.number (record { id = t.id; op = t.op; status = status })
 over_of_done terms values epoch t status j done left =
-    let plan : IsPlan (request_at terms.abi values t.number) (back_info terms.config) j.work j.served t.id t.op = j.plan in
+    let plan : IsDue (request_at terms.abi values t.number) (back_info terms.config) (read_by t.number epoch) j.work j.served t.id t.op = j.plan in
     record {
       work = j.work;
       served = j.served;
@@ -109,15 +115,15 @@ over_of_done terms values epoch t status j done left =
       names = plan.names status;
       tasks = plan.tasks;
       verdict = plan.verdict;
-      ended = ended_as j.served j.work t.number epoch t.stage t status done j.at;
+      ended = ended_as (request_at terms.abi values t.number) (back_info terms.config) j.served j.work t.number epoch t.stage t status done j.at;
       left = left;
     }
 
 -- the rule finds that status
 status_is : (terms : Terms) (before : List Line) (values : List ℕ) (k : ℕ) (r : Response) → IsWorkOver terms values (this_epoch before) k r → status_at_end before k (fetched_in terms values k) ≡ Some r.status
 status_is terms before values k r o =
-    ap (λ (w : List Task). end_of (failed_in k (this_epoch before)) (length w) (status_by (work_verdict (request_at terms.abi values k) (back_info terms.config) (values_read before k))) (walk_of false w k (this_epoch before))) (o.tasks (values_read before k))
-    ∙ (ap (λ (s : Status). ending o.work k (this_epoch before) s) (o.verdict (values_read before k)) ∙ o.ended)
+    ap (λ (w : List Task). end_of (failed_in k (this_epoch before)) (length w) (status_by (work_verdict (request_at terms.abi values k) (back_info terms.config) (values_read before k))) (walk_of false w k (this_epoch before))) o.tasks
+    ∙ (ap (λ (s : Status). ending o.work k (this_epoch before) s) o.verdict ∙ o.ended)
 
 -- and that response
 pub due : (terms : Terms) (before : List Line) (values : List ℕ) (k : ℕ) (r : Response) → entry_values before ≡ values → AreFetched terms before → IsWorkOver terms values (this_epoch before) k r → response_due before k ≡ Some (response_words_of r)

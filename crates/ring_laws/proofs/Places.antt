@@ -36,7 +36,7 @@ pub record Before (work : List Task) (k : ℕ) (epoch : List Line) (rest : List 
   pub tail : work ≡ done ++ tasks_of writes disk rest
   pub came : walk_of false work k epoch ≡ Some (spot (length done) 0 false None)
   pub sound : AllByRecursion IsSound rest
-  pub few : moved + sectors_of rest ≤ 88
+  pub few : moved + sectors_of rest ≤ 7680
   pub counted : count_by (is_disk_of k) epoch ≡ moved
   pub whole : failed_in k epoch ≡ false
 
@@ -55,7 +55,7 @@ pub record Within (work : List Task) (k : ℕ) (epoch : List Line) (rest : List 
   pub came : walk_of false work k epoch ≡ Some (spot (length done) (1 + (129 * i + j)) false (Some m.number))
   pub gref : m.gref ≡ segment.gref
   pub sound : AllByRecursion IsSound (segment ∷ more)
-  pub few : moved + ahead + (segment.last - within) + sectors_of more ≤ 88
+  pub few : moved + ahead + (segment.last - within) + sectors_of more ≤ 7680
   pub counted : count_by (is_disk_of k) epoch ≡ moved
   pub whole : failed_in k epoch ≡ false
 
@@ -71,7 +71,12 @@ pub record Alone (work : List Task) (k : ℕ) (epoch : List Line) (task : Task) 
 abbrev pub ending : List Task → ℕ → List Line → Status → Option Status
 ending work k epoch served = end_of (failed_in k epoch) (length work) served (walk_of false work k epoch)
 
+-- how far a job is that copies no segments
 abbrev pub IsAt : List Task → ℕ → List Line → Stage → Work → Type 0
+IsAt work k epoch stage.MapPage t = ⊥
+IsAt work k epoch (stage.PageReference m) t = ⊥
+IsAt work k epoch (stage.PageSectors m gref) t = ⊥
+IsAt work k epoch (stage.UnmapPage m) t = ⊥
 IsAt work k epoch stage.Map t = Before work k epoch t.rest t.disk t.moved t.writes × (t.within ≡ first_of t.rest)
 IsAt work k epoch (stage.ReadWord m j) t = Within work k epoch t.rest t.within t.disk t.moved t.writes j 1 m × (j < 128) × (t.writes ≡ true)
 IsAt work k epoch (stage.DiskWrite m) t = Within work k epoch t.rest t.within t.disk t.moved t.writes 128 1 m × (t.writes ≡ true)

@@ -1,8 +1,9 @@
 -- What the back publishes that it serves beside reads and writes (`io/blkif.h`): the lines tell just what its keys say, and as it serves that is the disk that it knows.
-use Rattle.std.proofs.Common.{◌≡◌, ◌≢◌, ℕ, ◌*◌, ◌^◌, ◌&&◌, ◌||◌, not, Bool, true, false, true≢false, if◌then◌else◌, List, [], ◌∷◌, ◌++◌, length, refl, ap, sym, ◌∙◌, subst, append_assoc, append-nil}
+use Rattle.std.proofs.Common.{◌≡◌, ◌≢◌, ℕ, ◌*◌, ◌==◌, ◌^◌, ◌&&◌, ◌||◌, not, Bool, true, false, true≢false, if◌then◌else◌, List, [], ◌∷◌, ◌++◌, length, refl, ap, sym, ◌∙◌, subst, append_assoc, append-nil, arith}
 use Rattle.std.specs.Prelude.{fold, Option, Some, None, is_some}
 use Rattle.std.specs.List.{AllByRecursion}
 use Rattle.std.specs.Str.{bytes_eq}
+use Rattle.std.proofs.lemmas.Bool.Decides.{nat_tests}
 use Rattle.std.proofs.lemmas.List.Sums.{fold-append}
 use Rattle.std.proofs.lemmas.Slice.Eq.{bytes_eq-Decides}
 use Rattle.blk_base.specs.Options.{Options}
@@ -336,9 +337,14 @@ publishes_happens start w h before told p = else_publishes start w h before tt t
 -- as keys say what the back serves, the disk that the lines tell is the one that it publishes
 served_disk : (config : Options) (s : Serving) → says_served s (back_info config) ≡ true → disk_with s (info_of config) ≡ back_info config
 served_disk config s e =
-    let all = each (is_like s.barrier (not config.read_only)) (is_like s.flush (not config.read_only)) (is_like s.discard (not config.read_only)) (is_like s.indirect false) e in
-    rw (alike s.barrier (not config.read_only) all.0, alike s.flush (not config.read_only) all.1, alike s.discard (not config.read_only) all.2, alike s.indirect false all.3) refl
+    let all = each (is_like s.barrier (not config.read_only)) (is_like s.flush (not config.read_only)) (is_like s.discard (not config.read_only)) (is_like s.indirect (not (config.indirect == 0))) e in
+    let most : (if s.indirect then config.indirect else 0) ≡ config.indirect = ap (λ (b : Bool). if b then config.indirect else 0) (alike s.indirect (not (config.indirect == 0)) all.3) ∙ by_none (config.indirect == 0) refl in
+    rw (alike s.barrier (not config.read_only) all.0, alike s.flush (not config.read_only) all.1, alike s.discard (not config.read_only) all.2, most) refl
   where
+    by_none : (b : Bool) → (config.indirect == 0) ≡ b → (if not b then config.indirect else 0) ≡ config.indirect
+    by_none true none = grind (arith, nat_tests)
+    by_none false none = refl
+
     each : (a b c d : Bool) → (a && b && c && d) ≡ true → (a ≡ true) × (b ≡ true) × (c ≡ true) × (d ≡ true)
     each true true true d h = (refl, refl, refl, h)
     each true true false d h = absurd (cc)

@@ -1,5 +1,5 @@
 -- Whatever happens from the start, the back replies only what a job is due, once.
-use Rattle.std.proofs.Common.{◌≡◌, ℕ, ◌*◌, ◌<◌, ◌^◌, ◌||◌, Bool, true, false, if◌then◌else◌, List, [], ◌∷◌, ◌++◌, length, refl, ap, sym, ◌∙◌, subst, append-nil}
+use Rattle.std.proofs.Common.{◌≡◌, ℕ, ◌*◌, ◌<◌, ◌≤◌, ◌^◌, ◌||◌, Bool, true, false, if◌then◌else◌, List, [], ◌∷◌, ◌++◌, length, refl, ap, sym, ◌∙◌, subst, append-nil}
 use Rattle.std.specs.Prelude.{Option, Some, None, is_some}
 use Rattle.std.specs.List.{list_any}
 use Rattle.std.proofs.lemmas.Option.{none-some}
@@ -179,7 +179,7 @@ back_replies config w before o (Some a) e s stand made r =
     let all : AreBystanders (lines_of_back w.back a) = (back_by w.under (ask_of w.back) o a (backs_of w.back) e, told_by new.told a.answer v.halted new.halted c.tells) in
     let go : Aside config before (lines_of_back w.back a) = bystanders_go config (lines_of_back w.back a) before all t.tale t.quiet in
     let grown : entry_values before ++ gone.more ≡ entry_values (before ++ lines_of_back w.back a) = ap (λ (vs : List ℕ). vs ++ gone.more) f.shows.values ∙ (sym gone.grown ∙ sym gone.shows.values) in
-    let finds = λ (runs : is_some v.halted ≡ false). finds_of config before (lines_of_back w.back a) gone.more w.back (back_step.step_of w.back a.answer) f.sight (back_shape w.back a.answer) f.knows all grown go.epoch runs t (record { tale = behind.tale; quiet = behind.quiet; info = behind.info; jobs = behind.jobs; unseen = behind.unseen }) made in
+    let finds = λ (runs : is_some v.halted ≡ false). finds_of config before (lines_of_back w.back a) gone.more w.back (back_step.step_of w.back a.answer) f.sight (back_shape w.back a.answer) f.knows all grown go.epoch runs t (record { tale = behind.tale; quiet = behind.quiet; info = behind.info; room = behind.room; jobs = behind.jobs; unseen = behind.unseen }) made in
     let owes = λ (runs : is_some v.halted ≡ false). same_owes terms (entry_values before ++ gone.more) (entry_values (before ++ lines_of_back w.back a)) (this_epoch before ++ lines_of_back w.back a) (this_epoch (before ++ lines_of_back w.back a)) v.fetched v.jobs.works (r.answered ++ pending_at v.stage r.job) grown (sym go.epoch)
     (owes_aside terms (entry_values before) gone.more (this_epoch before) (lines_of_back w.back a) v.fetched v.jobs.works _ (λ k. bystanders_aside k (lines_of_back w.back a) all) (r.owes runs)) in
     let next : OwesThen terms (entry_values (before ++ lines_of_back w.back a)) (this_epoch (before ++ lines_of_back w.back a)) (answered_then v.stage r.answered r.job v.ring.prod) (back_step.step_of w.back a.answer) = owes_at terms (entry_values (before ++ lines_of_back w.back a)) (this_epoch (before ++ lines_of_back w.back a)) r.answered r.job v.stage w.back f.sight a.answer refl f.knows finds owes in
@@ -321,18 +321,18 @@ all_happens config w h before all few =
 start_replies : (config : Options) (detail : Detail) → (let w : World = start_of config in Replies config (lines.Begin config detail ∷ []) w.back)
 start_replies config detail = record { answered = []; job = 0; writes = start_writes config detail; owes = λ runs. nothing_owed (terms_of config (back.start_of config)) (entry_values (lines.Begin config detail ∷ [])) (this_epoch (lines.Begin config detail ∷ [])) 0; chosen = record { matched = []; chosen = refl; answers = refl; due = tt; stays = λ k words due. due; row = tt } }
 
-report_all : (config : Options) (detail : Detail) (history : List Happening) → reads_of (report_of config detail history) < 2 ^ 64 → All config (report_of config detail history) (after history (start_of config))
-report_all config detail history few = kept_after (All config) (all_happens config) history (start_of config) (lines.Begin config detail ∷ []) (record { stand = stand_start config detail; made = made_start config detail; replies = start_replies config detail }) few
+report_all : (config : Options) (detail : Detail) (history : List Happening) → config.indirect ≤ 960 → reads_of (report_of config detail history) < 2 ^ 64 → All config (report_of config detail history) (after history (start_of config))
+report_all config detail history room few = kept_after (All config) (all_happens config) history (start_of config) (lines.Begin config detail ∷ []) (record { stand = stand_start config detail room; made = made_start config detail; replies = start_replies config detail }) few
 
-pub report_replies : (config : Options) (detail : Detail) (history : List Happening) → reads_of (report_of config detail history) < 2 ^ 64 → AreReplies (report_of config detail history)
-report_replies config detail history few =
-    let all : All config (report_of config detail history) (after history (start_of config)) = report_all config detail history few in
+pub report_replies : (config : Options) (detail : Detail) (history : List Happening) → config.indirect ≤ 960 → reads_of (report_of config detail history) < 2 ^ 64 → AreReplies (report_of config detail history)
+report_replies config detail history room few =
+    let all : All config (report_of config detail history) (after history (start_of config)) = report_all config detail history room few in
     let replies : Replies config (report_of config detail history) (let w : World = after history (start_of config) in w.back) = all.replies in
     let writes = replies.writes in
     writes.obeys
 
-pub ended_replies : (config : Options) (detail : Detail) (history : List Happening) → reads_of (report_of config detail history) < 2 ^ 64 → AreReplies (ended_report_of config detail history)
-ended_replies config detail history few =
-    let all : All config (report_of config detail history) (after history (start_of config)) = report_all config detail history few in
+pub ended_replies : (config : Options) (detail : Detail) (history : List Happening) → config.indirect ≤ 960 → reads_of (report_of config detail history) < 2 ^ 64 → AreReplies (ended_report_of config detail history)
+ended_replies config detail history room few =
+    let all : All config (report_of config detail history) (after history (start_of config)) = report_all config detail history room few in
     let replies : Replies config (report_of config detail history) (let w : World = after history (start_of config) in w.back) = all.replies in
     end_writes (report_of config detail history) _ replies.answered replies.writes

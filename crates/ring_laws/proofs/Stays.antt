@@ -4,12 +4,10 @@ use Rattle.std.specs.Prelude.{Option, Some, None, is_some, IfSome, IsSomeAnd, sl
 use Rattle.std.specs.List.{filter_map, list_any}
 use Rattle.std.proofs.lemmas.Bool.Decides.{nat_tests}
 use Rattle.std.proofs.lemmas.List.Sums.{fold-append}
-use Rattle.std.proofs.lemmas.List.Elements.{filter_map-append}
 use Rattle.blk_base.specs.declared.ask.BackAnswer.{BackAnswer}
 use Rattle.blk_base.specs.declared.ask.BackAnswer.TheVariants as answers
 use Rattle.blk_base.specs.declared.operation.Status.{Status}
 use Rattle.blk_base.specs.declared.moves.Move.{Move}
-use Rattle.blk_base.specs.declared.moves.Move.TheVariants as moves
 use Rattle.schedule_text.specs.declared.line.Line.{Line}
 use Rattle.schedule_text.specs.declared.line.Line.TheVariants as lines
 use Rattle.report_rules.specs.declared.walk.Spot.{Spot}
@@ -29,8 +27,8 @@ use Rattle.report_rules.proofs.Prefixes.{fetched_more}
 use Rattle.blk_back.specs.declared.told.BackTold.{BackTold}
 use Rattle.blk_back.specs.declared.told.BackTold.TheVariants as back_told
 use Rattle.split_model.specs.Shown.{back_lines, effect_line}
-use Rattle.ring_laws.proofs.Lists.{either_false, fold_none, gathered_none}
-use Rattle.ring_laws.proofs.JobLines.{is_of, IsAside, failed_same}
+use Rattle.ring_laws.proofs.Lists.{either_false, fold_none}
+use Rattle.ring_laws.proofs.JobLines.{is_of, IsAside, read_aside, failed_same}
 use Rattle.ring_laws.proofs.Bystanders.{IsRule}
 
 -- a response that is due: what was fetched for the job, and how its work ended
@@ -93,13 +91,6 @@ walk_still p work k epoch ys none =
     fold-append (λ s line. walked p work (job_step k line) s) (Some (spot 0 0 false None)) epoch ys
     ∙ fold_none (λ s line. walked p work (job_step k line) s) (is_of k) (λ s line e. ap (λ (b : Bool). walked p work (if b then move_in line else None) s) e) ys (walk_of p work k epoch) none
 
-unread : (k : ℕ) (line : Line) → is_of k line ≡ false → value_read k line ≡ None
-unread k (lines.Move (moves.Read who number frame word value)) e = rw e refl
-unread k line e = refl
-
-read_still : (k : ℕ) (epoch ys : List Line) → list_any (is_of k) ys ≡ false → filter_map (value_read k) (epoch ++ ys) ≡ filter_map (value_read k) epoch
-read_still k epoch ys none = filter_map-append (value_read k) epoch ys ∙ (ap (λ (vs : List ℕ). filter_map (value_read k) epoch ++ vs) (gathered_none (value_read k) (is_of k) (unread k) ys none) ∙ append-nil (filter_map (value_read k) epoch))
-
 -- how its work ended, by the lines of the epoch
 abbrev status_in : Fetched → ℕ → List Line → Option Status
 status_in f k epoch =
@@ -108,7 +99,7 @@ status_in f k epoch =
 
 status_still : (f : Fetched) (k : ℕ) (epoch ys : List Line) → IsAside k ys → status_in f k (epoch ++ ys) ≡ status_in f k epoch
 status_still f k epoch ys aside =
-    ap (λ (vs : List ℕ). end_of (failed_in k (epoch ++ ys)) (length (work_tasks f.request f.disk f.persistent vs)) (status_by (work_verdict f.request f.disk vs)) (walk_of f.persistent (work_tasks f.request f.disk f.persistent vs) k (epoch ++ ys))) (read_still k epoch ys aside.none)
+    ap (λ (vs : List ℕ). end_of (failed_in k (epoch ++ ys)) (length (work_tasks f.request f.disk f.persistent vs)) (status_by (work_verdict f.request f.disk vs)) (walk_of f.persistent (work_tasks f.request f.disk f.persistent vs) k (epoch ++ ys))) (read_aside k epoch ys aside.none)
     ∙ (ap (λ (b : Bool). end_of b (length work) served (walk_of f.persistent work k (epoch ++ ys))) (failed_same k epoch ys aside)
     ∙ ap (λ (x : Option Spot). end_of (failed_in k epoch) (length work) served x) (walk_still f.persistent work k epoch ys aside.none))
   where

@@ -1,5 +1,5 @@
 -- What the lines tell of the jobs of a back, kept by each move.
-use Rattle.std.proofs.Common.{◌≡◌, ℕ, ◌%◌, ◌^◌, ◌<◌, ◌||◌, Bool, true, false, List, [], ◌∷◌, ◌++◌, refl, ap, sym, ◌∙◌, subst, append_assoc, append-nil, arith}
+use Rattle.std.proofs.Common.{◌≡◌, ℕ, ◌%◌, ◌^◌, ◌<◌, ◌≤◌, ◌||◌, Bool, true, false, List, [], ◌∷◌, ◌++◌, refl, ap, sym, ◌∙◌, subst, append_assoc, append-nil, arith}
 use Rattle.std.specs.Prelude.{None, is_some}
 use Rattle.std.specs.List.{list_any}
 use Rattle.std.proofs.lemmas.List.Folds.{list_any-append}
@@ -29,6 +29,7 @@ pub record Tells (config : Options) (before : List Line) (v : View) : Type 0 whe
   pub tale : Tale config before
   pub quiet : disk_move_shown before ≡ None
   pub info : v.jobs.info ≡ back_info config
+  pub room : config.indirect ≤ 960
   pub jobs : is_some v.halted ≡ false → AreJobs (terms_of config v) (entry_values before) (this_epoch before) v.fetched v.jobs.works
   pub unseen : (k : ℕ) → v.fetched < k → list_any (is_of k) (this_epoch before) ≡ false
 
@@ -60,6 +61,7 @@ tells_aside config before ys v all same t =
       tale = go.tale;
       quiet = go.quiet;
       info = t.info;
+      room = t.room;
       jobs = λ running. same_jobs (terms_of config v) (entry_values before ++ []) (entry_values (before ++ ys)) (this_epoch before ++ ys) (this_epoch (before ++ ys)) v.fetched v.fetched v.jobs.works v.jobs.works (append-nil (entry_values before) ∙ sym same) (sym go.epoch) refl refl
           (jobs_kept (terms_of config v) (entry_values before) [] (this_epoch before) ys v.fetched v.jobs.works (λ k. bystanders_aside k ys all) (t.jobs running));
       unseen = λ k above. let aside = bystanders_aside k ys all in unseen_then k before ys go.epoch (t.unseen k above) aside.none;

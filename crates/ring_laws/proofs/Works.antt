@@ -7,7 +7,9 @@ use Rattle.blk_base.specs.declared.operation.Abi.{Abi}
 use Rattle.ring_words.specs.Shape.{entry_words_of}
 use Rattle.blk_base.specs.declared.operation.Status.{Status}
 use Rattle.schedule_text.specs.declared.line.Line.{Line}
+use Rattle.blk_layout.specs.declared.request.RawRequest.{RawRequest}
 use Rattle.blk_layout.specs.Entry.{request_of}
+use Rattle.segment_list.specs.declared.verdict.DiskInfo.{DiskInfo}
 use Rattle.report_rules.specs.declared.work.Task.{Task}
 use Rattle.report_rules.specs.Job.{words_of_job, id_of}
 use Rattle.back_jobs.specs.declared.stage.Stage.{Stage}
@@ -16,10 +18,11 @@ use Rattle.back_jobs.specs.Jobs.{removed_at}
 use Rattle.back_jobs.proofs.Hands.{IsAmong, place_among}
 use Rattle.blk_back.specs.View.{info_of as back_info}
 use Rattle.ring_laws.proofs.Lists.{AreApart, apart_push, all_first, all_second, all_both, all_more, all_pairs, all_of_map}
-use Rattle.ring_laws.proofs.JobLines.{IsAside}
+use Rattle.ring_laws.proofs.JobLines.{IsAside, read_by, read_aside}
 use Rattle.ring_laws.proofs.Places.{ending_aside}
 use Rattle.ring_laws.proofs.JobMoves.{at_aside}
-use Rattle.ring_laws.proofs.Began.{Terms, entry_ends, none_read, IsPlan, HasCome, serves, over, IsJobOf}
+use Rattle.ring_laws.proofs.Copies.{copying_aside}
+use Rattle.ring_laws.proofs.Began.{Terms, entry_ends, none_read, request_at, IsDue, IsSettled, HasCome, serves, over, reads, IsJobOf}
 
 abbrev pub number_of : Work → ℕ
 number_of t = t.number
@@ -72,9 +75,11 @@ entry_kept abi values more k first read =
     let enough : entry_words_of abi ≤ length (drop ((k - 1) * entry_words_of abi) values) = omega arith in
     ap (λ (l : List ℕ). take size l) (drop-append-le ((k - 1) * size) values more from) ∙ take-append-le size (drop ((k - 1) * size) values) more enough
 
-come_aside : (served : Status) (work : List Task) (k : ℕ) (epoch ys : List Line) (s : Stage) (t : Work) → IsAside k ys → HasCome served work k epoch s t → HasCome served work k (epoch ++ ys) s t
-come_aside served work k epoch ys s t aside (serves okay at) = serves okay (at_aside work k epoch ys s t aside at)
-come_aside served work k epoch ys s t aside (over done ends) = over done (ending_aside work k epoch ys served aside ∙ ends)
+come_aside : (request : RawRequest) (info : DiskInfo) (served : Status) (work : List Task) (k : ℕ) (epoch ys : List Line) (s : Stage) (t : Work) → IsAside k ys → HasCome request info served work k epoch s t → HasCome request info served work k (epoch ++ ys) s t
+come_aside request info served work k epoch ys s t aside (serves settled okay at) =
+    serves (subst (λ (words : List ℕ). IsSettled request info words work served) (sym (read_aside k epoch ys aside.none)) settled) okay (at_aside work k epoch ys s t aside at)
+come_aside request info served work k epoch ys s t aside (over status done ends) = over status done (ending_aside work k epoch ys served aside ∙ ends)
+come_aside request info served work k epoch ys s t aside (reads copying) = reads (copying_aside request info k epoch ys s t aside copying)
 
 -- others' lines leave a job as it is
 pub job_kept : (terms : Terms) (values more : List ℕ) (epoch ys : List Line) (t : Work) → IsAside t.number ys → IsJobOf terms values epoch t → IsJobOf terms (values ++ more) (epoch ++ ys) t
@@ -88,8 +93,10 @@ job_kept terms values more epoch ys t aside j =
       first = j.first;
       read = omega arith;
       id = ap (λ (ws : List ℕ). id_of (request_of terms.abi ws)) kept ∙ j.id;
-      plan = subst (λ (ws : List ℕ). IsPlan (request_of terms.abi ws) (back_info terms.config) j.work j.served t.id t.op) (sym kept) j.plan;
-      at = come_aside j.served j.work t.number epoch ys t.stage t aside j.at;
+      plan = subst (λ (ws : List ℕ). IsDue (request_of terms.abi ws) (back_info terms.config) (read_by t.number (epoch ++ ys)) j.work j.served t.id t.op) (sym kept)
+          (subst (λ (words : List ℕ). IsDue (request_at terms.abi values t.number) (back_info terms.config) words j.work j.served t.id t.op) (sym (read_aside t.number epoch ys aside.none)) j.plan);
+      at = subst (λ (ws : List ℕ). HasCome (request_of terms.abi ws) (back_info terms.config) j.served j.work t.number (epoch ++ ys) t.stage t) (sym kept)
+          (come_aside (request_at terms.abi values t.number) (back_info terms.config) j.served j.work t.number epoch ys t.stage t aside j.at);
     }
 
 -- so it is with all, where the lines are no job's

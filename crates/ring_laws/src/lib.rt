@@ -2,10 +2,11 @@
 //! (`io/ring.h`, `io/blkif.h`): it obeys the rules of `report_rules` on a producer that overran, on
 //! how entries are fetched, on the steps of each job, on the data that they move, on what comes of
 //! each move of the disk and on replies. The machine is the pure function of `split_model`; each law is over
-//! every list of happenings, with any options.
+//! every list of happenings, with any options, but that laws which name jobs have at most 960 segments in
+//! indirect pages.
 #![tactic(auto)]
 
-ghost use Rattle.std.specs.Prelude.{◌<◌, ◌^◌, List, length};
+ghost use Rattle.std.specs.Prelude.{◌<◌, ◌≤◌, ◌^◌, List, length};
 ghost use Rattle.blk_base.specs.Options.{Options};
 ghost use Rattle.schedule_text.specs.declared.line.Detail.{Detail};
 ghost use Rattle.report_rules.specs.Overrun.{IsOverrunRule};
@@ -41,47 +42,58 @@ pub fn the_entries_are_fetched_in_stretches()
 /// The moves of the job of the k-th entry, apart from unmaps, are the first steps of the work of that
 /// entry as its words were read, in order; the words of each segment are touched through the mapping
 /// that the job's own map of it gave, and no step follows a failure of the disk. The numbers of jobs
-/// have 64 bits and begin anew past the last, so the report has fewer than 2^64 lines: that is the
-/// one premise here and in the laws below.
+/// have 64 bits and begin anew past the last, so the report has fewer than 2^64 lines; and the back
+/// takes at most 960 segments in indirect pages, as many as a job has room for: these are the
+/// premises here and in the laws below.
 pub fn the_jobs_do_the_work_of_their_entries()
-    ensures report { (config : Options) (detail : Detail) (history : List Happening) → length (report_of config detail history) < 2 ^ 64
+    ensures report { (config : Options) (detail : Detail) (history : List Happening) → config.indirect ≤ 960
+        → length (report_of config detail history) < 2 ^ 64
         → AreSteps (report_of config detail history) }
-    ensures ended { (config : Options) (detail : Detail) (history : List Happening) → length (report_of config detail history) < 2 ^ 64
+    ensures ended { (config : Options) (detail : Detail) (history : List Happening) → config.indirect ≤ 960
+        → length (report_of config detail history) < 2 ^ 64
         → AreSteps (ended_report_of config detail history) }
 {}
 
 /// Each word that a job writes to the guest is the one that the disk gave for that place.
 pub fn the_data_are_what_the_disk_gave()
-    ensures report { (config : Options) (detail : Detail) (history : List Happening) → length (report_of config detail history) < 2 ^ 64
+    ensures report { (config : Options) (detail : Detail) (history : List Happening) → config.indirect ≤ 960
+        → length (report_of config detail history) < 2 ^ 64
         → AreData (report_of config detail history) }
-    ensures ended { (config : Options) (detail : Detail) (history : List Happening) → length (report_of config detail history) < 2 ^ 64
+    ensures ended { (config : Options) (detail : Detail) (history : List Happening) → config.indirect ≤ 960
+        → length (report_of config detail history) < 2 ^ 64
         → AreData (ended_report_of config detail history) }
 {}
 
 /// Behind each move of the disk stands what came of it, by the request's id and the place in it, and
 /// nowhere else does such a line stand.
 pub fn the_effects_stand_behind_their_moves()
-    ensures report { (config : Options) (detail : Detail) (history : List Happening) → length (report_of config detail history) < 2 ^ 64
+    ensures report { (config : Options) (detail : Detail) (history : List Happening) → config.indirect ≤ 960
+        → length (report_of config detail history) < 2 ^ 64
         → AreEffects (report_of config detail history) }
-    ensures ended { (config : Options) (detail : Detail) (history : List Happening) → length (report_of config detail history) < 2 ^ 64
+    ensures ended { (config : Options) (detail : Detail) (history : List Happening) → config.indirect ≤ 960
+        → length (report_of config detail history) < 2 ^ 64
         → AreEffects (ended_report_of config detail history) }
 {}
 
 /// A fact about this machine that no rule asks for: a job unmaps only what stands and what it mapped
 /// itself.
 pub fn the_jobs_give_up_what_they_mapped()
-    ensures report { (config : Options) (detail : Detail) (history : List Happening) → length (report_of config detail history) < 2 ^ 64
+    ensures report { (config : Options) (detail : Detail) (history : List Happening) → config.indirect ≤ 960
+        → length (report_of config detail history) < 2 ^ 64
         → AreUnmaps (report_of config detail history) }
-    ensures ended { (config : Options) (detail : Detail) (history : List Happening) → length (report_of config detail history) < 2 ^ 64
+    ensures ended { (config : Options) (detail : Detail) (history : List Happening) → config.indirect ≤ 960
+        → length (report_of config detail history) < 2 ^ 64
         → AreUnmaps (ended_report_of config detail history) }
 {}
 
 /// Another such fact: a job reads and writes the guest's memory only through mappings that it made
 /// itself.
 pub fn the_jobs_touch_what_they_mapped()
-    ensures report { (config : Options) (detail : Detail) (history : List Happening) → length (report_of config detail history) < 2 ^ 64
+    ensures report { (config : Options) (detail : Detail) (history : List Happening) → config.indirect ≤ 960
+        → length (report_of config detail history) < 2 ^ 64
         → AreOwn (report_of config detail history) }
-    ensures ended { (config : Options) (detail : Detail) (history : List Happening) → length (report_of config detail history) < 2 ^ 64
+    ensures ended { (config : Options) (detail : Detail) (history : List Happening) → config.indirect ≤ 960
+        → length (report_of config detail history) < 2 ^ 64
         → AreOwn (ended_report_of config detail history) }
 {}
 
@@ -89,9 +101,11 @@ pub fn the_jobs_touch_what_they_mapped()
 /// reply was written and whose response its words are; the reply is written word by word into the
 /// next slot, pushed, and told at once, and then nothing that the job mapped stands.
 pub fn the_replies_are_those_of_the_work()
-    ensures report { (config : Options) (detail : Detail) (history : List Happening) → length (report_of config detail history) < 2 ^ 64
+    ensures report { (config : Options) (detail : Detail) (history : List Happening) → config.indirect ≤ 960
+        → length (report_of config detail history) < 2 ^ 64
         → AreReplies (report_of config detail history) }
-    ensures ended { (config : Options) (detail : Detail) (history : List Happening) → length (report_of config detail history) < 2 ^ 64
+    ensures ended { (config : Options) (detail : Detail) (history : List Happening) → config.indirect ≤ 960
+        → length (report_of config detail history) < 2 ^ 64
         → AreReplies (ended_report_of config detail history) }
 {}
 

@@ -1,6 +1,5 @@
 -- A machine just made, with its first line told, carried out no events.
 use Rattle.std.proofs.Common.{◌<◌, ◌^◌, [], ◌∷◌, refl, arith}
-use Rattle.std.proofs.lemmas.Bool.Decides.{nat_tests}
 use Rattle.blk_base.specs.Options.{Options}
 use Rattle.blk_io.specs.Disk.{DiskSeen}
 use Rattle.schedule_text.specs.declared.line.Detail.{Detail}
@@ -12,15 +11,19 @@ use Rattle.vbd_model.specs.Leads.{moment}
 use Rattle.vbd_model.proofs.Running.{leads_nowhere}
 use Rattle.machine_pipeline.specs.Plain.{IsPlain}
 use Rattle.schedule_run.specs.Outcome.{IsServed, HasCarried, outside}
+use Rattle.schedule_run.specs.Machine.{IsRunning}
+use Rattle.schedule_run.proofs.Counts.{reached_start}
 
--- options that are served: a ring without indirect requests
+-- options that are served: the numbers of their ring and of its requests have their bounds
 pub plain_of : (config : Options) → IsServed config → IsPlain config
 plain_of config served =
-    let carried = served.carried in
     let options = served.options in
     let start : config.start < 2 ^ 32 = options.3 in
     let sectors : config.sectors < 2 ^ 64 = options.4 in
-    record { order = options.0; indirect = grind (arith, nat_tests); start = start; sectors = omega arith }
+    record { order = options.0; indirect = options.2; start = start; sectors = omega arith }
+
+pub running_start : (config : Options) → IsServed config → IsRunning (start_of config) 0
+running_start config served = record { counts = (omega arith, omega arith); reached = reached_start config (plain_of config served) }
 
 pub run_begins : (config : Options) (disk : DiskSeen) (r s : RecorderSeen) → IsServed config → (word : Detail) → Gained (Begin config word ∷ []) r s → HasCarried config [] (outside disk r) (moment (start_of config) disk s)
 run_begins config disk r s served word took = record {

@@ -1,30 +1,23 @@
 -- How many happenings an event makes at most, besides the moves of jobs.
 use Rattle.std.proofs.Common.{◌≡◌, ℕ, zero, suc, ◌+◌, ◌*◌, ◌^◌, ◌≤◌, inl, inr, Bool, true, false, if◌then◌else◌, List, [], ◌∷◌, ◌++◌, length, refl, ap, sym, ◌∙◌, subst, arith, length-append}
 use Rattle.std.specs.Prelude.{replicate, sum_by, Option, Some, None, ◌==◌}
-use Rattle.std.proofs.lemmas.List.Sums.{sum_by-le, sum_by-cons, sum_by-append}
+use Rattle.std.proofs.lemmas.List.Sums.{sum_by-cons, sum_by-append}
 use Rattle.std.proofs.lemmas.Bool.Decides.{nat_tests}
 use Rattle.blk_base.specs.Options.{Options}
 use Rattle.schedule_text.specs.Event.{is_number}
 use Rattle.schedule_text.specs.declared.event.Event.{Event}
 use Rattle.schedule_text.specs.declared.event.Event.TheVariants as events
-use Rattle.blk_front.specs.declared.request.Request.{Request}
-use Rattle.blk_front.specs.declared.stage.Ending.{Ending}
-use Rattle.blk_front.specs.Submit.{unfinished, sectors_owed, ending_of, ending_sectors}
+use Rattle.blk_front.specs.Submit.{unfinished, sectors_owed}
 use Rattle.vbd_model.specs.World.{World, start_of, is_quiet}
 use Rattle.vbd_model.specs.Happening.{Happening, FrontMoves, BackMoves, JobMoves, Settles, happens, after}
 use Rattle.vbd_model.specs.Kind.{is_carried, AreEachJobs, round_start, IsBeginning, IsRoundSoFar, AreRounds, never, settle_bound, most_rounds, AreRoundsSoFar, IsSettling, IsSettlingSoFar, Makes, MakesSoFar, AreOf, AreOfSoFar, AreOfAll}
 use Rattle.vbd_model.proofs.Running.{after-append}
-use Rattle.split_model.proofs.FewFront.{IsShortEnding}
+use Rattle.split_model.proofs.FewFront.{modest_sectors}
 use Rattle.vbd_model.proofs.Tight.{tight_start, tight_after}
 use Rattle.machine_pipeline.specs.Plain.{IsPlain}
+use Rattle.schedule_run.specs.Machine.{IsReached}
 
 -- happenings led to this machine
-pub record IsReached (w : World) : Type 0 where
-  pub config : Options
-  pub history : List Happening
-  pub plain : IsPlain config
-  pub here : w ≡ after history (start_of config)
-
 pub reached_start : (config : Options) → IsPlain config → IsReached (start_of config)
 reached_start config plain = record { config = config; history = []; plain = plain; here = refl }
 
@@ -36,31 +29,22 @@ reached_on w hs r = record {
   here = ap (after hs) r.here ∙ sym (after-append r.history hs (start_of r.config));
 }
 
--- its ring has 512 entries at most, so there are no more unfinished requests, nor sectors that they move
+-- its ring has 512 entries at most, so there are no more unfinished requests, and they move no more sectors than the frames of the pool hold
 record IsFew (w : World) : Type 0 where
   requests : unfinished w.rings.front ≤ 512
-  sectors : sectors_owed w.rings.front ≤ 513 * 88
-
-ending_few : (n : ℕ) (ending : Option Ending) → IsShortEnding ending → (if n == 0 then 0 else ending_sectors ending) ≤ 88
-ending_few n ending short = by_test (n == 0) ending short
-  where
-    by_test : (b : Bool) (e : Option Ending) → IsShortEnding e → (if b then 0 else ending_sectors e) ≤ 88
-    by_test true e small = omega arith
-    by_test false None small = omega arith
-    by_test false (Some e) small = small
+  sectors : sectors_owed w.rings.front ≤ 8000
 
 few_after : (config : Options) (history : List Happening) → IsPlain config → IsFew (after history (start_of config))
 few_after config history plain =
     let w : World = after history (start_of config) in
     let tight = tight_after history (start_of config) (tight_start config plain.order plain.start) in
-    let modest = tight.front in
-    let room = modest.room in
-    let all = sum_by-le (λ (r : Request). r.count) 88 w.rings.front.requests modest.short in
-    let last = ending_few (ending_of w.rings.front.stage) w.rings.front.ending modest.ending in
-    record { requests = room; sectors = omega arith }
+    record { requests = tight.front.room; sectors = modest_sectors w.rings.front tight.front }
 
 few_here : (w : World) → IsReached w → IsFew w
 few_here w r = subst IsFew (sym r.here) (few_after r.config r.history r.plain)
+
+pub reached_sectors : (w : World) → IsReached w → sectors_owed w.rings.front ≤ 8000
+reached_sectors w r = let few = few_here w r in few.sectors
 
 -- what happens besides the moves of jobs
 abbrev pub others_at : Happening → ℕ
@@ -147,6 +131,12 @@ settling_so_far_few w hs r (inr is) = settling_few w hs r is
 
 number_few : (n : ℕ) → is_number n ≡ true → n ≤ 1000000
 number_few n e = grind (arith, nat_tests)
+
+pub back_few : (e : Event) (n : ℕ) → is_carried e ≡ true → e ≡ events.Back n → n ≤ 1000000
+back_few e n carried is = number_few n (subst (λ (x : Event). is_carried x ≡ true) is carried)
+
+pub turn_few : (e : Event) (n : ℕ) → is_carried e ≡ true → e ≡ events.Turn n → n ≤ 1000000
+turn_few e n carried is = number_few n (subst (λ (x : Event). is_carried x ≡ true) is carried)
 
 second_number : (k n : ℕ) → is_carried (events.Job k n) ≡ true → n ≤ 1000000
 second_number k n e = grind (arith, nat_tests)

@@ -374,11 +374,11 @@ all_few (h ∷ hs) w =
     (omega arith, omega arith)
 
 -- So there are numbers for all that happens.
-cost_few : (h : ring.Happening) → cost_of h ≤ 13 * fetches_at h
+cost_few : (h : ring.Happening) → cost_of h ≤ 41 * fetches_at h
 cost_few ring.BackMoves = omega arith
 cost_few h = omega arith
 
-by_fetches : (hs : List ring.Happening) (n : ℕ) (w : rings.World) → mappings_in w ≤ 13 * n → w.back.fetched ≤ n → 13 * (n + fetches_of hs) + 1 < 2 ^ 64 → HaveNumbers hs w
+by_fetches : (hs : List ring.Happening) (n : ℕ) (w : rings.World) → mappings_in w ≤ 41 * n → w.back.fetched ≤ n → 41 * (n + fetches_of hs) + 1 < 2 ^ 64 → HaveNumbers hs w
 by_fetches [] n w made fetched few = tt
 by_fetches (h ∷ hs) n w made fetched few =
     let more = ring_left w h in

@@ -51,6 +51,7 @@ use Rattle.report_laws.specs.Grammar.{IsInGrammar}
 use Rattle.report_laws.specs.Ready.{IsReadyAt}
 use Rattle.report_laws.specs.QuietRing.{IsQuietRing, IsQuietRingAt}
 use Rattle.report_laws.specs.States.{IsAgreedAt, AreStatesAgreed}
+use Rattle.report_laws.specs.Ports.{IsFewPortsAt}
 use Rattle.report_laws.specs.Agreed.{AreAgreed}
 use Rattle.report_laws.proofs.Begun.{report_begun, ended_begun, begun_before}
 use Rattle.report_laws.proofs.Grammar.{report_grammar, ended_grammar}
@@ -58,6 +59,7 @@ use Rattle.report_laws.proofs.Texts.{all_before, grammar_before}
 use Rattle.report_laws.proofs.Ready.{report_ready, ended_ready}
 use Rattle.report_laws.proofs.QuietRing.{report_quiet, ended_quiet}
 use Rattle.report_laws.proofs.States.{report_agreed, ended_agreed}
+use Rattle.report_laws.proofs.FewPorts.{report_ports, ended_ports}
 use Rattle.schedule_run.proofs.Wished.{possible_wished}
 use Rattle.schedule_run.proofs.FewReads.{IsBrief}
 use Rattle.schedule_run.specs.Lawful.{ObeysMoves, ShowsWork, ServesRequests, ServesRequestsSoFar, IsLawful, IsLawfulSoFar}
@@ -102,27 +104,27 @@ ended_shown detail config history plain may same =
     subst (λ (d : Detail). ObeysMoves config.order (kept_of d (ended_report_of config d history))) (sym same) (subst (ObeysMoves config.order) (sym (ended_kept config history)) (ended_moves config history plain may))
 
 -- the work
-whole_work : (config : Options) (history : List Happening) → reads_of (report_of config Moves history) < 2 ^ 64 → ShowsWork (report_of config Moves history)
-whole_work config history few =
-    let obeys = report_rules config Moves history few in
+whole_work : (config : Options) (history : List Happening) → IsPlain config → reads_of (report_of config Moves history) < 2 ^ 64 → ShowsWork (report_of config Moves history)
+whole_work config history plain few =
+    let obeys = report_rules config Moves history plain.indirect few in
     let report = report_of config Moves history in
-    record { steps = steps_of report obeys; data_given = data_of report obeys; effects = effects_of report obeys; unmaps = report_unmaps config Moves history few; own = report_own config Moves history few; replies = report_replies config Moves history few }
+    record { steps = steps_of report obeys; data_given = data_of report obeys; effects = effects_of report obeys; unmaps = report_unmaps config Moves history plain.indirect few; own = report_own config Moves history plain.indirect few; replies = report_replies config Moves history plain.indirect few }
 
-ended_work : (config : Options) (history : List Happening) → reads_of (report_of config Moves history) < 2 ^ 64 → ShowsWork (ended_report_of config Moves history)
-ended_work config history few =
-    let obeys = ended_rules config Moves history few in
+ended_work : (config : Options) (history : List Happening) → IsPlain config → reads_of (report_of config Moves history) < 2 ^ 64 → ShowsWork (ended_report_of config Moves history)
+ended_work config history plain few =
+    let obeys = ended_rules config Moves history plain.indirect few in
     let report = ended_report_of config Moves history in
-    record { steps = steps_of report obeys; data_given = data_of report obeys; effects = effects_of report obeys; unmaps = ended_unmaps config Moves history few; own = ended_own config Moves history few; replies = ended_replies config Moves history few }
+    record { steps = steps_of report obeys; data_given = data_of report obeys; effects = effects_of report obeys; unmaps = ended_unmaps config Moves history plain.indirect few; own = ended_own config Moves history plain.indirect few; replies = ended_replies config Moves history plain.indirect few }
 
-worked : (detail : Detail) (config : Options) (history : List Happening) → detail ≡ Moves → reads_of (report_of config detail history) < 2 ^ 64 → ShowsWork (kept_of detail (report_of config detail history))
-worked detail config history same =
+worked : (detail : Detail) (config : Options) (history : List Happening) → IsPlain config → detail ≡ Moves → reads_of (report_of config detail history) < 2 ^ 64 → ShowsWork (kept_of detail (report_of config detail history))
+worked detail config history plain same =
     subst (λ (d : Detail). reads_of (report_of config d history) < 2 ^ 64 → ShowsWork (kept_of d (report_of config d history))) (sym same)
-    (λ few. subst ShowsWork (sym (report_kept config history)) (whole_work config history few))
+    (λ few. subst ShowsWork (sym (report_kept config history)) (whole_work config history plain few))
 
-ended_worked : (detail : Detail) (config : Options) (history : List Happening) → detail ≡ Moves → reads_of (report_of config detail history) < 2 ^ 64 → ShowsWork (kept_of detail (ended_report_of config detail history))
-ended_worked detail config history same =
+ended_worked : (detail : Detail) (config : Options) (history : List Happening) → IsPlain config → detail ≡ Moves → reads_of (report_of config detail history) < 2 ^ 64 → ShowsWork (kept_of detail (ended_report_of config detail history))
+ended_worked detail config history plain same =
     subst (λ (d : Detail). reads_of (report_of config d history) < 2 ^ 64 → ShowsWork (kept_of d (ended_report_of config d history))) (sym same)
-    (λ few. subst ShowsWork (sym (ended_kept config history)) (ended_work config history few))
+    (λ few. subst ShowsWork (sym (ended_kept config history)) (ended_work config history plain few))
 
 -- of a beginning
 work_before : (report more : List Line) → ShowsWork (report ++ more) → ShowsWork report
@@ -380,8 +382,9 @@ report_lawful config detail history before now h long runs =
       ready = report_ready config detail history h.possible;
       ring = λ moves. subst IsQuietRing (sym same) (report_quiet config detail (honest_history history) h.plain (allowed h) moves);
       agreed = λ moves. subst AreStatesAgreed (sym same) (alike detail config (honest_history history) h.agreed moves);
+      ports = λ moves. report_ports config detail history;
       moves = shown detail config history h.plain h.possible;
-      work = λ moves. worked detail config history moves h.brief.reads;
+      work = λ moves. worked detail config history h.plain moves h.brief.reads;
     }
 
 -- with its last line
@@ -400,8 +403,9 @@ ended_lawful config detail history before now h long runs =
       agreed = λ moves.
           of_part config detail history h AreStatesAgreed (λ all. ended_alike detail config history (subst (λ (hs : List Happening). AreAgreed hs (start_of config)) all h.agreed) moves)
           (alike detail config (honest_history history) h.agreed moves);
+      ports = λ moves. ended_ports config detail history;
       moves = ended_shown detail config history h.plain h.possible;
-      work = λ moves. ended_worked detail config history moves h.brief.reads;
+      work = λ moves. ended_worked detail config history h.plain moves h.brief.reads;
     }
 
 -- and the beginning of one
@@ -421,8 +425,9 @@ begun_lawful config detail history before said rest h all run =
       ready = obeys_before IsReadyAt one other (subst (Obeys IsReadyAt) (sym split) (ended_ready config detail history h.possible));
       ring = λ moves. obeys_before IsQuietRingAt (honest_part one) part.0 (subst (Obeys IsQuietRingAt) (sym part.1) (ended_quiet config detail (honest_history history) h.plain (allowed h) moves));
       agreed = λ moves. obeys_before IsAgreedAt (honest_part one) part.0 (subst (Obeys IsAgreedAt) (sym part.1) (ended_alike detail config (honest_history history) h.agreed moves));
+      ports = λ moves. obeys_before IsFewPortsAt one other (subst (Obeys IsFewPortsAt) (sym split) (ended_ports config detail history));
       moves = λ moves. moves_before config.order one other (subst (ObeysMoves config.order) (sym split) (ended_shown detail config history h.plain h.possible moves));
-      work = λ moves. work_before one other (subst ShowsWork (sym split) (ended_worked detail config history moves h.brief.reads));
+      work = λ moves. work_before one other (subst ShowsWork (sym split) (ended_worked detail config history h.plain moves h.brief.reads));
     }
 
 -- no lines
@@ -451,6 +456,7 @@ nothing_lawful config detail jobs before =
       ready = obeys_none IsReadyAt;
       ring = λ same. obeys_none IsQuietRingAt;
       agreed = λ same. obeys_none IsAgreedAt;
+      ports = λ same. obeys_none IsFewPortsAt;
       moves = λ same. record { coherent = obeys_none _; answered = obeys_none _; touched = obeys_none _; grantable = obeys_none _; overruns = obeys_none _; stretches = obeys_none _; dumps = obeys_none _; layout = obeys_none _ };
       work = λ same. record { steps = obeys_none _; data_given = obeys_none _; effects = obeys_none _; unmaps = obeys_none _; own = obeys_none _; replies = obeys_none _ };
     }

@@ -287,22 +287,22 @@ back_fit w ask seen x b u c d fit said =
 pub halts_as : (w : World) (x b : back_view.View) (before after : Option Halt) → b ≡ back_view.heard x → before ≡ w.rings.back.halted → after ≡ b.ring.halted → halt_lines before after ≡ halt_lines w.rings.back.halted x.ring.halted
 halts_as w x b before after taken first last = rw (first, last, taken) refl
 
-pub back_goes_as : (w : World) (ask : BackAsk) (seen : BackAnswer × Shown) (x b : back_view.View) (u : Hypervisor) (c d : DiskSeen) (lines : List Line) (r s : RecorderSeen) (result : Result (Unit {0}) RecordStop) → IsFit w → BackSaid w ask seen x b u c d → lines ≡ back_lines x.ring.told seen.0 ++ halt_lines w.rings.back.halted x.ring.halted → Adds (Move seen.1 ∷ lines) result r s → Goes (Is (BackMoves ∷ [])) (Is (BackMoves ∷ [])) 13 result (moment w c r) (moment (back_moved w b u) d s)
+pub back_goes_as : (w : World) (ask : BackAsk) (seen : BackAnswer × Shown) (x b : back_view.View) (u : Hypervisor) (c d : DiskSeen) (lines : List Line) (r s : RecorderSeen) (result : Result (Unit {0}) RecordStop) → IsFit w → BackSaid w ask seen x b u c d → lines ≡ back_lines x.ring.told seen.0 ++ halt_lines w.rings.back.halted x.ring.halted → Adds (Move seen.1 ∷ lines) result r s → Goes (Is (BackMoves ∷ [])) (Is (BackMoves ∷ [])) 41 result (moment w c r) (moment (back_moved w b u) d s)
 back_goes_as w ask seen x b u c d lines r s result fit said same shown =
     let happened = back_happened w ask seen x b u c d fit said in
     let took = asks_no_disk (backend_of w) ask (outcome_told seen.0) c d said.asked said.disk in
-    goes_here (Is (BackMoves ∷ [])) (Is (BackMoves ∷ [])) 13 BackMoves w (back_moved w b u) c d r s result refl refl
-    happened.0 (subst (λ (v : World). mappings_of v ≤ mappings_of w + 13) (sym happened.0) (back_comes w)) (ap (λ (v : World). v.rings.front.sectors) happened.0 ∙ sectors_kept w BackMoves) (subst (λ (e : DiskSeen). DiskGoes w BackMoves c e) (sym took.1) (happened.2 c))
+    goes_here (Is (BackMoves ∷ [])) (Is (BackMoves ∷ [])) 41 BackMoves w (back_moved w b u) c d r s result refl refl
+    happened.0 (subst (λ (v : World). mappings_of v ≤ mappings_of w + 41) (sym happened.0) (back_comes w)) (ap (λ (v : World). v.rings.front.sectors) happened.0 ∙ sectors_kept w BackMoves) (subst (λ (e : DiskSeen). DiskGoes w BackMoves c e) (sym took.1) (happened.2 c))
     (subst (λ (l : List Line). Adds l result r s) (sym (happened.1 ∙ ap (λ (l : List Line). Move seen.1 ∷ l) (sym same))) shown)
 
 -- it waits, and neither an event nor a watch is pending
-pub back_waits : (w : World) (c : DiskSeen) (r : RecorderSeen) → IsFit w → back_turn w ≡ None → Goes (Is (BackMoves ∷ [])) (Is (BackMoves ∷ [])) 13 (Ok tt) (moment w c r) (moment w c r)
+pub back_waits : (w : World) (c : DiskSeen) (r : RecorderSeen) → IsFit w → back_turn w ≡ None → Goes (Is (BackMoves ∷ [])) (Is (BackMoves ∷ [])) 41 (Ok tt) (moment w c r) (moment w c r)
 back_waits w c r fit none =
     let rests = back_move_none w fit none in
-    goes_here (Is (BackMoves ∷ [])) (Is (BackMoves ∷ [])) 13 BackMoves w w c c r r (Ok tt) refl refl
+    goes_here (Is (BackMoves ∷ [])) (Is (BackMoves ∷ [])) 41 BackMoves w w c c r r (Ok tt) refl refl
     (sym rests.world) (omega arith) refl (rests.disk c) (subst (λ (l : List Line). Gained l r r) (sym rests.lines) (gained_none r))
 
-pub back_rests : (w : World) (ask : BackAsk) (o : Outcome) (u : Hypervisor) (c d : DiskSeen) (r : RecorderSeen) → IsFit w → ask ≡ back.ask_of (backend_of w) → None ≡ back_seen (back_act w.rings.under Back ask o) → u ≡ back_under w.rings.under (back_act w.rings.under Back ask o) → DiskDoes ask o c d → Goes (Is (BackMoves ∷ [])) (Is (BackMoves ∷ [])) 13 (Ok tt) (moment w c r) (moment (record { rings = record { front = w.rings.front; back = w.rings.back; under = u }; front = w.front; back = w.back }) d r)
+pub back_rests : (w : World) (ask : BackAsk) (o : Outcome) (u : Hypervisor) (c d : DiskSeen) (r : RecorderSeen) → IsFit w → ask ≡ back.ask_of (backend_of w) → None ≡ back_seen (back_act w.rings.under Back ask o) → u ≡ back_under w.rings.under (back_act w.rings.under Back ask o) → DiskDoes ask o c d → Goes (Is (BackMoves ∷ [])) (Is (BackMoves ∷ [])) 41 (Ok tt) (moment w c r) (moment (record { rings = record { front = w.rings.front; back = w.rings.back; under = u }; front = w.front; back = w.back }) d r)
 back_rests w ask o u c d r fit asked e under does =
     let took = asks_no_disk (backend_of w) ask o c d asked does in
     let act = back_act w.rings.under Back ask Took in
@@ -341,10 +341,10 @@ front_asked_may w ask fit asked within = subst (FrontMay w.rings.under) (sym ask
 pub front_lacks : (w : World) (u : Hypervisor) (c : DiskSeen) (r : RecorderSeen) → u ≡ w.rings.under → Goes (Is (FrontMoves ∷ [])) (Is (FrontMoves ∷ [])) 0 (Err OutOfMemory) (moment w c r) (moment (record { rings = record { front = w.rings.front; back = w.rings.back; under = u }; front = w.front; back = w.back }) c r)
 front_lacks w u c r same = rw same (goes_lacking (Is (FrontMoves ∷ [])) (Is (FrontMoves ∷ [])) 0 FrontMoves (moment w c r) (moment w c r) refl refl refl refl)
 
-pub back_lacks : (w : World) (u : Hypervisor) (c d : DiskSeen) (r : RecorderSeen) → u ≡ w.rings.under → d ≡ c → Goes (Is (BackMoves ∷ [])) (Is (BackMoves ∷ [])) 13 (Err OutOfMemory) (moment w c r) (moment (record { rings = record { front = w.rings.front; back = w.rings.back; under = u }; front = w.front; back = w.back }) d r)
-back_lacks w u c d r same untouched = rw (same, untouched) (goes_lacking (Is (BackMoves ∷ [])) (Is (BackMoves ∷ [])) 13 BackMoves (moment w c r) (moment w c r) refl refl refl refl)
+pub back_lacks : (w : World) (u : Hypervisor) (c d : DiskSeen) (r : RecorderSeen) → u ≡ w.rings.under → d ≡ c → Goes (Is (BackMoves ∷ [])) (Is (BackMoves ∷ [])) 41 (Err OutOfMemory) (moment w c r) (moment (record { rings = record { front = w.rings.front; back = w.rings.back; under = u }; front = w.front; back = w.back }) d r)
+back_lacks w u c d r same untouched = rw (same, untouched) (goes_lacking (Is (BackMoves ∷ [])) (Is (BackMoves ∷ [])) 41 BackMoves (moment w c r) (moment w c r) refl refl refl refl)
 
-pub back_asked_may : (w v : World) (ask : BackAsk) (attached : Option ℕ) → w ≡ v → IsFit w → ask ≡ back.ask_of (backend_of w) → Names (hands_of w.rings.back) ask → length (hands_of w.rings.back) ≤ 529 → attached ≡ Some v.rings.front.sectors → mappings_of v + 13 < 2 ^ 64 → BackMay w.rings.under attached ask
+pub back_asked_may : (w v : World) (ask : BackAsk) (attached : Option ℕ) → w ≡ v → IsFit w → ask ≡ back.ask_of (backend_of w) → Names (hands_of w.rings.back) ask → length (hands_of w.rings.back) ≤ 529 → attached ≡ Some v.rings.front.sectors → mappings_of v + 41 < 2 ^ 64 → BackMay w.rings.under attached ask
 back_asked_may w v ask attached is fit asked names few disk left =
     let known : attached ≡ Some w.rings.front.sectors = disk ∙ sym (ap (λ (x : World). Some x.rings.front.sectors) is) in
     subst (λ (a : Option ℕ). BackMay w.rings.under a ask) (sym known)

@@ -13,9 +13,9 @@ abbrev pub FrontGoes : Result (Unit {0}) RecordStop → World → World → Reco
 FrontGoes result w v before after =
     (disk : DiskSeen) → Goes (Is (FrontMoves ∷ [])) (Is (FrontMoves ∷ [])) 0 result (moment w disk before) (moment v disk after)
 
--- a move of the back: a mapping of its own at most, and 12 that a job which it begins may come to make
+-- a move of the back: a mapping of its own at most, and 40 that are counted, where it copies a word of an entry, for the job that it begins by that
 abbrev pub BackGoes : Result (Unit {0}) RecordStop → Moment → Moment → Type 0
-BackGoes result a b = Goes (Is (BackMoves ∷ [])) (Is (BackMoves ∷ [])) 13 result a b
+BackGoes result a b = Goes (Is (BackMoves ∷ [])) (Is (BackMoves ∷ [])) 41 result a b
 
 -- a move of the job of a number, whose mappings were counted when it began
 abbrev pub JobGoes : ℕ → Result (Unit {0}) RecordStop → Moment → Moment → Type 0

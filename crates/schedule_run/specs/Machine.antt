@@ -1,6 +1,9 @@
 -- What contracts see of the runner's machine.
-use Rattle.std.specs.Prelude.{ℕ, ◌*◌, ◌^◌, ◌≤◌}
-use Rattle.vbd_model.specs.World.{World}
+use Rattle.std.specs.Prelude.{◌≡◌, ℕ, ◌*◌, ◌^◌, ◌≤◌, List}
+use Rattle.blk_base.specs.Options.{Options}
+use Rattle.machine_pipeline.specs.Plain.{IsPlain}
+use Rattle.vbd_model.specs.World.{World, start_of}
+use Rattle.vbd_model.specs.Happening.{Happening, after}
 use Rattle.vbd_model.specs.Mappings.{mappings_of}
 
 -- the machine, and how many events it carried out
@@ -11,3 +14,15 @@ pub record Run : Type 0 where
 -- each event so far made fewer mappings than that, also with those that the jobs held may come to make, and there are fewer events than make a number overflow
 abbrev pub HasSmallCounts : World → ℕ → Type 0
 HasSmallCounts w events = (mappings_of w ≤ events * 10 ^ 10) × (events ≤ 10 ^ 9)
+
+-- happenings led to this machine, from options whose numbers have their bounds
+pub record IsReached (w : World) : Type 0 where
+  pub config : Options
+  pub history : List Happening
+  pub plain : IsPlain config
+  pub here : w ≡ after history (start_of config)
+
+-- what is true of the runner's machine
+pub record IsRunning (w : World) (events : ℕ) : Type 0 where
+  pub counts : HasSmallCounts w events
+  pub reached : IsReached w

@@ -25,14 +25,13 @@ pub struct Machine {
 }
 
 impl Model for Machine {
-    ghost use Rattle.std.specs.Prelude.{◌≤◌, ◌*◌, ◌^◌};
-    ghost use Rattle.schedule_run.specs.Machine.{Run, HasSmallCounts};
+    ghost use Rattle.schedule_run.specs.Machine.{Run, IsRunning};
 
     ghost Value = { Run };
 
     ghost view = { λ m. record { world = m.split; events = m.events } };
 
-    ghost invariant = { λ m. HasSmallCounts m.split m.events };
+    ghost invariant = { λ m. IsRunning m.split m.events };
 }
 
 impl Machine {
@@ -125,11 +124,12 @@ impl Machine {
 }
 
 /// Whether options are ones that the machine serves yet: either layout, a ring of 1 to 16 pages from
-/// any start, and a disk of any size, read-only or not, without persistent grants or indirect pages.
+/// any start, indirect requests of up to 960 segments, and a disk of any size, read-only or not, without
+/// persistent grants.
 pub fn can_serve(config: &Config) -> bool
     ensures { result ≡ are_carried config.now }
 {
-    config.persistent == 0 && config.indirect == 0
+    config.persistent == 0 && config.indirect <= 960
 }
 
 /// Whether an event is one that the machine carries out yet, with the numbers of the grammar: a

@@ -144,7 +144,7 @@ impl Split {
         disk: &mut D,
         recorder: &mut R,
     ) -> Result<(), RecordStop>
-        requires { IsReadyFor 13 self.old (D.seen disk.old) }
+        requires { IsReadyFor 41 self.old (D.seen disk.old) }
         ensures { BackGoes result
             (moment self.old (D.seen disk.old) (R.seen recorder.old))
             (moment self.new (D.seen disk.new) (R.seen recorder.new)) }
@@ -162,7 +162,7 @@ impl Split {
         disk: &mut D,
         recorder: &mut R,
     ) -> Result<(), RecordStop>
-        requires { IsReadyFor 13 self.old (D.seen disk.old) }
+        requires { IsReadyFor 41 self.old (D.seen disk.old) }
         ensures { BackGoes result
             (moment self.old (D.seen disk.old) (R.seen recorder.old))
             (moment self.new (D.seen disk.new) (R.seen recorder.new)) }

@@ -1,5 +1,5 @@
 -- The back takes the terms of its front, with the line of the key that it reads; or nothing happens.
-use Rattle.std.proofs.Common.{◌≡◌, ℕ, Bool, true, false, true≢false, ◌&&◌, if◌then◌else◌, List, [], ◌∷◌, refl, sym, ◌∙◌}
+use Rattle.std.proofs.Common.{◌≡◌, ℕ, Bool, true, false, true≢false, ◌&&◌, if◌then◌else◌, List, [], ◌∷◌, refl, sym}
 use Rattle.std.specs.List.{AllByRecursion}
 use Rattle.ring_words.specs.Shape.{Shape}
 use Rattle.schedule_text.specs.declared.line.Line.{Line}

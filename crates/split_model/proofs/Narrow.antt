@@ -1,17 +1,16 @@
 -- The front's ring never gets more pages than it wished.
 use Rattle.std.proofs.Common.{◌≡◌, ℕ, ◌+◌, ◌≤◌, ◌&&◌, Bool, true, false, not, if◌then◌else◌, List, [], ◌∷◌, refl, ap, arith}
-use Rattle.std.specs.Prelude.{Option, Some, None, Result, Ok, Err, nat_lt, nat_le, ◌==◌}
+use Rattle.std.specs.Prelude.{Option, Some, None, Result, Err, nat_lt, nat_le, ◌==◌}
 use Rattle.blk_base.specs.declared.config.Job.{Job}
 use Rattle.ring_words.specs.Shape.{Shape, entries_of}
-use Rattle.hypervisor.specs.Act.{FrontAct, BackAct, Outcome}
-use Rattle.blk_front.specs.declared.state.FrontState.{FrontState}
+use Rattle.hypervisor.specs.Act.{FrontAct, BackAct}
 use Rattle.blk_front.specs.declared.told.Refusal.{Refusal}
 use Rattle.blk_front.specs.declared.told.Refusal.TheVariants as refusal
 use Rattle.blk_front.specs.declared.request.Wish.{Wish}
 use Rattle.blk_front.specs.Pool.{taking}
 use Rattle.blk_front.specs.Request.{is_write, named_of, frames_for}
 use Rattle.blk_front.specs.View.{View}
-use Rattle.blk_front.specs.Submit.{is_ready, unfinished, wish_of, submit_with, submit_one, submit_of}
+use Rattle.blk_front.specs.Submit.{is_ready, unfinished, wish_of, most_segments, frames_taken, submit_with, submit_one, submit_of}
 use Rattle.split_model.specs.World.{World}
 use Rattle.split_model.specs.Happening.{Happening, FrontMoves, BackMoves, JobMoves, Negotiates, FrontEnters, BackAttaches, BackHalts, Submits, Notifies, Pokes, Dumps, Looks, Settles, happens, after, front_after, back_after, job_after, front_turn, back_turn, job_turn}
 use Rattle.hypervisor.specs.Act.{Took}
@@ -29,12 +28,12 @@ with_frames v wish (Some taken) = refl
 wish_shape : (v : View) (wish : Option Wish) → (submit_one v wish).1.shape ≡ v.shape
 wish_shape v None = refl
 wish_shape v (Some wish) =
-    let frames = taking (frames_for wish.count) v.pool [] in
+    let frames = taking (frames_taken wish.count) v.pool [] in
     let unless_full = if nat_le (entries_of v.shape.order) (unfinished v) then (Err refusal.Full, v) else submit_with v wish frames in
-    let unless_long = if nat_lt 11 (frames_for wish.count) then (Err refusal.Long, v) else unless_full in
+    let unless_long = if nat_lt (most_segments v.offers wish.transfer) (frames_for wish.count) then (Err refusal.Long, v) else unless_full in
     either (is_write wish.transfer && v.read_only) (Err refusal.ReadOnly, v) (if nat_lt v.sectors (wish.sector + named_of wish.transfer wish.count) then (Err refusal.Range, v) else unless_long) v.shape refl
     (either (nat_lt v.sectors (wish.sector + named_of wish.transfer wish.count)) (Err refusal.Range, v) unless_long v.shape refl
-    (either (nat_lt 11 (frames_for wish.count)) (Err refusal.Long, v) unless_full v.shape refl
+    (either (nat_lt (most_segments v.offers wish.transfer) (frames_for wish.count)) (Err refusal.Long, v) unless_full v.shape refl
     (either (nat_le (entries_of v.shape.order) (unfinished v)) (Err refusal.Full, v) (submit_with v wish frames) v.shape refl (with_frames v wish frames))))
 
 -- a submission leaves the shape

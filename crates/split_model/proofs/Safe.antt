@@ -13,7 +13,6 @@ use Rattle.blk_base.specs.declared.ask.FrontAsk.{FrontAsk}
 use Rattle.blk_base.specs.declared.ask.FrontAsk.TheVariants as front_ask
 use Rattle.blk_base.specs.declared.ask.BackAsk.{BackAsk}
 use Rattle.blk_base.specs.declared.ask.BackAsk.TheVariants as back_ask
-use Rattle.blk_base.specs.declared.ask.BackAnswer.TheVariants as back_answer
 use Rattle.blk_base.specs.declared.moves.BackMover.{BackMover}
 use Rattle.blk_base.specs.declared.moves.BackMover.TheVariants as back_mover
 use Rattle.grant_table.specs.declared.held.Held.{Held}
@@ -32,7 +31,6 @@ use Rattle.blk_front.specs.Ask as front_ends
 use Rattle.back_jobs.specs.Hands.{Names}
 use Rattle.back_jobs.specs.Sound.{StaysInPageAndDisk}
 use Rattle.blk_back.specs.declared.stage.Stage.{Stage as BackStage}
-use Rattle.blk_back.specs.declared.stage.Stage.TheVariants as back_stage
 use Rattle.blk_back.specs.declared.told.Halt.{Halt}
 use Rattle.blk_back.specs.View as back
 use Rattle.blk_back.specs.Ask as back_ends
@@ -45,7 +43,7 @@ use Rattle.split_model.specs.World.{World, start_of}
 use Rattle.split_model.proofs.Overwriting.{poke_cases}
 use Rattle.split_model.specs.Happening.{Happening, FrontMoves, BackMoves, JobMoves, Negotiates, FrontEnters, BackAttaches, BackHalts, Submits, Notifies, Pokes, Dumps, Looks, Settles, happens, after, front_after, back_after, job_after, front_turn, back_turn, job_turn, other_end}
 use Rattle.split_model.specs.Safe.{AreHeld, IsPorted, IsSafe}
-use Rattle.split_model.proofs.SafeActs.{of_back, of_read, of_disk, held_after, made_front, IsBackKeyAct, back_wait, back_keys, back_key_channels}
+use Rattle.split_model.proofs.SafeActs.{of_back, of_read, of_disk, held_after, made_front, back_wait, back_keys, back_key_channels}
 use Rattle.split_model.proofs.SafeAnswers.{IsFronts, IsBacks, IsJobs, fronts_at, backs_of, jobs_of, back_answered, job_answered}
 use Rattle.split_model.proofs.States.{halts_cases}
 use Rattle.split_model.proofs.Shapes.{attaches_waiting}

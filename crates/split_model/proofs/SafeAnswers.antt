@@ -27,6 +27,7 @@ use Rattle.blk_front.specs.declared.request.Transfer.{Transfer}
 use Rattle.blk_front.specs.declared.request.Transfer.TheVariants as transfer
 use Rattle.blk_front.specs.declared.stage.Stage.{Stage as FrontStage}
 use Rattle.blk_front.specs.declared.stage.Stage.TheVariants as front_stage
+use Rattle.blk_front.specs.Request.{is_indirect}
 use Rattle.blk_front.specs.View as front
 use Rattle.blk_front.specs.Ask as front_ends
 use Rattle.back_jobs.specs.declared.stage.Stage.{Stage as JobStage}
@@ -55,7 +56,7 @@ either_fronts c true x y p q = p
 either_fronts c false x y p q = q
 
 issue_fronts : (c : ChannelState) (v : front.View) (r : Request) (way : Transfer) → IsFronts c (front_ends.issue_ask v r way)
-issue_fronts c v r transfer.Read = tt
+issue_fronts c v r transfer.Read = either_fronts c (is_indirect r.count) (front_ends.page_ask (Some r) 0) (front_ends.name_ask (Some r) 0) tt tt
 issue_fronts c v r (transfer.Write tag) = tt
 issue_fronts c v r (transfer.Barrier tag) = tt
 issue_fronts c v r transfer.Flush = tt
@@ -68,6 +69,10 @@ loop_fronts c v None = either_fronts c (v.asleep || front_ends.is_through v) fro
 issue_data_fronts : (c : ChannelState) (r : Option Request) (n : ℕ) → IsFronts c (front_ends.data_ask r n)
 issue_data_fronts c None n = tt
 issue_data_fronts c (Some r) n = tt
+
+page_fronts : (c : ChannelState) (r : Option Request) (n : ℕ) → IsFronts c (front_ends.page_ask r n)
+page_fronts c None n = tt
+page_fronts c (Some r) n = tt
 
 name_fronts : (c : ChannelState) (r : Option Request) (place : ℕ) → IsFronts c (front_ends.name_ask r place)
 name_fronts c None place = tt
@@ -98,6 +103,7 @@ fronts_at c (front_stage.RingFrame page) v ported = tt
 fronts_at c (front_stage.RingFence page) v ported = tt
 fronts_at c (front_stage.RingFlags page) v ported = tt
 fronts_at c (front_stage.Data n) v ported = issue_data_fronts c (front.next_request v) n
+fronts_at c (front_stage.Pages n) v ported = page_fronts c (front.next_request v) n
 fronts_at c (front_stage.GrantFrame place) v ported = name_fronts c (front.next_request v) place
 fronts_at c (front_stage.GrantFence place) v ported = tt
 fronts_at c (front_stage.GrantFlags place) v ported = grant_fronts c (front.next_request v) place
@@ -261,7 +267,15 @@ map_jobs : (rest : List Segment) (writes : Bool) → IsJobs (task.map_ask rest w
 map_jobs [] writes = tt
 map_jobs (s ∷ rest) writes = tt
 
+page_jobs : (pages : List ℕ) → IsJobs (task.page_ask pages)
+page_jobs [] = tt
+page_jobs (gref ∷ pages) = tt
+
 jobs_at : (s : JobStage) (t : task.Work) → IsJobs (task.ask_at s t)
+jobs_at job_stage.MapPage t = page_jobs t.pages
+jobs_at (job_stage.PageReference m) t = tt
+jobs_at (job_stage.PageSectors m gref) t = tt
+jobs_at (job_stage.UnmapPage m) t = tt
 jobs_at job_stage.Map t = map_jobs t.rest t.writes
 jobs_at (job_stage.ReadWord m k) t = tt
 jobs_at (job_stage.DiskWrite m) t = tt

@@ -25,12 +25,12 @@ use Rattle.blk_front.specs.declared.told.Refusal.TheVariants as refusal
 use Rattle.blk_front.specs.declared.request.Wish.{Wish}
 use Rattle.blk_front.specs.declared.told.Told.TheVariants as told
 use Rattle.blk_front.specs.Pool.{taking}
-use Rattle.blk_front.specs.Request.{is_write, named_of, has_data, words_in, frames_for}
+use Rattle.blk_front.specs.Request.{is_write, named_of, has_data, words_in, frames_for, is_indirect, naming_words}
 use Rattle.blk_front.specs.View.{View, next_request}
 use Rattle.blk_front.specs.Ask.{ask_at}
-use Rattle.blk_front.specs.Step.{at, broken, looked, begun, data_stage, granted, loop_step, issued, response_at, is_mapped, ring_left, ended, revoked, sector_told, data_step, step_at, step_of}
+use Rattle.blk_front.specs.Step.{at, broken, looked, begun, after_data, data_stage, page_stage, granted, loop_step, issued, response_at, is_mapped, ring_left, ended, revoked, sector_told, data_step, step_at, step_of}
 use Rattle.blk_front.specs.State.{in_state, enters}
-use Rattle.blk_front.specs.Submit.{is_ready, unfinished, wish_of, submit_with, submit_one, submit_of}
+use Rattle.blk_front.specs.Submit.{is_ready, unfinished, wish_of, most_segments, frames_taken, submit_with, submit_one, submit_of}
 use Rattle.split_model.specs.Safe.{IsPorted}
 use Rattle.split_model.proofs.SafeActs.{of_front}
 use Rattle.split_model.proofs.States.{enters_cases}
@@ -69,7 +69,7 @@ looked_fits v word otherwise c h =
     (either (word == v.ring.cons) otherwise (record v { seen = word; stage = stage.Loop }) v.sectors c h (tt, refl))
 
 begun_fits : (v : View) (r : Request) (way : Transfer) (c : ChannelState) → Fits v.sectors c (begun v r way)
-begun_fits v r transfer.Read c = (tt, refl)
+begun_fits v r transfer.Read c = (either_stage (is_indirect r.count) (stage.Pages 1) (stage.GrantFence 0) c tt tt, refl)
 begun_fits v r (transfer.Write tag) c = (tt, refl)
 begun_fits v r (transfer.Barrier tag) c = (tt, refl)
 begun_fits v r transfer.Flush c = (tt, refl)
@@ -77,7 +77,11 @@ begun_fits v r (transfer.Discard sectors) c = (tt, refl)
 
 data_stage_fits : (r : Option Request) (n : ℕ) (c : ChannelState) → IsPorted (data_stage r n) c
 data_stage_fits None n c = tt
-data_stage_fits (Some r) n c = either_stage (nat_lt (n + 1) (words_in r)) (stage.Data (n + 1)) (stage.GrantFrame 0) c tt tt
+data_stage_fits (Some r) n c = either_stage (nat_lt (n + 1) (words_in r)) (stage.Data (n + 1)) (after_data r) c tt (either_stage (is_indirect r.count) (stage.Pages 0) (stage.GrantFrame 0) c tt tt)
+
+page_stage_fits : (r : Option Request) (n : ℕ) (c : ChannelState) → IsPorted (page_stage r n) c
+page_stage_fits None n c = tt
+page_stage_fits (Some r) n c = either_stage (nat_lt (n + 1) (naming_words r)) (stage.Pages (n + 1)) (stage.GrantFrame 0) c tt tt
 
 granted_fits : (v : View) (r : Option Request) (place : ℕ) (c : ChannelState) → v.stage ≡ stage.GrantFlags place → Fits v.sectors c (granted r place v)
 granted_fits v None place c here = stays (stage.GrantFlags place) v c here tt
@@ -123,6 +127,7 @@ step_fits_at (stage.RingFlags page) v x c here p = (either_stage (nat_lt (page +
 step_fits_at stage.NewPort v x c here p = (tt, refl)
 step_fits_at stage.Loop v x c here p = loop_fits v (next_request v) x c here
 step_fits_at (stage.Data n) v x c here p = (data_stage_fits (next_request v) n c, refl)
+step_fits_at (stage.Pages n) v x c here p = (page_stage_fits (next_request v) n c, refl)
 step_fits_at (stage.GrantFrame place) v x c here p = (tt, refl)
 step_fits_at (stage.GrantFence place) v x c here p = (tt, refl)
 step_fits_at (stage.GrantFlags place) v x c here p = granted_fits v (next_request v) place c here
@@ -196,12 +201,12 @@ submit_with_frames v wish (Some taken) = record { stage = refl; sectors = refl; 
 submit_wish : (v : View) (wish : Option Wish) → IsUndisturbed v (submit_one v wish).1
 submit_wish v None = undisturbed v
 submit_wish v (Some wish) =
-    let frames = taking (frames_for wish.count) v.pool [] in
+    let frames = taking (frames_taken wish.count) v.pool [] in
     let unless_full = if nat_le (entries_of v.shape.order) (unfinished v) then (Err refusal.Full, v) else submit_with v wish frames in
-    let unless_long = if nat_lt 11 (frames_for wish.count) then (Err refusal.Long, v) else unless_full in
+    let unless_long = if nat_lt (most_segments v.offers wish.transfer) (frames_for wish.count) then (Err refusal.Long, v) else unless_full in
     either_submit (is_write wish.transfer && v.read_only) v (Err refusal.ReadOnly, v) (if nat_lt v.sectors (wish.sector + named_of wish.transfer wish.count) then (Err refusal.Range, v) else unless_long) (undisturbed v)
     (either_submit (nat_lt v.sectors (wish.sector + named_of wish.transfer wish.count)) v (Err refusal.Range, v) unless_long (undisturbed v)
-    (either_submit (nat_lt 11 (frames_for wish.count)) v (Err refusal.Long, v) unless_full (undisturbed v)
+    (either_submit (nat_lt (most_segments v.offers wish.transfer) (frames_for wish.count)) v (Err refusal.Long, v) unless_full (undisturbed v)
     (either_submit (nat_le (entries_of v.shape.order) (unfinished v)) v (Err refusal.Full, v) (submit_with v wish frames) (undisturbed v) (submit_with_frames v wish frames))))
 
 pub submit_kept : (v : View) (job : Job) → IsUndisturbed v (submit_of v job).1

@@ -1,12 +1,13 @@
 -- The jobs keep their numbers, and each is passed once in a round.
 use Rattle.std.proofs.Common.{◌≡◌, ℕ, ◌+◌, ◌<◌, ◌≤◌, Bool, true, false, if◌then◌else◌, cond, List, [], ◌∷◌, ◌++◌, length, refl, sym, ap, ◌∙◌, arith}
-use Rattle.std.specs.Prelude.{Option, Some, None, is_some, find, nat_lt, ◌==◌}
+use Rattle.std.specs.Prelude.{Option, Some, None, is_some, find, nat_lt, ◌==◌, drop}
 use Rattle.std.specs.List.{sum_by}
 use Rattle.std.specs.Option.{option_map}
 use Rattle.std.proofs.lemmas.Bool.Decides.{nat_tests}
 use Rattle.std.proofs.lemmas.Option.{none-some, same_Some}
 use Rattle.std.proofs.lemmas.List.Sums.{sum_by-cons, sum_by-append, sum_by-le-sum_by, count_by-le-length}
 use Rattle.blk_base.specs.declared.parts.Mapping.{Mapping}
+use Rattle.blk_base.specs.declared.operation.Status.TheVariants.{Error}
 use Rattle.blk_base.specs.declared.ask.BackAnswer.{BackAnswer}
 use Rattle.blk_base.specs.declared.ask.BackAnswer.TheVariants as answer
 use Rattle.blk_layout.specs.declared.segment.Segment.{Segment}
@@ -36,7 +37,18 @@ segment_number : (t : Work) (rest : List Segment) → (task.next_segment t rest)
 segment_number t [] = refl
 segment_number t (s ∷ rest) = refl
 
+judged_number : (t : Work) → (task.judged t).number ≡ t.number
+judged_number t = either_number (task.passes t) (record t { within = task.first_of t.rest; stage = job_stage.Map }) (record t { stage = job_stage.Done Error }) t.number refl refl
+
+page_number : (t : Work) → (task.page_done t).number ≡ t.number
+page_number t = either_number (length t.rest == t.named) (task.judged t) (record t { pages = drop 1 t.pages; stage = job_stage.MapPage }) t.number (judged_number t) refl
+
 number_at : (s : JobStage) (t : Work) (a : BackAnswer) → (task.step_at s t a).number ≡ t.number
+number_at job_stage.MapPage t (answer.Mapped m) = refl
+number_at job_stage.MapPage t (answer.MapRefused status) = refl
+number_at (job_stage.PageReference m) t (answer.Word word) = refl
+number_at (job_stage.PageSectors m gref) t (answer.Word word) = refl
+number_at (job_stage.UnmapPage m) t answer.Done = page_number t
 number_at job_stage.Map t (answer.Mapped m) = refl
 number_at job_stage.Map t (answer.MapRefused status) = refl
 number_at (job_stage.ReadWord m k) t (answer.Word word) = refl

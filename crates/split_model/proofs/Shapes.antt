@@ -1,17 +1,16 @@
 -- The shape of the ring, as each end has it: a step leaves it as it is.
-use Rattle.std.proofs.Common.{◌≡◌, ℕ, ◌+◌, ◌*◌, ◌/◌, ◌%◌, ◌^◌, ◌<◌, ◌≤◌, ◌&&◌, Bool, true, false, true≢false, if◌then◌else◌, List, ◌∷◌, [], ◌++◌, length, refl, sym, ap, ◌∙◌, arith}
+use Rattle.std.proofs.Common.{◌≡◌, ℕ, ◌+◌, ◌*◌, ◌/◌, ◌%◌, ◌^◌, ◌≤◌, ◌&&◌, Bool, true, false, true≢false, if◌then◌else◌, List, ◌∷◌, [], ◌++◌, length, refl, sym, arith}
 use Rattle.std.specs.Prelude.{Option, Some, None, Result, Ok, Err, nat_lt, nat_le, ◌==◌}
 use Rattle.std.proofs.Math.Nat.{pow-le-pow_right}
 use Rattle.std.proofs.lemmas.Bool.Decides.{nat_tests}
 use Rattle.blk_base.specs.Distance.{distance_of}
-use Rattle.blk_base.specs.declared.operation.Status.{Status}
 use Rattle.blk_base.specs.declared.ask.FrontAnswer.{FrontAnswer}
 use Rattle.blk_base.specs.declared.ask.FrontAnswer.TheVariants as answer
 use Rattle.blk_base.specs.declared.ask.BackAnswer.{BackAnswer}
 use Rattle.blk_base.specs.declared.ask.BackAnswer.TheVariants as back_answer
 use Rattle.blk_layout.specs.declared.response.Response.{Response}
 use Rattle.blk_layout.specs.Response.{response_of}
-use Rattle.ring_words.specs.Ring.{responses_of, requests_of, overruns, next_of}
+use Rattle.ring_words.specs.Ring.{responses_of, requests_of, overruns}
 use Rattle.ring_words.specs.Shape.{Shape, entries_of, entry_words_of}
 use Rattle.blk_front.specs.declared.stage.Stage.{Stage}
 use Rattle.blk_front.specs.declared.stage.Stage.TheVariants as stage
@@ -98,6 +97,7 @@ front_shape (stage.RingFence page) v x = refl
 front_shape (stage.RingFlags page) v x = refl
 front_shape stage.NewPort v x = refl
 front_shape (stage.Data n) v x = refl
+front_shape (stage.Pages n) v x = refl
 front_shape (stage.GrantFrame place) v x = refl
 front_shape (stage.GrantFence place) v x = refl
 front_shape (stage.Slot k) v x = refl

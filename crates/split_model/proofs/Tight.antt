@@ -20,13 +20,13 @@ pub record IsTight (w : World) : Type 0 where
 
 pub tight_start : (config : Options) → config.order ≤ 4 → config.start < 2 ^ 32 → IsTight (start_of config)
 tight_start config narrow small = record {
-  front = record { order = narrow; room = omega arith; short = All-nil IsShort; ending = tt };
+  front = record { order = narrow; room = omega arith; short = All-nil IsShort; ending = tt; size = refl; used = omega arith };
   back = record { entries = omega arith; prod = small; cons = small; room = refl };
 }
 
 -- what an end tells is no part of it
 untold_front : (v : front.View) → IsModest v → IsModest (record v { told = None })
-untold_front v m = record { order = m.order; room = m.room; short = m.short; ending = m.ending }
+untold_front v m = record { order = m.order; room = m.room; short = m.short; ending = m.ending; size = m.size; used = m.used }
 
 untold_back : (v : back.View) → HasRoom v → HasRoom (record v { told = None })
 untold_back v h = record { entries = h.entries; prod = h.prod; cons = h.cons; room = h.room }

@@ -1,5 +1,5 @@
 -- What contracts see of the backend.
-use Rattle.std.specs.Prelude.{Bool, true, false, not, ◌&&◌, None}
+use Rattle.std.specs.Prelude.{ℕ, Bool, true, false, not, ◌&&◌, None}
 use Rattle.blk_base.specs.Options.{Options}
 use Rattle.blk_back.specs.View as ring
 use Rattle.blk_back.specs.Ask.{is_idle as ring_is_idle}
@@ -18,13 +18,13 @@ pub record View : Type 0 where
 abbrev pub both : ring.View → bus.BackView → View
 both r b = record { ring = r; bus = b }
 
--- what this backend offers beside reads and writes: barriers, flushes and discards where the disk may be written, and rings of up to 16 pages
-abbrev pub offer : Bool → Features
-offer read_only = record { barrier = not read_only; flush = not read_only; discard = not read_only; persistent = false; indirect = 0; order = 4 }
+-- what this backend offers beside reads and writes: barriers, flushes and discards where the disk may be written, indirect requests of up to so many segments, and rings of up to 16 pages
+abbrev pub offer : (read_only : Bool) (indirect : ℕ) → Features
+offer read_only indirect = record { barrier = not read_only; flush = not read_only; discard = not read_only; persistent = false; indirect = indirect; order = 4 }
 
 -- a backend that publishes what it offers first
 abbrev pub start_of : Options → View
-start_of config = record { ring = ring.start_of config; bus = bus.start_of (offer config.read_only) (facts_of config) }
+start_of config = record { ring = ring.start_of config; bus = bus.start_of (offer config.read_only config.indirect) (facts_of config) }
 
 -- what is told was taken
 abbrev pub heard : View → View

@@ -21,16 +21,16 @@ use std::marker::Model;
 use xenbus_state::{BackBus, DiskFacts, Features};
 
 // What it offers beside reads and writes: barriers, flushes and discards where the disk may be written,
-// and rings of up to 16 pages.
-fn offer(read_only: bool) -> Features
-    ensures { result ≡ offer read_only }
+// indirect requests of up to so many segments (none where that is 0), and rings of up to 16 pages.
+fn offer(read_only: bool, indirect: u32) -> Features
+    ensures { result ≡ offer read_only indirect }
 {
     Features {
         barrier: !read_only,
         flush: !read_only,
         discard: !read_only,
         persistent: false,
-        indirect: 0,
+        indirect,
         order: 4,
     }
 }
@@ -62,7 +62,10 @@ impl Backend {
         ensures { IfOk result (λ backend. backend ≡ start_of config.now) }
     {
         let ring = Back::new(alloc, config)?;
-        let bus = BackBus::new(offer(config.read_only), DiskFacts::of(config));
+        let bus = BackBus::new(
+            offer(config.read_only, config.indirect),
+            DiskFacts::of(config),
+        );
         let turn = turn_of(&bus, &ring);
         let key = Key::of(&bus.ask());
         Ok(Backend {

@@ -32,7 +32,7 @@ fn backend(alloc: Global) -> Result<Backend, OutOfMemory> {
         abi: Abi::X64,
         order: 0,
         persistent: 0,
-        indirect: 0,
+        indirect: 32,
         start: 0,
         read_only: false,
         sectors: 8,
@@ -141,7 +141,7 @@ fn offer(rt: &impl Abort, backend: &mut Backend) -> Result<(), OutOfMemory> {
         ),
         (
             "/local/domain/0/backend/vbd/1/51712/feature-max-indirect-segments",
-            "0",
+            "32",
         ),
         (
             "/local/domain/0/backend/vbd/1/51712/max-ring-page-order",

@@ -11,14 +11,14 @@ use Rattle.blk_layout.specs.Response.{response_of}
 use Rattle.blk_front.specs.declared.request.Request.{Request}
 use Rattle.blk_front.specs.declared.request.Transfer.{Transfer}
 use Rattle.blk_front.specs.declared.request.Transfer.TheVariants as transfer
-use Rattle.blk_front.specs.Request.{has_data, words_in}
+use Rattle.blk_front.specs.Request.{has_data, words_in, is_indirect, naming_words}
 use Rattle.blk_front.specs.declared.stage.Ending.{Ending}
 use Rattle.blk_front.specs.declared.stage.Stage.{Stage}
 use Rattle.blk_front.specs.declared.stage.Stage.TheVariants as stage
 use Rattle.blk_front.specs.declared.told.Told.TheVariants as told
 use Rattle.blk_front.specs.View.{View, next_request}
 use Rattle.blk_front.specs.Submit.{is_connected}
-use Rattle.blk_front.specs.Step.{broken, looked, begun, entered, data_stage, granted, loop_step, issued, response_at, is_mapped, at, ring_left, finished, ended, revoked, sector_told, data_step, step_at}
+use Rattle.blk_front.specs.Step.{broken, looked, begun, entered, after_data, data_stage, page_stage, granted, loop_step, issued, response_at, is_mapped, at, ring_left, finished, ended, revoked, sector_told, data_step, step_at}
 
 abbrev IsMade : View → Type 0
 IsMade v = is_connected v.stage ≡ true
@@ -37,7 +37,7 @@ looked_stays v word otherwise p =
     (either (word == v.ring.cons) otherwise (record v { seen = word; stage = stage.Loop }) p refl)
 
 begun_stays : (v : View) (r : Request) (way : Transfer) → IsMade (begun v r way)
-begun_stays v r transfer.Read = refl
+begun_stays v r transfer.Read = staged (is_indirect r.count) (stage.Pages 1) (stage.GrantFence 0) refl refl
 begun_stays v r (transfer.Write tag) = refl
 begun_stays v r (transfer.Barrier tag) = refl
 begun_stays v r transfer.Flush = refl
@@ -55,10 +55,14 @@ response_stays v response low None = refl
 response_stays v (Err word) low (Some found) = refl
 response_stays v (Ok response) low (Some found) = either (length found.1.frames.items == 0) _ _ refl refl
 
--- a word of data was written, a frame granted, a grant ended, and a word of data read
+-- a word of data was written, or of an indirect page, a frame granted, a grant ended, and a word of data read
 data_stage_stays : (next : Option Request) (n : ℕ) → is_connected (data_stage next n) ≡ true
 data_stage_stays None n = refl
-data_stage_stays (Some r) n = staged (nat_lt (n + 1) (words_in r)) (stage.Data (n + 1)) (stage.GrantFrame 0) refl refl
+data_stage_stays (Some r) n = staged (nat_lt (n + 1) (words_in r)) (stage.Data (n + 1)) (after_data r) refl (staged (is_indirect r.count) (stage.Pages 0) (stage.GrantFrame 0) refl refl)
+
+page_stage_stays : (next : Option Request) (n : ℕ) → is_connected (page_stage next n) ≡ true
+page_stage_stays None n = refl
+page_stage_stays (Some r) n = staged (nat_lt (n + 1) (naming_words r)) (stage.Pages (n + 1)) (stage.GrantFrame 0) refl refl
 
 granted_stays : (v : View) (next : Option Request) (place : ℕ) → IsMade v → IsMade (granted next place v)
 granted_stays v None place h = h
@@ -84,6 +88,7 @@ stays (stage.RingFence page) v a h c = absurd (cc)
 stays (stage.RingFlags page) v a h c = absurd (cc)
 stays stage.Loop v a h c = loop_stays v (next_request v) a h
 stays (stage.Data n) v a h c = data_stage_stays (next_request v) n
+stays (stage.Pages n) v a h c = page_stage_stays (next_request v) n
 stays (stage.GrantFlags place) v a h c = granted_stays v (next_request v) place h
 stays (stage.Slot k) v a h c = staged (k + 1 == entry_words_of v.shape.abi) stage.Producer (stage.Slot (k + 1)) refl refl
 stays (stage.RequestEvent old) v (answer.Word event) h c = staged (notifies old v.ring.prod event) stage.Send stage.Loop refl refl

@@ -12,6 +12,7 @@ use Rattle.blk_front.specs.declared.request.Transfer.TheVariants as transfer
 use Rattle.blk_front.specs.declared.stage.Ending.{Ending}
 use Rattle.blk_front.specs.declared.stage.Stage.{Stage}
 use Rattle.blk_front.specs.declared.stage.Stage.TheVariants as stage
+use Rattle.blk_front.specs.Request.{is_indirect}
 use Rattle.blk_front.specs.View.{View as Ring, next_request, ring_frame, slot_frame, slot_word}
 use Rattle.blk_front.specs.Ask as ring
 use Rattle.blk_front.specs.Step as step_ring
@@ -60,6 +61,10 @@ data_of_ring : (next : Option Request) (n : ℕ) → IsOfRing (ring.data_ask nex
 data_of_ring None n = tt
 data_of_ring (Some r) n = tt
 
+page_of_ring : (next : Option Request) (n : ℕ) → IsOfRing (ring.page_ask next n)
+page_of_ring None n = tt
+page_of_ring (Some r) n = tt
+
 name_of_ring : (next : Option Request) (place : ℕ) → IsOfRing (ring.name_ask next place)
 name_of_ring None place = tt
 name_of_ring (Some r) place = tt
@@ -83,7 +88,7 @@ read_of_ring (Some e) n = tt
 issue_of_ring : (v : Ring) (r : Request) (way : Transfer) → IsOfRing (ring.issue_ask v r way)
 issue_of_ring v r (transfer.Write tag) = tt
 issue_of_ring v r (transfer.Barrier tag) = tt
-issue_of_ring v r transfer.Read = tt
+issue_of_ring v r transfer.Read = either (is_indirect r.count) (ring.page_ask (Some r) 0) (ring.name_ask (Some r) 0) tt tt
 issue_of_ring v r transfer.Flush = tt
 issue_of_ring v r (transfer.Discard sectors) = tt
 
@@ -96,6 +101,7 @@ loop_of_ring v None =
 of_ring : (s : Stage) (v : Ring) → IsOfRing (ring.ask_at s v)
 of_ring stage.Loop v = loop_of_ring v (next_request v)
 of_ring (stage.Data n) v = data_of_ring (next_request v) n
+of_ring (stage.Pages n) v = page_of_ring (next_request v) n
 of_ring (stage.GrantFrame place) v = name_of_ring (next_request v) place
 of_ring (stage.GrantFlags place) v = grant_of_ring (next_request v) place
 of_ring (stage.GrantRead place) v = revoke_of_ring v.ending place

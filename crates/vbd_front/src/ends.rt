@@ -194,7 +194,7 @@ impl Ends {
         ensures requests { result.0 ≡ unfinished self.now.ring }
         ensures sectors { result.1 ≡ sectors_owed self.now.ring }
         ensures few { result.0 ≤ 512 }
-        ensures short { result.1 ≤ 45144 }
+        ensures short { result.1 ≤ 3939840 }
     {
         self.ring.owed()
     }

@@ -23,7 +23,8 @@ pub fn tell(bus: &mut FrontBus, idle: bool, answer: &FrontAnswer) -> Option<Fron
     news
 }
 
-/// What the back serves beside reads and writes, as the negotiation read it.
+/// What the back serves beside reads and writes, and how many segments it takes in indirect pages, as
+/// the negotiation read it.
 pub fn offers(bus: &FrontBus) -> Offers
     ensures { result ≡ offers_of bus.now }
 {
@@ -32,6 +33,7 @@ pub fn offers(bus: &FrontBus) -> Offers
         barrier: features.barrier,
         flush: features.flush,
         discard: features.discard,
+        indirect: features.indirect,
     }
 }
 

@@ -1,5 +1,5 @@
 -- The machine is fit at the start and stays so.
-use Rattle.std.proofs.Common.{◌≡◌, ℕ, ◌+◌, Bool, true, false, true≢false, not, ◌&&◌, if◌then◌else◌, List, [], ◌∷◌, length, refl, sym, ap, ◌∙◌, subst}
+use Rattle.std.proofs.Common.{◌≡◌, ℕ, ◌+◌, ◌≤◌, Bool, true, false, true≢false, not, ◌&&◌, if◌then◌else◌, List, [], ◌∷◌, length, refl, sym, ap, ◌∙◌, subst}
 use Rattle.std.specs.Prelude.{Option, Some, None, Result, Err, nat_lt, nat_le, ◌==◌}
 use Rattle.blk_base.specs.Options.{Options}
 use Rattle.blk_base.specs.declared.config.Job.{Job}
@@ -19,7 +19,7 @@ use Rattle.blk_front.specs.Pool.{taking}
 use Rattle.blk_front.specs.Request.{is_write, named_of, frames_for}
 use Rattle.blk_front.specs.View.{View}
 use Rattle.blk_front.specs.Ask.{is_through}
-use Rattle.blk_front.specs.Submit.{is_ready, unfinished, wish_of, submit_with, submit_one, submit_of}
+use Rattle.blk_front.specs.Submit.{is_ready, unfinished, most_segments, frames_taken, wish_of, submit_with, submit_one, submit_of}
 use Rattle.blk_back.specs.Step.{job_ask_of}
 use Rattle.blk_back.proofs.Hands.{job_step_info}
 use Rattle.vbd_front.specs.View.{is_broken}
@@ -43,12 +43,13 @@ use Rattle.vbd_laws.proofs.FitFront.{fit_front_moves, fit_front_closes}
 use Rattle.vbd_laws.proofs.FitBackShares.{Terms, terms_in}
 use Rattle.vbd_laws.proofs.FitBack.{fit_back_moves, fit_back_closes}
 
-pub fit_start : (config : Options) → IsFit (start_of config)
-fit_start config = record {
+pub fit_start : (config : Options) → config.indirect ≤ 960 → IsFit (start_of config)
+fit_start config few = record {
   safe = safe_start config;
   layout = refl;
   ordered = refl;
   offers = refl;
+  limited = few;
   published = record { barrier = refl; flush = refl; discard = refl; indirect = refl };
   said = tt;
   front = (refl, refl, refl);
@@ -57,7 +58,7 @@ fit_start config = record {
   back = (refl, refl);
   held = (refl, refl);
   pages = refl;
-  sound = back_starts (offer config.read_only) (facts_of config);
+  sound = back_starts (offer config.read_only config.indirect) (facts_of config);
   halted = refl;
   terms = λ has. absurd (true≢false (sym has));
   unported = λ none. refl;
@@ -86,6 +87,7 @@ fit_rings w r fit safe like unported unbound = record {
   layout = ap (λ (s : Shape). s.abi) like.shape ∙ fit.layout;
   ordered = subst (λ (s : Shape). FrontOrdered w.front.stage w.front s.order) (sym like.shape) fit.ordered;
   offers = fit.offers;
+  limited = fit.limited;
   published = subst (λ (i : DiskInfo). IsOffered i w.back.features) (sym like.info) fit.published;
   said = subst (λ (d : Directory). SaidAt (SaysKey d w.back.features w.back.disk) w.back.stage) (sym like.keys) fit.said;
   front = rw like.front fit.front;
@@ -124,8 +126,8 @@ closing_one v None = refl
 closing_one v (Some wish) =
     either_closing (is_write wish.transfer && v.read_only) v.closing _ _ refl
     (either_closing (nat_lt v.sectors (wish.sector + named_of wish.transfer wish.count)) v.closing _ _ refl
-    (either_closing (nat_lt 11 (frames_for wish.count)) v.closing _ _ refl
-    (either_closing (nat_le (entries_of v.shape.order) (unfinished v)) v.closing _ _ refl (closing_with v wish (taking (frames_for wish.count) v.pool [])))))
+    (either_closing (nat_lt (most_segments v.offers wish.transfer) (frames_for wish.count)) v.closing _ _ refl
+    (either_closing (nat_le (entries_of v.shape.order) (unfinished v)) v.closing _ _ refl (closing_with v wish (taking (frames_taken wish.count) v.pool [])))))
 
 closing_submit : (v : View) (job : Job) → (submit_of v job).1.closing ≡ v.closing
 closing_submit v job =

@@ -1,5 +1,5 @@
 -- The machine stays fit as the back moves, and as it is asked to close.
-use Rattle.std.proofs.Common.{◌≡◌, Bool, true, false, true≢false, ◌&&◌, List, [], ◌∷◌, if◌then◌else◌, refl, sym, ap, ◌∙◌, subst}
+use Rattle.std.proofs.Common.{◌≡◌, ◌≤◌, Bool, true, false, true≢false, ◌&&◌, List, [], ◌∷◌, if◌then◌else◌, refl, sym, ap, ◌∙◌, subst}
 use Rattle.std.specs.Prelude.{Option, Some, None}
 use Rattle.line_text.proofs.Both.{both_true}
 use Rattle.blk_base.specs.declared.parts.End.TheVariants as end
@@ -84,7 +84,8 @@ fit_back w r u fit safe offers fits shares same unported unbound = record {
   safe = safe;
   layout = ap (λ (f : front_ends.View). f.shape.abi) same ∙ fit.layout;
   ordered = subst (λ (f : front_ends.View). FrontOrdered w.front.stage w.front f.shape.order) (sym same) fit.ordered;
-  offers = ap (λ (t : Facts). t.0) offers.facts ∙ (fit.offers ∙ sym (ap (λ (t : Facts). offer t.1.read_only) offers.facts));
+  offers = ap (λ (t : Facts). t.0) offers.facts ∙ (fit.offers ∙ sym (ap (λ (t : Facts). offer t.1.read_only t.0.indirect) offers.facts));
+  limited = subst (λ (t : Facts). t.0.indirect ≤ 960) (sym offers.facts) fit.limited;
   published =
       subst (λ (t : Facts). IsOffered r.back.jobs.info t.0) (sym offers.facts) (subst (λ (i : DiskInfo). IsOffered i w.back.features) (sym offers.info) fit.published);
   said = subst (λ (t : Facts). SaidAt (SaysKey r.under.keys t.0 t.1) u.stage) (sym offers.facts) offers.said;

@@ -76,6 +76,7 @@ fit_front w r u fit safe says terms abi fits same unported unbound = record {
   layout = abi ∙ (fit.layout ∙ sym terms.abi);
   ordered = fits.ordered;
   offers = fit.offers;
+  limited = fit.limited;
   published = rw same fit.published;
   said = said_kept _ _ says w.back.stage fit.said;
   front = fits.goes;

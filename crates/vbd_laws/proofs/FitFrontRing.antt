@@ -16,9 +16,9 @@ use Rattle.blk_front.specs.declared.stage.Ending.{Ending}
 use Rattle.blk_front.specs.declared.request.Request.{Request}
 use Rattle.blk_front.specs.declared.request.Transfer.{Transfer}
 use Rattle.blk_front.specs.declared.request.Transfer.TheVariants as transfer
-use Rattle.blk_front.specs.Request.{has_data, words_in}
+use Rattle.blk_front.specs.Request.{has_data, words_in, is_indirect, naming_words}
 use Rattle.blk_front.specs.View.{View, next_request}
-use Rattle.blk_front.specs.Step.{at, broken, looked, begun, data_stage, granted, loop_step, found_at, issued, response_at, is_mapped, ended, revoked, ring_granted, ring_left, sector_told, data_step, step_at, step_of}
+use Rattle.blk_front.specs.Step.{at, broken, looked, begun, after_data, data_stage, page_stage, granted, loop_step, found_at, issued, response_at, is_mapped, ended, revoked, ring_granted, ring_left, sector_told, data_step, step_at, step_of}
 use Rattle.blk_front.specs.declared.told.Told.TheVariants as told
 use Rattle.blk_front.specs.Ask.{is_through}
 use Rattle.blk_front.specs.Submit.{is_ready}
@@ -61,7 +61,7 @@ looked_steps s v word otherwise h =
     (either (word == v.ring.cons) s v otherwise (record v { seen = word; stage = stage.Loop }) h (refl, λ none. none, λ up. refl))
 
 begun_steps : (v : View) (r : Request) (way : Transfer) → Steps stage.Loop v (begun v r way)
-begun_steps v r transfer.Read = (refl, λ none. none, λ up. refl)
+begun_steps v r transfer.Read = (refl, λ none. none, λ up. either_stage (is_indirect r.count) (stage.Pages 1) (stage.GrantFence 0) refl refl)
 begun_steps v r (transfer.Write tag) = (refl, λ none. none, λ up. refl)
 begun_steps v r (transfer.Barrier tag) = (refl, λ none. none, λ up. refl)
 begun_steps v r transfer.Flush = (refl, λ none. none, λ up. refl)
@@ -69,7 +69,11 @@ begun_steps v r (transfer.Discard sectors) = (refl, λ none. none, λ up. refl)
 
 data_stage_up : (r : Option Request) (n : ℕ) → is_up (data_stage r n) ≡ true
 data_stage_up None n = refl
-data_stage_up (Some r) n = either_stage (nat_lt (n + 1) (words_in r)) (stage.Data (n + 1)) (stage.GrantFrame 0) refl refl
+data_stage_up (Some r) n = either_stage (nat_lt (n + 1) (words_in r)) (stage.Data (n + 1)) (after_data r) refl (either_stage (is_indirect r.count) (stage.Pages 0) (stage.GrantFrame 0) refl refl)
+
+page_stage_up : (r : Option Request) (n : ℕ) → is_up (page_stage r n) ≡ true
+page_stage_up None n = refl
+page_stage_up (Some r) n = either_stage (nat_lt (n + 1) (naming_words r)) (stage.Pages (n + 1)) (stage.GrantFrame 0) refl refl
 
 granted_steps : (v : View) (r : Option Request) (place : ℕ) → v.stage ≡ stage.GrantFlags place → Steps (stage.GrantFlags place) v (granted r place v)
 granted_steps v None place here = stays (stage.GrantFlags place) v here
@@ -132,6 +136,7 @@ steps_at (stage.RingFlags page) v x here = makes (stage.RingFlags page) v (ring_
 steps_at stage.NewPort v x here = makes stage.NewPort v stage.Initialised refl
 steps_at stage.Loop v x here = loop_steps v (next_request v) x here
 steps_at (stage.Data n) v x here = goes_to (stage.Data n) v (data_stage (next_request v) n) (data_stage_up (next_request v) n)
+steps_at (stage.Pages n) v x here = goes_to (stage.Pages n) v (page_stage (next_request v) n) (page_stage_up (next_request v) n)
 steps_at (stage.GrantFrame place) v x here = (refl, λ none. none, λ up. refl)
 steps_at (stage.GrantFence place) v x here = (refl, λ none. none, λ up. refl)
 steps_at (stage.GrantFlags place) v x here = granted_steps v (next_request v) place here

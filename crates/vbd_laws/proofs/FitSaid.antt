@@ -1,7 +1,10 @@
 -- What the back's keys say of what it serves (`io/blkif.h`): what is said stays said, and each key is said as it is published.
-use Rattle.std.proofs.Common.{◌≡◌, ◌∙◌, ap, sym, subst, ℕ, Bool, true, false, true≢false, ◌&&◌, not, ◌==◌, if◌then◌else◌, List, [], ◌∷◌, refl, arith, decimal}
+use Rattle.std.proofs.Common.{◌≡◌, ◌∙◌, ap, sym, subst, ℕ, ◌+◌, ◌/◌, ◌%◌, ◌^◌, ◌<◌, ◌≤◌, Bool, true, false, true≢false, ◌&&◌, not, ◌==◌, if◌then◌else◌, List, [], ◌∷◌, ◌++◌, refl, arith, decimal}
 use Rattle.std.specs.Prelude.{Option, Some, codes}
-use Rattle.std.proofs.lemmas.Fmt.{decimal_digit}
+use Rattle.std.specs.List.{list_all}
+use Rattle.std.proofs.lemmas.Bool.Decides.{nat_tests}
+use Rattle.std.proofs.lemmas.Fmt.{decimal_by_steps}
+use Rattle.std.proofs.lemmas.List.Folds.{list_all-append}
 use Rattle.blk_base.specs.declared.parts.End.{End}
 use Rattle.blk_base.specs.declared.parts.End.TheVariants as end
 use Rattle.blk_base.specs.declared.parts.Mapping.{Mapping}
@@ -141,19 +144,38 @@ set_says f disk s d k waits may =
     let turns = may_turn (back_key (back_ask.SetKey k (back_value f disk k))) ring.InitWait refl (λ early. refl) in
     subst (λ (t : BackRing). SaysKey (negotiated t end.Back (back_key (back_ask.SetKey k (back_value f disk k))) d) f disk k) (sym waits) (rw (turns, may) (back_said d.keys f disk k))
 
--- then they say what the back's disk has
+-- then they say what the back's disk has: a number is 0 where all its digits are
+zeros : (n : ℕ) → n < 2 ^ 64 → list_all (λ (d : ℕ). d == 48) (decimal n) ≡ (n == 0)
+zeros n fits = decimal_by_steps (λ m ds. list_all (λ (d : ℕ). d == 48) ds ≡ (m == 0)) one more n fits
+  where
+    one : (n : ℕ) → n < 10 → list_all (λ (d : ℕ). d == 48) ((48 + n) ∷ []) ≡ (n == 0)
+    one n low = by_test (n == 0) refl
+      where
+        by_test : (b : Bool) → (n == 0) ≡ b → list_all (λ (d : ℕ). d == 48) ((48 + n) ∷ []) ≡ b
+        by_test true e = let none : (48 + n == 48) ≡ true = grind (arith, nat_tests) in rw none refl
+        by_test false e = let some : (48 + n == 48) ≡ false = grind (arith, nat_tests) in rw some refl
+
+    more : (n : ℕ) (ds : List ℕ) → 10 ≤ n → list_all (λ (d : ℕ). d == 48) ds ≡ (n / 10 == 0) → list_all (λ (d : ℕ). d == 48) (ds ++ (48 + n % 10) ∷ []) ≡ (n == 0)
+    more n ds le h =
+        let high : (n / 10 == 0) ≡ false = (let some : 1 ≤ n / 10 = omega arith in grind (arith, nat_tests)) in
+        let some : (n == 0) ≡ false = grind (arith, nat_tests) in
+        list_all-append (λ (d : ℕ). d == 48) ds ((48 + n % 10) ∷ []) ∙ rw (h, high, some) refl
+
+number_offer : (n : ℕ) → n < 2 ^ 64 → is_offer (decimal n) ≡ not (n == 0)
+number_offer n fits = ap not (zeros n fits)
+
 flag_offer : (b : Bool) → is_offer (decimal (flag_of b)) ≡ b
-flag_offer true = rw (decimal_digit 1 (omega arith)) refl
-flag_offer false = rw (decimal_digit 0 (omega arith)) refl
+flag_offer true = number_offer 1 (omega arith)
+flag_offer false = number_offer 0 (omega arith)
 
 like : (b : Bool) → is_like b b ≡ true
 like true = refl
 like false = refl
 
-offered : (text : Option (List ℕ)) (b has : Bool) → text ≡ Some (decimal (flag_of b)) → has ≡ b → is_like (offers text) has ≡ true
-offered text b has says same =
+offered : (text : Option (List ℕ)) (n : ℕ) (b has : Bool) → text ≡ Some (decimal n) → is_offer (decimal n) ≡ b → has ≡ b → is_like (offers text) has ≡ true
+offered text n b has says is same =
     subst (λ (o : Option (List ℕ)). is_like (offers o) has ≡ true) (sym says)
-    (subst (λ (c : Bool). is_like (is_offer (decimal (flag_of b))) c ≡ true) (sym same) (subst (λ (c : Bool). is_like c b ≡ true) (sym (flag_offer b)) (like b)))
+    (subst (λ (c : Bool). is_like (is_offer (decimal n)) c ≡ true) (sym same) (subst (λ (c : Bool). is_like c b ≡ true) (sym is) (like b)))
 
 all_true : (a b c d : Bool) → a ≡ true → b ≡ true → c ≡ true → d ≡ true → (a && b && c && d) ≡ true
 all_true true true true true p q r s = refl
@@ -162,9 +184,9 @@ all_true true true false d p q r s = r
 all_true true false c d p q r s = q
 all_true false b c d p q r s = p
 
-pub served_said : (d : Directory) (f : Features) (disk : DiskFacts) (info : DiskInfo) → IsOffered info f → f.indirect ≡ 0 → IsServiceSaid (SaysKey d f disk) → says_served (said_by d) info ≡ true
-served_said d f disk info is none said =
-    all_true _ _ _ _ (offered (key_of d.keys barrier_path) f.barrier info.barrier said.barrier is.barrier)
-    (offered (key_of d.keys flush_path) f.flush info.flush said.flush is.flush)
-    (offered (key_of d.keys discard_path) f.discard info.discard said.discard is.discard)
-    (offered (key_of d.keys indirect_path) false (not (info.max_indirect == 0)) (said.indirect ∙ ap (λ (n : ℕ). Some (decimal n)) none) (ap (λ (n : ℕ). not (n == 0)) (is.indirect ∙ none)))
+pub served_said : (d : Directory) (f : Features) (disk : DiskFacts) (info : DiskInfo) → IsOffered info f → f.indirect ≤ 960 → IsServiceSaid (SaysKey d f disk) → says_served (said_by d) info ≡ true
+served_said d f disk info is few said =
+    all_true _ _ _ _ (offered (key_of d.keys barrier_path) (flag_of f.barrier) f.barrier info.barrier said.barrier (flag_offer f.barrier) is.barrier)
+    (offered (key_of d.keys flush_path) (flag_of f.flush) f.flush info.flush said.flush (flag_offer f.flush) is.flush)
+    (offered (key_of d.keys discard_path) (flag_of f.discard) f.discard info.discard said.discard (flag_offer f.discard) is.discard)
+    (offered (key_of d.keys indirect_path) f.indirect (not (f.indirect == 0)) (not (info.max_indirect == 0)) said.indirect (number_offer f.indirect (omega arith)) (ap (λ (n : ℕ). not (n == 0)) is.indirect))

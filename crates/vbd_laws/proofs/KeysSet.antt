@@ -25,6 +25,7 @@ use Rattle.xenbus_state.specs.declared.front.FrontBusAsk.{FrontBusAsk}
 use Rattle.xenbus_state.specs.declared.front.FrontBusAsk.TheVariants as front_ask
 use Rattle.xenbus_state.specs.declared.back.BackBusAsk.{BackBusAsk}
 use Rattle.xenbus_state.specs.declared.back.BackBusAsk.TheVariants as back_ask
+use Rattle.xenbus_state.specs.declared.offer.Features.{Features}
 use Rattle.xenbus_state.specs.Keys.{front_name, back_name, path_under}
 use Rattle.xenbus_state.specs.Values.{text_of, front_value, back_value}
 use Rattle.xenbus_state.specs.FrontView.{FrontView, terms_of}
@@ -55,8 +56,8 @@ front_may_set v front_key.FeaturePersistent = refl
 nothing : is_zero_text (decimal 0) ≡ true
 nothing = rw (decimal_digit 0 (omega arith)) refl
 
-pub back_may_set : (v : BackView) (k : BackKey) → v.features ≡ offer v.disk.read_only → may_set end.Back (path_under end.Back (back_name k)) (text_of (back_value v.features v.disk k)) ≡ true
-back_may_set v back_key.FeaturePersistent offers = rw offers nothing
+pub back_may_set : (v : BackView) (k : BackKey) → v.features ≡ offer v.disk.read_only v.features.indirect → may_set end.Back (path_under end.Back (back_name k)) (text_of (back_value v.features v.disk k)) ≡ true
+back_may_set v back_key.FeaturePersistent offers = let none : v.features.persistent ≡ false = ap (λ (f : Features). f.persistent) offers in rw none nothing
 back_may_set v back_key.FeatureBarrier offers = refl
 back_may_set v back_key.FeatureFlushCache offers = refl
 back_may_set v back_key.FeatureDiscard offers = refl
@@ -95,13 +96,13 @@ unmap_sets v = by_pages v.pages
     by_pages [] = tt
     by_pages (page ∷ pages) = tt
 
-back_sets_at : (b : BackStage) (v : BackView) → v.features ≡ offer v.disk.read_only → BackMaySet (back_bus.ask_at b v)
+back_sets_at : (b : BackStage) (v : BackView) → v.features ≡ offer v.disk.read_only v.features.indirect → BackMaySet (back_bus.ask_at b v)
 back_sets_at (back_stage.Publish key) v offers = back_may_set v key offers
 back_sets_at (back_stage.PublishFact key) v offers = back_may_set v key offers
 back_sets_at back_stage.UnmapPage v offers = unmap_sets v
 back_sets_at b v offers = tt
 
-pub back_sets : (v : BackView) → v.features ≡ offer v.disk.read_only → BackMaySet (back_bus.ask_of v)
+pub back_sets : (v : BackView) → v.features ≡ offer v.disk.read_only v.features.indirect → BackMaySet (back_bus.ask_of v)
 back_sets v offers = by_test (back_bus.says_closing v)
   where
     by_test : (c : Bool) → BackMaySet (if c then back_ask.SetState state.Closing else back_bus.ask_at v.stage v)

@@ -15,7 +15,6 @@ use Rattle.hypervisor.specs.Act.{BackAct, Took, back_act}
 use Rattle.blk_back.specs.View as ends
 use Rattle.blk_back.specs.Step as ring_step
 use Rattle.xenbus_state.specs.declared.keys.FrontKey.TheVariants as key
-use Rattle.xenbus_state.specs.declared.offer.Features.{Features}
 use Rattle.xenbus_state.specs.declared.state.BusState.TheVariants as state
 use Rattle.xenbus_state.specs.declared.stage.BackStage.{BackStage}
 use Rattle.xenbus_state.specs.declared.stage.BackStage.TheVariants as stage
@@ -119,7 +118,7 @@ layout_named w a said reads none =
 -- the back's keys say what it serves by then
 serves_said : (w : World) → IsFit w → back_step.reads_layout (back_asks w) ≡ true → SaysServed w.rings
 serves_said w fit reads =
-    served_said w.rings.under.keys w.back.features w.back.disk w.rings.back.jobs.info fit.published (ap (λ (f : Features). f.indirect) fit.offers)
+    served_said w.rings.under.keys w.back.features w.back.disk w.rings.back.jobs.info fit.published fit.limited
     (subst (λ (b : BackStage). SaidAt (SaysKey w.rings.under.keys w.back.features w.back.disk) b) (asks_layout w.back reads).1 fit.said)
 
 -- what it may take

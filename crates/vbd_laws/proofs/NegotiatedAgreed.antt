@@ -206,7 +206,7 @@ agreed_is w a fit j speaks turn says e =
       keys = a.under.keys;
     })) says (front_goes w a fit whole j turn)
     in
-    let features : u.features ≡ offer w.back.disk.read_only = offer_read _ reached (begun_read u.stage (begun_now u idle e)) ∙ fit.offers in
+    let features : u.features ≡ offer w.back.disk.read_only w.back.features.indirect = offer_read _ reached (begun_read u.stage (begun_now u idle e)) ∙ fit.offers in
     let terms = terms_told w.front idle a.answer in
     let few : u.order ≤ 4 = subst (λ (n : ℕ). n ≤ 4) (sym terms.order) speaks.order in
     no_less u.order u.features.order few (ap (λ (f : Features). f.order) features) ∙ (terms.order ∙ sym is.wished)

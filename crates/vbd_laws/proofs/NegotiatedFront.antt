@@ -17,7 +17,7 @@ use Rattle.ring_words.specs.Shape.{entry_words_of}
 use Rattle.blk_front.specs.View as ring
 use Rattle.blk_front.specs.Ask as ring_ask
 use Rattle.blk_front.specs.Step as ring_step
-use Rattle.blk_front.specs.Request.{words_in}
+use Rattle.blk_front.specs.Request.{words_in, is_indirect, naming_words}
 use Rattle.blk_front.specs.declared.request.Request.{Request}
 use Rattle.blk_front.specs.declared.request.Transfer.{Transfer}
 use Rattle.blk_front.specs.declared.request.Transfer.TheVariants as transfer
@@ -137,7 +137,7 @@ either_view true x y p q = p
 either_view false x y p q = q
 
 begun_whole : (r : ring.View) (q : Request) (way : Transfer) → is_broken (ring_step.begun r q way).stage ≡ false
-begun_whole r q transfer.Read = refl
+begun_whole r q transfer.Read = either_whole (is_indirect q.count) (ring_stage.Pages 1) (ring_stage.GrantFence 0) refl refl
 begun_whole r q (transfer.Write tag) = refl
 begun_whole r q (transfer.Barrier tag) = refl
 begun_whole r q transfer.Flush = refl
@@ -149,7 +149,12 @@ loop_whole r (Some q) path p = begun_whole r q q.transfer
 
 data_whole : (next : Option Request) (n : ℕ) → is_broken (ring_step.data_stage next n) ≡ false
 data_whole None n = refl
-data_whole (Some q) n = either_whole (nat_lt (n + 1) (words_in q)) (ring_stage.Data (n + 1)) (ring_stage.GrantFrame 0) refl refl
+data_whole (Some q) n =
+    either_whole (nat_lt (n + 1) (words_in q)) (ring_stage.Data (n + 1)) (ring_step.after_data q) refl (either_whole (is_indirect q.count) (ring_stage.Pages 0) (ring_stage.GrantFrame 0) refl refl)
+
+page_whole : (next : Option Request) (n : ℕ) → is_broken (ring_step.page_stage next n) ≡ false
+page_whole None n = refl
+page_whole (Some q) n = either_whole (nat_lt (n + 1) (naming_words q)) (ring_stage.Pages (n + 1)) (ring_stage.GrantFrame 0) refl refl
 
 granted_whole : (r : ring.View) (next : Option Request) (place : ℕ) → is_broken r.stage ≡ false → is_broken (ring_step.granted next place r).stage ≡ false
 granted_whole r None place p = p
@@ -163,6 +168,7 @@ watched_whole (ring_stage.RingFlags page) r path here p = either_whole (nat_lt (
 watched_whole ring_stage.NewPort r path here p = refl
 watched_whole ring_stage.Loop r path here p = loop_whole r (ring.next_request r) path (rw here refl)
 watched_whole (ring_stage.Data n) r path here p = data_whole (ring.next_request r) n
+watched_whole (ring_stage.Pages n) r path here p = page_whole (ring.next_request r) n
 watched_whole (ring_stage.GrantFrame place) r path here p = refl
 watched_whole (ring_stage.GrantFence place) r path here p = refl
 watched_whole (ring_stage.GrantFlags place) r path here p = granted_whole r (ring.next_request r) place (rw here refl)

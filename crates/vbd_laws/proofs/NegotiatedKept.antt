@@ -157,7 +157,7 @@ finds_now w gref fit speaks j asks =
 
 -- what the front takes a back of these features to serve
 abbrev pub offered : Features → Offers
-offered f = record { barrier = f.barrier; flush = f.flush; discard = f.discard }
+offered f = record { barrier = f.barrier; flush = f.flush; discard = f.discard; indirect = f.indirect }
 
 -- when the front's end of the ring enters a state: it is connected to a connected back, whose offers it knows, and leaves and is closed after the back; it is never broken
 abbrev pub IsTimely : World → FrontState → Type 0

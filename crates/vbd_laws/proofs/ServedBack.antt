@@ -232,15 +232,15 @@ info_text : (read_only : Bool) → (if read_only then 4 else 0) < 2 ^ 64
 info_text true = omega arith
 info_text false = omega arith
 
-value_spelled : (k : BackKey) (f : Features) (d : DiskFacts) → f ≡ offer d.read_only → d.sectors < 2 ^ 64 → IsSpelled (key_move (back_ask.SetKey k (back_value f d k)))
-value_spelled k f d e few = subst (λ (g : Features). IsSpelled (key_move (back_ask.SetKey k (back_value g d k)))) (sym e) (by_key k)
+value_spelled : (k : BackKey) (f : Features) (d : DiskFacts) → f ≡ offer d.read_only f.indirect → f.indirect ≤ 960 → d.sectors < 2 ^ 64 → IsSpelled (key_move (back_ask.SetKey k (back_value f d k)))
+value_spelled k f d e most few = subst (λ (g : Features). IsSpelled (key_move (back_ask.SetKey k (back_value g d k)))) (sym e) (by_key k)
   where
-    by_key : (k : BackKey) → IsSpelled (key_move (back_ask.SetKey k (back_value (offer d.read_only) d k)))
+    by_key : (k : BackKey) → IsSpelled (key_move (back_ask.SetKey k (back_value (offer d.read_only f.indirect) d k)))
     by_key back_key.FeatureBarrier = (back_path back_key.FeatureBarrier, flag_text (not d.read_only))
     by_key back_key.FeatureFlushCache = (back_path back_key.FeatureFlushCache, flag_text (not d.read_only))
     by_key back_key.FeatureDiscard = (back_path back_key.FeatureDiscard, flag_text (not d.read_only))
     by_key back_key.FeaturePersistent = (back_path back_key.FeaturePersistent, flag_text false)
-    by_key back_key.FeatureMaxIndirectSegments = (back_path back_key.FeatureMaxIndirectSegments, number_text 0 (omega arith))
+    by_key back_key.FeatureMaxIndirectSegments = (back_path back_key.FeatureMaxIndirectSegments, number_text f.indirect (omega arith))
     by_key back_key.MaxRingPageOrder = (back_path back_key.MaxRingPageOrder, number_text 4 (omega arith))
     by_key back_key.Sectors = (back_path back_key.Sectors, number_text d.sectors few)
     by_key back_key.SectorSize = (back_path back_key.SectorSize, number_text 512 (omega arith))
@@ -258,25 +258,25 @@ unmap_spelled : (pages : List Mapping) → IsSpelled (key_move (unmap_ask pages)
 unmap_spelled [] = tt
 unmap_spelled (page ∷ pages) = tt
 
-at_spelled : (s : BackStage) (v : BackView) → v.features ≡ offer v.disk.read_only → v.disk.sectors < 2 ^ 64 → IsPlain s → IsSpelled (key_move (ask_at s v))
-at_spelled (bus.Publish k) v e few p = value_spelled k v.features v.disk e few
-at_spelled (bus.WriteState s) v e few p = (back_state_path, state_text s)
-at_spelled bus.Watch v e few p = front_state_path
-at_spelled bus.ReadState v e few p = front_state_path
-at_spelled (bus.ReadKey k) v e few p = read_spelled k p
-at_spelled (bus.PublishFact k) v e few p = value_spelled k v.features v.disk e few
-at_spelled bus.UnmapPage v e few p = unmap_spelled v.pages
-at_spelled s v e few p = tt
+at_spelled : (s : BackStage) (v : BackView) → v.features ≡ offer v.disk.read_only v.features.indirect → v.features.indirect ≤ 960 → v.disk.sectors < 2 ^ 64 → IsPlain s → IsSpelled (key_move (ask_at s v))
+at_spelled (bus.Publish k) v e most few p = value_spelled k v.features v.disk e most few
+at_spelled (bus.WriteState s) v e most few p = (back_state_path, state_text s)
+at_spelled bus.Watch v e most few p = front_state_path
+at_spelled bus.ReadState v e most few p = front_state_path
+at_spelled (bus.ReadKey k) v e most few p = read_spelled k p
+at_spelled (bus.PublishFact k) v e most few p = value_spelled k v.features v.disk e most few
+at_spelled bus.UnmapPage v e most few p = unmap_spelled v.pages
+at_spelled s v e most few p = tt
 
-asked_spelled : (v : BackView) → v.features ≡ offer v.disk.read_only → Speaks v → IsSpelled (key_move (ask_of v))
-asked_spelled v e h = by_test (says_closing v)
+asked_spelled : (v : BackView) → v.features ≡ offer v.disk.read_only v.features.indirect → v.features.indirect ≤ 960 → Speaks v → IsSpelled (key_move (ask_of v))
+asked_spelled v e most h = by_test (says_closing v)
   where
     by_test : (b : Bool) → IsSpelled (key_move (if b then back_ask.SetState state.Closing else ask_at v.stage v))
     by_test true = (back_state_path, state_text state.Closing)
-    by_test false = at_spelled v.stage v e h.sectors h.stage
+    by_test false = at_spelled v.stage v e most h.sectors h.stage
 
-pub back_spelled : (w : World) → w.back.features ≡ offer w.back.disk.read_only → Speaks w.back → IsSpelled (key_move (back.bus_ask_of (backend_of w)))
-back_spelled w e h = asked_spelled w.back e h
+pub back_spelled : (w : World) → w.back.features ≡ offer w.back.disk.read_only w.back.features.indirect → w.back.features.indirect ≤ 960 → Speaks w.back → IsSpelled (key_move (back.bus_ask_of (backend_of w)))
+back_spelled w e most h = asked_spelled w.back e most h
 
 -- a halt that it makes of what it read is a line of the grammar
 abbrev IsReadKey : FrontKey → Type 0

@@ -2,7 +2,6 @@
 use Rattle.std.proofs.Common.{◌⊎◌, inl, inr, ◌≡◌, ◌∙◌, ap, sym, subst, ℕ, zero, suc, ◌+◌, ◌^◌, ◌<◌, ◌≤◌, ◌==◌, ◌&&◌, Bool, true, false, true≢false, List, [], ◌∷◌, ◌++◌, map, refl, arith, if◌then◌else◌}
 use Rattle.std.specs.Prelude.{Option, Some, None, IsSome, is_some, unwrap_or}
 use Rattle.std.specs.List.{AllByRecursion, range_with_len}
-use Rattle.std.proofs.lemmas.Bool.Decides.{nat_tests}
 use Rattle.std.proofs.lemmas.Option.{none-some}
 use Rattle.blk_base.specs.Options.{Options}
 use Rattle.blk_base.specs.declared.parts.End.{End}
@@ -184,6 +183,7 @@ enters_when w v n fit same own (entered.Connected offers) timely is = record {
   barrier = ap (λ (o : Offers). o.barrier) timely.1 ∙ (sym fit.published.barrier ∙ sym (ap (λ (b : ring_view.View). b.jobs.info.barrier) same));
   flush = ap (λ (o : Offers). o.flush) timely.1 ∙ (sym fit.published.flush ∙ sym (ap (λ (b : ring_view.View). b.jobs.info.flush) same));
   discard = ap (λ (o : Offers). o.discard) timely.1 ∙ (sym fit.published.discard ∙ sym (ap (λ (b : ring_view.View). b.jobs.info.discard) same));
+  indirect = ap (λ (o : Offers). o.indirect) timely.1 ∙ (sym fit.published.indirect ∙ sym (ap (λ (b : ring_view.View). b.jobs.info.max_indirect) same));
 }
 enters_when w v n fit same own entered.Closing timely is = tt
 enters_when w v n fit same own entered.Leaving timely is =
@@ -556,9 +556,9 @@ module _ (config : Options) (w : World) (honest : Honest config w) where
   back_served =
       back_cases (λ does asked step. back_act w.rings.under back_mover.Back asked Took ≡ back_turn w → ring_allowed.AreServed does w.rings) w
       (λ says untaken e.
-      (back_spelled w honest.stands.fit.offers honest.stands.back, halts_served config w honest _ (back_turn w) refl (both_true (back.speaks (back_asks w)) (back.is_between w.rings.back.stage) says).0 e))
+      (back_spelled w honest.stands.fit.offers honest.stands.fit.limited honest.stands.back, halts_served config w honest _ (back_turn w) refl (both_true (back.speaks (back_asks w)) (back.is_between w.rings.back.stage) says).0 e))
       (λ says takes e. (takes_terms says takes (back_turn w) refl e, tt)) (λ quiet moves e. (moves_allowed config w honest moves, tt))
-      (λ quiet still e. (back_spelled w honest.stands.fit.offers honest.stands.back, tt)) refl
+      (λ quiet still e. (back_spelled w honest.stands.fit.offers honest.stands.fit.limited honest.stands.back, tt)) refl
 
 closes_served : (w : rings.World) (at : End) → ring_allowed.AreServed (closes_does at) w
 closes_served w end.Front = (tt, tt)
@@ -626,16 +626,13 @@ module _ (config : Options) (Are : List ring_happening.Happening → rings.World
 pub all_served : (config : Options) (hs : List Happening) (w : World) → Honest config w → ArePossible hs w → ring_allowed.AreServed (honest_history (all_does hs w)) w.rings
 all_served config = all_of config ring_allowed.AreServed (λ w. tt) served_then (served_at config)
 
--- the options that are carried out are those without indirect requests
-plain_of : (config : Options) → are_carried config ≡ true → AreOptions config → IsPlain config
-plain_of config carried are =
-    let indirect = (both_true (config.persistent == 0) (config.indirect == 0) carried).1 in
-    let sectors = are.4 in
-    record { order = are.0; indirect = grind (arith, nat_tests); start = are.3; sectors = omega arith }
+-- the numbers of options have their bounds
+plain_of : (config : Options) → AreOptions config → IsPlain config
+plain_of config are = let sectors = are.4 in record { order = are.0; indirect = are.2; start = are.3; sectors = omega arith }
 
 pub honest_start : (config : Options) → are_carried config ≡ true → AreOptions config → Honest config (start_of config)
 honest_start config carried are =
-    let plain = plain_of config carried are in
+    let plain = plain_of config are in
     record {
       stands = stands_start config are;
       joined = joined_start config are;

@@ -141,10 +141,10 @@ halted_possible w v (Some a) speaks e = reasons_possible (back_step.halt_of (bac
 back_possible : (w : World) → Stands w → ring_allowed.ArePossible (back_does w) w.rings
 back_possible w stands =
     back_cases (λ does asked step. back_act w.rings.under back_mover.Back asked Took ≡ back_turn w → ring_allowed.ArePossible does w.rings) w
-    (λ says untaken e. (back_spelled w stands.fit.offers stands.back, halted_possible w _ (back_turn w) stands.back e))
+    (λ says untaken e. (back_spelled w stands.fit.offers stands.fit.limited stands.back, halted_possible w _ (back_turn w) stands.back e))
     (λ says takes e. (terms_said (back_learns w) (back_speaks w stands.back), tt))
     (λ quiet moves e. (ring_made_now w stands.fit stands.front stands.way moves, tt))
-    (λ quiet still e. (back_spelled w stands.fit.offers stands.back, tt)) refl
+    (λ quiet still e. (back_spelled w stands.fit.offers stands.fit.limited stands.back, tt)) refl
 
 -- where all is quiet the ring's machine is
 pub quiet_of : (w : World) → is_quiet w ≡ true → rings.is_quiet w.rings ≡ true
@@ -189,10 +189,10 @@ pub joined_start : (config : Options) → AreOptions config → Joined (start_of
 joined_start config are = record {
   run = record {
     front = let w : World = start_of config in w.front;
-    offer = back_view.offer config.read_only;
+    offer = back_view.offer config.read_only config.indirect;
     facts = let w : World = start_of config in w.back.disk;
     happenings = [];
-    within = record { order = are.0; indirect = omega arith; offered = omega arith; sectors = are.4 };
+    within = record { order = are.0; indirect = let few = are.2 in omega arith; offered = omega arith; sectors = are.4 };
     ports = tt;
   };
   served = tt;
@@ -201,7 +201,7 @@ joined_start config are = record {
 
 pub stands_start : (config : Options) → AreOptions config → Stands (start_of config)
 stands_start config are = record {
-  fit = fit_start config;
+  fit = fit_start config are.2;
   way = inl (record { joined = joined_start config are; ring = refl; early = refl });
   front = record { order = are.0; port = tt; stage = tt };
   back = record { sectors = are.4; order = omega arith; grefs = tt; port = omega arith; stage = tt };

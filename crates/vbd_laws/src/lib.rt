@@ -21,12 +21,13 @@ ghost use Rattle.vbd_laws.specs.Moves.{IsFrontMove, IsBackMove, IsClose, IsNoMov
 ghost use Rattle.vbd_laws.specs.Served.{RingsPossible, RingsServed, RingGoesByTheTerms};
 ghost use Rattle.vbd_laws.specs.Quiet.{StatesAgreeAtQuiet, RingsAgreed};
 
-/// The machine is fit at the start, whatever the options, and stays so, whatever happens: its rings
-/// are safe, each negotiation goes with its end of the ring, closes and halts with it, both know the
-/// ring's shape, the references of its pages and its port, the back's end of the ring serves what its
-/// keys say, and no event is pending where no port is made or bound.
+/// The machine is fit at the start, whatever the options, of which a configuration allows at most 960
+/// segments of an indirect request, and stays so, whatever happens: its rings are safe, each negotiation
+/// goes with its end of the ring, closes and halts with it, both know the ring's shape, the references
+/// of its pages and its port, the back's end of the ring serves what its keys say, and no event is
+/// pending where no port is made or bound.
 pub fn the_machine_stays_fit()
-    ensures start { (config : Options) → IsFit (start_of config) }
+    ensures start { (config : Options) → config.indirect ≤ 960 → IsFit (start_of config) }
     ensures kept { (w : World) (h : Happening) → IsFit w → IsFit (happens w h) }
     ensures after { (hs : List Happening) (w : World) → IsFit w → IsFit (after hs w) }
 {}

@@ -1,6 +1,6 @@
--- How many mappings what happens comes to: a move of the back one of its own and those of a job that it begins, and nothing else any.
-use Rattle.std.proofs.Common.{◌≡◌, ℕ, zero, suc, ◌+◌, ◌≤◌, Bool, true, false, if◌then◌else◌, cond, List, [], ◌∷◌, ◌++◌, length, take, refl, ap, ◌∙◌, arith}
-use Rattle.std.specs.Prelude.{Option, Some, None, Result, Ok, Err, is_some, position, sum_by, map, ◌==◌, nat_le}
+-- How many mappings what happens comes to: a move of the back one of its own and those of a job that it begins, of which each move that copies a word of its entry bears a part, and nothing else any.
+use Rattle.std.proofs.Common.{◌≡◌, ℕ, zero, suc, ◌+◌, ◌*◌, ◌/◌, ◌%◌, ◌^◌, ◌≤◌, Bool, true, false, not, if◌then◌else◌, cond, List, [], ◌∷◌, ◌++◌, length, take, drop, refl, ap, ◌∙◌, arith}
+use Rattle.std.specs.Prelude.{Option, Some, None, Result, Ok, Err, is_some, position, sum_by, map, slice_index, slice_set, ◌==◌, nat_le, nat_lt}
 use Rattle.std.proofs.lemmas.Bool.Decides.{nat_tests}
 use Rattle.std.proofs.lemmas.List.{length-take}
 use Rattle.std.proofs.lemmas.List.Sums.{sum_by-cons, sum_by-append, sum_by-remove}
@@ -8,8 +8,8 @@ use Rattle.std.proofs.lemmas.List.Quantifiers.{position-Some}
 use Rattle.std.proofs.lemmas.Option.{none-some}
 use Rattle.blk_base.specs.declared.operation.Status.TheVariants.{Error}
 use Rattle.blk_base.specs.declared.parts.Mapping.{Mapping}
-use Rattle.blk_base.specs.declared.operation.Status.TheVariants.{Error}
 use Rattle.blk_base.specs.declared.parts.Mode.{Mode}
+use Rattle.blk_base.specs.declared.parts.Mode.TheVariants.{ReadOnly}
 use Rattle.blk_base.specs.declared.parts.End.TheVariants as end
 use Rattle.blk_base.specs.declared.ask.BackAsk.TheVariants as back_ask
 use Rattle.blk_base.specs.declared.ask.BackAnswer.{BackAnswer}
@@ -26,28 +26,33 @@ use Rattle.segment_list.specs.declared.verdict.Verdict.{Verdict}
 use Rattle.segment_list.specs.declared.verdict.Verdict.TheVariants as verdict
 use Rattle.segment_list.specs.Verdict.{verdict_of, transfer_verdict}
 use Rattle.segment_list.proofs.Served.{transfer_served}
-use Rattle.grant_table.specs.Table.{GrantTable, verdict_at}
+use Rattle.grant_table.specs.Table.{GrantTable, frame_of, verdict_at}
 use Rattle.hypervisor.specs.Hypervisor.{Hypervisor}
 use Rattle.hypervisor.specs.Act.{FrontAct, BackAct, Outcome, Took, Gave, Failed, back_act, map_act, with_pages}
-use Rattle.xen_pages.specs.Pages.{with_word}
+use Rattle.xen_pages.specs.Pages.{word_of, with_word}
 use Rattle.back_jobs.specs.declared.stage.Stage.{Stage as JobStage}
 use Rattle.back_jobs.specs.declared.stage.Stage.TheVariants as job_stage
 use Rattle.back_jobs.specs.Task as task
 use Rattle.back_jobs.specs.Task.{Work}
-use Rattle.back_jobs.specs.Jobs.{asked, waits, place_of, work_at, work_of, told_at, removed_at, is_done, behind_mapping, mapping_at}
+use Rattle.back_jobs.specs.Jobs.{asked, waits, place_of, work_at, work_of, told_at, removed_at, is_done, first_mapping, behind_mapping, mapping_at}
 use Rattle.back_jobs.proofs.Hands.{place_among}
 use Rattle.ring_words.specs.Shape.{Shape, entry_words_of}
-use Rattle.ring_words.specs.Ring.{requests_of, overruns}
-use Rattle.blk_layout.specs.Entry.{request_of}
+use Rattle.ring_words.specs.Ring.{requests_of, overruns, notifies}
+use Rattle.blk_base.specs.declared.operation.Abi.{Abi}
+use Rattle.blk_base.specs.declared.operation.Abi.TheVariants.{X64, X32}
+use Rattle.blk_layout.specs.Places.{places_of}
+use Rattle.blk_layout.specs.declared.places.Places.{Places}
+use Rattle.blk_layout.specs.Entry.{request_of, double_at, segment_of, segments_at, pages_at}
 use Rattle.blk_back.specs.declared.stage.Reply.{Reply}
 use Rattle.blk_back.specs.declared.stage.Stage.{Stage}
 use Rattle.blk_back.specs.declared.stage.Stage.TheVariants as stage
 use Rattle.blk_back.specs.declared.told.Halt.{Halt}
+use Rattle.blk_back.specs.declared.told.Halt.TheVariants as halt
 use Rattle.blk_back.specs.View.{View}
 use Rattle.blk_front.specs.Ask as front_asks
 use Rattle.blk_back.specs.Ask as back_asks
 use Rattle.blk_back.specs.Ask.{next_reply}
-use Rattle.blk_back.specs.Step.{at, halts, overrun, looked, loop_step, fetched, fetch_step, step_at, next_number}
+use Rattle.blk_back.specs.Step.{giving_up, give_up, unbound, bound, other_pages, halts, overrun, looked, loop_step, fetched, fetch_step, step_at, next_number}
 use Rattle.split_model.proofs.SafeActs.{made_back, made_front, of_back}
 use Rattle.split_model.proofs.States.{halts_cases}
 use Rattle.split_model.proofs.Attaching.{attach_cases}
@@ -59,15 +64,12 @@ use Rattle.vbd_back.specs.Ask as backend_asks
 use Rattle.vbd_back.specs.Step as back_step
 use Rattle.vbd_model.specs.World.{World, backend_of}
 use Rattle.vbd_model.specs.Happening.{BackMoves, JobMoves, does, happens, attaches, back_negotiates, back_halts, back_key, back_bus_after, back_turn, halted_at, is_backs_ring}
-use Rattle.vbd_model.specs.Mappings.{is_mapping, maps_left, mappings_in, mappings_of}
+use Rattle.vbd_model.specs.Mappings.{maps_at, maps_left, words_copied, mappings_in, mappings_of}
 
 -- A job. What it maps is left to it no more.
-abbrev left_at : JobStage → Work → ℕ
-left_at s t = length t.rest + is_mapping s
-
-sector_maps : (writes : Bool) (m : Mapping) → is_mapping (task.sector_stage writes m) ≡ 0
-sector_maps true m = refl
-sector_maps false m = refl
+sector_maps : (writes : Bool) (m : Mapping) (t : Work) → maps_at (task.sector_stage writes m) t ≡ length t.rest
+sector_maps true m t = refl
+sector_maps false m t = refl
 
 either_left : (b : Bool) (t u : Work) (n : ℕ) → maps_left t ≤ n → maps_left u ≤ n → maps_left (if b then t else u) ≤ n
 either_left true t u n p q = p
@@ -75,8 +77,9 @@ either_left false t u n p q = q
 
 sector_left : (t : Work) (m : Mapping) → maps_left (task.next_sector t m) ≤ length t.rest
 sector_left t m =
-    let none = sector_maps t.writes m in
-    either_left (t.within == task.last_of t.rest) (record t { stage = job_stage.Unmap m }) (record t { within = t.within + 1; stage = task.sector_stage t.writes m }) (length t.rest) (omega arith) (omega arith)
+    let next : Work = record t { within = t.within + 1; stage = task.sector_stage t.writes m } in
+    let same = sector_maps t.writes m next in
+    either_left (t.within == task.last_of t.rest) (record t { stage = job_stage.Unmap m }) next (length t.rest) (omega arith) (omega arith)
 
 segment_left : (t : Work) (rest : List Segment) → maps_left (task.next_segment t (task.rest_of rest)) ≤ length rest
 segment_left t [] = omega arith
@@ -85,20 +88,51 @@ segment_left t (s ∷ r ∷ rest) = omega arith
 
 -- what an act of a job comes to
 abbrev IsLeft : Hypervisor → JobStage → Work → BackAct → Type 0
-IsLeft h s t a = a.under.grants.made + maps_left (task.step_at s t a.answer) ≤ h.grants.made + left_at s t
+IsLeft h s t a = a.under.grants.made + maps_left (task.step_at s t a.answer) ≤ h.grants.made + maps_at s t
 
 map_left : (h : Hypervisor) (k gref : ℕ) (mode : Mode) (t : Work) (v : Result ℕ _) → IsLeft h job_stage.Map t (map_act h (back_mover.Job k) gref mode v)
-map_left h k gref mode t (Ok frame) = let none = sector_maps t.writes (record { number = h.grants.made + 1; gref = gref; mode = mode }) in omega arith
+map_left h k gref mode t (Ok frame) =
+    let m : Mapping = record { number = h.grants.made + 1; gref = gref; mode = mode } in
+    let same = sector_maps t.writes m (record t { stage = task.sector_stage t.writes m }) in
+    omega arith
 map_left h k gref mode t (Err refusal) = omega arith
 
 mapped_left : (h : Hypervisor) (k : ℕ) (t : Work) (rest : List Segment) (o : Outcome) (a : BackAct) → back_act h (back_mover.Job k) (task.map_ask rest t.writes) o ≡ Some a → IsLeft h job_stage.Map t a
 mapped_left h k t [] o a e = absurd (none-some a e)
 mapped_left h k t (s ∷ rest) o a e = of_back (IsLeft h job_stage.Map t) _ a (map_left h k s.gref (task.mode_of t.writes) t (verdict_at h.pages s.gref (task.mode_of t.writes))) e
 
-read_stage : (m : Mapping) (k : ℕ) → is_mapping (if k == 127 then job_stage.DiskWrite m else job_stage.ReadWord m (k + 1)) ≡ 0
-read_stage m k = by_test (k == 127)
+-- an indirect page is mapped, and a segment is copied from it
+page_left : (h : Hypervisor) (k gref : ℕ) (pages : List ℕ) (t : Work) (v : Result ℕ _) → t.pages ≡ gref ∷ pages → IsLeft h job_stage.MapPage t (map_act h (back_mover.Job k) gref ReadOnly v)
+page_left h k gref pages t (Ok frame) is =
+    let all = ap (λ (l : List ℕ). length l) is in
+    let rest = ap (λ (l : List ℕ). length (drop 1 l)) is in
+    omega arith
+page_left h k gref pages t (Err refusal) is = omega arith
+
+page_mapped_left : (h : Hypervisor) (k : ℕ) (t : Work) (pages : List ℕ) (o : Outcome) (a : BackAct) → t.pages ≡ pages → back_act h (back_mover.Job k) (task.page_ask pages) o ≡ Some a → IsLeft h job_stage.MapPage t a
+page_mapped_left h k t [] o a is e = absurd (none-some a e)
+page_mapped_left h k t (gref ∷ pages) o a is e = of_back (IsLeft h job_stage.MapPage t) _ a (page_left h k gref pages t (verdict_at h.pages gref ReadOnly) is) e
+
+copied_left : (t : Work) (m : Mapping) (segments : List Segment) → maps_left (task.copied t m segments) ≡ length (drop 1 t.pages) + t.named + 1
+copied_left t m segments = by_test (task.is_copied_out t segments)
   where
-    by_test : (b : Bool) → is_mapping (if b then job_stage.DiskWrite m else job_stage.ReadWord m (k + 1)) ≡ 0
+    by_test : (b : Bool) → maps_left (record t { rest = segments; stage = if b then job_stage.UnmapPage m else job_stage.PageReference m }) ≡ length (drop 1 t.pages) + t.named + 1
+    by_test true = refl
+    by_test false = refl
+
+page_done_left : (t : Work) → maps_left (task.page_done t) ≤ length (drop 1 t.pages) + t.named + 1
+page_done_left t = by_test (length t.rest == t.named) refl
+  where
+    by_test : (b : Bool) → (length t.rest == t.named) ≡ b → maps_left (if b then task.judged t else record t { pages = drop 1 t.pages; stage = job_stage.MapPage }) ≤ length (drop 1 t.pages) + t.named + 1
+    by_test true e =
+        let all : length t.rest ≡ t.named = grind (arith, nat_tests) in
+        either_left (task.passes t) (record t { within = task.first_of t.rest; stage = job_stage.Map }) (record t { stage = job_stage.Done Error }) (length (drop 1 t.pages) + t.named + 1) (omega arith) (omega arith)
+    by_test false e = omega arith
+
+read_left : (t : Work) (m : Mapping) (k word : ℕ) → maps_left (task.step_at (job_stage.ReadWord m k) t (answer.Word word)) ≡ length t.rest
+read_left t m k word = by_test (k == 127)
+  where
+    by_test : (b : Bool) → maps_left (record t { words = slice_set t.words k word; stage = if b then job_stage.DiskWrite m else job_stage.ReadWord m (k + 1) }) ≡ length t.rest
     by_test true = refl
     by_test false = refl
 
@@ -106,8 +140,12 @@ write_left : (t : Work) (m : Mapping) (k : ℕ) → maps_left (task.step_at (job
 write_left t m k = either_left (k == 127) (task.next_sector t m) (record t { stage = job_stage.WriteWord m (k + 1) }) (length t.rest) (sector_left t m) (omega arith)
 
 act_left : (h : Hypervisor) (k : ℕ) (s : JobStage) (t : Work) (o : Outcome) (a : BackAct) → back_act h (back_mover.Job k) (task.ask_at s t) o ≡ Some a → IsLeft h s t a
+act_left h k job_stage.MapPage t o a e = page_mapped_left h k t t.pages o a refl e
+act_left h k (job_stage.PageReference m) t o a e = of_back (IsLeft h (job_stage.PageReference m) t) _ a (omega arith) e
+act_left h k (job_stage.PageSectors m gref) t o a e = of_back (IsLeft h (job_stage.PageSectors m gref) t) _ a (let same = copied_left t m (t.rest ++ segment_of gref (word_of h.pages (frame_of h.grants m) (task.page_word t 1)) ∷ []) in omega arith) e
+act_left h k (job_stage.UnmapPage m) t o a e = of_back (IsLeft h (job_stage.UnmapPage m) t) _ a (let less = page_done_left t in omega arith) e
 act_left h k job_stage.Map t o a e = mapped_left h k t t.rest o a e
-act_left h k (job_stage.ReadWord m n) t o a e = of_back (IsLeft h (job_stage.ReadWord m n) t) _ a (let none = read_stage m n in omega arith) e
+act_left h k (job_stage.ReadWord m n) t o a e = of_back (IsLeft h (job_stage.ReadWord m n) t) _ a (let same = read_left t m n (word_of h.pages (frame_of h.grants m) (task.word_at t n)) in omega arith) e
 act_left h k (job_stage.DiskWrite m) t Took a e = of_back (IsLeft h (job_stage.DiskWrite m) t) _ a (let less = sector_left (task.counted t) m in omega arith) e
 act_left h k (job_stage.DiskWrite m) t Failed a e = of_back (IsLeft h (job_stage.DiskWrite m) t) _ a (omega arith) e
 act_left h k (job_stage.DiskWrite m) t (Gave words) a e = absurd (none-some a e)
@@ -152,9 +190,9 @@ job_left w k o (Some a) e = by_halt (is_some w.back.halted) e
   where
     by_halt : (b : Bool) → back_act w.under (back_mover.Job k) (if b then back_ask.Wait else asked (waits w.back.jobs.works k) (work_of w.back.jobs.works k)) o ≡ Some a → mappings_in (ring.job_after w k (Some a)) ≤ mappings_in w
     by_halt true asks = absurd (none-some a asks)
-    by_halt false asks = told_left w.under k w.back.jobs.works (place_of w.back.jobs.works k) (waits w.back.jobs.works k) (work_of w.back.jobs.works k) o a refl asks
+    by_halt false asks = let less = told_left w.under k w.back.jobs.works (place_of w.back.jobs.works k) (waits w.back.jobs.works k) (work_of w.back.jobs.works k) o a refl asks in omega arith
 
--- The back. A job that it begins has 11 segments at most.
+-- The back. A job that it begins has 11 segments at most, or 960 and eight pages that name them.
 transfer_left : (number size : ℕ) (writes : Bool) (k : Kind) (count sector : ℕ) (request : RawRequest) (segments : List Segment) (info : DiskInfo) (plan : Plan) → transfer_verdict k count sector segments info ≡ verdict.Serve plan → maps_left (task.moving number request size writes sector (take count segments)) ≤ 12
 transfer_left number size writes k count sector request segments info plan served =
     let t = transfer_served k count sector segments info plan served in
@@ -171,12 +209,47 @@ served_left number size (suc (suc (suc op))) count device id sector segments inf
     let other : nat_le (suc (suc (suc op))) 2 ≡ false = grind (arith, nat_tests) in
     rw other (either_left (suc (suc (suc op)) == 3) (task.frameless number request size sector job_stage.Flush) (task.ended number request size (job_stage.Done Error)) 12 (omega arith) (omega arith))
 
-begun_left : (number size : ℕ) (request : RawRequest) (info : DiskInfo) (v : Verdict) → verdict_of request info ≡ v → maps_left (task.begun number request size v) ≤ 12
-begun_left number size (raw.Direct op count device id sector segments) info (verdict.Serve plan) e = served_left number size op count device id sector segments info plan e
-begun_left number size (raw.Discard flag device id sector count) info (verdict.Serve plan) e = omega arith
-begun_left number size (raw.Indirect op count device id sector pages) info (verdict.Serve plan) e = omega arith
-begun_left number size request info (verdict.Error why) e = omega arith
-begun_left number size request info verdict.Unsupported e = omega arith
+abbrev HasFewPages : RawRequest → Type 0
+HasFewPages (raw.Indirect op count device id sector pages) = length pages ≤ 8
+HasFewPages request = Unit {0}
+
+pages_long : (words : List ℕ) (at n : ℕ) → length (pages_at words at n) ≡ n
+unfolding pages_at
+pages_long words at zero = refl
+pages_long words at (suc n) = let rest = pages_long words (at + 1) n in omega arith
+
+either_pages : (b : Bool) (x y : RawRequest) → HasFewPages x → HasFewPages y → HasFewPages (if b then x else y)
+either_pages true x y p q = p
+either_pages false x y p q = q
+
+few_pages : (abi : Abi) (words : List ℕ) → HasFewPages (request_of abi words)
+unfolding request_of
+few_pages abi words =
+    let at : Places = places_of abi in
+    let op : ℕ = slice_index words 0 % 2 ^ 8 in
+    let second : ℕ = slice_index words 0 / 2 ^ 8 % 2 ^ 8 in
+    let third : ℕ = slice_index words 0 / 2 ^ 16 % 2 ^ 16 in
+    let id : ℕ = double_at words at.id in
+    let sector : ℕ = double_at words at.sector in
+    let indirect : RawRequest = raw.Indirect second third (slice_index words at.indirect_device % 2 ^ 16) id sector (pages_at words at.pages 8) in
+    let direct : RawRequest = raw.Direct op second third id sector (segments_at words at.segments 11) in
+    let long = pages_long words at.pages 8 in
+    either_pages (op == 5) (raw.Discard second third id sector (double_at words at.discard_count)) (if op == 6 then indirect else direct) tt
+    (either_pages (op == 6) indirect direct (omega arith) tt)
+
+paging_left : (number size op count sector : ℕ) (request : RawRequest) (pages : List ℕ) → length pages ≤ 8 → maps_left (task.served_indirect number request size op sector count pages) ≤ 969
+paging_left number size op count sector request pages few = by_test (nat_le count 960) refl
+  where
+    by_test : (b : Bool) → nat_le count 960 ≡ b → maps_left (if b then task.paging number request size (not (op == 0)) sector count pages else task.ended number request size (job_stage.Done Error)) ≤ 969
+    by_test true e = let fits : count ≤ 960 = grind (arith, nat_tests) in omega arith
+    by_test false e = omega arith
+
+begun_left : (number size : ℕ) (request : RawRequest) (info : DiskInfo) (v : Verdict) → verdict_of request info ≡ v → HasFewPages request → maps_left (task.begun number request size v) ≤ 969
+begun_left number size (raw.Direct op count device id sector segments) info (verdict.Serve plan) e few = let less = served_left number size op count device id sector segments info plan e in omega arith
+begun_left number size (raw.Discard flag device id sector count) info (verdict.Serve plan) e few = omega arith
+begun_left number size (raw.Indirect op count device id sector pages) info (verdict.Serve plan) e few = paging_left number size op count sector (raw.Indirect op count device id sector pages) pages few
+begun_left number size request info (verdict.Error why) e few = omega arith
+begun_left number size request info verdict.Unsupported e few = omega arith
 
 behind_left : (works : List Work) → all_left (behind_mapping works) ≤ all_left works
 behind_left [] = omega arith
@@ -194,72 +267,117 @@ removed_left (w ∷ works) (Some place) e =
     let less = sum_by-remove maps_left (w ∷ works) place w p.0 in
     omega arith
 
+-- what the back comes to: its jobs, and the one whose entry it copies
+abbrev due : View → ℕ
+due v = all_left v.jobs.works + 40 * words_copied v.stage
+
+-- stages in which it copies none
+abbrev CopiesNone : Stage → Type 0
+CopiesNone s = words_copied s ≡ 0
+
+none_either : (b : Bool) (s t : Stage) → CopiesNone s → CopiesNone t → CopiesNone (if b then s else t)
+none_either true s t p q = p
+none_either false s t p q = q
+
+none_unbound : (pages : List Mapping) → CopiesNone (unbound pages)
+none_unbound [] = refl
+none_unbound (page ∷ pages) = refl
+
+none_bound : (pages : List Mapping) → CopiesNone (bound pages)
+none_bound [] = refl
+none_bound (page ∷ pages) = refl
+
+none_giving : (m : Option Mapping) → CopiesNone (giving_up m)
+none_giving None = refl
+none_giving (Some m) = refl
+
+given_up_due : (v : View) → due (give_up v) ≤ all_left v.jobs.works
+given_up_due v = let less = behind_left v.jobs.works in let none = none_giving (first_mapping v.jobs.works) in omega arith
+
 -- no more than that, in either case
-either_few : (b : Bool) (u v : View) (n : ℕ) → all_left u.jobs.works ≤ n → all_left v.jobs.works ≤ n → all_left (if b then u else v).jobs.works ≤ n
+either_few : (b : Bool) (u v : View) (n : ℕ) → due u ≤ n → due v ≤ n → due (if b then u else v) ≤ n
 either_few true u v n p q = p
 either_few false u v n p q = q
 
-looked_few : (v : View) (word : ℕ) (otherwise : View) (n : ℕ) → all_left v.jobs.works ≤ n → all_left otherwise.jobs.works ≤ n → all_left (looked v word otherwise).jobs.works ≤ n
+looked_few : (v : View) (word : ℕ) (otherwise : View) (n : ℕ) → all_left v.jobs.works ≤ n → due otherwise ≤ n → due (looked v word otherwise) ≤ n
 looked_few v word otherwise n p q =
-    either_few (overruns v.ring word) (overrun v word) (if word == v.ring.cons then otherwise else record v { seen = word; stage = stage.Loop }) n (let less = behind_left v.jobs.works in omega arith)
-    (either_few (word == v.ring.cons) otherwise (record v { seen = word; stage = stage.Loop }) n q p)
+    either_few (overruns v.ring word) (overrun v word) (if word == v.ring.cons then otherwise else record v { seen = word; stage = stage.Loop }) n
+    (let less = given_up_due (record v { halted = Some (halt.Overrun word v.ring.prod) }) in omega arith)
+    (either_few (word == v.ring.cons) otherwise (record v { seen = word; stage = stage.Loop }) n q (omega arith))
 
-loop_few : (v : View) (r : Option Reply) (x : BackAnswer) → all_left (loop_step v r x).jobs.works ≤ all_left v.jobs.works + 12
+loop_few : (v : View) (r : Option Reply) (x : BackAnswer) → due (loop_step v r x) ≤ due v + 40
 loop_few v (Some r) x = let less = removed_left v.jobs.works (position (λ (t : Work). is_done t) v.jobs.works) refl in omega arith
 loop_few v None (answer.Word word) =
-    either_few (requests_of v.ring v.seen == 0) (looked v word (record v { seen = word; stage = stage.StoreEvent })) (record v { entry = word ∷ []; stage = stage.Fetch 1 }) (all_left v.jobs.works + 12)
-    (looked_few v word (record v { seen = word; stage = stage.StoreEvent }) (all_left v.jobs.works + 12) (omega arith) (omega arith)) (omega arith)
+    either_few (requests_of v.ring v.seen == 0) (looked v word (record v { seen = word; stage = stage.StoreEvent })) (record v { entry = word ∷ []; stage = stage.Fetch 1 }) (due v + 40)
+    (looked_few v word (record v { seen = word; stage = stage.StoreEvent }) (due v + 40) (omega arith) (omega arith)) (omega arith)
 loop_few v None answer.Event = omega arith
 loop_few v None x = omega arith
 
-fetch_few : (v : View) (k word : ℕ) → all_left (fetch_step v k word).jobs.works ≤ all_left v.jobs.works + 12
-fetch_few v k word =
-    let words = v.entry ++ word ∷ [] in
-    let request : RawRequest = request_of v.shape.abi words in
-    let one = begun_left (next_number v) v.jobs.info.sectors request v.jobs.info (verdict_of request v.jobs.info) refl in
-    let begun = task.begun (next_number v) request v.jobs.info.sectors (verdict_of request v.jobs.info) in
-    let both = sum_by-append maps_left v.jobs.works (begun ∷ []) in
-    let alone = sum_by-cons maps_left begun [] in
-    either_few (k + 1 == entry_words_of v.shape.abi) (fetched v words) (record v { entry = words; stage = stage.Fetch (k + 1) }) (all_left v.jobs.works + 12) (omega arith) (omega arith)
+long_entry : (abi : Abi) → 27 ≤ entry_words_of abi
+long_entry X64 = omega arith
+long_entry X32 = omega arith
 
-step_few : (s : Stage) (v : View) (x : BackAnswer) → all_left (step_at s v x).jobs.works ≤ all_left v.jobs.works + 12
-step_few stage.MapRing v (answer.Mapped m) = omega arith
-step_few stage.MapRing v (answer.MapRefused status) = omega arith
-step_few stage.Bind v answer.Done = omega arith
-step_few stage.Bind v answer.BindRefused = omega arith
-step_few stage.Loop v x = loop_few v (next_reply v) x
-step_few (stage.Fetch k) v (answer.Word word) = fetch_few v k word
-step_few (stage.ReplyHigh r) v x = omega arith
-step_few (stage.ReplyLast r) v x = omega arith
-step_few (stage.Producer r) v x = omega arith
-step_few (stage.ProducerFence old) v x = omega arith
-step_few (stage.ResponseEvent old) v (answer.Word event) = omega arith
-step_few stage.Send v x = omega arith
-step_few stage.StoreEvent v x = omega arith
-step_few stage.EventFence v x = omega arith
-step_few stage.LookAgain v (answer.Word word) = looked_few v word (record v { seen = word; stage = stage.Loop; asleep = true }) (all_left v.jobs.works + 12) (omega arith) (omega arith)
-step_few (stage.GiveUp m) v x = let less = behind_left v.jobs.works in omega arith
-step_few stage.UnmapRing v x = omega arith
-step_few stage.ClosePort v x = omega arith
-step_few stage.UnmapUnbound v x = omega arith
-step_few s v x = omega arith
+fetch_few : (v : View) (k word : ℕ) → v.stage ≡ stage.Fetch k → due (fetch_step v k word) ≤ due v + 40
+fetch_few v k word here = by_last (k + 1 == entry_words_of v.shape.abi) refl
+  where
+    words : List ℕ
+    words = v.entry ++ word ∷ []
 
-back_left : (w : rings.World) (act : Option BackAct) → ring.back_turn w Took ≡ act → mappings_in (ring.back_after w act) ≤ mappings_in w + 13
+    copied : words_copied v.stage ≡ k
+    copied = ap words_copied here
+
+    by_last : (b : Bool) → (k + 1 == entry_words_of v.shape.abi) ≡ b → due (if b then fetched v words else record v { entry = words; stage = stage.Fetch (k + 1) }) ≤ due v + 40
+    by_last true e =
+        let request : RawRequest = request_of v.shape.abi words in
+        let one = begun_left (next_number v) v.jobs.info.sectors request v.jobs.info (verdict_of request v.jobs.info) refl (few_pages v.shape.abi words) in
+        let begun = task.begun (next_number v) request v.jobs.info.sectors (verdict_of request v.jobs.info) in
+        let both = sum_by-append maps_left v.jobs.works (begun ∷ []) in
+        let alone = sum_by-cons maps_left begun [] in
+        let last : k + 1 ≡ entry_words_of v.shape.abi = grind (arith, nat_tests) in
+        let long = long_entry v.shape.abi in
+        omega (arith, copied, one, both, alone, last, long)
+    by_last false e = omega (arith, copied)
+
+step_few : (s : Stage) (v : View) (x : BackAnswer) → v.stage ≡ s → due (step_at s v x) ≤ due v + 40
+step_few stage.MapRing v (answer.Mapped m) here = let none = none_either (nat_lt (length v.pages + 1) (length v.grefs)) stage.MapRing stage.Bind refl refl in omega arith
+step_few stage.MapRing v (answer.MapRefused status) here = let none = none_unbound v.pages in omega arith
+step_few stage.Bind v answer.Done here = omega arith
+step_few stage.Bind v answer.BindRefused here = let none = none_unbound v.pages in omega arith
+step_few stage.Loop v x here = loop_few v (next_reply v) x
+step_few (stage.Fetch k) v (answer.Word word) here = fetch_few v k word here
+step_few (stage.ReplyHigh r) v x here = omega arith
+step_few (stage.ReplyLast r) v x here = omega arith
+step_few (stage.Producer r) v x here = omega arith
+step_few (stage.ProducerFence old) v x here = omega arith
+step_few (stage.ResponseEvent old) v (answer.Word event) here = let none = none_either (notifies old v.ring.prod event) stage.Send stage.Loop refl refl in omega arith
+step_few stage.Send v x here = omega arith
+step_few stage.StoreEvent v x here = omega arith
+step_few stage.EventFence v x here = omega arith
+step_few stage.LookAgain v (answer.Word word) here = looked_few v word (record v { seen = word; stage = stage.Loop; asleep = true }) (due v + 40) (omega arith) (omega arith)
+step_few (stage.GiveUp m) v x here = let less = given_up_due v in omega arith
+step_few stage.UnmapRing v x here = let none = none_bound (other_pages v.pages) in omega arith
+step_few stage.ClosePort v x here = omega arith
+step_few stage.UnmapUnbound v x here = let none = none_unbound (other_pages v.pages) in omega arith
+step_few s v x here = omega arith
+
+back_left : (w : rings.World) (act : Option BackAct) → ring.back_turn w Took ≡ act → mappings_in (ring.back_after w act) ≤ mappings_in w + 41
 back_left w None e = omega arith
 back_left w (Some a) e =
     let made = made_back w.under back_mover.Back (back_asks.ask_of w.back) Took a e in
-    let jobs = step_few w.back.stage w.back a.answer in
+    let jobs = step_few w.back.stage w.back a.answer refl in
     omega arith
 
 front_left : (w : rings.World) (act : Option FrontAct) → ring.front_turn w ≡ act → mappings_in (ring.front_after w act) ≤ mappings_in w
 front_left w None e = omega arith
 front_left w (Some a) e = let same = ap (λ (t : GrantTable). t.made) (made_front w.under (front_asks.ask_of w.front) a e) in omega arith
 
-halted_left : (why : Halt) (v : View) → all_left (halts why v).jobs.works ≤ all_left v.jobs.works
-halted_left why v = halts_cases (λ x. all_left x.jobs.works ≤ all_left v.jobs.works) why v (λ here. omega arith) (λ here. behind_left v.jobs.works) (omega arith)
+halted_left : (why : Halt) (v : View) → due (halts why v) ≤ due v
+halted_left why v =
+    halts_cases (λ x. due x ≤ due v) why v (λ here. let none = none_unbound v.pages in omega arith)
+    (λ here. let less = given_up_due (record v { halted = Some why }) in omega arith) (omega arith)
 
 attached_left : (w : rings.World) (shape : Shape) (grefs : List ℕ) (port : ℕ) → mappings_in (ring.happens w (ring.BackAttaches shape grefs port)) ≤ mappings_in w
-attached_left w shape grefs port = attach_cases (λ b shown. w.under.grants.made + all_left b.jobs.works ≤ mappings_in w) w shape grefs port (λ may named says. omega arith) (omega arith)
+attached_left w shape grefs port = attach_cases (λ b shown. w.under.grants.made + all_left b.jobs.works + 40 * words_copied b.stage ≤ mappings_in w) w shape grefs port (λ may named says. omega arith) (omega arith)
 
 overwritten_left : (b : Bool) (w : rings.World) (x : Hypervisor) → x.grants ≡ w.under.grants → mappings_in (record { front = w.front; back = w.back; under = if b then x else w.under }) ≤ mappings_in w
 overwritten_left true w x same = let made = ap (λ (t : GrantTable). t.made) same in omega arith
@@ -267,7 +385,7 @@ overwritten_left false w x same = omega arith
 
 -- what a happening of the ring's machine comes to
 abbrev pub cost_of : ring.Happening → ℕ
-cost_of ring.BackMoves = 13
+cost_of ring.BackMoves = 41
 cost_of h = 0
 
 pub ring_left : (w : rings.World) (h : ring.Happening) → mappings_in (ring.happens w h) ≤ mappings_in w + cost_of h
@@ -311,11 +429,11 @@ negotiates_cost false w b =
     let both = sum_by-cons cost_of (ring.Negotiates end.Back (back_key a)) more in
     omega arith
 
-does_cost : (b : Bool) (hs : List ring.Happening) → sum_by cost_of hs ≡ 0 → sum_by cost_of (if b then ring.BackMoves ∷ [] else hs) ≤ 13
+does_cost : (b : Bool) (hs : List ring.Happening) → sum_by cost_of hs ≡ 0 → sum_by cost_of (if b then ring.BackMoves ∷ [] else hs) ≤ 41
 does_cost true hs none = let one = sum_by-cons cost_of ring.BackMoves [] in omega arith
 does_cost false hs none = omega arith
 
-pub back_comes : (w : World) → mappings_of (happens w BackMoves) ≤ mappings_of w + 13
+pub back_comes : (w : World) → mappings_of (happens w BackMoves) ≤ mappings_of w + 41
 back_comes w =
     let b : BackView = back_bus_after w (back_turn w) in
     let all = all_rings_left (does w BackMoves) w.rings in

@@ -1,5 +1,5 @@
 -- What is true of the machine at every moment: each end's negotiation and its end of the ring go together, and no event is pending at an end whose port isn't bound.
-use Rattle.std.specs.Prelude.{◌≡◌, ℕ, ◌^◌, ◌<◌, ◌⊎◌, Bool, true, false, [], length, Option, Some, None, IsSome, is_some}
+use Rattle.std.specs.Prelude.{◌≡◌, ℕ, ◌^◌, ◌<◌, ◌≤◌, ◌⊎◌, Bool, true, false, [], length, Option, Some, None, IsSome, is_some}
 use Rattle.blk_base.specs.declared.parts.End.TheVariants as end
 use Rattle.segment_list.specs.declared.verdict.DiskInfo.{DiskInfo}
 use Rattle.key_directory.specs.Directory.{Directory, key_of}
@@ -212,12 +212,13 @@ IsUnbound back_ring.MapRing c = (is_bound c ≡ false) × (c.back_pending ≡ fa
 IsUnbound back_ring.Bind c = (is_bound c ≡ false) × (c.back_pending ≡ false)
 IsUnbound r c = Unit {0}
 
--- the machine is safe, and so is the back's negotiation; each negotiation goes with its end of the ring, closes and halts with it, and a front that wrote Closing has no request left; both know the shape of the ring, the references of its pages and the port; the back offers what it offers, its end of the ring serves that, and its keys say so; and no event is pending where no port is made, or none is bound yet
+-- the machine is safe, and so is the back's negotiation; each negotiation goes with its end of the ring, closes and halts with it, and a front that wrote Closing has no request left; both know the shape of the ring, the references of its pages and the port; the back offers what it offers, no more than 960 segments of an indirect request among it, its end of the ring serves that, and its keys say so; and no event is pending where no port is made, or none is bound yet
 pub record IsFit (w : World) : Type 0 where
   pub safe : IsSafe w.rings
   pub layout : w.rings.front.shape.abi ≡ w.front.abi
   pub ordered : FrontOrdered w.front.stage w.front w.rings.front.shape.order
-  pub offers : w.back.features ≡ offer w.back.disk.read_only
+  pub offers : w.back.features ≡ offer w.back.disk.read_only w.back.features.indirect
+  pub limited : w.back.features.indirect ≤ 960
   pub published : IsOffered w.rings.back.jobs.info w.back.features
   pub said : SaidAt (SaysKey w.rings.under.keys w.back.features w.back.disk) w.back.stage
   pub front : FrontGoesWith w.front.stage w.front w.rings.front.stage

@@ -1,5 +1,5 @@
 -- The happenings that an event of a schedule makes.
-use Rattle.std.specs.Prelude.{◌≡◌, ℕ, zero, suc, ◌+◌, ◌*◌, ◌^◌, ◌≤◌, ◌<◌, ◌⊎◌, Bool, true, false, ◌&&◌, List, [], ◌∷◌, ◌++◌, replicate, length, Some, None, ◌==◌}
+use Rattle.std.specs.Prelude.{◌≡◌, ℕ, zero, suc, ◌+◌, ◌*◌, ◌^◌, ◌≤◌, ◌<◌, ◌⊎◌, Bool, true, false, ◌&&◌, List, [], ◌∷◌, ◌++◌, replicate, length, Some, None, ◌==◌, nat_le}
 use Rattle.blk_base.specs.Options.{Options}
 use Rattle.hypervisor.specs.Act.{Outcome, IsGiven}
 use Rattle.schedule_text.specs.Event.{is_number}
@@ -12,9 +12,9 @@ use Rattle.vbd_model.specs.World.{World, is_quiet}
 use Rattle.split_model.specs.Happening.{is_guest_word}
 use Rattle.vbd_model.specs.Happening.{Happening, FrontMoves, BackMoves, JobMoves, Closes, Submits, Notifies, Pokes, Dumps, Looks, Settles, happens, after}
 
--- the options that are carried out yet: either layout, a ring of 1 to 16 pages from any start, and a disk of any size, read-only or not
+-- the options that are carried out yet: either layout, a ring of 1 to 16 pages from any start, indirect requests of up to 960 segments, and a disk of any size, read-only or not
 abbrev pub are_carried : Options → Bool
-are_carried o = (o.persistent == 0) && (o.indirect == 0)
+are_carried o = (o.persistent == 0) && nat_le o.indirect 960
 
 -- the events that are carried out yet, with the numbers of the grammar
 abbrev pub is_carried : Event → Bool
@@ -96,9 +96,9 @@ never w = false
 abbrev pub settle_bound : World → ℕ
 settle_bound w = 20000 + 2000 * unfinished w.rings.front + 2000 * sectors_owed w.rings.front
 
--- and never more than these: 512 requests at most are unfinished, of 88 sectors each, and one more may be ending
+-- and never more than these: 512 requests at most are unfinished, and the 1000 frames that they share hold 8000 sectors
 abbrev pub most_rounds : ℕ
-most_rounds = 20000 + 2000 * 512 + 2000 * (513 * 88)
+most_rounds = 20000 + 2000 * 512 + 2000 * 8000
 
 -- rounds, each begun where not all is quiet, until all is or there were that many
 pub record AreRoundsUntilQuiet (bound : ℕ) (w : World) (hs : List Happening) : Type 0 where

@@ -17,7 +17,7 @@ pub record World : Type 0 where
 
 -- the machine at the start: nothing is mapped, made, published or pending
 abbrev pub start_of : Options → World
-start_of config = record { rings = rings.start_of config; front = front_bus_start config; back = back_bus_start (back.offer config.read_only) (facts_of config) }
+start_of config = record { rings = rings.start_of config; front = front_bus_start config; back = back_bus_start (back.offer config.read_only config.indirect) (facts_of config) }
 
 -- both ends, each with its negotiation
 abbrev pub frontend_of : World → front.View

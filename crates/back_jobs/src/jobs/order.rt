@@ -1,52 +1,36 @@
 // Which jobs hold up others: a barrier waits for what was fetched before it, and what was fetched
 // after it waits for the barrier (BLKIF_OP_WRITE_BARRIER of `io/blkif.h`).
-ghost use Rattle.std.specs.Prelude.{◌≡◌, if◌then◌else◌, position};
+ghost use Rattle.std.specs.Prelude.{◌≡◌, if◌then◌else◌, ◌==◌, position};
+ghost use Rattle.std.specs.List.{position_or_len};
 ghost use Rattle.back_jobs.specs.Task.{Work};
-ghost use Rattle.back_jobs.specs.Order.{without};
-ghost use Rattle.back_jobs.specs.Sound.{ordered_place, barrier_place};
-ghost use Rattle.back_jobs.specs.Jobs.{holds_barriers, holds_all};
+ghost use Rattle.back_jobs.specs.Order.{without, holds};
 
 use crate::task::Task;
 
-// The place of the first write, barrier or discard that isn't done; how many jobs there are where
-// there is none.
-pub(super) fn first_ordered(tasks: &[Task]) -> usize
-    ensures { result ≡ ordered_place tasks.now }
+// The place of the first write, barrier or discard that isn't done, or with `all` that of the first
+// barrier; how many jobs there are where there is none.
+pub(super) fn first_holding(tasks: &[Task], all: bool) -> usize
+    ensures { result ≡ position_or_len (λ (t : Work). holds all t) tasks.now }
 {
-    ordered_in(tasks).unwrap_or(tasks.len())
+    holding_in(tasks, all).unwrap_or(tasks.len())
 }
 
 // Where it stands.
-fn ordered_in(tasks: &[Task]) -> Option<usize>
-    ensures { result ≡ position (λ (t : Work). holds_barriers t) tasks.now }
+fn holding_in(tasks: &[Task], all: bool) -> Option<usize>
+    ensures { result ≡ position (λ (t : Work). holds all t) tasks.now }
 {
-    tasks.iter().position(|t| t.holds_barriers())
+    tasks.iter().position(|t| t.holds(all))
 }
 
-// The same of barriers alone.
-pub(super) fn first_barrier(tasks: &[Task]) -> usize
-    ensures { result ≡ barrier_place tasks.now }
+// That place after the job at a place was done: looked for anew where it was that one.
+pub(super) fn holding_after(tasks: &[Task], all: bool, was: usize, done: usize) -> usize
+    ensures { result ≡ (if was == done then position_or_len (λ (t : Work). holds all t) tasks.now else was) }
 {
-    barrier_in(tasks).unwrap_or(tasks.len())
-}
-
-fn barrier_in(tasks: &[Task]) -> Option<usize>
-    ensures { result ≡ position (λ (t : Work). holds_all t) tasks.now }
-{
-    tasks.iter().position(|t| t.holds_all())
-}
-
-// That place after a job was done: looked for anew where that was one of them.
-pub(super) fn ordered_after(tasks: &[Task], was: usize, one: bool) -> usize
-    ensures { result ≡ (if one then ordered_place tasks.now else was) }
-{
-    if one { first_ordered(tasks) } else { was }
-}
-
-pub(super) fn barrier_after(tasks: &[Task], was: usize, one: bool) -> usize
-    ensures { result ≡ (if one then barrier_place tasks.now else was) }
-{
-    if one { first_barrier(tasks) } else { was }
+    if was == done {
+        first_holding(tasks, all)
+    } else {
+        was
+    }
 }
 
 // That place after another job was removed.

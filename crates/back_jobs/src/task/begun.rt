@@ -1,12 +1,16 @@
 // The job of a request that was fetched, before its first move.
-ghost use Rattle.std.specs.Prelude.{◌≡◌, ◌≤◌, length, take};
-ghost use Rattle.back_jobs.specs.Task.{first_of, IsDoneStage, id_of, response_op, served, moving, ended, frameless};
+ghost use Rattle.std.specs.Prelude.{◌≡◌, ◌≢◌, ◌<◌, ◌≤◌, ◌+◌, cond, length, take, vec_capacity, nat_le, if◌then◌else◌};
+ghost use Rattle.back_jobs.specs.Task.{first_of, IsDoneStage, id_of, response_op, served, moving, paging, ended, frameless};
+ghost use Rattle.back_jobs.specs.Segments.{is_paged};
 ghost use Rattle.back_jobs.specs.Sound.{AreMovable, IsFrameless};
 ghost use Rattle.segment_list.specs.declared.verdict.Plan.{Plan};
 ghost use Rattle.segment_list.specs.Verdict.{verdict_of, transfer_verdict};
 ghost use Rattle.segment_list.specs.declared.verdict.Kind.{Kind};
+ghost use Rattle.back_jobs.specs.declared.stage.Stage.TheVariants as stage;
+ghost use Rattle.blk_base.specs.declared.operation.Status.TheVariants.{Error};
 
 use super::Task;
+use crate::segments::{Room, SegmentList};
 use crate::stage::Stage;
 use arrayvec::ArrayVec;
 use blk_base::Status;
@@ -14,9 +18,17 @@ use blk_layout::{RawRequest, Segment};
 use segment_list::{DiskInfo, Verdict};
 
 // The job of a served request.
-pub(super) fn served(number: u64, request: &RawRequest, info: &DiskInfo) -> Task
-    requires { (plan : Plan) × (verdict_of request.now info.now ≡ Verdict.Serve plan) }
-    ensures { result ≡ served number request.now info.now.sectors }
+pub(super) fn served(
+    number: u64,
+    request: &RawRequest,
+    info: &DiskInfo,
+    rooms: &mut Vec<Room>,
+) -> Task
+    requires served { (plan : Plan) × (verdict_of request.now info.now ≡ Verdict.Serve plan) }
+    requires has_room { info.now.max_indirect ≢ 0 → 0 < length rooms.old.items }
+    ensures value { result ≡ served number request.now info.now.sectors }
+    ensures rooms { length rooms.new.items + cond (is_paged result) 1 0 ≡ length rooms.old.items }
+    ensures capacity { vec_capacity rooms.new ≡ vec_capacity rooms.old }
 {
     match request {
         RawRequest::Direct {
@@ -42,12 +54,25 @@ pub(super) fn served(number: u64, request: &RawRequest, info: &DiskInfo) -> Task
             *sector,
             Stage::Trim(*count),
         ),
-        RawRequest::Indirect { .. } => ended(
-            number,
-            request,
-            info.sectors,
-            Stage::Done(Status::Error),
-        ),
+        RawRequest::Indirect {
+            op,
+            count,
+            sector,
+            pages,
+            ..
+        } => {
+            let writes = *op != 0;
+            served_indirect(
+                number,
+                request,
+                info.sectors,
+                writes,
+                *count,
+                *sector,
+                pages,
+                rooms,
+            )
+        }
     }
 }
 
@@ -75,6 +100,74 @@ fn transfer(
     )
 }
 
+// The job of an indirect request that is served: there is room for 960 segments.
+fn served_indirect(
+    number: u64,
+    request: &RawRequest,
+    size: u64,
+    writes: bool,
+    count: u16,
+    sector: u64,
+    pages: &[u32; 8],
+    rooms: &mut Vec<Room>,
+) -> Task
+    requires some { 0 < count }
+    requires has_room { 0 < length rooms.old.items }
+    ensures value { result ≡ (if nat_le count 960 then paging number request.now size writes sector count pages.now else ended number request.now size (stage.Done Error)) }
+    ensures rooms { length rooms.new.items + cond (is_paged result) 1 0 ≡ length rooms.old.items }
+    ensures capacity { vec_capacity rooms.new ≡ vec_capacity rooms.old }
+{
+    if count > 960 {
+        return ended(number, request, size, Stage::Done(Status::Error));
+    }
+    match rooms.pop() {
+        None => ended(number, request, size, Stage::Done(Status::Error)),
+        Some(room) => paging(number, request, size, writes, sector, count, pages, room),
+    }
+}
+
+// A job that reads or writes the segments that these pages name.
+fn paging(
+    number: u64,
+    request: &RawRequest,
+    size: u64,
+    writes: bool,
+    disk: u64,
+    count: u16,
+    pages: &[u32; 8],
+    room: Room,
+) -> Task
+    requires some { 0 < count }
+    requires few { count ≤ 960 }
+    ensures { result ≡ paging number request.now size writes disk count pages.now }
+{
+    Task {
+        number,
+        id: id_of(request),
+        op: response_op(request),
+        writes,
+        size,
+        disk,
+        moved: 0,
+        rest: SegmentList::copied_into(room),
+        pages: page_list(pages),
+        named: u32::from(count),
+        within: 0,
+        words: [0; 128],
+        stage: Stage::MapPage,
+    }
+}
+
+// These references.
+fn page_list(pages: &[u32]) -> ArrayVec<u32, 8>
+    requires { length pages.now ≤ 8 }
+    ensures { result.items ≡ pages.now }
+{
+    let mut list = ArrayVec::new();
+    let _ = list.try_extend_from_slice(pages);
+    list
+}
+
 // A job that reads or writes these segments.
 fn moving(
     number: u64,
@@ -88,8 +181,6 @@ fn moving(
     requires movable { AreMovable size disk segments.now }
     ensures { result ≡ moving number request.now size writes disk segments.now }
 {
-    let mut rest = ArrayVec::new();
-    let _ = rest.try_extend_from_slice(segments);
     Task {
         number,
         id: id_of(request),
@@ -98,7 +189,9 @@ fn moving(
         size,
         disk,
         moved: 0,
-        rest,
+        rest: SegmentList::of(segments),
+        pages: ArrayVec::new(),
+        named: 0,
         within: first_of(segments),
         words: [0; 128],
         stage: Stage::Map,
@@ -126,7 +219,9 @@ fn frameless(number: u64, request: &RawRequest, size: u64, disk: u64, stage: Sta
         size,
         disk,
         moved: 0,
-        rest: ArrayVec::new(),
+        rest: SegmentList::of(&[]),
+        pages: ArrayVec::new(),
+        named: 0,
         within: 0,
         words: [0; 128],
         stage,
@@ -156,7 +251,7 @@ fn response_op(request: &RawRequest) -> u8
 }
 
 // The first sector of the first segment.
-fn first_of(segments: &[Segment]) -> u32
+pub(super) fn first_of(segments: &[Segment]) -> u32
     ensures { result ≡ first_of segments.now }
 {
     match segments.first() {

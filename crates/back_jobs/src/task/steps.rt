@@ -1,16 +1,83 @@
 // What an answer makes of a job.
-ghost use Rattle.std.specs.Prelude.{◌≡◌, ◌<◌};
-ghost use Rattle.back_jobs.specs.Task.{at_word, step_at, next_sector, next_segment, counted, sector_stage, rest_of, last_of, IsUnmap};
-ghost use Rattle.back_jobs.specs.Sound.{IsInMode};
+ghost use Rattle.std.specs.Prelude.{◌≡◌, ◌<◌, ◌++◌, [], ◌∷◌, true, length};
+ghost use Rattle.back_jobs.specs.Task.{at_word, step_at, next_sector, next_segment, copied, page_done, passes, counted, sector_stage, rest_of, last_of, IsUnmap};
+ghost use Rattle.back_jobs.specs.Segments.{IsUnmapPage};
+ghost use Rattle.back_jobs.specs.Sound.{IsInMode, AreMovable};
+ghost use Rattle.blk_layout.specs.Entry.{segment_of};
 ghost use Rattle.back_jobs.specs.declared.stage.Stage.TheVariants as stage;
 ghost use Rattle.blk_base.specs.declared.ask.BackAnswer.TheVariants.{Word, Done};
 
-use super::Task;
+use super::begun::first_of;
+use super::{PAGE_SEGMENTS, Task};
 use crate::stage::Stage;
 use blk_base::{Mapping, SectorWords, Status};
-use blk_layout::Segment;
+use blk_layout::{Segment, read_segment};
+use segment_list::{DiskInfo, Kind, Plan, Verdict, finish_indirect};
 
 impl Task {
+    // Both words of a segment are read from an indirect page.
+    #[inline(never)]
+    pub(super) fn copied(&mut self, mapping: Mapping, gref: u32, sectors: u32)
+        requires { self.old.stage ≡ stage.PageSectors mapping gref }
+        ensures { self.new ≡ copied self.old mapping (self.old.rest ++ segment_of gref sectors ∷ []) }
+    {
+        self.rest.push(read_segment([gref, sectors]));
+        let count = self.rest.as_slice().len();
+        if count == self.named as usize || count % PAGE_SEGMENTS == 0 {
+            self.stage = Stage::UnmapPage(mapping);
+        } else {
+            self.stage = Stage::PageReference(mapping);
+        }
+    }
+
+    // An indirect page is given up; after the last one all segments are copied, and only then tested.
+    #[inline(never)]
+    pub(super) fn page_done(&mut self)
+        requires { IsUnmapPage self.old.stage }
+        ensures { self.new ≡ page_done self.old }
+    {
+        if self.rest.as_slice().len() != self.named as usize {
+            if !self.pages.is_empty() {
+                self.pages.remove(0);
+            }
+            self.stage = Stage::MapPage;
+        } else if self.passes() {
+            self.within = first_of(self.rest.as_slice());
+            self.stage = Stage::Map;
+        } else {
+            self.stage = Stage::Done(Status::Error);
+        }
+    }
+
+    // Whether the copied segments pass the last tests of a read or a write.
+    fn passes(&self) -> bool
+        ensures value { result ≡ passes self.now }
+        ensures movable { result ≡ true → 0 < length self.now.rest → AreMovable self.now.size self.now.disk self.now.rest }
+    {
+        let kind = if self.writes {
+            Kind::IndirectWrite
+        } else {
+            Kind::IndirectRead
+        };
+        let plan = Plan {
+            kind,
+            sector: self.disk,
+            count: u64::from(self.named),
+        };
+        let info = DiskInfo {
+            sectors: self.size,
+            read_only: false,
+            barrier: false,
+            flush: false,
+            discard: false,
+            max_indirect: self.named,
+        };
+        matches!(
+            finish_indirect(&plan, self.rest.as_slice(), &info),
+            Verdict::Serve(_)
+        )
+    }
+
     // The present segment's frame is mapped.
     pub(super) fn begin_sector(&mut self, mapping: Mapping)
         requires stage { self.old.stage ≡ stage.Map }
@@ -80,9 +147,7 @@ impl Task {
         requires { IsUnmap self.old.stage }
         ensures { self.new ≡ next_segment self.old (rest_of self.old.rest) }
     {
-        if self.rest.len() > 0 {
-            self.rest.remove(0);
-        }
+        self.rest.remove_first();
         match self.rest.as_slice().first() {
             None => self.stage = Stage::Done(Status::Okay),
             Some(segment) => {

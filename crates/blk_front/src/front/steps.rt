@@ -1,12 +1,13 @@
 // What the front makes of each answer.
-ghost use Rattle.std.specs.Prelude.{◌≡◌, ◌<◌, ◌≤◌, ◌+◌, ◌-◌, ◌*◌, ◌^◌, length, position, slice_get, IfSome, ◌==◌};
+ghost use Rattle.std.specs.Prelude.{◌≡◌, ◌<◌, ◌≤◌, ◌+◌, ◌-◌, ◌*◌, ◌^◌, length, position, slice_get, IfSome, Some, ◌==◌, true};
 ghost use Rattle.blk_base.specs.declared.ask.FrontAnswer.TheVariants.{Word, Done};
 ghost use Rattle.blk_front.specs.declared.stage.Stage.TheVariants as stage;
 ghost use Rattle.blk_front.specs.View.{next_request};
 ghost use Rattle.blk_front.specs.Ask.{loop_ask, IsAnswer};
 ghost use Rattle.blk_front.specs.Sound.{AreAscending};
 ghost use Rattle.blk_front.specs.Step.{step_at, loop_step, loop_word, looked, broken, found_at, issued, taken, response_step, end_step, exchanged, ring_read, ring_ended, ended, finished, pushed, data_step, begun, IsTaking, IsRevoking, IsEndingStage};
-ghost use Rattle.blk_front.specs.Request.{IsShaped};
+ghost use Rattle.blk_front.specs.Request.{IsShaped, is_indirect};
+ghost use Rattle.blk_front.specs.Inside.{held};
 ghost use Rattle.blk_front.specs.Entry.{entry_request};
 ghost use Rattle.blk_layout.specs.declared.request.RawRequest.TheVariants.{Discard};
 ghost use Rattle.ring_words.specs.Shape.{entry_words_of};
@@ -14,11 +15,12 @@ ghost use Rattle.blk_layout.specs.Entry.{raw_of};
 ghost use Rattle.blk_front.specs.declared.request.Request.{Request};
 
 use super::Front;
-use crate::request::{Request, SECTOR_WORDS, Transfer, frames_for};
+use crate::frames::SpareLists;
+use crate::request::{Request, SECTOR_WORDS, Transfer, frames_for, is_indirect};
 use crate::stage::{Ending, Stage};
 use crate::told::Told;
 use blk_base::{FrontAnswer, Status};
-use blk_layout::{DirectOp, Request as Wire, read_response, request_words};
+use blk_layout::{DirectOp, IndirectOp, Request as Wire, read_response, request_words};
 use ring_words::notify;
 
 impl Front {
@@ -73,6 +75,7 @@ impl Front {
         };
         match r.transfer {
             Transfer::Write(_) | Transfer::Barrier(_) => self.stage = Stage::Data(1),
+            Transfer::Read if is_indirect(r.count) => self.stage = Stage::Pages(1),
             Transfer::Read => self.stage = Stage::GrantFence(0),
             Transfer::Flush | Transfer::Discard(_) => {
                 self.entry = request_words(self.abi, &wire(r));
@@ -168,7 +171,7 @@ impl Front {
 
     pub(super) fn wrote_data(&mut self, n: u32)
         requires stage { self.old.stage ≡ stage.Data n }
-        requires placed { n < 11264 }
+        requires placed { n < 983040 }
         ensures { self.new ≡ step_at (stage.Data n) self.old Done }
     {
         let Some(r) = self.next_request() else {
@@ -176,6 +179,24 @@ impl Front {
         };
         self.stage = if n + 1 < SECTOR_WORDS * r.count {
             Stage::Data(n + 1)
+        } else if is_indirect(r.count) {
+            Stage::Pages(0)
+        } else {
+            Stage::GrantFrame(0)
+        };
+    }
+
+    #[inline(never)]
+    pub(super) fn wrote_page(&mut self, n: u32)
+        requires stage { self.old.stage ≡ stage.Pages n }
+        requires placed { n < 1920 }
+        ensures { self.new ≡ step_at (stage.Pages n) self.old Done }
+    {
+        let Some(r) = self.next_request() else {
+            return;
+        };
+        self.stage = if n + 1 < r.naming_words() {
+            Stage::Pages(n + 1)
         } else {
             Stage::GrantFrame(0)
         };
@@ -184,7 +205,7 @@ impl Front {
     #[inline(never)]
     pub(super) fn granted(&mut self, place: u32)
         requires stage { self.old.stage ≡ stage.GrantFlags place }
-        requires placed { place < 11 }
+        requires placed { place < 962 }
         ensures { self.new ≡ step_at (stage.GrantFlags place) self.old Done }
     {
         let Some(r) = self.next_request() else {
@@ -266,10 +287,12 @@ impl Front {
         let request = self.requests.remove(place);
         if request.frames.is_empty() {
             let id = request.number;
+            self.spare.give(request.frames);
             self.stage = Stage::Loop;
             self.told = Some(Told::Answer { id, status });
         } else {
-            self.ending = Some(Ending { request, status });
+            let ending = Ending { request, status };
+            replace(&mut self.spare, &mut self.ending, ending);
             self.stage = Stage::GrantRead(0);
         }
     }
@@ -278,7 +301,7 @@ impl Front {
     #[inline(never)]
     pub(super) fn end_grant(&mut self, place: u32, word: u32)
         requires stage { self.old.stage ≡ stage.GrantRead place }
-        requires placed { place < 11 }
+        requires placed { place < 962 }
         ensures { self.new ≡ end_step self.old place word }
     {
         if word / 8 % 4 != 0 {
@@ -292,7 +315,7 @@ impl Front {
     #[inline(never)]
     pub(super) fn ended_grant(&mut self, place: u32, before: u32, word: u32)
         requires stage { self.old.stage ≡ stage.GrantEnd place before }
-        requires placed { place < 11 }
+        requires placed { place < 962 }
         ensures { self.new ≡ exchanged self.old place before word }
     {
         if word != before {
@@ -334,6 +357,7 @@ impl Front {
     {
         if let Some(ending) = self.ending.take() {
             self.pool.free_all(ending.request.frames.as_slice());
+            self.spare.give(ending.request.frames);
             self.stage = Stage::Loop;
         }
     }
@@ -342,7 +366,7 @@ impl Front {
     #[inline(always)]
     pub(super) fn read_data(&mut self, n: u32, word: u32)
         requires stage { self.old.stage ≡ stage.ReadData n }
-        requires placed { n < 11264 }
+        requires placed { n < 983040 }
         ensures { self.new ≡ data_step self.old.ending n word self.old }
     {
         let Some(ending) = &self.ending else {
@@ -362,7 +386,7 @@ impl Front {
     #[inline(never)]
     fn read_last(&mut self, n: u32, word: u32)
         requires stage { self.old.stage ≡ stage.ReadData n }
-        requires placed { n < 11264 }
+        requires placed { n < 983040 }
         ensures { self.new ≡ data_step self.old.ending n word self.old }
     {
         let Some(ending) = &self.ending else {
@@ -383,6 +407,18 @@ impl Front {
             self.finish();
         }
     }
+}
+
+// A request is ending; the list of the frames of one that was ending before is spare.
+fn replace(spare: &mut SpareLists, ending: &mut Option<Ending>, next: Ending)
+    requires { spare.old + held ending.old ≤ 513 }
+    ensures spare { spare.new ≡ spare.old + held ending.old }
+    ensures ending { ending.new ≡ Some next }
+{
+    if let Some(before) = ending.take() {
+        spare.give(before.request.frames);
+    }
+    *ending = Some(next);
 }
 
 // The id that two words of a response have, the lower half first.
@@ -408,6 +444,9 @@ pub(super) fn wire(r: &Request) -> Wire
     requires { IsShaped r.now }
     ensures { raw_of result ≡ entry_request r.now }
 {
+    if is_indirect(r.count) {
+        return indirect(r);
+    }
     let op = match r.transfer {
         Transfer::Read => DirectOp::Read,
         Transfer::Write(_) => DirectOp::Write,
@@ -422,6 +461,26 @@ pub(super) fn wire(r: &Request) -> Wire
         id: u64::from(r.number),
         sector: r.sector,
         segments: r.segments(),
+    }
+}
+
+// A read or a write as its entry has it where its segments lie in indirect pages.
+fn indirect(r: &Request) -> Wire
+    requires shaped { IsShaped r.now }
+    requires indirect { is_indirect r.now.count ≡ true }
+    ensures { raw_of result ≡ entry_request r.now }
+{
+    let op = match r.transfer {
+        Transfer::Write(_) => IndirectOp::Write,
+        _ => IndirectOp::Read,
+    };
+    Wire::Indirect {
+        op,
+        count: frames_for(r.count) as u16,
+        device: 51712,
+        id: u64::from(r.number),
+        sector: r.sector,
+        pages: r.page_references(),
     }
 }
 

@@ -1,20 +1,21 @@
 // What the front is handed, and what it tells.
 ghost use Rattle.std.specs.Prelude.{◌≡◌, ◌≤◌, ◌<◌, ◌+◌, ◌*◌, ◌==◌, if◌then◌else◌, true, false, [], None, All, length, sum_by, is_some, option_map, IfSome};
 ghost use Rattle.ring_words.specs.Shape.{entries_of};
-ghost use Rattle.arrayvec.specs.ArrayVec.{array_vec_len};
 ghost use Rattle.blk_front.specs.declared.request.Request.{Request};
-ghost use Rattle.blk_front.specs.Request.{IsShaped, IsCounted, is_moving, frames_for};
+ghost use Rattle.blk_front.specs.Request.{IsShaped, IsCounted, is_moving};
 ghost use Rattle.blk_front.specs.Ask.{ask_of};
-ghost use Rattle.blk_front.specs.Submit.{submit_of, submit_one, is_ready, is_connected, is_initialised, is_idle, wish_of, accepted, unfinished, ending_of, ending_sectors, sectors_owed, is_wait};
+ghost use Rattle.blk_front.specs.Submit.{submit_of, submit_one, is_ready, is_connected, is_initialised, is_idle, wish_of, submit_with, most_segments, frames_taken, unfinished, ending_of, ending_sectors, sectors_owed, is_wait};
 ghost use Rattle.blk_front.specs.Pool.{taking};
 
 use super::Front;
-use crate::pool::{Pool, PoolFrame};
-use crate::request::{MAX_SEGMENTS, Request, Transfer, Wish, frames_for};
+use crate::frames::FrameList;
+use crate::pool::Pool;
+use crate::request::{
+    MAX_INDIRECT_SEGMENTS, MAX_SEGMENTS, Request, Transfer, Wish, frames_for, pages_for,
+};
 use crate::stage::Stage;
 use crate::state::Offers;
 use crate::told::{Refusal, Told};
-use arrayvec::ArrayVec;
 use blk_base::{Endpoint, FrontAsk, Job};
 
 impl Front {
@@ -43,44 +44,43 @@ impl Front {
         if count > self.sectors || wish.sector > self.sectors - count {
             return Err(Refusal::Range);
         }
-        let needed = frames_for(wish.count);
-        if needed > MAX_SEGMENTS {
+        if frames_for(wish.count) > most_segments(self.offers, wish.transfer) {
             return Err(Refusal::Long);
         }
         if self.unfinished() >= self.shape().entries() {
             return Err(Refusal::Full);
         }
-        let Some((frames, pool)) = take_frames(self.pool, needed) else {
-            return Err(Refusal::Buffers);
-        };
-        Ok(self.accept(wish, frames, pool))
+        self.accept(wish)
     }
 
-    // Queues the next request.
+    // Queues the next request, where its frames are free.
     #[tactic(auto, using(crate::proofs::Shapes::few_pages))]
-    fn accept(&mut self, wish: Wish, frames: ArrayVec<PoolFrame, 11>, pool: Pool) -> u32
+    fn accept(&mut self, wish: Wish) -> Result<u32, Refusal>
         requires spent { self.old.last < 4294967295 }
         requires ready { is_ready self.old.stage ≡ true }
         requires room { unfinished self.old < entries_of self.old.shape.order }
         requires counted { IsCounted wish.transfer wish.count }
-        requires frames { array_vec_len frames ≡ frames_for wish.count }
-        ensures number { result ≡ self.old.last + 1 }
-        ensures front { self.new ≡ accepted self.old wish (frames.items, pool) }
+        ensures answer { result ≡ (submit_with self.old wish (taking (frames_taken wish.count) self.old.pool [])).0 }
+        ensures front { self.new ≡ (submit_with self.old wish (taking (frames_taken wish.count) self.old.pool [])).1 }
     {
+        let needed = frames_for(wish.count) + pages_for(wish.count);
+        let mut frames = self.spare.take();
+        let Some(pool) = take_frames(self.pool, needed, &mut frames) else {
+            self.spare.give(frames);
+            return Err(Refusal::Buffers);
+        };
         let number = self.last + 1;
         self.pool = pool;
-        self.requests
-            .push(Request {
-                number,
-                sector: wish.sector,
-                count: wish.count,
-                transfer: wish.transfer,
-                frames,
-            })
-            .unwrap();
+        self.requests.push_reserved(Request {
+            number,
+            sector: wish.sector,
+            count: wish.count,
+            transfer: wish.transfer,
+            frames,
+        });
         self.last = number;
         self.waiting += 1;
-        number
+        Ok(number)
     }
 
     // How many requests are unfinished.
@@ -143,7 +143,7 @@ impl Front {
         ensures requests { result.0 ≡ unfinished self.now }
         ensures sectors { result.1 ≡ sectors_owed self.now }
         ensures few { result.0 ≤ 512 }
-        ensures short { result.1 ≤ 45144 }
+        ensures short { result.1 ≤ 3939840 }
     {
         let requests = self.unfinished();
         let sectors = sectors_of(self.requests.as_slice());
@@ -153,7 +153,7 @@ impl Front {
     // The sectors of the request that is ending.
     fn ending_sectors(&self) -> u64
         ensures value { result ≡ (if ending_of self.now.stage == 0 then 0 else ending_sectors self.now.ending) }
-        ensures short { result ≤ 88 }
+        ensures short { result ≤ 7680 }
     {
         match &self.ending {
             Some(ending) if ending_of(self.stage) == 1 => u64::from(ending.request.count),
@@ -192,12 +192,12 @@ fn ending_of(stage: Stage) -> u32
     }
 }
 
-// How many sectors these requests move, 88 each at most.
+// How many sectors these requests move, 7680 each at most.
 fn sectors_of(requests: &[Request]) -> u64
     requires few { length requests.now ≤ 512 }
     requires shaped { All IsShaped requests.now }
     ensures value { result ≡ sum_by (λ (r : Request). r.count) requests.now }
-    ensures short { result ≤ 88 * length requests.now }
+    ensures short { result ≤ 7680 * length requests.now }
 {
     let mut sectors = 0;
     for r in requests {
@@ -224,6 +224,18 @@ fn is_ready(stage: Stage) -> bool
         | Stage::Closed
         | Stage::Broken(_) => false,
         _ => true,
+    }
+}
+
+// How many segments a request may have: what an entry has room for, and of a read or a write as many
+// as the back takes in indirect pages.
+fn most_segments(offers: Offers, transfer: Transfer) -> u32
+    ensures { result ≡ most_segments offers transfer }
+{
+    if transfer.may_be_indirect() {
+        MAX_SEGMENTS.max(MAX_INDIRECT_SEGMENTS.min(offers.indirect))
+    } else {
+        MAX_SEGMENTS
     }
 }
 
@@ -263,18 +275,18 @@ fn wish_of(offers: Offers, job: &Job) -> Option<Wish>
     }
 }
 
-// So many of the pool's free frames, the lowest ones, and the pool with them in use; `None` exactly
-// where fewer are free.
-fn take_frames(mut pool: Pool, needed: u32) -> Option<(ArrayVec<PoolFrame, 11>, Pool)>
-    requires { needed ≤ 11 }
-    ensures value { option_map (λ taken. (taken.0.items, taken.1)) result ≡ taking needed pool [] }
-    ensures length { IfSome result (λ taken. array_vec_len taken.0 ≡ needed) }
+// The list becomes that of so many of the pool's free frames, the lowest ones; the pool with them in
+// use, and `None` exactly where fewer are free.
+fn take_frames(mut pool: Pool, needed: u32, frames: &mut FrameList) -> Option<Pool>
+    requires { needed ≤ 962 }
+    ensures value { option_map (λ after. (frames.new.items, after)) result ≡ taking needed pool [] }
+    ensures length { IfSome result (λ after. length frames.new.items ≡ needed) }
 {
-    let mut frames = ArrayVec::new();
+    frames.clear();
     for _ in 0..needed {
         let frame = pool.lowest()?;
         pool.take(&frame);
         frames.push(frame);
     }
-    Some((frames, pool))
+    Some(pool)
 }

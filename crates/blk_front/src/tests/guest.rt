@@ -8,11 +8,12 @@ use std::alloc::Global;
 use std::process::Abort;
 use std::test::Fail;
 
-/// A back that serves reads and writes alone.
+/// A back that serves reads and writes alone, of the segments that an entry has room for.
 pub const NOTHING: Offers = Offers {
     barrier: false,
     flush: false,
     discard: false,
+    indirect: 0,
 };
 
 /// The words of frames 0 to 63.
@@ -148,7 +149,7 @@ pub fn front_of(alloc: Global, start: u32) -> Result<Front, Fail> {
 }
 
 /// A front over a disk of so many sectors.
-fn front_over(alloc: Global, start: u32, sectors: u64) -> Result<Front, Fail> {
+pub fn front_over(alloc: Global, start: u32, sectors: u64) -> Result<Front, Fail> {
     Ok(Front::new(alloc, &config(start, false, sectors))?)
 }
 

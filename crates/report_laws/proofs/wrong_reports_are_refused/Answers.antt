@@ -1,4 +1,4 @@
-use Rattle.report_laws.proofs.Refused.{begun_twice, moved, ready_late, unserved, unread, connected_alone, closed_unsaid, out_of_range}
+use Rattle.report_laws.proofs.Refused.{begun_twice, moved, ready_late, unserved, unread, connected_alone, closed_unsaid, five_ports, out_of_range}
 use Rattle.report_laws.proofs.wrong_reports_are_refused.Goals as goal
 
 pub returns-clause-begun_twice : goal.returns-clause-begun_twice
@@ -21,6 +21,9 @@ returns-clause-connected_alone c config h = connected_alone config h
 
 pub returns-clause-closed_unsaid : goal.returns-clause-closed_unsaid
 returns-clause-closed_unsaid c config h = closed_unsaid config h
+
+pub returns-clause-five_ports : goal.returns-clause-five_ports
+returns-clause-five_ports c config h = five_ports config h
 
 pub returns-clause-out_of_range : goal.returns-clause-out_of_range
 returns-clause-out_of_range c id status far h = out_of_range id status far h

@@ -1,6 +1,7 @@
 // Many moves: of one end, of a job, and in rounds.
-ghost use Rattle.std.specs.Prelude.{◌*◌, ◌∷◌, [], replicate};
+ghost use Rattle.std.specs.Prelude.{◌*◌, ◌≤◌, ◌∷◌, [], replicate};
 ghost use Rattle.blk_io.specs.Disk.{DiskSeen};
+ghost use Rattle.blk_front.specs.Submit.{sectors_owed};
 ghost use Rattle.vbd_model.specs.World.{is_quiet};
 ghost use Rattle.vbd_model.specs.Happening.{FrontMoves, BackMoves, Looks};
 ghost use Rattle.vbd_model.specs.Kind.{AreSomeJobMoves, AreFewJobMoves, AreAllJobs, HasEachJobs};
@@ -36,8 +37,8 @@ impl Split {
         disk: &mut D,
         recorder: &mut R,
     ) -> Result<(), RecordStop>
-        requires { IsReadyFor (13 * count) self.old (D.seen disk.old) }
-        ensures { GoesThrough (replicate count BackMoves) (13 * count) result
+        requires { IsReadyFor (41 * count) self.old (D.seen disk.old) }
+        ensures { GoesThrough (replicate count BackMoves) (41 * count) result
             (moment self.old (D.seen disk.old) (R.seen recorder.old))
             (moment self.new (D.seen disk.new) (R.seen recorder.new)) }
     {
@@ -93,8 +94,8 @@ impl Split {
         disk: &mut D,
         recorder: &mut R,
     ) -> Result<(), RecordStop>
-        requires { IsReadyFor 14 self.old (D.seen disk.old) }
-        ensures { Goes (IsRound self.old) (IsRoundSoFar self.old) 14 result
+        requires { IsReadyFor 42 self.old (D.seen disk.old) }
+        ensures { Goes (IsRound self.old) (IsRoundSoFar self.old) 42 result
             (moment self.old (D.seen disk.old) (R.seen recorder.old))
             (moment self.new (D.seen disk.new) (R.seen recorder.new)) }
     {
@@ -110,8 +111,8 @@ impl Split {
         disk: &mut D,
         recorder: &mut R,
     ) -> Result<(), RecordStop>
-        requires { IsReadyFor (14 * count) self.old (D.seen disk.old) }
-        ensures { Goes (AreRounds never count self.old) (AreRoundsSoFar never count self.old) (14 * count) result
+        requires { IsReadyFor (42 * count) self.old (D.seen disk.old) }
+        ensures { Goes (AreRounds never count self.old) (AreRoundsSoFar never count self.old) (42 * count) result
             (moment self.old (D.seen disk.old) (R.seen recorder.old))
             (moment self.new (D.seen disk.new) (R.seen recorder.new)) }
     {
@@ -128,8 +129,8 @@ impl Split {
         disk: &mut D,
         recorder: &mut R,
     ) -> Result<(), RecordStop>
-        requires { IsReadyFor (14 * bound) self.old (D.seen disk.old) }
-        ensures { Goes (AreRoundsUntilQuiet bound self.old) (AreRoundsSoFar is_quiet bound self.old) (14 * bound) result
+        requires { IsReadyFor (42 * bound) self.old (D.seen disk.old) }
+        ensures { Goes (AreRoundsUntilQuiet bound self.old) (AreRoundsSoFar is_quiet bound self.old) (42 * bound) result
             (moment self.old (D.seen disk.old) (R.seen recorder.old))
             (moment self.new (D.seen disk.new) (R.seen recorder.new)) }
     {
@@ -148,8 +149,9 @@ impl Split {
         disk: &mut D,
         recorder: &mut R,
     ) -> Result<(), RecordStop>
-        requires { IsReadyFor (14 * most_rounds) self.old (D.seen disk.old) }
-        ensures { Goes (IsSettling self.old) (IsSettlingSoFar self.old) (14 * most_rounds) result
+        requires ready { IsReadyFor (42 * most_rounds) self.old (D.seen disk.old) }
+        requires owing { sectors_owed self.old.rings.front ≤ 8000 }
+        ensures { Goes (IsSettling self.old) (IsSettlingSoFar self.old) (42 * most_rounds) result
             (moment self.old (D.seen disk.old) (R.seen recorder.old))
             (moment self.new (D.seen disk.new) (R.seen recorder.new)) }
     {

@@ -22,10 +22,17 @@ invariant_of-self c =
         is_done = c.first_done-self-inside.ensures ∙ ap done_place seen;
       },
       record {
-        ordered_is = c.first_ordered-self-inside.ensures ∙ ap ordered_place seen;
-        barrier_is = c.first_barrier-self-inside.ensures ∙ ap barrier_place seen;
+        ordered_is = c.first_holding-self-inside.ensures ∙ ap ordered_place seen;
+        barrier_is = c.first_holding-self-inside-2.ensures ∙ ap barrier_place seen;
+      },
+      record {
+        has_space = rw h.kept c.self.invariant.2.has_space;
+        shared = h.rooms ∙ c.self.invariant.2.shared;
       },
     )
 
 pub returns-clause-no_more : goal.returns-clause-no_more
 returns-clause-no_more c = rw (c.give_up_first-mapping.ensures.rest, ← c.self.view_is) (few_behind c.self.inside.tasks.items)
+
+pub give_up_first-mapping-requires : goal.give_up_first-mapping-requires
+give_up_first-mapping-requires c = omega (arith, c.self.invariant.2.has_space, c.self.invariant.2.shared)

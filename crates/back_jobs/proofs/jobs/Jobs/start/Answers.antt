@@ -3,24 +3,27 @@ use Rattle.std.proofs.Math.ListN.{length-append}
 use Rattle.segment_list.specs.Verdict.{verdict_of}
 use Rattle.back_jobs.specs.Jobs.{Held, is_done}
 use Rattle.back_jobs.specs.Order.{is_above}
+use Rattle.back_jobs.specs.Segments.{AreShared}
 use Rattle.back_jobs.specs.Sound.{IsKept, AreFirst, done_numbers}
 use Rattle.back_jobs.proofs.Done.{began_done}
 use Rattle.back_jobs.proofs.First.{began_first}
 use Rattle.back_jobs.proofs.Listed.{noted, began_listed, kept_rise, listed_fits, noting, was_ascending}
 use Rattle.back_jobs.proofs.Numbers.{began_ascending}
+use Rattle.back_jobs.proofs.Rooms.{began_shared, has_spare}
 use Rattle.back_jobs.proofs.Sizes.{begun_number, begun_size, started_sized}
 use Rattle.back_jobs.proofs.jobs.Jobs.start.Goals.{After-push}
 use Rattle.back_jobs.proofs.jobs.Jobs.start.Goals as goal
 
 -- what is known of the jobs stays true, where the number is listed if its job is done
 kept : (c : After-push) (b : Bool) (now : List ℕ) (listed : ℕ) → b ≡ c.is_done-is_done.result → (c.goes_on_ascending-self-inside.result ≡ true → now ≡ noted b c.args.number c.self.inside.finished.items) → vec_capacity c.self.inside.finished ≤ listed → IsKept c.goes_on_ascending-self-inside.result now c.done_with-self-inside.result c.self.inside.room (vec_capacity c.push.new.self) listed c.self.inside.info.sectors c.push.new.self.items × AreFirst c.done_with-self-inside-2.result c.done_with-self-inside-3.result c.push.new.self.items
+    × AreShared (length c.begin-task.new.rooms.items) (vec_capacity c.begin-task.new.rooms) c.self.inside.room c.self.inside.info.max_indirect c.push.new.self.items
 kept c b now listed test noted_now more =
     let works = c.self.inside.tasks.items in
     let size = c.self.inside.info.sectors in
     let v = verdict_of c.args.request.now c.self.inside.info in
     let t = c.begin-task.result in
-    let known : t.size ≡ size = rw c.begin-task.ensures (begun_size c.args.number c.args.request.now size v) in
-    let numbered : t.number ≡ c.args.number = rw c.begin-task.ensures (begun_number c.args.number c.args.request.now size v) in
+    let known : t.size ≡ size = rw c.begin-task.ensures.value (begun_size c.args.number c.args.request.now size v) in
+    let numbered : t.number ≡ c.args.number = rw c.begin-task.ensures.value (begun_number c.args.number c.args.request.now size v) in
     let grown : c.push.new.self.items ≡ works ++ t ∷ [] = search rules in
     let below : length works < c.self.inside.room = subst (λ (h : Held). length h.works < h.room) (sym c.self.view_is) c.requires in
     let ordered = began_ascending c.self.inside.ascending c.goes_on_ascending-self-inside.result works c.as_slice.result.now t c.args.number c.self.invariant.0.in_order c.as_slice.ensures.value numbered c.goes_on_ascending-self-inside.ensures in
@@ -34,7 +37,8 @@ kept c b now listed test noted_now more =
         is_listed = λ in_order. rw grown (noting b (is_done t) c.args.number t.number c.self.inside.finished.items (done_numbers works) now (done_numbers (works ++ t ∷ [])) (test ∙ c.is_done-is_done.ensures) (sym numbered) (c.self.invariant.0.is_listed (was_ascending c.self.inside.ascending c.goes_on_ascending-self-inside.result (is_above c.as_slice.result.now c.args.number) c.goes_on_ascending-self-inside.ensures in_order)) (noted_now in_order) (began_listed works t (ordered in_order)));
         is_done = rw grown (began_done works t c.self.inside.done c.done_with-self-inside.result c.len-count.result c.is_done-is_done.result c.self.invariant.0.is_done counted c.is_done-is_done.ensures c.done_with-self-inside.ensures);
       },
-      rw grown (began_first works t c.self.inside.ordered c.self.inside.barrier c.done_with-self-inside-2.result c.done_with-self-inside-3.result c.len-count.result c.holds_barriers.result c.holds_all.result c.self.invariant.1 counted c.holds_barriers.ensures c.holds_all.ensures c.done_with-self-inside-2.ensures c.done_with-self-inside-3.ensures),
+      rw grown (began_first works t c.self.inside.ordered c.self.inside.barrier c.done_with-self-inside-2.result c.done_with-self-inside-3.result c.len-count.result c.holds.result c.holds-2.result c.self.invariant.1 counted c.holds.ensures c.holds-2.ensures c.done_with-self-inside-2.ensures c.done_with-self-inside-3.ensures),
+      rw grown (began_shared (length c.self.inside.rooms.items) (length c.begin-task.new.rooms.items) (vec_capacity c.self.inside.rooms) (vec_capacity c.begin-task.new.rooms) c.self.inside.room c.self.inside.info.max_indirect works t c.begin-task.ensures.rooms c.begin-task.ensures.capacity c.self.invariant.2),
     )
 
 pub invariant_of-self : goal.invariant_of-self
@@ -55,3 +59,8 @@ note-requires-clause-has_room c = λ test.
     let was = was_ascending c.self.inside.ascending c.goes_on_ascending-self-inside.result (is_above c.as_slice.result.now c.args.number) c.goes_on_ascending-self-inside.ensures test in
     let same : length c.self.inside.finished.items ≡ length (done_numbers works) = ap length (c.self.invariant.0.is_listed was) in
     omega (arith, below, same, listed_fits works, c.self.invariant.0.has_list_room)
+
+pub begin-task-requires : goal.begin-task-requires
+begin-task-requires c = λ some.
+    let below : length c.self.inside.tasks.items < c.self.inside.room = subst (λ (h : Held). length h.works < h.room) (sym c.self.view_is) c.requires in
+    has_spare (length c.self.inside.rooms.items) (vec_capacity c.self.inside.rooms) c.self.inside.room c.self.inside.info.max_indirect c.self.inside.tasks.items c.self.invariant.2 below some

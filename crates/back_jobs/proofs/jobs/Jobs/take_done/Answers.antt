@@ -1,4 +1,4 @@
-use Rattle.std.proofs.Common.{◌≡◌, ◌<◌, true, length, sym, ap, ◌∙◌, rules, arith}
+use Rattle.std.proofs.Common.{◌≡◌, ◌<◌, true, length, vec_capacity, sym, ap, ◌∙◌, rules, arith}
 use Rattle.std.specs.Prelude.{option_and_then, slice_index_or}
 use Rattle.std.proofs.lemmas.List.Edits.{length-remove}
 use Rattle.back_jobs.specs.Jobs.{response_of, is_done}
@@ -7,6 +7,7 @@ use Rattle.back_jobs.proofs.Done.{taken_done, taken_over}
 use Rattle.back_jobs.proofs.First.{removed_first}
 use Rattle.back_jobs.proofs.Listed.{taken_listed}
 use Rattle.back_jobs.proofs.Numbers.{removed_ascending}
+use Rattle.back_jobs.proofs.Rooms.{removed_shared, removed_space}
 use Rattle.back_jobs.proofs.Sizes.{removed_sized}
 use Rattle.back_jobs.proofs.jobs.Jobs.take_done.Goals as goal
 
@@ -27,6 +28,7 @@ invariant_of-self c =
         is_done = c.lowest_done-self-inside.ensures ∙ ap done_place c.as_slice.ensures.value;
       },
       rw h.items (removed_first works c.self.inside.done c.remove-task.result c.self.inside.ordered c.self.inside.barrier c.without-self-inside.result c.without-self-inside-2.result within over c.self.invariant.1 c.without-self-inside.ensures c.without-self-inside-2.ensures),
+      rw h.items (removed_shared (length c.self.inside.rooms.items) (length c.give_back.new.rooms.items) (vec_capacity c.self.inside.rooms) (vec_capacity c.give_back.new.rooms) c.self.inside.room c.self.inside.info.max_indirect works c.self.inside.done c.remove-task.result within here c.give_back.ensures.rooms c.give_back.ensures.capacity c.self.invariant.2),
     )
 
 pub returns-clause-taken : goal.returns-clause-taken
@@ -35,7 +37,7 @@ returns-clause-taken c =
     let within : c.self.inside.done < length works = search rules in
     let here : c.remove-task.result ≡ slice_index_or works c.self.inside.done c.remove-task.result = search rules in
     let found = taken_done works c.self.inside.done c.remove-task.result c.self.invariant.0.is_done within here in
-    rw (← c.self.view_is) (c.response.ensures ∙ sym (ap (option_and_then response_of) found))
+    rw (← c.self.view_is) (c.response-response.ensures ∙ sym (ap (option_and_then response_of) found))
 
 pub lowest_done-self-inside-requires-clause-in_order : goal.lowest_done-self-inside-requires-clause-in_order
 lowest_done-self-inside-requires-clause-in_order c =
@@ -46,3 +48,10 @@ pub lowest_done-self-inside-requires-clause-listed : goal.lowest_done-self-insid
 lowest_done-self-inside-requires-clause-listed c =
     let works = c.self.inside.tasks.items in
     λ test. rw (c.as_slice-2.ensures.value, c.as_slice.ensures.value, c.remove-task.ensures.items) (taken_listed works c.self.inside.done c.self.inside.finished.items c.drop_first.new.numbers.items c.self.invariant.0.is_done (c.self.invariant.0.is_listed test) c.drop_first.ensures.items)
+
+pub give_back-requires : goal.give_back-requires
+give_back-requires c =
+    let works = c.self.inside.tasks.items in
+    let within : c.self.inside.done < length works = search rules in
+    let here : c.remove-task.result ≡ slice_index_or works c.self.inside.done c.remove-task.result = search rules in
+    removed_space (length c.self.inside.rooms.items) (vec_capacity c.self.inside.rooms) c.self.inside.room c.self.inside.info.max_indirect works c.self.inside.done c.remove-task.result within here c.self.invariant.2

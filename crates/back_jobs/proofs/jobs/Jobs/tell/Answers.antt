@@ -1,5 +1,5 @@
-use Rattle.std.proofs.Common.{◌≡◌, ◌<◌, ℕ, List, length, vec_capacity, true, false, rules, refl, sym, ap, ◌∙◌, subst, arith}
-use Rattle.std.specs.Prelude.{Some, slice_get, slice_set, if◌then◌else◌}
+use Rattle.std.proofs.Common.{◌≡◌, ◌<◌, ℕ, List, length, vec_capacity, true, false, rules, refl, sym, ap, ◌∙◌, arith}
+use Rattle.std.specs.Prelude.{Some, slice_get, slice_set, if◌then◌else◌, ◌==◌}
 use Rattle.std.proofs.lemmas.Option.{slice_get_read}
 use Rattle.segment_list.specs.declared.verdict.DiskInfo.{DiskInfo}
 use Rattle.back_jobs.specs.Task.{Work, IsAnswer, ask_of}
@@ -8,7 +8,8 @@ use Rattle.back_jobs.specs.Sound.{ordered_place, barrier_place}
 use Rattle.back_jobs.proofs.Listed.{kept_rise}
 use Rattle.back_jobs.proofs.Telling.{unheld, work_there, told_there, told_kept, told_room}
 use Rattle.back_jobs.proofs.Done.{undone}
-use Rattle.back_jobs.proofs.First.{told_first}
+use Rattle.back_jobs.proofs.First.{told_first, ended_first}
+use Rattle.back_jobs.proofs.Rooms.{told_shared}
 use Rattle.back_jobs.proofs.jobs.Jobs.tell.Goals.{After-is_done}
 use Rattle.back_jobs.proofs.jobs.Jobs.tell.Goals as goal
 
@@ -55,19 +56,20 @@ pub invariant_of-self : goal.invariant_of-self
 invariant_of-self c =
     let w = (goal.at.invariant_of-self c).After-is_done in (
       told_kept c.self.inside.ascending c.self.inside.finished.items c.note.new.numbers.items c.self.inside.done c.min-self-inside.result c.self.inside.room c.self.inside.tasks.cap (vec_capacity c.self.inside.finished) (vec_capacity c.note.new.numbers) c.self.inside.info.sectors c.self.inside.tasks.items c.in_ok-place.place c.number.result c.index_mut-task.result.now c.tell.new.self c.args.answer.now true c.self.invariant.0 (here w) (allowed w) c.tell.ensures (sym c.if-is_done.true ∙ c.is_done.ensures) c.min-self-inside.ensures c.number.ensures c.note.ensures.items c.note.ensures.capacity,
-      told_first c.self.inside.tasks.items c.in_ok-place.place c.index_mut-task.result.now c.tell.new.self c.args.answer.now c.self.inside.ordered c.self.inside.barrier c.ordered_after-self-inside.result c.barrier_after-self-inside.result
-          c.is_ordered-ordered.result c.is_barrier-barrier.result true c.self.invariant.1 (here w) (undone c.index_mut-task.result.now c.args.answer.now (allowed w)) c.tell.ensures (sym c.if-is_done.true ∙ c.is_done.ensures)
-          c.is_ordered-ordered.ensures c.is_barrier-barrier.ensures
-          (c.ordered_after-self-inside.ensures ∙ ap (λ (l : List Work). if c.is_ordered-ordered.result then ordered_place l else c.self.inside.ordered) c.as_slice.ensures.value)
-          (c.barrier_after-self-inside.ensures ∙ ap (λ (l : List Work). if c.is_barrier-barrier.result then barrier_place l else c.self.inside.barrier) c.as_slice-then-is_done.ensures.value),
+      ended_first c.self.inside.tasks.items c.in_ok-place.place c.index_mut-task.result.now c.tell.new.self c.self.inside.ordered c.self.inside.barrier c.holding_after-self-inside.result c.holding_after-self-inside-then-is_done.result
+          c.self.invariant.1 (here w) (sym c.is_done.ensures ∙ c.if-is_done.true)
+          (c.holding_after-self-inside.ensures ∙ ap (λ (l : List Work). if c.self.inside.ordered == c.in_ok-place.place then ordered_place l else c.self.inside.ordered) c.as_slice.ensures.value)
+          (c.holding_after-self-inside-then-is_done.ensures ∙ ap (λ (l : List Work). if c.self.inside.barrier == c.in_ok-place.place then barrier_place l else c.self.inside.barrier) c.as_slice-then-is_done.ensures.value),
+      told_shared (length c.self.inside.rooms.items) (vec_capacity c.self.inside.rooms) c.self.inside.room c.self.inside.info.max_indirect c.self.inside.tasks.items c.in_ok-place.place c.index_mut-task.result.now c.tell.new.self c.args.answer.now (here w) c.tell.ensures c.self.invariant.2,
     )
 
 pub invariant_of-self-else-is_done : goal.invariant_of-self-else-is_done
 invariant_of-self-else-is_done c =
     let w = (goal.at.invariant_of-self-else-is_done c).After-is_done in (
       told_kept c.self.inside.ascending c.self.inside.finished.items c.self.inside.finished.items c.self.inside.done c.self.inside.done c.self.inside.room c.self.inside.tasks.cap (vec_capacity c.self.inside.finished) (vec_capacity c.self.inside.finished) c.self.inside.info.sectors c.self.inside.tasks.items c.in_ok-place.place c.tell.new.self.number c.index_mut-task.result.now c.tell.new.self c.args.answer.now false c.self.invariant.0 (here w) (allowed w) c.tell.ensures (sym c.if-is_done.false ∙ c.is_done.ensures) refl refl (λ test. refl) (omega arith),
-      told_first c.self.inside.tasks.items c.in_ok-place.place c.index_mut-task.result.now c.tell.new.self c.args.answer.now c.self.inside.ordered c.self.inside.barrier c.self.inside.ordered c.self.inside.barrier
-          false false false c.self.invariant.1 (here w) (undone c.index_mut-task.result.now c.args.answer.now (allowed w)) c.tell.ensures (sym c.if-is_done.false ∙ c.is_done.ensures) refl refl refl refl,
+      told_first c.self.inside.tasks.items c.in_ok-place.place c.index_mut-task.result.now c.tell.new.self c.args.answer.now c.self.inside.ordered c.self.inside.barrier
+          c.self.invariant.1 (here w) (undone c.index_mut-task.result.now c.args.answer.now (allowed w)) c.tell.ensures (sym c.is_done.ensures ∙ c.if-is_done.false),
+      told_shared (length c.self.inside.rooms.items) (vec_capacity c.self.inside.rooms) c.self.inside.room c.self.inside.info.max_indirect c.self.inside.tasks.items c.in_ok-place.place c.index_mut-task.result.now c.tell.new.self c.args.answer.now (here w) c.tell.ensures c.self.invariant.2,
     )
 
 pub returns-then-is_done-clause-told : goal.returns-then-is_done-clause-told

@@ -6,5 +6,5 @@ use Rattle.blk_front.proofs.front.submit.sectors_of.Given as goal
 abbrev pub invariant-loop-r : goal.invariant-loop-r
 invariant-loop-r l = record {
   value : l.sectors ≡ sum_by (λ (r : Request). r.count) (take l.r-index l.requests);
-  short : l.sectors ≤ 88 * l.r-index;
+  short : l.sectors ≤ 7680 * l.r-index;
 }

@@ -15,6 +15,6 @@ loop-preserved c =
     let next : needed - counter ≡ suc (needed - (counter + 1)) = omega arith in
     let low : lowest_of c.loop.pool ≡ Some c.in_ok-frame.frame = search rules in
     record {
-      taken = one_more (needed - counter) (needed - (counter + 1)) c.loop.pool c.take.new.self c.loop.frames.items c.push.new.self.items c.in_ok-frame.frame next low c.take.ensures c.push.ensures.items ∙ c.loop.invariant.taken;
+      taken = one_more (needed - counter) (needed - (counter + 1)) c.loop.pool c.take.new.self c.loop.frames.items c.push.new.self.items c.in_ok-frame.frame next low c.take.ensures c.push.ensures ∙ c.loop.invariant.taken;
       count = grind (arith, common_steps);
     }

@@ -6,4 +6,4 @@ use Rattle.schedule_run.proofs.split.Split.back_moves.Given as goal
 
 -- so many moves of the back led here
 abbrev pub invariant-loop : goal.invariant-loop
-invariant-loop g l = HasGone (λ hs. hs ≡ replicate l.counter BackMoves) 13 l.counter l.count (moment l.fn.self (g.D.SectorDisk.seen l.fn.disk) (g.R.Recorder.seen l.fn.recorder)) (moment l.self (g.D.SectorDisk.seen l.disk) (g.R.Recorder.seen l.recorder))
+invariant-loop g l = HasGone (λ hs. hs ≡ replicate l.counter BackMoves) 41 l.counter l.count (moment l.fn.self (g.D.SectorDisk.seen l.fn.disk) (g.R.Recorder.seen l.fn.recorder)) (moment l.self (g.D.SectorDisk.seen l.disk) (g.R.Recorder.seen l.recorder))

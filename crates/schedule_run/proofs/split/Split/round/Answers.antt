@@ -10,20 +10,20 @@ use Rattle.schedule_run.proofs.split.Split.round.Goals as goal
 pub returns-in_err-front_move : goal.returns-in_err-front_move
 returns-in_err-front_move g c =
     let stopped = err_from_is_err_and c.from_residual.result c.from_residual.ensures.1 in
-    rw (stopped.1, stopped.2) (stops_first _ _ _ _ 0 14 _ _ _ (omega arith) (λ xs p. inl (begins_before (FrontMoves ∷ []) (BackMoves ∷ []) xs (all_begins (FrontMoves ∷ []) xs p))) (c.in_err-front_move.ensures (g.D.SectorDisk.seen c.args.disk.now)))
+    rw (stopped.1, stopped.2) (stops_first _ _ _ _ 0 42 _ _ _ (omega arith) (λ xs p. inl (begins_before (FrontMoves ∷ []) (BackMoves ∷ []) xs (all_begins (FrontMoves ∷ []) xs p))) (c.in_err-front_move.ensures (g.D.SectorDisk.seen c.args.disk.now)))
 
 pub back_move-requires : goal.back_move-requires
-back_move-requires g c = ready_less 13 14 _ _ (omega arith) (ready_on 0 14 14 _ _ (omega arith) c.requires (c.in_ok-front_move.ensures (g.D.SectorDisk.seen c.args.disk.now)).keeps)
+back_move-requires g c = ready_less 41 42 _ _ (omega arith) (ready_on 0 42 42 _ _ (omega arith) c.requires (c.in_ok-front_move.ensures (g.D.SectorDisk.seen c.args.disk.now)).keeps)
 
 pub returns-in_err-back_move : goal.returns-in_err-back_move
 returns-in_err-back_move g c =
     let stopped = err_from_is_err_and c.from_residual-in_err-back_move.result c.from_residual-in_err-back_move.ensures.1 in
-    rw (stopped.1, stopped.2) (then_stops _ _ _ _ (IsRound c.args.self.now) _ 0 13 14 _ _ _ _ (omega arith) (λ xs ys p here q. inl (all_begins round_start _ (both_are (FrontMoves ∷ []) (BackMoves ∷ []) xs ys p q))) (c.in_ok-front_move.ensures (g.D.SectorDisk.seen c.args.disk.now)) c.in_err-back_move.ensures)
+    rw (stopped.1, stopped.2) (then_stops _ _ _ _ (IsRound c.args.self.now) _ 0 41 42 _ _ _ _ (omega arith) (λ xs ys p here q. inl (all_begins round_start _ (both_are (FrontMoves ∷ []) (BackMoves ∷ []) xs ys p q))) (c.in_ok-front_move.ensures (g.D.SectorDisk.seen c.args.disk.now)) c.in_err-back_move.ensures)
 
 pub each_job-requires : goal.each_job-requires
-each_job-requires g c = ready_on 13 1 14 _ _ (omega arith) (ready_on 0 14 14 _ _ (omega arith) c.requires (c.in_ok-front_move.ensures (g.D.SectorDisk.seen c.args.disk.now)).keeps) c.in_ok-back_move.ensures.keeps
+each_job-requires g c = ready_on 41 1 42 _ _ (omega arith) (ready_on 0 42 42 _ _ (omega arith) c.requires (c.in_ok-front_move.ensures (g.D.SectorDisk.seen c.args.disk.now)).keeps) c.in_ok-back_move.ensures.keeps
 
 pub returns : goal.returns
 returns g c =
-    let begun = then_goes _ _ _ _ (Is round_start) (Is round_start) 0 13 13 _ _ _ _ (omega arith) (λ xs ys p here q. both_are (FrontMoves ∷ []) (BackMoves ∷ []) xs ys p q) (λ xs ys p here q. both_are (FrontMoves ∷ []) (BackMoves ∷ []) xs ys p q) (c.in_ok-front_move.ensures (g.D.SectorDisk.seen c.args.disk.now)) c.in_ok-back_move.ensures in
-    then_goes _ _ _ _ _ _ 13 0 14 _ _ _ _ (omega arith) (λ xs ys p here q. round_of c.args.self.now c.back_move.new.self xs ys p here q) (λ xs ys p here q. round_begun c.args.self.now c.back_move.new.self xs ys p here q) begun c.each_job.ensures
+    let begun = then_goes _ _ _ _ (Is round_start) (Is round_start) 0 41 41 _ _ _ _ (omega arith) (λ xs ys p here q. both_are (FrontMoves ∷ []) (BackMoves ∷ []) xs ys p q) (λ xs ys p here q. both_are (FrontMoves ∷ []) (BackMoves ∷ []) xs ys p q) (c.in_ok-front_move.ensures (g.D.SectorDisk.seen c.args.disk.now)) c.in_ok-back_move.ensures in
+    then_goes _ _ _ _ _ _ 41 0 42 _ _ _ _ (omega arith) (λ xs ys p here q. round_of c.args.self.now c.back_move.new.self xs ys p here q) (λ xs ys p here q. round_begun c.args.self.now c.back_move.new.self xs ys p here q) begun c.each_job.ensures

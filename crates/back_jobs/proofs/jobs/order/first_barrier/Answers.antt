@@ -1,8 +1,0 @@
-use Rattle.std.proofs.Common.{length, ap, ◌∙◌}
-use Rattle.std.specs.Prelude.{unwrap_or}
-use Rattle.back_jobs.specs.Jobs.{holds_all}
-use Rattle.back_jobs.proofs.First.{found_or_len}
-use Rattle.back_jobs.proofs.jobs.order.first_barrier.Goals as goal
-
-pub returns : goal.returns
-returns c = c.unwrap_or.ensures ∙ (ap (λ p. unwrap_or p (length c.args.tasks.now)) c.barrier_in.ensures ∙ found_or_len holds_all c.args.tasks.now)

@@ -1,0 +1,30 @@
+use Rattle.std.proofs.Common.{refl, arith, rules}
+use Rattle.std.proofs.lemmas.Grind.{common_steps}
+use Rattle.blk_front.proofs.Shapes.{few_pages}
+use Rattle.blk_front.proofs.Numbers.{push_ascending, push_given}
+use Rattle.std.proofs.lemmas.List.Elements.{All-push}
+use Rattle.blk_front.specs.Request.{IsShaped}
+use Rattle.blk_front.proofs.front.Front.accept.Goals as goal
+
+pub invariant_of-self-2 : goal.invariant_of-self-2
+invariant_of-self-2 c =
+    let sound = c.self.invariant.0 in
+    let items = c.push_reserved.ensures.items in (
+      record {
+        order = sound.order;
+        entries = sound.entries;
+        counted = omega arith;
+        room = grind (arith, few_pages);
+        seen = sound.seen;
+        placed = sound.placed;
+        unmade = search rules;
+        issuing = search rules;
+        reading = sound.reading;
+        ascending = rw items (push_ascending _ _ c.self.inside.last sound.ascending sound.given refl);
+        given = rw items (push_given _ _ c.self.inside.last sound.given refl);
+        shaped = rw items (All-push IsShaped _ _ sound.shaped (record { counted = c.requires.counted; frames = search rules }));
+        ending = sound.ending;
+      },
+      grind (arith, common_steps),
+      record { enough = omega arith; room = omega arith },
+    )

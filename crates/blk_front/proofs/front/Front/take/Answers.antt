@@ -1,0 +1,41 @@
+use Rattle.std.proofs.Common.{◌<◌, length, refl, arith, rules}
+use Rattle.std.proofs.lemmas.Option.{slice_get_read}
+use Rattle.std.proofs.lemmas.Grind.{common_steps}
+use Rattle.blk_front.proofs.Numbers.{remove_ascending, remove_given, remove_shaped}
+use Rattle.blk_front.proofs.front.Front.take.Goals as goal
+
+pub invariant_of-self-else-is_empty : goal.invariant_of-self-else-is_empty
+invariant_of-self-else-is_empty c =
+    let sound = c.self.invariant.0 in
+    let within : c.args.place < length c.self.inside.requests.items = search rules in
+    let items = c.remove-request.ensures.items in (
+      record {
+        order = sound.order;
+        entries = grind (arith, common_steps);
+        counted = grind (arith, common_steps);
+        room = grind (arith, common_steps);
+        seen = grind (arith, common_steps);
+        placed = omega arith;
+        unmade = tt;
+        issuing = tt;
+        reading = tt;
+        ascending = rw items (remove_ascending _ _ within sound.ascending);
+        given = rw items (remove_given _ _ _ within sound.given);
+        shaped = rw items (remove_shaped _ _ sound.shaped);
+        ending = rw c.replace.ensures.ending (grind (arith, common_steps));
+      },
+      grind (arith, common_steps),
+      record { enough = grind (arith, common_steps); room = grind (arith, common_steps) },
+    )
+
+pub returns-then-is_empty : goal.returns-then-is_empty
+returns-then-is_empty c =
+    let within : c.args.place < length c.self.inside.requests.items = search rules in
+    let found = slice_get_read c.self.inside.requests.items _ c.args.place c.remove-request.result refl within c.remove-request.ensures.value in
+    rw (← c.self.view_is, found) (search rules)
+
+pub returns-else-is_empty : goal.returns-else-is_empty
+returns-else-is_empty c =
+    let within : c.args.place < length c.self.inside.requests.items = search rules in
+    let found = slice_get_read c.self.inside.requests.items _ c.args.place c.remove-request.result refl within c.remove-request.ensures.value in
+    rw (← c.self.view_is, found) (search rules)
