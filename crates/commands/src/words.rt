@@ -44,10 +44,11 @@ pub struct RunOptions {
 
 /// The command that the words after the program's name ask for, as `clap` reads them: `run` with an
 /// image's name, and `--moves`, `--read-only`, `--abi` 64 or 32, `--order` from 0 to 4, `--start`, a
-/// number of 32 bits, and `--indirect` from 0 to 960, before or after it; `inspect`, with `--abi` and `--order`; `check`; or `bench`,
-/// with a seed and a count, numbers of 64 bits. Each option comes at most once, and a number may have a plus and zeros
-/// before it. Without them the layout is that of x86_64, the order 0, the ring's first index 0, no request
-/// has indirect pages, and the disk may be written.
+/// number of 32 bits, and `--indirect` from 0 to 960, before or after it; `inspect`, with `--abi`
+/// and `--order`; `check`; or `bench`, with a seed and a count, numbers of 64 bits. Each option comes
+/// at most once, and a number may have a plus and zeros before it. Without them the layout is that
+/// of x86_64, the order 0, the ring's first index 0, no request has indirect pages, and the disk may
+/// be written.
 ///
 /// `None` where `clap` finds a fault in the words, of which a wish for help is one, and at an `--abi`
 /// between 32 and 64. The error comes where there was no memory.

@@ -1,4 +1,4 @@
--- The report before a hostile hand first overwrote a word is that of what happened before.
+-- The report before a hostile hand first overwrote a word or a key is that of what happened before.
 use Rattle.std.proofs.Common.{◌≡◌, ℕ, ◌*◌, ◌^◌, Bool, true, false, List, [], ◌∷◌, ◌++◌, ◌⊎◌, inl, inr, refl, ap, sym, ◌∙◌, subst, append_assoc, true≢false}
 use Rattle.std.specs.Prelude.{if◌then◌else◌, Result, Ok, Err}
 use Rattle.std.specs.List.{AllByRecursion, list_all}
@@ -18,7 +18,7 @@ use Rattle.plain_disk.proofs.Honest.{honest_more, honest_ends}
 use Rattle.blk_front.specs.declared.told.Refusal.{Refusal}
 use Rattle.blk_front.specs.Submit as front_submit
 use Rattle.split_model.specs.World.{World, start_of}
-use Rattle.split_model.specs.Happening.{Happening, Submits, Pokes, Dumps, Looks, Settles, is_guest_word, poke_lines, happens, after, lines_at, lines_of, submit_line, DiskRuns}
+use Rattle.split_model.specs.Happening.{Happening, Submits, Pokes, OverwritesKey, Dumps, Looks, Settles, is_guest_word, is_guest_key, happens, after, lines_at, lines_of, submit_line, DiskRuns}
 use Rattle.split_model.specs.Honest.{honest_history}
 use Rattle.split_model.specs.Report.{report_of, ended_report_of}
 use Rattle.split_model.proofs.Running.{kept_of-append}
@@ -61,17 +61,19 @@ look_honest : (quiet : Bool) (other : Line) → is_honest other ≡ true → Are
 look_honest true other e = (refl, tt)
 look_honest false other e = (e, tt)
 
--- no word is overwritten
-abbrev IsUnpoked : Happening → Type 0
-IsUnpoked (Pokes frame word value) = ⊥
-IsUnpoked h = Unit {0}
+-- no word and no key is overwritten
+abbrev IsUntouched : Happening → Type 0
+IsUntouched (Pokes frame word value) = ⊥
+IsUntouched (OverwritesKey name text) = ⊥
+IsUntouched h = Unit {0}
 
-honest_at : (w : World) (h : Happening) → IsUnpoked h → AreHonest (lines_at w h)
+honest_at : (w : World) (h : Happening) → IsUntouched h → AreHonest (lines_at w h)
 honest_at w (Submits job) may = submit_honest job (front_submit.submit_of w.front job).0
 honest_at w (Looks quiet) may = look_honest quiet lines.Busy refl
 honest_at w (Settles quiet) may = look_honest quiet lines.Unsettled refl
 honest_at w Dumps may = dump_lines_are (λ (line : Line). is_honest line ≡ true) w.under.pages 0 (1024 * 2 ^ w.front.shape.order) (λ frame word value. refl)
 honest_at w (Pokes frame word value) may = absurd may
+honest_at w (OverwritesKey name text) may = absurd may
 honest_at w h may = silent_honest (lines_at w h) (move_silent w h refl)
 
 -- honest lines come before those of the rest
@@ -96,43 +98,50 @@ listed_honest (line ∷ ls) all = let e = both_true (is_honest line) (list_all i
 before_honest : (hs : List Happening) (w : World) → AreHonest (lines_of (honest_history hs) w)
 before_honest [] w = tt
 before_honest (Pokes frame word value ∷ hs) w = tt
+before_honest (OverwritesKey name text ∷ hs) w = tt
 before_honest (h ∷ hs) w = both_honest (lines_at w h) (lines_of (honest_history hs) (happens w h)) (honest_at w h tt) (before_honest hs (happens w h))
 
--- no word was overwritten, or the first line that says so comes after those of what happened before
-abbrev pub HostileAfter : (whole first : List Line) → Type 0
-HostileAfter whole first = (frame : ℕ) × (word : ℕ) × (value : ℕ) × (rest : List Line) × (whole ≡ first ++ lines.Poke frame word value ∷ rest)
+-- nothing was overwritten, or the first line that says so comes after those of what happened before
+pub record HostileAfter (whole first : List Line) : Type 0 where
+  pub line : Line
+  pub rest : List Line
+  pub hostile : is_honest line ≡ false
+  pub split : whole ≡ first ++ line ∷ rest
 
 abbrev pub HonestWith : List Happening → World → List Line → Type 0
 HonestWith hs w tail = (honest_history hs ≡ hs) ⊎ HostileAfter (lines_of hs w ++ tail) (lines_of (honest_history hs) w)
 
 more_honest : (h : Happening) (hs : List Happening) (w : World) (tail : List Line) → honest_history (h ∷ hs) ≡ h ∷ honest_history hs → HonestWith hs (happens w h) tail → HonestWith (h ∷ hs) w tail
 more_honest h hs w tail first (inl all) = inl (first ∙ ap (λ (l : List Happening). h ∷ l) all)
-more_honest h hs w tail first (inr later) = inr (
-  later.0,
-  later.1,
-  later.2,
-  later.3,
-  append_assoc (lines_at w h) (lines_of hs (happens w h)) tail
-      ∙ (ap (λ (l : List Line). lines_at w h ++ l) later.4
-      ∙ (sym (append_assoc (lines_at w h) (lines_of (honest_history hs) (happens w h)) (lines.Poke later.0 later.1 later.2 ∷ later.3))
-      ∙ ap (λ (l : List Happening). lines_of l w ++ lines.Poke later.0 later.1 later.2 ∷ later.3) (sym first))),
-)
+more_honest h hs w tail first (inr later) = inr (record {
+  line = later.line;
+  rest = later.rest;
+  hostile = later.hostile;
+  split =
+      append_assoc (lines_at w h) (lines_of hs (happens w h)) tail
+      ∙ (ap (λ (l : List Line). lines_at w h ++ l) later.split
+      ∙ (sym (append_assoc (lines_at w h) (lines_of (honest_history hs) (happens w h)) (later.line ∷ later.rest))
+      ∙ ap (λ (l : List Happening). lines_of l w ++ later.line ∷ later.rest) (sym first)));
+})
 
 pub honest_with : (hs : List Happening) (w : World) (tail : List Line) → ArePossible hs w → HonestWith hs w tail
 honest_with [] w tail may = inl refl
-honest_with (Pokes frame word value ∷ hs) w tail may = inr (frame, word, value, lines_of hs (happens w (Pokes frame word value)) ++ tail, rw may.0.0 refl)
+honest_with (Pokes frame word value ∷ hs) w tail may = inr (record { line = lines.Poke frame word value; rest = lines_of hs (happens w (Pokes frame word value)) ++ tail; hostile = refl; split = rw may.0.0 refl })
+honest_with (OverwritesKey name text ∷ hs) w tail may = inr (record { line = lines.Key name text; rest = lines_of hs (happens w (OverwritesKey name text)) ++ tail; hostile = refl; split = rw may.0 refl })
 honest_with (h ∷ hs) w tail may = more_honest h hs w tail refl (honest_with hs (happens w h) tail may.1)
 
 -- what happened before comes first
 pub honest_first : (hs : List Happening) → (rest : List Happening) × (hs ≡ honest_history hs ++ rest)
 honest_first [] = ([], refl)
 honest_first (Pokes frame word value ∷ hs) = (Pokes frame word value ∷ hs, refl)
+honest_first (OverwritesKey name text ∷ hs) = (OverwritesKey name text ∷ hs, refl)
 honest_first (h ∷ hs) = let others = honest_first hs in (others.0, ap (λ (l : List Happening). h ∷ l) others.1)
 
 -- and of a first part what happened before is served
 pub served_before : (first rest : List Happening) (w : World) → AreServed (honest_history (first ++ rest)) w → AreServed (honest_history first) w
 served_before [] rest w may = tt
 served_before (Pokes frame word value ∷ first) rest w may = tt
+served_before (OverwritesKey name text ∷ first) rest w may = tt
 served_before (h ∷ first) rest w may = (may.0, served_before first rest (happens w h) may.1)
 
 -- its disk and its submissions are the first of all
@@ -161,12 +170,12 @@ kept_honest Moves (lines.Begin config other) e = (refl, tt)
 kept_honest Moves (lines.Move move) e = (refl, tt)
 kept_honest Moves line e = (e, tt)
 
-kept_hostile : (d : Detail) (line : Line) (rest : List Line) → is_honest line ≡ false → honest_part (recorded d line ++ rest) ≡ []
-kept_hostile Lines (lines.Poke frame word value) rest e = honest_ends (lines.Poke frame word value) rest e
-kept_hostile Lines (lines.Key name text) rest e = honest_ends (lines.Key name text) rest e
-kept_hostile Moves (lines.Poke frame word value) rest e = honest_ends (lines.Poke frame word value) rest e
-kept_hostile Moves (lines.Key name text) rest e = honest_ends (lines.Key name text) rest e
-kept_hostile d line rest e = absurd (true≢false e)
+kept_hostile : (d : Detail) (line : Line) → is_honest line ≡ false → recorded d line ≡ line ∷ []
+kept_hostile Lines (lines.Poke frame word value) e = refl
+kept_hostile Lines (lines.Key name text) e = refl
+kept_hostile Moves (lines.Poke frame word value) e = refl
+kept_hostile Moves (lines.Key name text) e = refl
+kept_hostile d line e = absurd (true≢false e)
 
 pub honest_kept : (d : Detail) (ls : List Line) → honest_part (kept_of d ls) ≡ kept_of d (honest_part ls)
 honest_kept d [] = refl
@@ -176,21 +185,20 @@ honest_kept d (line ∷ ls) = by_test (is_honest line) refl (honest_kept d ls)
     by_test true e later =
         honest_then (recorded d line) (kept_of d ls) (kept_honest d line e)
         ∙ (ap (λ (l : List Line). recorded d line ++ l) later ∙ ap (kept_of d) (sym (honest_more line ls e)))
-    by_test false e later = kept_hostile d line (kept_of d ls) e ∙ ap (kept_of d) (sym (honest_ends line ls e))
+    by_test false e later = ap (λ (l : List Line). honest_part (l ++ kept_of d ls)) (kept_hostile d line e) ∙ (honest_ends line (kept_of d ls) e ∙ ap (kept_of d) (sym (honest_ends line ls e)))
 
 -- the lines of a report, and more after them: its honest part is the report of what happened before, or all of it
 honest_cut : (config : Options) (detail : Detail) (hs : List Happening) (whole : List Line)
     → HostileAfter whole (lines_of (honest_history hs) (start_of config)) → honest_part (lines.Begin config detail ∷ whole) ≡ report_of config detail (honest_history hs)
 honest_cut config detail hs whole h =
     let first = lines_of (honest_history hs) (start_of config) in
-    let poke = lines.Poke h.0 h.1 h.2 in
     honest_more (lines.Begin config detail) whole refl
     ∙ ap (λ (l : List Line). lines.Begin config detail ∷ l)
-    (ap honest_part h.4
-    ∙ (honest_then first (poke ∷ h.3) (before_honest hs (start_of config))
-    ∙ (ap (λ (l : List Line). first ++ l) (honest_ends poke h.3 refl) ∙ append-nil first)))
+    (ap honest_part h.split
+    ∙ (honest_then first (h.line ∷ h.rest) (before_honest hs (start_of config))
+    ∙ (ap (λ (l : List Line). first ++ l) (honest_ends h.line h.rest h.hostile) ∙ append-nil first)))
 
--- where no word was overwritten, all lines are honest
+-- where nothing was overwritten, all lines are honest
 all_before : (hs : List Happening) (w : World) → honest_history hs ≡ hs → AreHonest (lines_of hs w)
 all_before hs w all = subst (λ (l : List Happening). AreHonest (lines_of l w)) all (before_honest hs w)
 
@@ -215,32 +223,27 @@ honest_ended config detail hs may = by_part (honest_with hs (start_of config) (l
     by_part : HonestWith hs (start_of config) (lines.End ∷ []) → HonestEnded config detail hs
     by_part (inl all) = inl (all, honest_all (ended_report_of config detail hs) (refl, both_honest (lines_of hs (start_of config)) (lines.End ∷ []) (all_before hs (start_of config) all) (refl, tt)))
     by_part (inr h) = inr (
-      (h.0, h.1, h.2, h.3, ap (λ (l : List Line). lines.Begin config detail ∷ l) h.4),
+      record { line = h.line; rest = h.rest; hostile = h.hostile; split = ap (λ (l : List Line). lines.Begin config detail ∷ l) h.split },
       honest_cut config detail hs (lines_of hs (start_of config) ++ lines.End ∷ []) h,
     )
 
--- a report that a recorder keeps and in which no line is hostile is one of a history in which no word was overwritten
-none_hostile : (first rest : List Line) (frame word value : ℕ) → AreHonest (first ++ lines.Poke frame word value ∷ rest) → ⊥
-none_hostile [] rest frame word value all = true≢false (sym all.0)
-none_hostile (line ∷ first) rest frame word value all = none_hostile first rest frame word value all.1
-
-kept_poke : (d : Detail) (frame word value : ℕ) → recorded d (lines.Poke frame word value) ≡ lines.Poke frame word value ∷ []
-kept_poke Lines frame word value = refl
-kept_poke Moves frame word value = refl
+-- a report that a recorder keeps and in which no line is hostile is one of a history in which nothing was overwritten
+none_hostile : (first rest : List Line) (hostile : Line) → is_honest hostile ≡ false → AreHonest (first ++ hostile ∷ rest) → ⊥
+none_hostile [] rest hostile e all = true≢false (sym all.0 ∙ e)
+none_hostile (line ∷ first) rest hostile e all = none_hostile first rest hostile e all.1
 
 pub kept_after : (d : Detail) (whole first : List Line) → HostileAfter whole first → HostileAfter (kept_of d whole) (kept_of d first)
-kept_after d whole first h = (
-  h.0,
-  h.1,
-  h.2,
-  kept_of d h.3,
-  ap (kept_of d) h.4 ∙ (kept_of-append d first (lines.Poke h.0 h.1 h.2 ∷ h.3) ∙ ap (λ (l : List Line). kept_of d first ++ (l ++ kept_of d h.3)) (kept_poke d h.0 h.1 h.2)),
-)
+kept_after d whole first h = record {
+  line = h.line;
+  rest = kept_of d h.rest;
+  hostile = h.hostile;
+  split = ap (kept_of d) h.split ∙ (kept_of-append d first (h.line ∷ h.rest) ∙ ap (λ (l : List Line). kept_of d first ++ (l ++ kept_of d h.rest)) (kept_hostile d h.line h.hostile));
+}
 
 pub not_honest : (whole first : List Line) → HostileAfter whole first → list_all is_honest whole ≡ true → ⊥
-not_honest whole first h all = none_hostile first h.3 h.0 h.1 h.2 (subst AreHonest h.4 (listed_honest whole all))
+not_honest whole first h all = none_hostile first h.rest h.line h.hostile (subst AreHonest h.split (listed_honest whole all))
 
--- a report that was cut among the lines of what happened last: no word was overwritten, or its honest part is the report of what happened before
+-- a report that was cut among the lines of what happened last: nothing was overwritten, or its honest part is the report of what happened before
 abbrev pub CutOrWhole : Options → Detail → List Happening → Happening → List Line → Type 0
 CutOrWhole config detail history last part =
     ((honest_history (history ++ last ∷ []) ≡ history ++ last ∷ []) × (honest_part (report_of config detail history ++ part) ≡ report_of config detail history ++ part))
@@ -251,25 +254,24 @@ first_honest [] b all = tt
 first_honest (line ∷ a) b all = (all.0, first_honest a b all.1)
 
 -- what was overwritten last is shown, or not yet
-poke_cut : (frame word value : ℕ) (part rest : List Line) → part ++ rest ≡ poke_lines frame word value → honest_part part ≡ []
-poke_cut frame word value [] rest all = refl
-poke_cut frame word value (line ∷ part) rest all = by_test (is_guest_word frame word) all
-  where
-    by_test : (b : Bool) → (line ∷ part) ++ rest ≡ (if b then lines.Poke frame word value ∷ [] else []) → honest_part (line ∷ part) ≡ []
-    by_test true e = let same : line ≡ lines.Poke frame word value = cc in honest_ends line part (ap is_honest same)
-    by_test false e = absurd (cc)
+hostile_cut : (allowed : Bool) (hostile : Line) (part rest : List Line) → is_honest hostile ≡ false → part ++ rest ≡ (if allowed then hostile ∷ [] else []) → honest_part part ≡ []
+hostile_cut allowed hostile [] rest e all = refl
+hostile_cut true hostile (line ∷ part) rest e all = let same : line ≡ hostile = cc in honest_ends line part (ap is_honest same ∙ e)
+hostile_cut false hostile (line ∷ part) rest e all = absurd (cc)
 
--- a history with one more happening, where no word was overwritten
-one_more_honest : (hs : List Happening) (last : Happening) → IsUnpoked last → honest_history hs ≡ hs → honest_history (hs ++ last ∷ []) ≡ hs ++ last ∷ []
+-- a history with one more happening, where nothing was overwritten
+one_more_honest : (hs : List Happening) (last : Happening) → IsUntouched last → honest_history hs ≡ hs → honest_history (hs ++ last ∷ []) ≡ hs ++ last ∷ []
 one_more_honest hs last unpoked all = joined hs last (later last unpoked) all
   where
-    later : (h : Happening) → IsUnpoked h → honest_history (h ∷ []) ≡ h ∷ []
+    later : (h : Happening) → IsUntouched h → honest_history (h ∷ []) ≡ h ∷ []
     later (Pokes frame word value) none = absurd none
+    later (OverwritesKey name text) none = absurd none
     later h none = refl
 
     joined : (hs : List Happening) (last : Happening) → honest_history (last ∷ []) ≡ last ∷ [] → honest_history hs ≡ hs → honest_history (hs ++ last ∷ []) ≡ hs ++ last ∷ []
     joined [] last one all = one
     joined (Pokes frame word value ∷ hs) last one all = absurd (cc)
+    joined (OverwritesKey name text ∷ hs) last one all = absurd (cc)
     joined (h ∷ hs) last one all = ap (λ (l : List Happening). h ∷ l) (joined hs last one (cc))
 
 pub cut_or_whole : (config : Options) (detail : Detail) (history : List Happening) (last : Happening) (part rest : List Line) → ArePossible (history ++ last ∷ []) (start_of config)
@@ -279,13 +281,17 @@ cut_or_whole config detail history last part rest may all = by_part (honest_with
     start : World
     start = start_of config
 
-    by_last : (h : Happening) → honest_history history ≡ history → part ++ rest ≡ lines_at (after history start) h → CutOrWhole config detail history h part
-    by_last (Pokes frame word value) whole shown =
+    overwritten : (h : Happening) → honest_history history ≡ history → honest_part part ≡ [] → CutOrWhole config detail history h part
+    overwritten h whole none =
         inr (
         honest_then (report_of config detail history) part (refl, all_before history start whole)
-        ∙ (ap (λ (l : List Line). report_of config detail history ++ l) (poke_cut frame word value part rest shown)
+        ∙ (ap (λ (l : List Line). report_of config detail history ++ l) none
         ∙ (append-nil (report_of config detail history) ∙ ap (report_of config detail) (sym whole)))
         )
+
+    by_last : (h : Happening) → honest_history history ≡ history → part ++ rest ≡ lines_at (after history start) h → CutOrWhole config detail history h part
+    by_last (Pokes frame word value) whole shown = overwritten (Pokes frame word value) whole (hostile_cut (is_guest_word frame word) (lines.Poke frame word value) part rest refl shown)
+    by_last (OverwritesKey name text) whole shown = overwritten (OverwritesKey name text) whole (hostile_cut (is_guest_key name text) (lines.Key name text) part rest refl shown)
     by_last h whole shown =
         inl (
           one_more_honest history h tt whole,

@@ -8,7 +8,7 @@ use Rattle.blk_front.specs.declared.stage.Stage.TheVariants as front
 use Rattle.blk_front.specs.View.{next_request}
 use Rattle.split_model.specs.World.{World, start_of}
 use Rattle.split_model.specs.Safe.{IsSafe}
-use Rattle.split_model.specs.Happening.{Happening, FrontMoves, BackMoves, JobMoves, Negotiates, FrontEnters, BackAttaches, BackHalts, Submits, Notifies, Pokes, Dumps, Looks, Settles, happens, lines_at, after as world_after}
+use Rattle.split_model.specs.Happening.{Happening, FrontMoves, BackMoves, JobMoves, Negotiates, FrontEnters, BackAttaches, BackHalts, Submits, Notifies, Pokes, OverwritesKey, Dumps, Looks, Settles, happens, lines_at, after as world_after}
 use Rattle.split_model.proofs.Safe.{safe_start, safe_happens}
 use Rattle.machine_pipeline.specs.Plain.{IsPlain}
 use Rattle.machine_pipeline.specs.Allowed.{IsServed, AreServed}
@@ -92,6 +92,7 @@ serving_goes config w g d (BackHalts why) plain safe holds may = halts_goes conf
 serving_goes config w g d (Submits job) plain safe holds may = goes_on config _ _ d (submit_kept config w g d job plain holds may)
 serving_goes config w g d (Notifies at) plain safe holds may = goes_on config _ _ d (notified_goes config w g d at (record { safe = safe; holds = holds }))
 serving_goes config w g d (Pokes frame word value) plain safe holds may = absurd may
+serving_goes config w g d (OverwritesKey name text) plain safe holds may = absurd may
 serving_goes config w g d Dumps plain safe holds may = dumps_goes config w d (inl (g, holds))
 serving_goes config w g d (Looks quiet) plain safe holds may = looks_goes config w d quiet may safe (inl (g, holds))
 serving_goes config w g d (Settles quiet) plain safe holds may = settles_goes config w d quiet may safe (inl (g, holds))
@@ -108,6 +109,7 @@ ending_goes config w d (BackHalts why) safe over may = halts_no_more config w d 
 ending_goes config w d (Submits job) safe over may = submit_ends config w d job over
 ending_goes config w d (Notifies at) safe over may = notified_ends config w d at over
 ending_goes config w d (Pokes frame word value) safe over may = absurd may
+ending_goes config w d (OverwritesKey name text) safe over may = absurd may
 ending_goes config w d Dumps safe over may = dumps_goes config w d (inr over)
 ending_goes config w d (Looks quiet) safe over may = looks_goes config w d quiet may safe (inr over)
 ending_goes config w d (Settles quiet) safe over may = settles_goes config w d quiet may safe (inr over)

@@ -26,7 +26,7 @@ use Rattle.blk_back.specs.View as back
 use Rattle.blk_back.specs.Step as back_step
 use Rattle.split_model.specs.World.{World, start_of}
 use Rattle.split_model.specs.Shown.{front_lines, back_lines, halt_lines, state_lines, effect_line}
-use Rattle.split_model.specs.Happening.{Happening, FrontMoves, BackMoves, JobMoves, Negotiates, FrontEnters, BackAttaches, BackHalts, Submits, Notifies, Pokes, Dumps, Looks, Settles, is_guest_word, word_lines, ring_lines, happens, lines_at, lines_of, front_shows, back_shows, job_shows, front_turn, back_turn, job_turn, submit_line}
+use Rattle.split_model.specs.Happening.{Happening, FrontMoves, BackMoves, JobMoves, Negotiates, FrontEnters, BackAttaches, BackHalts, Submits, Notifies, Pokes, OverwritesKey, Dumps, Looks, Settles, is_guest_word, is_guest_key, word_lines, ring_lines, happens, lines_at, lines_of, front_shows, back_shows, job_shows, front_turn, back_turn, job_turn, submit_line}
 use Rattle.schedule_text.specs.Recorder.{kept_of}
 use Rattle.split_model.proofs.Keys.{key_cases, negotiated_cases}
 use Rattle.split_model.proofs.States.{enters_cases}
@@ -112,9 +112,9 @@ settle_kept : (quiet : Bool) → AreKept ((if quiet then lines.Quiet else lines.
 settle_kept true = refl
 settle_kept false = refl
 
-poke_kept : (there : Bool) (frame word value : ℕ) → AreKept (if there then lines.Poke frame word value ∷ [] else [])
-poke_kept true frame word value = refl
-poke_kept false frame word value = refl
+shown_kept : (there : Bool) (line : Line) → AreKept (line ∷ []) → AreKept (if there then line ∷ [] else [])
+shown_kept true line kept = kept
+shown_kept false line kept = refl
 
 word_kept : (place value : ℕ) → AreKept (word_lines place value)
 word_kept place zero = refl
@@ -138,7 +138,8 @@ lines_at_kept w (BackAttaches shape grefs port) = attach_cases (λ v shown. AreK
 lines_at_kept w (BackHalts why) = halt_lines_kept w.back.halted (let b : back.View = back_step.halts why w.back in b.halted)
 lines_at_kept w (Submits job) = submit_kept job (front_submit.submit_of w.front job).0
 lines_at_kept w (Notifies at) = refl
-lines_at_kept w (Pokes frame word value) = poke_kept (is_guest_word frame word) frame word value
+lines_at_kept w (Pokes frame word value) = shown_kept (is_guest_word frame word) (lines.Poke frame word value) refl
+lines_at_kept w (OverwritesKey name text) = shown_kept (is_guest_key name text) (lines.Key name text) refl
 lines_at_kept w Dumps = dump_kept w.under.pages 0 (1024 * 2 ^ w.front.shape.order)
 lines_at_kept w (Looks quiet) = look_kept quiet
 lines_at_kept w (Settles quiet) = settle_kept quiet

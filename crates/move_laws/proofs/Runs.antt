@@ -30,7 +30,7 @@ use Rattle.blk_back.specs.Step as back_step
 use Rattle.blk_back.specs.Hands.{hands_of}
 use Rattle.blk_back.specs.View as back
 use Rattle.split_model.specs.World.{World, start_of}
-use Rattle.split_model.specs.Happening.{Happening, FrontMoves, BackMoves, JobMoves, Negotiates, FrontEnters, BackAttaches, BackHalts, Submits, Notifies, Pokes, Dumps, Looks, Settles, happens, word_lines, ring_lines, layout_read, lines_at, after, lines_of, front_after, front_shows, back_after, back_shows, job_after, job_shows, front_turn, back_turn, job_turn}
+use Rattle.split_model.specs.Happening.{Happening, FrontMoves, BackMoves, JobMoves, Negotiates, FrontEnters, BackAttaches, BackHalts, Submits, Notifies, Pokes, OverwritesKey, Dumps, Looks, Settles, happens, word_lines, ring_lines, layout_read, lines_at, after, lines_of, front_after, front_shows, back_after, back_shows, job_after, job_shows, front_turn, back_turn, job_turn}
 use Rattle.split_model.specs.Safe.{IsSafe}
 use Rattle.split_model.specs.Shown.{back_lines, halt_lines}
 use Rattle.split_model.specs.Keys.{KeyMove, mover_at}
@@ -38,7 +38,7 @@ use Rattle.split_model.proofs.Keys.{negotiated_lines_are}
 use Rattle.split_model.proofs.States.{enter_lines_are}
 use Rattle.split_model.proofs.Safe.{safe_start, safe_happens}
 use Rattle.split_model.proofs.Attaching.{attach_lines_are}
-use Rattle.split_model.proofs.Overwriting.{poke_cases}
+use Rattle.split_model.proofs.Overwriting.{poke_cases, overwriting_cases}
 use Rattle.move_laws.specs.Permitted.{IsPermitted, ArePermitted}
 use Rattle.move_laws.specs.Grantable.{AreGrantable}
 use Rattle.move_laws.proofs.Always.{always_within}
@@ -101,6 +101,15 @@ poke_follows w before frame word value follows =
         (record { coherent = tt; answered = tt; numbered = tt; touched = tt; grantable = tt })
         (tells_write before (lines.Poke frame word value) w.under.pages w.under.grants frame word value refl (λ n. refl) refl (λ f w' v. refl) (omega (arith, framed)) worded follows.tells)
 
+-- a key that one overwrites is no word
+overwritten_follows : (w : World) (before : List Line) (name text : List ℕ) → FollowsTo before w → FollowsTo (before ++ lines_at w (OverwritesKey name text)) (happens w (OverwritesKey name text))
+overwritten_follows w before name text follows =
+    overwriting_cases (λ under shown. Follows (before ++ shown) under.pages under.grants) w.under name text
+    (λ allowed. follow_plain (lines.Key name text ∷ []) before w.under.pages w.under.grants (plain, tt) follows) (no_lines before w follows)
+  where
+    plain : IsPlain (lines.Key name text)
+    plain = record { is_still = still (lines.Key name text) refl (λ f w' v b. refl) (λ n. refl) refl; free = λ b. record { coherent = tt; answered = tt; numbered = tt; touched = tt; grantable = tt } }
+
 -- a line that changes nothing, and is allowed wherever the lines before tell what lies there
 record IsShown (pages : List ℕ) (table : GrantTable) (line : Line) : Type 0 where
   is_still : IsStill line
@@ -152,6 +161,7 @@ follows_happens w (BackHalts why) before safe within follows = follow_plain (lin
 follows_happens w (Submits job) before safe within follows = follow_plain (lines_at w (Submits job)) before w.under.pages w.under.grants (plain_submit job (front_submit.submit_of w.front job).0, tt) follows
 follows_happens w (Notifies at) before safe within follows = no_lines before w follows
 follows_happens w (Pokes frame word value) before safe within follows = poke_follows w before frame word value follows
+follows_happens w (OverwritesKey name text) before safe within follows = overwritten_follows w before name text follows
 follows_happens w Dumps before safe within follows = dump_follows w before within follows
 follows_happens w (Looks quiet) before safe within follows = follow_plain (lines_at w (Looks quiet)) before w.under.pages w.under.grants (one_plain quiet lines.Quiet lines.Busy plain_quiet plain_busy, tt) follows
 follows_happens w (Settles quiet) before safe within follows = follow_plain (lines_at w (Settles quiet)) before w.under.pages w.under.grants (one_plain quiet lines.Quiet lines.Unsettled plain_quiet plain_unsettled, tt) follows

@@ -16,7 +16,7 @@ use Rattle.blk_front.specs.State.{in_state}
 use Rattle.blk_front.specs.Submit.{submit_of}
 use Rattle.split_model.specs.World.{World}
 use Rattle.split_model.specs.Shown.{front_lines, state_lines}
-use Rattle.split_model.specs.Happening.{Happening, FrontMoves, BackMoves, JobMoves, Negotiates, FrontEnters, BackAttaches, BackHalts, Submits, Notifies, Pokes, Dumps, Looks, Settles, happens, lines_at, after, lines_of, front_after, front_shows, back_after, job_after, front_turn, back_turn, job_turn}
+use Rattle.split_model.specs.Happening.{Happening, FrontMoves, BackMoves, JobMoves, Negotiates, FrontEnters, BackAttaches, BackHalts, Submits, Notifies, Pokes, OverwritesKey, Dumps, Looks, Settles, happens, lines_at, after, lines_of, front_after, front_shows, back_after, job_after, front_turn, back_turn, job_turn}
 use Rattle.split_model.proofs.States.{enters_cases}
 
 -- a line that says this stands there
@@ -79,6 +79,7 @@ module _ (so : View → Bool) (says : Line → Bool) (announced : IsAnnounced so
   one_said w before (Submits job) was = λ t. has_first says before _ (was (announced.submit w.front job t))
   one_said w before (Notifies at) was = same_said w (happens w (Notifies at)) before _ refl was
   one_said w before (Pokes frame word value) was = same_said w (happens w (Pokes frame word value)) before _ refl was
+  one_said w before (OverwritesKey name text) was = same_said w (happens w (OverwritesKey name text)) before _ refl was
   one_said w before Dumps was = same_said w w before _ refl was
   one_said w before (Looks quiet) was = same_said w w before _ refl was
   one_said w before (Settles quiet) was = same_said w w before _ refl was

@@ -36,8 +36,8 @@ use Rattle.split_model.specs.Keys.{KeyMove}
 use Rattle.split_model.proofs.Keys.{negotiated_lines_are}
 use Rattle.split_model.proofs.States.{enters_cases, state_lines_are}
 use Rattle.split_model.proofs.Attaching.{attach_lines_are}
-use Rattle.split_model.proofs.Overwriting.{poke_lines_are, dump_lines_are}
-use Rattle.split_model.specs.Happening.{Happening, FrontMoves, BackMoves, JobMoves, Negotiates, FrontEnters, BackAttaches, BackHalts, Submits, Notifies, Pokes, Dumps, Looks, Settles, poke_lines, enter_lines, happens, lines_at, after, lines_of, front_after, front_shows, back_after, back_shows, job_after, job_shows, front_turn, back_turn, job_turn, submit_line}
+use Rattle.split_model.proofs.Overwriting.{poke_lines_are, dump_lines_are, overwritten_lines_are}
+use Rattle.split_model.specs.Happening.{Happening, FrontMoves, BackMoves, JobMoves, Negotiates, FrontEnters, BackAttaches, BackHalts, Submits, Notifies, Pokes, OverwritesKey, Dumps, Looks, Settles, poke_lines, enter_lines, happens, lines_at, after, lines_of, front_after, front_shows, back_after, back_shows, job_after, job_shows, front_turn, back_turn, job_turn, submit_line, overwritten_lines}
 use Rattle.split_model.specs.Report.{report_of}
 use Rattle.split_model.proofs.Safe.{safe_start, safe_happens}
 use Rattle.machine_pipeline.specs.Plain.{IsPlain}
@@ -146,6 +146,9 @@ look_unanswered false other e = (e, tt)
 poke_unanswered : (frame word value : ℕ) → AreUnanswered (poke_lines frame word value)
 poke_unanswered frame word value = poke_lines_are (λ (line : Line). says_answer line ≡ false) frame word value refl
 
+overwritten_unanswered : (name text : List ℕ) → AreUnanswered (overwritten_lines name text)
+overwritten_unanswered name text = overwritten_lines_are (λ (line : Line). says_answer line ≡ false) name text refl
+
 dump_unanswered : (w : World) → AreUnanswered (lines_at w Dumps)
 dump_unanswered w = dump_lines_are (λ (line : Line). says_answer line ≡ false) w.under.pages 0 (1024 * 2 ^ w.front.shape.order) (λ frame word value. refl)
 
@@ -228,6 +231,7 @@ one_counts start w before (Submits job) safe h =
     same_counts start w (happens w (Submits job)) before _ (submit_unanswered job (submit_of w.front job).0) kept h
 one_counts start w before (Notifies at) safe h = same_counts start w (happens w (Notifies at)) before [] tt (untaken w.front) h
 one_counts start w before (Pokes frame word value) safe h = same_counts start w (happens w (Pokes frame word value)) before _ (poke_unanswered frame word value) (untaken w.front) h
+one_counts start w before (OverwritesKey name text) safe h = same_counts start w (happens w (OverwritesKey name text)) before _ (overwritten_unanswered name text) (untaken w.front) h
 one_counts start w before Dumps safe h = same_counts start w w before _ (dump_unanswered w) (untaken w.front) h
 one_counts start w before (Looks quiet) safe h = same_counts start w w before _ (look_unanswered quiet lines.Busy refl) (untaken w.front) h
 one_counts start w before (Settles quiet) safe h = same_counts start w w before _ (look_unanswered quiet lines.Unsettled refl) (untaken w.front) h

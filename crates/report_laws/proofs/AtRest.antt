@@ -8,7 +8,7 @@ use Rattle.schedule_text.specs.declared.line.Line.TheVariants as lines
 use Rattle.hypervisor.specs.Act.{Took}
 use Rattle.blk_front.specs.Submit as front_submit
 use Rattle.split_model.specs.World.{World, start_of, is_quiet}
-use Rattle.split_model.specs.Happening.{Happening, FrontMoves, BackMoves, JobMoves, Negotiates, FrontEnters, BackAttaches, BackHalts, Submits, Notifies, Pokes, Dumps, Looks, Settles, lines_at, after, front_shows, back_shows, job_shows, front_turn, back_turn, job_turn, submit_line}
+use Rattle.split_model.specs.Happening.{Happening, FrontMoves, BackMoves, JobMoves, Negotiates, FrontEnters, BackAttaches, BackHalts, Submits, Notifies, Pokes, OverwritesKey, Dumps, Looks, Settles, lines_at, after, front_shows, back_shows, job_shows, front_turn, back_turn, job_turn, submit_line}
 use Rattle.machine_pipeline.specs.Plain.{IsPlain}
 use Rattle.machine_pipeline.specs.Allowed.{IsServed, AreServed}
 use Rattle.machine_pipeline.proofs.Together.{IsStanding, always_stands}
@@ -50,6 +50,7 @@ shown_quiet w (BackHalts why) may has = absurd (none_usual _ (halt_usual w.back.
 shown_quiet w (Submits job) may has = absurd (none_usual (submit_line job (front_submit.submit_of w.front job).0 ∷ []) (submit_usual job (front_submit.submit_of w.front job).0) has)
 shown_quiet w (Notifies at) may has = absurd (none_usual [] tt has)
 shown_quiet w (Pokes frame word value) may has = absurd may
+shown_quiet w (OverwritesKey name text) may has = absurd may
 shown_quiet w Dumps may has = absurd (none_usual _ (dump_usual w) has)
 shown_quiet w (Looks quiet) may has = may (look_quiet quiet lines.Busy refl has)
 shown_quiet w (Settles quiet) may has = may (look_quiet quiet lines.Unsettled refl has)

@@ -48,12 +48,12 @@ use Rattle.report_rules.specs.Standing.{is_epoch}
 use Rattle.split_model.specs.World.{World, start_of}
 use Rattle.split_model.specs.Safe.{IsSafe}
 use Rattle.split_model.specs.Shown.{front_lines, back_lines, halt_lines, effect_line}
-use Rattle.split_model.specs.Happening.{Happening, FrontMoves, BackMoves, JobMoves, Negotiates, FrontEnters, BackAttaches, BackHalts, Submits, Notifies, Pokes, Dumps, Looks, Settles, other_end, submit_line, happens, lines_at, lines_of, front_after, front_shows, back_after, back_shows, job_after, job_shows, front_turn, back_turn, job_turn}
+use Rattle.split_model.specs.Happening.{Happening, FrontMoves, BackMoves, JobMoves, Negotiates, FrontEnters, BackAttaches, BackHalts, Submits, Notifies, Pokes, OverwritesKey, Dumps, Looks, Settles, other_end, submit_line, happens, lines_at, lines_of, front_after, front_shows, back_after, back_shows, job_after, job_shows, front_turn, back_turn, job_turn}
 use Rattle.split_model.specs.Report.{report_of, ended_report_of}
 use Rattle.split_model.proofs.Keys.{negotiated_lines_are, backs_no_key, jobs_no_key}
 use Rattle.split_model.proofs.States.{enter_lines_are, state_lines_are}
 use Rattle.split_model.proofs.Attaching.{attach_lines_are}
-use Rattle.split_model.proofs.Overwriting.{poke_cases, dump_lines_are}
+use Rattle.split_model.proofs.Overwriting.{poke_cases, dump_lines_are, overwriting_cases}
 use Rattle.split_model.proofs.SafeActs.{of_front, of_back, AsksBackKey, front_wait, back_wait}
 use Rattle.split_model.proofs.SafeAnswers.{IsFronts, fronts_at, backs_of, jobs_of}
 use Rattle.split_model.proofs.Safe.{ports_back, safe_start, safe_happens}
@@ -222,6 +222,7 @@ one_counted w (BackHalts why) safe = uncounted w.under w.under _ (halt_none w.ba
 one_counted w (Submits job) safe = uncounted w.under w.under _ (submit_none job (front_submit.submit_of w.front job).0) refl
 one_counted w (Notifies at) safe = uncounted w.under _ [] tt (sent_same w.under.channels at)
 one_counted w (Pokes frame word value) safe = poke_cases (λ under shown. IsCounted w.under shown under) w.under frame word value (λ framed worded. uncounted w.under _ _ (refl, tt) refl) (uncounted w.under w.under [] tt refl)
+one_counted w (OverwritesKey name text) safe = overwriting_cases (λ under shown. IsCounted w.under shown under) w.under name text (λ allowed. uncounted w.under _ _ (refl, tt) refl) (uncounted w.under w.under [] tt refl)
 one_counted w Dumps safe = uncounted w.under w.under _ (dump_lines_are MakesNone w.under.pages 0 (1024 * 2 ^ w.front.shape.order) (λ frame word value. refl)) refl
 one_counted w (Looks quiet) safe = uncounted w.under w.under _ (look_none quiet lines.Busy refl) refl
 one_counted w (Settles quiet) safe = uncounted w.under w.under _ (look_none quiet lines.Unsettled refl) refl

@@ -30,9 +30,9 @@ use Rattle.blk_back.specs.Hands.{hands_of}
 use Rattle.split_model.specs.World.{World, start_of}
 use Rattle.split_model.specs.Safe.{IsSafe}
 use Rattle.split_model.specs.Shown.{back_lines, halt_lines}
-use Rattle.split_model.specs.Happening.{Happening, FrontMoves, BackMoves, JobMoves, Negotiates, FrontEnters, BackAttaches, BackHalts, Submits, Notifies, Pokes, Dumps, Looks, Settles, happens, lines_at, lines_of, front_after, front_shows, back_after, back_shows, job_after, job_shows, front_turn, back_turn, job_turn}
+use Rattle.split_model.specs.Happening.{Happening, FrontMoves, BackMoves, JobMoves, Negotiates, FrontEnters, BackAttaches, BackHalts, Submits, Notifies, Pokes, OverwritesKey, Dumps, Looks, Settles, happens, lines_at, lines_of, front_after, front_shows, back_after, back_shows, job_after, job_shows, front_turn, back_turn, job_turn}
 use Rattle.split_model.specs.Report.{report_of, ended_report_of}
-use Rattle.split_model.proofs.Overwriting.{poke_cases}
+use Rattle.split_model.proofs.Overwriting.{poke_cases, overwriting_cases}
 use Rattle.split_model.proofs.Attaching.{attach_cases}
 use Rattle.split_model.proofs.Safe.{safe_start, safe_happens}
 use Rattle.move_laws.specs.Permitted.{IsPermitted}
@@ -155,6 +155,13 @@ poke_good before w frame word value fits n =
     (good (lines.Poke frame word value) (omega arith, omega arith, fits) (is_guests frame word framed worded), tt))
     (stays before [] w w.front w.under n n.front n.words tt)
 
+-- a key that it overwrites is one of the grammar
+overwritten_good : (before : List Line) (w : World) (name text : List ℕ) → IsNumbered w → ShowsGood before (lines_at w (OverwritesKey name text)) (happens w (OverwritesKey name text))
+overwritten_good before w name text n =
+    overwriting_cases (λ under shown. ShowsGood before shown (record { front = w.front; back = w.back; under = under })) w.under name text
+    (λ allowed. stays before (lines.Key name text ∷ []) w w.front _ n n.front n.words (good (lines.Key name text) tt allowed, tt))
+    (stays before [] w w.front w.under n n.front n.words tt)
+
 -- its negotiation changes the back
 back_stays : (before ls : List Line) (w : World) (b : back.View) → IsNumbered w → back_numbers.IsFit most b → AreGood ls → ShowsGood before ls (record { front = w.front; back = b; under = w.under })
 back_stays before ls w b n fits shown = record {
@@ -194,6 +201,7 @@ one_good before w (Submits job) is may short =
     let n = is.numbered in let submitted = front_numbers.submit_fits w.front job may n.front in stays before _ w _ w.under n submitted.1 n.words (submitted.0, tt)
 one_good before w (Notifies at) is may short = let n = is.numbered in stays before [] w w.front _ n n.front n.words tt
 one_good before w (Pokes frame word value) is may short = poke_good before w frame word value may.1 is.numbered
+one_good before w (OverwritesKey name text) is may short = overwritten_good before w name text is.numbered
 one_good before w Dumps is may short = let n = is.numbered in stays before _ w w.front w.under n n.front n.words (dump_good w (within_here w Dumps is.orderly) n.words)
 one_good before w (Looks quiet) is may short = let n = is.numbered in stays before _ w w.front w.under n n.front n.words (look_good quiet lines.Busy (good lines.Busy tt refl))
 one_good before w (Settles quiet) is may short = let n = is.numbered in stays before _ w w.front w.under n n.front n.words (look_good quiet lines.Unsettled (good lines.Unsettled tt refl))

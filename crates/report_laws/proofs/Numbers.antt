@@ -22,7 +22,7 @@ use Rattle.blk_back.specs.Ask as back_ask
 use Rattle.blk_back.specs.Ask.{next_reply}
 use Rattle.blk_back.specs.Step.{attached, halts, overrun, looked, loop_step, fetched, step_at}
 use Rattle.split_model.specs.World.{World, start_of}
-use Rattle.split_model.specs.Happening.{Happening, FrontMoves, BackMoves, JobMoves, Negotiates, FrontEnters, BackAttaches, BackHalts, Submits, Notifies, Pokes, Dumps, Looks, Settles, happens, lines_at, lines_of, front_after, front_shows, back_after, back_shows, job_after, job_shows, front_turn, back_turn, job_turn, is_guest_word, attaches_at}
+use Rattle.split_model.specs.Happening.{Happening, FrontMoves, BackMoves, JobMoves, Negotiates, FrontEnters, BackAttaches, BackHalts, Submits, Notifies, Pokes, OverwritesKey, Dumps, Looks, Settles, happens, lines_at, lines_of, front_after, front_shows, back_after, back_shows, job_after, job_shows, front_turn, back_turn, job_turn, is_guest_word, attaches_at, is_guest_key}
 use Rattle.split_model.specs.Report.{report_of}
 use Rattle.split_model.proofs.SafeActs.{made_front, made_back}
 use Rattle.split_model.proofs.States.{halts_cases}
@@ -104,9 +104,9 @@ job_grew : (w : World) (number : ℕ) (o : Outcome) (act : Option BackAct) → j
 job_grew w number o None e = record { made = omega arith; fetched = omega arith }
 job_grew w number o (Some a) e = let made = made_back w.under (back_mover.Job number) _ o a e in record { made = omega arith; fetched = omega arith }
 
-poke_grew : (b : Bool) (w : World) (x : Hypervisor) (lines : List Line) → x.grants ≡ w.under.grants → Grew (length lines) w (record { front = w.front; back = w.back; under = if b then x else w.under })
-poke_grew true w x lines same = let made = ap (λ (t : GrantTable). t.made) same in record { made = omega arith; fetched = omega arith }
-poke_grew false w x lines same = record { made = omega arith; fetched = omega arith }
+overwritten_grew : (b : Bool) (w : World) (x : Hypervisor) (lines : List Line) → x.grants ≡ w.under.grants → Grew (length lines) w (record { front = w.front; back = w.back; under = if b then x else w.under })
+overwritten_grew true w x lines same = let made = ap (λ (t : GrantTable). t.made) same in record { made = omega arith; fetched = omega arith }
+overwritten_grew false w x lines same = record { made = omega arith; fetched = omega arith }
 
 grew : (w : World) (h : Happening) → Grew (length (lines_at w h)) w (happens w h)
 grew w FrontMoves = front_grew w (front_turn w) refl
@@ -118,7 +118,8 @@ grew w (BackAttaches shape grefs port) = let few = attached_few (attaches_at w s
 grew w (BackHalts why) = let few = halted_few why w.back in record { made = omega arith; fetched = omega arith }
 grew w (Submits job) = record { made = omega arith; fetched = omega arith }
 grew w (Notifies at) = record { made = omega arith; fetched = omega arith }
-grew w (Pokes frame word value) = poke_grew (is_guest_word frame word) w _ (lines_at w (Pokes frame word value)) refl
+grew w (Pokes frame word value) = overwritten_grew (is_guest_word frame word) w _ (lines_at w (Pokes frame word value)) refl
+grew w (OverwritesKey name text) = overwritten_grew (is_guest_key name text) w _ (lines_at w (OverwritesKey name text)) refl
 grew w Dumps = record { made = omega arith; fetched = omega arith }
 grew w (Looks quiet) = record { made = omega arith; fetched = omega arith }
 grew w (Settles quiet) = record { made = omega arith; fetched = omega arith }

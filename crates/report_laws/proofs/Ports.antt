@@ -29,7 +29,7 @@ use Rattle.blk_back.specs.Step.{job_ask_of}
 use Rattle.split_model.specs.World.{World, start_of}
 use Rattle.split_model.specs.Safe.{IsSafe}
 use Rattle.split_model.specs.Shown.{state_lines}
-use Rattle.split_model.specs.Happening.{Happening, FrontMoves, BackMoves, JobMoves, Negotiates, FrontEnters, BackAttaches, BackHalts, Submits, Notifies, Pokes, Dumps, Looks, Settles, other_end, happens, lines_at, after, lines_of, front_after, front_shows, back_after, back_shows, job_after, job_shows, front_turn, back_turn, job_turn, submit_line}
+use Rattle.split_model.specs.Happening.{Happening, FrontMoves, BackMoves, JobMoves, Negotiates, FrontEnters, BackAttaches, BackHalts, Submits, Notifies, Pokes, OverwritesKey, Dumps, Looks, Settles, other_end, happens, lines_at, after, lines_of, front_after, front_shows, back_after, back_shows, job_after, job_shows, front_turn, back_turn, job_turn, submit_line}
 use Rattle.split_model.specs.Report.{report_of}
 use Rattle.split_model.proofs.SafeActs.{of_front, front_wait}
 use Rattle.split_model.proofs.SafeAnswers.{IsFronts, fronts_at}
@@ -126,6 +126,7 @@ one_port config w before (BackHalts why) may stands has = usual_kept before _ w 
 one_port config w before (Submits job) may stands has = usual_kept before (submit_line job (front_submit.submit_of w.front job).0 ∷ []) w (happens w (Submits job)) (submit_usual job (front_submit.submit_of w.front job).0) (λ one. one) has
 one_port config w before (Notifies at) may stands has = kept before [] w (happens w (Notifies at)) refl (λ one. sent_ports w.under.channels at ∙ one) has
 one_port config w before (Pokes frame word value) may stands has = absurd may
+one_port config w before (OverwritesKey name text) may stands has = absurd may
 one_port config w before Dumps may stands has = usual_kept before _ w w (dump_usual w) (λ one. one) has
 one_port config w before (Looks quiet) may stands has = kept before _ w w (look_unready quiet lines.Busy refl) (λ one. one) has
 one_port config w before (Settles quiet) may stands has = kept before _ w w (look_unready quiet lines.Unsettled refl) (λ one. one) has

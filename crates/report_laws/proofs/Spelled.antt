@@ -1,7 +1,9 @@
 -- Each key's path and text and each watch's path is one of the grammar, whatever happens with moves that are.
-use Rattle.std.proofs.Common.{◌≡◌, ℕ, ◌&&◌, Bool, true, false, not, cond, if◌then◌else◌, List, [], ◌∷◌, ◌++◌, filter, refl, subst}
-use Rattle.std.specs.Prelude.{Option, Some, None, codes}
-use Rattle.std.specs.List.{AllByRecursion, list_any}
+use Rattle.std.proofs.lemmas.Bool.Decides.{nat_tests}
+use Rattle.line_text.proofs.Both.{both_true}
+use Rattle.std.proofs.Common.{◌≡◌, ℕ, ◌&&◌, Bool, true, false, not, cond, if◌then◌else◌, List, [], ◌∷◌, ◌++◌, filter, refl, subst, arith, ◌≤◌}
+use Rattle.std.specs.Prelude.{Option, Some, None, codes, nat_lt, nat_le, length}
+use Rattle.std.specs.List.{AllByRecursion, list_any, list_all}
 use Rattle.std.specs.BTreeMap.{is_at}
 use Rattle.std.specs.Ordering.{nat_cmp, match_ordering}
 use Rattle.std.specs.declared.cmp.Ordering.{Ordering}
@@ -9,7 +11,7 @@ use Rattle.std.specs.declared.cmp.Ordering.TheVariants.{Less, Equal, Greater}
 use Rattle.std.specs.Cmp.Lexicographic.{slice_cmp}
 use Rattle.std.proofs.lemmas.Option.{none-some, same_Some}
 use Rattle.std.proofs.lemmas.List.Elements.{recursion_from_All, All-from_recursion, All-filter}
-use Rattle.line_text.specs.Texts.{is_key_path, is_key_text}
+use Rattle.line_text.specs.Texts.{is_key_path, is_key_text, is_key_name, is_name_byte, is_graphic}
 use Rattle.blk_base.specs.declared.parts.End.{End}
 use Rattle.blk_base.specs.declared.parts.End.TheVariants as end
 use Rattle.blk_base.specs.declared.moves.Move.{Move}
@@ -20,7 +22,7 @@ use Rattle.key_directory.specs.Paths.{is_at_or_under}
 use Rattle.key_directory.specs.Watches.{Watches, same_path, with_watch, fired, first_of, next_watch, taken, taken_from}
 use Rattle.key_directory.specs.Directory.{Directory, key_of, with_key, written, watches_of, with_watches, fresh_directory}
 use Rattle.split_model.specs.World.{World}
-use Rattle.split_model.specs.Keys.{KeyMove, Gets, Sets, Watches as WatchesPath, mover_at, may_set, layout_path, negotiated, negotiated_lines}
+use Rattle.split_model.specs.Keys.{KeyMove, Gets, Sets, Watches as WatchesPath, mover_at, may_set, layout_path, negotiated, negotiated_lines, front_path}
 use Rattle.split_model.specs.Happening.{Happening, layout_text, layout_read, happens}
 use Rattle.split_model.proofs.Keys.{key_cases, negotiated_cases, keys_happen}
 use Rattle.machine_pipeline.specs.Allowed.{IsSpelled, IsPossible}
@@ -109,11 +111,29 @@ spelled_taken at d all = spelled_watching d at _ all (watch_taken (watches_of d 
 spelled_written : (d : Directory) (path text : List ℕ) → IsPath path → is_key_text text ≡ true → AreSpelled d → AreSpelled (written d path text)
 spelled_written d path text named said all = record { keys = key_set d.keys path text named said all.keys; front = watch_fired d.front path all.front; back = watch_fired d.back path all.back }
 
--- the lines of what an end does with the keys
 both : (a b : Bool) → a ≡ true → b ≡ true → (a && b) ≡ true
 both true b p q = q
 both false b p q = p
 
+-- a key below the front's directory has a path of the grammar
+name_graphic : (b : ℕ) → is_name_byte b ≡ true → is_graphic b ≡ true
+name_graphic b e = grind (arith, nat_tests)
+
+names_graphic : (name : List ℕ) → list_all is_name_byte name ≡ true → list_all is_graphic name ≡ true
+names_graphic [] all = refl
+names_graphic (b ∷ name) all = let both = both_true (is_name_byte b) (list_all is_name_byte name) all in rw (name_graphic b both.0, names_graphic name both.1) refl
+
+named_path : (name : List ℕ) → is_key_name name ≡ true → IsPath (front_path name)
+unfolding is_key_name is_key_path
+named_path name e =
+    let shaped = both_true (nat_lt 0 (length name) && nat_le (length name) 32) (list_all is_name_byte name) e in
+    let short : length name ≤ 32 = grind (arith, nat_tests) in
+    let some : nat_lt 0 (length (front_path name)) ≡ true = grind (arith, nat_tests) in
+    let within : nat_le (length (front_path name)) 80 ≡ true = grind (arith, nat_tests) in
+    let graphic : list_all is_graphic (front_path name) ≡ true = names_graphic name shaped.1 in
+    both _ _ (both _ _ (both _ _ some within) graphic) refl
+
+-- the lines of what an end does with the keys
 mover_widths : (at : End) → MoverHasWidths (mover_at at)
 mover_widths end.Front = tt
 mover_widths end.Back = tt
@@ -180,7 +200,9 @@ layout_good w all =
 
 -- whatever happens
 pub spelled_happens : (w : World) (h : Happening) → IsPossible w h → AreSpelled w.under.keys → (let v : World = happens w h in AreSpelled v.under.keys)
-spelled_happens w h may all = keys_happen AreSpelled spelled_taken w h (λ at move is here. (negotiates w at move (subst (IsPossible w) is may) here).0) all
+spelled_happens w h may all =
+    keys_happen AreSpelled spelled_taken w h (λ at move is here. (negotiates w at move (subst (IsPossible w) is may) here).0)
+    (λ name text is allowed here. let both = both_true (is_key_name name) (is_key_text text) allowed in spelled_written w.under.keys (front_path name) text (named_path name both.0) both.1 here) all
 
 pub spelled_start : AreSpelled (fresh_directory (codes "1"))
 unfolding is_key_path is_key_text

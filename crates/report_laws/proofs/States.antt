@@ -50,13 +50,13 @@ use Rattle.blk_back.specs.Ask as back_ends
 use Rattle.blk_back.specs.Step as back_step
 use Rattle.split_model.specs.World.{World, start_of}
 use Rattle.split_model.specs.Shown.{front_lines, back_lines, halt_lines, effect_line}
-use Rattle.split_model.specs.Keys.{KeyMove}
-use Rattle.split_model.specs.Happening.{Happening, FrontMoves, BackMoves, JobMoves, Negotiates, FrontEnters, BackAttaches, BackHalts, Submits, Notifies, Pokes, Dumps, Looks, Settles, enter_lines, submit_line, happens, after, lines_at, lines_of, front_shows, back_shows, job_shows, front_turn, back_turn, job_turn}
+use Rattle.split_model.specs.Keys.{KeyMove, front_path}
+use Rattle.split_model.specs.Happening.{Happening, FrontMoves, BackMoves, JobMoves, Negotiates, FrontEnters, BackAttaches, BackHalts, Submits, Notifies, Pokes, OverwritesKey, Dumps, Looks, Settles, enter_lines, submit_line, happens, after, lines_at, lines_of, front_shows, back_shows, job_shows, front_turn, back_turn, job_turn}
 use Rattle.split_model.specs.Report.{report_of, ended_report_of}
 use Rattle.split_model.proofs.Keys.{key_cases, negotiated_cases, keys_happen, backs_no_key, jobs_no_key}
 use Rattle.split_model.proofs.States.{enter_lines_are, state_lines_are}
 use Rattle.split_model.proofs.Attaching.{attach_lines_are}
-use Rattle.split_model.proofs.Overwriting.{poke_lines_are, dump_lines_are}
+use Rattle.split_model.proofs.Overwriting.{poke_lines_are, dump_lines_are, overwriting_cases}
 use Rattle.split_model.proofs.SafeActs.{of_front, of_back, AsksBackKey, front_wait, back_wait}
 use Rattle.split_model.proofs.SafeAnswers.{AsksNoKey, fronts_no_key, backs_of, jobs_of}
 use Rattle.move_laws.proofs.Recorded.{report_kept, ended_kept}
@@ -70,6 +70,7 @@ use Rattle.report_laws.proofs.Looks.{SpeaksOfQuiet, finds_quiet, HoldsWhereFound
 -- a line that sets no key
 abbrev sets_none : Line → Bool
 sets_none (lines.Move (moves.SetKey who path text)) = false
+sets_none (lines.Key name text) = false
 sets_none line = true
 
 abbrev IsSilent : Line → Type 0
@@ -82,6 +83,7 @@ AreSilent ls = AllByRecursion IsSilent ls
 one_silent : (path text : List ℕ) (line : Line) → IsSilent line → text_at path text line ≡ text
 one_silent path text (lines.Move (moves.SetKey who set now)) e = absurd (true≢false (sym e))
 one_silent path text (lines.Move move) e = refl
+one_silent path text (lines.Key name now) e = absurd (true≢false (sym e))
 one_silent path text line e = refl
 
 silent_text : (path text : List ℕ) (ls : List Line) → AreSilent ls → text_after path text ls ≡ text
@@ -229,12 +231,14 @@ keys_told path text w at move has =
 
 abbrev is_of_keys : Happening → Bool
 is_of_keys (Negotiates at move) = true
+is_of_keys (OverwritesKey name text) = true
 is_of_keys h = false
 
 -- whatever else happens changes no key
 other_told : (path text : List ℕ) (w : World) (h : Happening) → is_of_keys h ≡ false → AreSilent (lines_at w h) → key_of w.under.keys.keys path ≡ Some text → (let v : World = happens w h in IsTold path text v.under.keys (lines_at w h))
 other_told path text w h other silent has =
-    keys_happen (λ (d : Directory). key_of d.keys path ≡ Some text) (λ at d here. watch_told path text d at _ here) w h (λ at move is here. absurd (true≢false (sym (ap is_of_keys is) ∙ other))) has
+    keys_happen (λ (d : Directory). key_of d.keys path ≡ Some text) (λ at d here. watch_told path text d at _ here) w h (λ at move is here. absurd (true≢false (sym (ap is_of_keys is) ∙ other)))
+    (λ name now is allowed here. absurd (true≢false (sym (ap is_of_keys is) ∙ other))) has
     ∙ ap (λ (t : List ℕ). Some t) (sym (silent_text path text (lines_at w h) silent))
 
 one_told : (path text : List ℕ) (w : World) (h : Happening) → key_of w.under.keys.keys path ≡ Some text → (let v : World = happens w h in IsTold path text v.under.keys (lines_at w h))
@@ -248,6 +252,8 @@ one_told path text w (BackHalts why) has = other_told path text w (BackHalts why
 one_told path text w (Submits job) has = other_told path text w (Submits job) refl (submit_silent job (front_submit.submit_of w.front job).0) has
 one_told path text w (Notifies at) has = other_told path text w (Notifies at) refl tt has
 one_told path text w (Pokes frame word value) has = other_told path text w (Pokes frame word value) refl (poke_lines_are IsSilent frame word value refl) has
+one_told path text w (OverwritesKey name now) has =
+    overwriting_cases (λ under shown. IsTold path text under.keys shown) w.under name now (λ allowed. set_told path text w.under.keys (front_path name) now has) has
 one_told path text w Dumps has = other_told path text w Dumps refl (dump_lines_are IsSilent w.under.pages 0 (1024 * 2 ^ w.front.shape.order) (λ frame word value. refl)) has
 one_told path text w (Looks quiet) has = other_told path text w (Looks quiet) refl (look_silent quiet lines.Busy refl) has
 one_told path text w (Settles quiet) has = other_told path text w (Settles quiet) refl (look_silent quiet lines.Unsettled refl) has

@@ -1,4 +1,5 @@
 -- Whatever happens from the start, the lines keep the rules on jobs.
+use Rattle.key_directory.specs.Directory.{written}
 use Rattle.std.proofs.Common.{◌≡◌, ℕ, ◌<◌, ◌≤◌, ◌^◌, Bool, true, false, if◌then◌else◌, ◌*◌, List, [], ◌∷◌, ◌++◌, refl, ap, sym, ◌∙◌, subst, append-nil}
 use Rattle.std.specs.Prelude.{Option, Some, None, is_some, Result, Ok, Err}
 use Rattle.blk_base.specs.Options.{Options}
@@ -8,7 +9,7 @@ use Rattle.schedule_text.specs.declared.line.Line.TheVariants as lines
 use Rattle.schedule_text.specs.declared.line.Detail.{Detail}
 use Rattle.blk_base.specs.declared.ask.BackAsk.TheVariants as ask
 use Rattle.blk_base.specs.declared.moves.BackMover.TheVariants as mover
-use Rattle.hypervisor.specs.Act.{FrontAct, BackAct, Outcome, Took, back_act, with_pages}
+use Rattle.hypervisor.specs.Act.{FrontAct, BackAct, Outcome, Took, back_act, with_pages, with_keys}
 use Rattle.report_rules.specs.Obeys.{Obeys}
 use Rattle.report_rules.specs.Steps.{AreSteps}
 use Rattle.report_rules.specs.Data.{AreData}
@@ -33,12 +34,12 @@ use Rattle.blk_back.specs.Ask.{ask_of}
 use Rattle.blk_back.specs.View as back
 use Rattle.blk_back.specs.Step as back_step
 use Rattle.split_model.specs.World.{World, start_of}
-use Rattle.split_model.specs.Happening.{Happening, FrontMoves, BackMoves, JobMoves, Negotiates, FrontEnters, BackAttaches, BackHalts, Submits, Notifies, Pokes, Dumps, Looks, Settles, is_guest_word, poke_lines, layout_text, layout_read, happens, lines_at, after, front_after, front_shows, back_after, back_shows, job_after, job_shows, front_turn, back_turn, job_turn, submit_line}
+use Rattle.split_model.specs.Happening.{Happening, FrontMoves, BackMoves, JobMoves, Negotiates, FrontEnters, BackAttaches, BackHalts, Submits, Notifies, Pokes, OverwritesKey, Dumps, Looks, Settles, is_guest_word, poke_lines, overwritten_lines, layout_text, layout_read, happens, lines_at, after, front_after, front_shows, back_after, back_shows, job_after, job_shows, front_turn, back_turn, job_turn, submit_line, is_guest_key}
 use Rattle.split_model.specs.Safe.{IsSafe}
 use Rattle.split_model.proofs.Safe.{safe_start, safe_happens}
 use Rattle.split_model.specs.Shown.{back_lines, halt_lines}
 use Rattle.split_model.proofs.SafeAnswers.{backs_of, jobs_of, fronts_no_key}
-use Rattle.split_model.specs.Keys.{is_layout}
+use Rattle.split_model.specs.Keys.{is_layout, front_path}
 use Rattle.split_model.proofs.SafeActs.{made_front}
 use Rattle.split_model.proofs.Shapes.{back_shape}
 use Rattle.split_model.proofs.Attaching.{SaysServed, attach_cases}
@@ -47,7 +48,7 @@ use Rattle.ring_laws.proofs.BackReads.{reads_of}
 use Rattle.ring_laws.proofs.Sight.{is_other}
 use Rattle.ring_laws.proofs.Shows.{Sight, Shows}
 use Rattle.ring_laws.proofs.Knows.{Follows}
-use Rattle.ring_laws.proofs.Outsiders.{AreOutsiders, keys_outsiders, state_outsiders, poke_outsiders, dump_outsiders, outsiders_other, outsiders_by, outsiders_calm}
+use Rattle.ring_laws.proofs.Outsiders.{AreOutsiders, keys_outsiders, state_outsiders, poke_outsiders, overwritten_outsiders, dump_outsiders, outsiders_other, outsiders_by, outsiders_calm}
 use Rattle.ring_laws.proofs.Free.{IsFree, AreFree, front_free, job_free, job_running, free_front, free_told, free_submit, free_look, free_settle}
 use Rattle.ring_laws.proofs.Runs.{FollowsTo, earlier_pages, unread, follows_happens, follows_begin}
 use Rattle.ring_laws.proofs.Works.{no_jobs, jobs_anew}
@@ -182,6 +183,7 @@ tells_happens config w (BackHalts why) before s few = halted_tells config w befo
 tells_happens config w (Submits job) before s few = aside config config.start before (lines_at w (Submits job)) w.back s.ring.follows (free_submit (is_some w.back.halted) job (front_submit.submit_of w.front job).0, tt) (submit_by job (front_submit.submit_of w.front job).0, tt) s.tells
 tells_happens config w (Notifies at) before s few = no_lines config before w.back s.tells
 tells_happens config w (Pokes frame word value) before s few = outside config w before (poke_lines frame word value) (poke_outsiders w.back.stage frame word value) s
+tells_happens config w (OverwritesKey name text) before s few = outside config w before (overwritten_lines name text) (overwritten_outsiders w.back.stage name text) s
 tells_happens config w Dumps before s few = outside config w before (lines_at w Dumps) (dump_outsiders w.back.stage w.under.pages (1024 * 2 ^ w.front.shape.order)) s
 tells_happens config w (Looks quiet) before s few = aside config config.start before (lines_at w (Looks quiet)) w.back s.ring.follows (free_look (is_some w.back.halted) quiet, tt) (look_by quiet, tt) s.tells
 tells_happens config w (Settles quiet) before s few = aside config config.start before (lines_at w (Settles quiet)) w.back s.ring.follows (free_settle (is_some w.back.halted) quiet, tt) (settle_by quiet, tt) s.tells
@@ -267,6 +269,7 @@ fetched_happens config w (BackHalts why) before s = halted_fetches config w befo
 fetched_happens config w (Submits job) before s = free_fetched config w before (lines_at w (Submits job)) (free_submit (is_some w.back.halted) job (front_submit.submit_of w.front job).0, tt) s
 fetched_happens config w (Notifies at) before s = no_fetch (terms_of config w.back) before s.fetched
 fetched_happens config w (Pokes frame word value) before s = outside_fetched config w before (poke_lines frame word value) (poke_outsiders w.back.stage frame word value) s
+fetched_happens config w (OverwritesKey name text) before s = outside_fetched config w before (overwritten_lines name text) (overwritten_outsiders w.back.stage name text) s
 fetched_happens config w Dumps before s = outside_fetched config w before (lines_at w Dumps) (dump_outsiders w.back.stage w.under.pages (1024 * 2 ^ w.front.shape.order)) s
 fetched_happens config w (Looks quiet) before s = free_fetched config w before (lines_at w (Looks quiet)) (free_look (is_some w.back.halted) quiet, tt) s
 fetched_happens config w (Settles quiet) before s = free_fetched config w before (lines_at w (Settles quiet)) (free_settle (is_some w.back.halted) quiet, tt) s
@@ -308,6 +311,13 @@ poked_stands w frame word value ls s = by_word (is_guest_word frame word)
     by_word true = s
     by_word false = s
 
+overwritten_stands : (w : World) (name text : List ℕ) (ls : List Line) → Stands ls w.under.grants → (let n : World = happens w (OverwritesKey name text) in Stands ls n.under.grants)
+overwritten_stands w name text ls s = by_name (is_guest_key name text)
+  where
+    by_name : (b : Bool) → (let h : Hypervisor = if b then with_keys w.under (written w.under.keys (front_path name) text) else w.under in Stands ls h.grants)
+    by_name true = s
+    by_name false = s
+
 stands_happen : (config : Options) (w : World) (h : Happening) (before : List Line) → Stand config before w → (let n : World = happens w h in Stands (before ++ lines_at w h) n.under.grants)
 stands_happen config w FrontMoves before s = front_stands w before (front_turn w) refl s.standing
 stands_happen config w BackMoves before s = back_stands w before Took (back_turn w Took) refl s.standing
@@ -321,6 +331,7 @@ stands_happen config w (BackHalts why) before s = stands_aside before (lines_at 
 stands_happen config w (Submits job) before s = free_stands config w before (lines_at w (Submits job)) (submit_calm job (front_submit.submit_of w.front job).0, tt) (free_submit false job (front_submit.submit_of w.front job).0, tt) s
 stands_happen config w (Notifies at) before s = none_stands before w.under.grants s.standing
 stands_happen config w (Pokes frame word value) before s = poked_stands w frame word value (before ++ poke_lines frame word value) (outside_stands config w before (poke_lines frame word value) (poke_outsiders w.back.stage frame word value) s)
+stands_happen config w (OverwritesKey name text) before s = overwritten_stands w name text (before ++ overwritten_lines name text) (outside_stands config w before (overwritten_lines name text) (overwritten_outsiders w.back.stage name text) s)
 stands_happen config w Dumps before s = outside_stands config w before (lines_at w Dumps) (dump_outsiders w.back.stage w.under.pages (1024 * 2 ^ w.front.shape.order)) s
 stands_happen config w (Looks quiet) before s = free_stands config w before (lines_at w (Looks quiet)) (look_calm quiet, tt) (free_look false quiet, tt) s
 stands_happen config w (Settles quiet) before s = free_stands config w before (lines_at w (Settles quiet)) (settle_calm quiet, tt) (free_settle false quiet, tt) s

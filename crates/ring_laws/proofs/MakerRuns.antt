@@ -31,12 +31,12 @@ use Rattle.blk_back.specs.declared.told.Halt.{Halt}
 use Rattle.blk_back.specs.View as back
 use Rattle.blk_back.specs.Step as back_step
 use Rattle.split_model.specs.World.{World, start_of}
-use Rattle.split_model.specs.Happening.{Happening, FrontMoves, BackMoves, JobMoves, Negotiates, FrontEnters, BackAttaches, BackHalts, Submits, Notifies, Pokes, Dumps, Looks, Settles, poke_lines, layout_read, happens, lines_at, after, front_after, front_shows, back_after, back_shows, job_after, job_shows, front_turn, back_turn, job_turn}
+use Rattle.split_model.specs.Happening.{Happening, FrontMoves, BackMoves, JobMoves, Negotiates, FrontEnters, BackAttaches, BackHalts, Submits, Notifies, Pokes, OverwritesKey, Dumps, Looks, Settles, poke_lines, overwritten_lines, layout_read, happens, lines_at, after, front_after, front_shows, back_after, back_shows, job_after, job_shows, front_turn, back_turn, job_turn}
 use Rattle.split_model.specs.Report.{report_of, ended_report_of}
 use Rattle.split_model.specs.Shown.{back_lines, halt_lines}
 use Rattle.split_model.proofs.SafeAnswers.{backs_of}
 use Rattle.split_model.proofs.Attaching.{attach_cases}
-use Rattle.ring_laws.proofs.Outsiders.{keys_outsiders, state_outsiders, poke_outsiders, dump_outsiders, outsiders_calm}
+use Rattle.ring_laws.proofs.Outsiders.{keys_outsiders, state_outsiders, poke_outsiders, overwritten_outsiders, dump_outsiders, outsiders_calm}
 use Rattle.ring_laws.proofs.Knows.{Follows}
 use Rattle.ring_laws.proofs.Free.{job_running}
 use Rattle.ring_laws.proofs.Began.{Terms, IsJobOf}
@@ -124,6 +124,7 @@ made_happens config w (BackHalts why) before s t m = halted_made config w before
 made_happens config w (Submits job) before s t m = made_aside before (lines_at w (Submits job)) w.back (submit_calm job (front_submit.submit_of w.front job).0, tt) m
 made_happens config w (Notifies at) before s t m = no_lines before w.back m
 made_happens config w (Pokes frame word value) before s t m = made_aside before (poke_lines frame word value) w.back (outsiders_calm w.back.stage _ (poke_outsiders w.back.stage frame word value)) m
+made_happens config w (OverwritesKey name text) before s t m = made_aside before (overwritten_lines name text) w.back (outsiders_calm w.back.stage _ (overwritten_outsiders w.back.stage name text)) m
 made_happens config w Dumps before s t m = made_aside before (lines_at w Dumps) w.back (outsiders_calm w.back.stage _ (dump_outsiders w.back.stage w.under.pages (1024 * 2 ^ w.front.shape.order))) m
 made_happens config w (Looks quiet) before s t m = made_aside before (lines_at w (Looks quiet)) w.back (look_calm quiet, tt) m
 made_happens config w (Settles quiet) before s t m = made_aside before (lines_at w (Settles quiet)) w.back (settle_calm quiet, tt) m

@@ -28,11 +28,11 @@ use Rattle.blk_back.specs.declared.stage.Stage.TheVariants as stage
 use Rattle.blk_back.specs.Ask.{is_led}
 use Rattle.blk_back.specs.View.{View}
 use Rattle.split_model.specs.Keys.{KeyMove, Gets, mover_at, is_early, may_set, may_negotiate, is_between, key_lines, negotiated_lines}
-use Rattle.split_model.specs.Happening.{poke_lines, ring_lines, enter_lines}
+use Rattle.split_model.specs.Happening.{poke_lines, overwritten_lines, ring_lines, enter_lines}
 use Rattle.split_model.proofs.SafeActs.{IsKeyMove}
 use Rattle.split_model.proofs.Keys.{key_cases, negotiated_cases}
 use Rattle.split_model.proofs.States.{enter_lines_are, state_lines_are}
-use Rattle.split_model.proofs.Overwriting.{poke_lines_are, dump_lines_are}
+use Rattle.split_model.proofs.Overwriting.{poke_lines_are, overwritten_lines_are, dump_lines_are}
 use Rattle.ring_laws.specs.Layout.{reads_protocol, IsNamedFirstAt}
 use Rattle.ring_laws.proofs.Sight.{is_other, other_touch, same_abi, foreign_abi, untouched_word}
 use Rattle.ring_laws.proofs.Shows.{Sight, Shows}
@@ -75,6 +75,9 @@ said s line other foreign idle unhalting plain unstepped untold same gone made f
 
 poke_outsider : (s : Stage) (frame word value : ℕ) → IsOutsider s (lines.Poke frame word value)
 poke_outsider s frame word value = said s (lines.Poke frame word value) refl refl refl refl refl refl refl refl (λ n. refl) (λ k. refl) (λ before. record { unmap = tt; touch = tt })
+
+named_outsider : (s : Stage) (name text : List ℕ) → IsOutsider s (lines.Key name text)
+named_outsider s name text = said s (lines.Key name text) refl refl refl refl refl refl refl refl (λ n. refl) (λ k. refl) (λ before. record { unmap = tt; touch = tt })
 
 word_outsider : (s : Stage) (frame word value : ℕ) → IsOutsider s (lines.Word frame word value)
 word_outsider s frame word value = said s (lines.Word frame word value) refl refl refl refl refl refl refl refl (λ n. refl) (λ k. refl) (λ before. record { unmap = tt; touch = tt })
@@ -153,6 +156,9 @@ state_outsiders s state v =
 
 pub poke_outsiders : (s : Stage) (frame word value : ℕ) → AreOutsiders s (poke_lines frame word value)
 poke_outsiders s frame word value = poke_lines_are (IsOutsider s) frame word value (poke_outsider s frame word value)
+
+pub overwritten_outsiders : (s : Stage) (name text : List ℕ) → AreOutsiders s (overwritten_lines name text)
+overwritten_outsiders s name text = overwritten_lines_are (IsOutsider s) name text (named_outsider s name text)
 
 pub dump_outsiders : (s : Stage) (pages : List ℕ) (count : ℕ) → AreOutsiders s (ring_lines pages 0 count)
 dump_outsiders s pages count = dump_lines_are (IsOutsider s) pages 0 count (word_outsider s)

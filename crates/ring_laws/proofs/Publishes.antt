@@ -35,8 +35,8 @@ use Rattle.blk_back.specs.View as back
 use Rattle.blk_back.specs.View.{info_of as back_info}
 use Rattle.blk_back.specs.Step as back_step
 use Rattle.split_model.specs.World.{World}
-use Rattle.split_model.specs.Keys.{KeyMove, Sets, barrier_path, flush_path, discard_path, indirect_path, names_feature, mover_at, may_set, may_negotiate, is_between, offers, said_by, is_like, says_served, keys_after, key_lines, negotiated, negotiated_lines}
-use Rattle.split_model.specs.Happening.{Happening, FrontMoves, BackMoves, JobMoves, Negotiates, FrontEnters, BackAttaches, BackHalts, Submits, Notifies, Pokes, Dumps, Looks, Settles, happens, lines_at, front_after, front_shows, back_after, back_shows, job_after, job_shows, front_turn, back_turn, job_turn}
+use Rattle.split_model.specs.Keys.{KeyMove, Sets, barrier_path, flush_path, discard_path, indirect_path, names_feature, mover_at, may_set, may_negotiate, is_between, offers, said_by, is_like, says_served, keys_after, key_lines, negotiated, negotiated_lines, front_path}
+use Rattle.split_model.specs.Happening.{Happening, FrontMoves, BackMoves, JobMoves, Negotiates, FrontEnters, BackAttaches, BackHalts, Submits, Notifies, Pokes, OverwritesKey, Dumps, Looks, Settles, happens, lines_at, front_after, front_shows, back_after, back_shows, job_after, job_shows, front_turn, back_turn, job_turn}
 use Rattle.split_model.specs.Shown.{back_lines, halt_lines}
 use Rattle.split_model.proofs.SafeAnswers.{backs_of, jobs_of, fronts_no_key}
 use Rattle.split_model.proofs.Keys.{key_cases, negotiated_cases, keys_happen}
@@ -50,7 +50,7 @@ use Rattle.ring_laws.proofs.Fetched.{is_ready, IsPublished}
 use Rattle.ring_laws.proofs.BackChange.{Changed, change_at, back_sets}
 use Rattle.ring_laws.proofs.BackTells.{told_none}
 use Rattle.ring_laws.proofs.Halting.{stops_cases}
-use Rattle.ring_laws.proofs.Outsiders.{IsOutsider, AreOutsiders, not_early, state_outsiders, poke_outsiders, dump_outsiders}
+use Rattle.ring_laws.proofs.Outsiders.{IsOutsider, AreOutsiders, not_early, state_outsiders, poke_outsiders, overwritten_outsiders, dump_outsiders}
 use Rattle.ring_laws.proofs.Runs.{FollowsTo}
 
 -- an end sets a key under its own directory
@@ -249,12 +249,14 @@ lines_set_none w (BackHalts why) other = halt_sets w.back.halted _
 lines_set_none w (Submits job) other = free_sets false (lines_at w (Submits job)) (free_submit false job (front_submit.submit_of w.front job).0, tt)
 lines_set_none w (Notifies at) other = tt
 lines_set_none w (Pokes frame word value) other = outside_sets (lines_at w (Pokes frame word value)) (poke_outsiders stage.Send frame word value)
+lines_set_none w (OverwritesKey name text) other = outside_sets (lines_at w (OverwritesKey name text)) (overwritten_outsiders stage.Send name text)
 lines_set_none w Dumps other = outside_sets (lines_at w Dumps) (dump_outsiders stage.Send w.under.pages (1024 * 2 ^ w.front.shape.order))
 lines_set_none w (Looks quiet) other = free_sets false (lines_at w (Looks quiet)) (free_look false quiet, tt)
 lines_set_none w (Settles quiet) other = free_sets false (lines_at w (Settles quiet)) (free_settle false quiet, tt)
 
 keys_still : (w : World) (h : Happening) → IsElse h → (let n : World = happens w h in said_by n.under.keys) ≡ said_by w.under.keys
-keys_still w h other = keys_happen (λ (d : Directory). said_by d ≡ said_by w.under.keys) (λ at d here. watches_said at d _ ∙ here) w h (λ at move is here. absurd (subst IsElse is other)) refl
+keys_still w h other = keys_happen (λ (d : Directory). said_by d ≡ said_by w.under.keys) (λ at d here. watches_said at d _ ∙ here) w h (λ at move is here. absurd (subst IsElse is other))
+    (λ name text is allowed here. unnamed_said w.under.keys (front_path name) text (front_unnamed (front_path name) refl) ∙ here) refl
 
 -- where the back is ready its keys say what the disk has that it knows
 abbrev pub IsSaying : Directory → back.View → Type 0

@@ -32,7 +32,7 @@ use Rattle.report_rules.specs.Job.{entry_values}
 use Rattle.blk_back.specs.View as back
 use Rattle.blk_back.specs.Step as back_step
 use Rattle.split_model.specs.World.{World, start_of}
-use Rattle.split_model.specs.Happening.{Happening, FrontMoves, BackMoves, JobMoves, Negotiates, FrontEnters, BackAttaches, BackHalts, Submits, Notifies, Pokes, Dumps, Looks, Settles, poke_lines, layout_text, layout_read, happens, lines_at, after, lines_of, front_after, front_shows, back_after, back_shows, job_after, job_shows, front_turn, back_turn, job_turn}
+use Rattle.split_model.specs.Happening.{Happening, FrontMoves, BackMoves, JobMoves, Negotiates, FrontEnters, BackAttaches, BackHalts, Submits, Notifies, Pokes, OverwritesKey, Dumps, Looks, Settles, poke_lines, overwritten_lines, layout_text, layout_read, happens, lines_at, after, lines_of, front_after, front_shows, back_after, back_shows, job_after, job_shows, front_turn, back_turn, job_turn}
 use Rattle.split_model.proofs.SafeAnswers.{jobs_of, fronts_no_key}
 use Rattle.split_model.specs.Keys.{is_layout, layout_path}
 use Rattle.split_model.specs.Shown.{halt_lines, halt_line}
@@ -49,7 +49,7 @@ use Rattle.ring_laws.proofs.Knows.{AreMapped, Waits, Untold, Maps, KnowsAt, Foll
 use Rattle.ring_laws.proofs.Back.{halt_follows}
 use Rattle.ring_laws.proofs.Halting.{Stops, stops_cases}
 use Rattle.ring_laws.proofs.Stages.{back_goes}
-use Rattle.ring_laws.proofs.Outsiders.{keys_outsiders, state_outsiders, poke_outsiders, dump_outsiders, outsiders_follow}
+use Rattle.ring_laws.proofs.Outsiders.{keys_outsiders, state_outsiders, poke_outsiders, overwritten_outsiders, dump_outsiders, outsiders_follow}
 use Rattle.ring_laws.proofs.Free.{follow_named, follow_free, follow_all, front_free, job_free, job_running, free_front, free_told, free_submit, free_look, free_settle, free_end}
 
 -- the lines so far keep the rules, and the back has nothing left to tell
@@ -171,6 +171,8 @@ follows_happens start w (Submits job) before safe f = record { follows = follow_
 follows_happens start w (Notifies at) before safe f = subst (λ (ls : List Line). FollowsTo start ls (happens w (Notifies at))) (sym (append-nil before)) (record { follows = f.follows; told = f.told })
 follows_happens start w (Pokes frame word value) before safe f =
     record { follows = outsiders_follow start [] (poke_lines frame word value) before w.back (poke_outsiders w.back.stage frame word value) f.follows; told = f.told }
+follows_happens start w (OverwritesKey name text) before safe f =
+    record { follows = outsiders_follow start [] (overwritten_lines name text) before w.back (overwritten_outsiders w.back.stage name text) f.follows; told = f.told }
 follows_happens start w Dumps before safe f =
     record { follows = outsiders_follow start [] (lines_at w Dumps) before w.back (dump_outsiders w.back.stage w.under.pages (1024 * 2 ^ w.front.shape.order)) f.follows; told = f.told }
 follows_happens start w (Looks quiet) before safe f = record { follows = follow_free start [] before _ w.back (free_look (is_some w.back.halted) quiet) f.follows; told = f.told }

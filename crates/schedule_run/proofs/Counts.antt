@@ -1,6 +1,6 @@
 -- How many happenings an event makes at most, besides the moves of jobs.
-use Rattle.std.proofs.Common.{◌≡◌, ℕ, zero, suc, ◌+◌, ◌*◌, ◌^◌, ◌≤◌, inl, inr, Bool, true, false, if◌then◌else◌, List, [], ◌∷◌, ◌++◌, length, refl, ap, sym, ◌∙◌, subst, arith, length-append}
-use Rattle.std.specs.Prelude.{replicate, sum_by, Option, Some, None, ◌==◌}
+use Rattle.std.proofs.Common.{◌≡◌, ℕ, zero, suc, ◌+◌, ◌*◌, ◌≤◌, inl, inr, Bool, true, List, [], ◌∷◌, ◌++◌, length, refl, ap, sym, ◌∙◌, subst, arith}
+use Rattle.std.specs.Prelude.{replicate, sum_by}
 use Rattle.std.proofs.lemmas.List.Sums.{sum_by-cons, sum_by-append}
 use Rattle.std.proofs.lemmas.Bool.Decides.{nat_tests}
 use Rattle.blk_base.specs.Options.{Options}
@@ -162,6 +162,7 @@ made_few events.Look w hs r carried k = only_few hs _ k
 made_few (events.Notify at) w hs r carried k = only_few hs _ k
 made_few (events.Close at) w hs r carried k = only_few hs _ k
 made_few (events.Poke frame word value) w hs r carried k = only_few hs _ k.0
+made_few (events.Key name text) w hs r carried k = only_few hs _ k
 made_few events.Dump w hs r carried k = only_few hs _ k
 made_few e w hs r carried k = absurd k
 

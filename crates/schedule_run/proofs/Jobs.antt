@@ -1,5 +1,5 @@
 -- A move of each job, by number.
-use Rattle.std.proofs.Common.{◌≡◌, ℕ, ◌+◌, ◌≤◌, length, Some, None, Ok, Err, refl, sym, ap, ◌∙◌, arith}
+use Rattle.std.proofs.Common.{◌≡◌, ℕ, ◌≤◌, Some, None, Ok, Err, refl, sym, ap, ◌∙◌, arith}
 use Rattle.blk_io.specs.Disk.{sectors_of}
 use Rattle.schedule_text.specs.declared.recorder.RecordStop.{RecordStop}
 use Rattle.blk_back.specs.Step.{next_job_of}

@@ -10,7 +10,7 @@ use Rattle.schedule_text.specs.declared.line.Line.TheVariants.{Begin, End}
 use Rattle.plain_disk.specs.Honest.{is_honest, honest_part, IsHonest}
 use Rattle.plain_disk.proofs.Honest.{honest_more, honest_ends}
 use Rattle.report_rules.specs.Obeys.{Obeys}
-use Rattle.report_rules.proofs.Obeys.{obeys_none, obeys_before}
+use Rattle.report_rules.proofs.Obeys.{obeys_none, obeys_more, obeys_before}
 use Rattle.move_laws.proofs.Recorded.{report_kept, ended_kept}
 use Rattle.move_laws.proofs.Runs.{report_obeys, ended_obeys, coherent_of, answers_of, touches_of, grantable_of}
 use Rattle.move_laws.proofs.Dumped.{report_dumped, ended_dumped}
@@ -25,11 +25,11 @@ use Rattle.disk_laws.specs.Run.{IsRunSoFar}
 use Rattle.pipeline_laws.specs.Answered.{AreAnsweredOnce, IsQuietAnswered}
 use Rattle.pipeline_laws.proofs.AnsweredRuns.{run_answers_once, run_answers_at_quiet}
 use Rattle.split_model.specs.World.{World, start_of}
-use Rattle.split_model.specs.Happening.{Happening, Pokes, DiskRuns, happens, after, lines_at, lines_of}
+use Rattle.split_model.specs.Happening.{Happening, Pokes, OverwritesKey, DiskRuns, happens, after, lines_at, lines_of}
 use Rattle.split_model.specs.Honest.{honest_history}
 use Rattle.schedule_text.specs.Recorder.{kept_of, line_bytes, report_text}
 use Rattle.split_model.specs.Report.{report_of, ended_report_of}
-use Rattle.split_model.proofs.Running.{kept_of-append}
+use Rattle.split_model.proofs.Running.{lines_of-append, kept_of-append}
 use Rattle.machine_pipeline.specs.Plain.{IsPlain}
 use Rattle.machine_pipeline.specs.Allowed.{AreServed, ArePossible}
 use Rattle.machine_pipeline.specs.Submissions.{submitted_at, submitted_of}
@@ -55,11 +55,12 @@ use Rattle.report_laws.specs.Ports.{IsFewPortsAt}
 use Rattle.report_laws.specs.Agreed.{AreAgreed}
 use Rattle.report_laws.proofs.Begun.{report_begun, ended_begun, begun_before}
 use Rattle.report_laws.proofs.Grammar.{report_grammar, ended_grammar}
-use Rattle.report_laws.proofs.Texts.{all_before, grammar_before}
+use Rattle.report_laws.proofs.Texts.{grammar_before}
 use Rattle.report_laws.proofs.Ready.{report_ready, ended_ready}
 use Rattle.report_laws.proofs.QuietRing.{report_quiet, ended_quiet}
 use Rattle.report_laws.proofs.States.{report_agreed, ended_agreed}
 use Rattle.report_laws.proofs.FewPorts.{report_ports, ended_ports}
+use Rattle.vbd_laws.specs.Causes.{IsCausedAt, AreCaused}
 use Rattle.schedule_run.proofs.Wished.{possible_wished}
 use Rattle.schedule_run.proofs.FewReads.{IsBrief}
 use Rattle.schedule_run.specs.Lawful.{ObeysMoves, ShowsWork, ServesRequests, ServesRequestsSoFar, IsLawful, IsLawfulSoFar}
@@ -163,9 +164,10 @@ pub record IsTold (config : Options) (detail : Detail) (history : List Happening
   pub possible : ArePossible history (start_of config)
   pub served : AreServed (honest_history history) (start_of config)
   pub agreed : AreAgreed (honest_history history) (start_of config)
+  pub caused : AreCaused (report_of config Moves history)
   pub brief : IsBrief config detail history
 
--- what happened before a hostile hand first overwrote a word
+-- what happened before a hostile hand first overwrote a word or a key
 allowed : {config : Options} {detail : Detail} {history : List Happening} → IsTold config detail history → AreServed (honest_history history) (start_of config)
 allowed h = h.served
 
@@ -173,6 +175,7 @@ allowed h = h.served
 pub agreed_before : (first rest : List Happening) (w : World) → AreAgreed (honest_history (first ++ rest)) w → AreAgreed (honest_history first) w
 agreed_before [] rest w are = tt
 agreed_before (Pokes frame word value ∷ first) rest w are = tt
+agreed_before (OverwritesKey name text ∷ first) rest w are = tt
 agreed_before (h ∷ first) rest w are = (are.0, agreed_before first rest (happens w h) are.1)
 
 -- both ends' states at `quiet`, where the moves are shown
@@ -181,6 +184,22 @@ alike detail config history are same = subst (λ (d : Detail). AreStatesAgreed (
 
 ended_alike : (detail : Detail) (config : Options) (history : List Happening) → AreAgreed history (start_of config) → detail ≡ Moves → AreStatesAgreed (kept_of detail (ended_report_of config detail history))
 ended_alike detail config history are same = subst (λ (d : Detail). AreStatesAgreed (kept_of d (ended_report_of config d history))) (sym same) (ended_agreed config history are)
+
+-- halts and words that break the front, where the moves are shown
+caused : (detail : Detail) (config : Options) (history : List Happening) → AreCaused (report_of config Moves history) → detail ≡ Moves → AreCaused (kept_of detail (report_of config detail history))
+caused detail config history are same =
+    subst (λ (d : Detail). AreCaused (kept_of d (report_of config d history))) (sym same) (subst (λ (ls : List Line). AreCaused ls) (sym (report_kept config history)) are)
+
+ended_caused : (detail : Detail) (config : Options) (history : List Happening) → AreCaused (report_of config Moves history) → detail ≡ Moves → AreCaused (kept_of detail (ended_report_of config detail history))
+ended_caused detail config history are same =
+    subst (λ (d : Detail). AreCaused (kept_of d (ended_report_of config d history))) (sym same)
+    (subst (λ (ls : List Line). AreCaused ls) (sym (ended_kept config history)) (obeys_more IsCausedAt (report_of config Moves history) End are tt))
+
+-- of the first part of a history
+pub caused_before : (config : Options) (first rest : List Happening) → AreCaused (report_of config Moves (first ++ rest)) → AreCaused (report_of config Moves first)
+caused_before config first rest are =
+    obeys_before IsCausedAt (report_of config Moves first) (lines_of rest (after first (start_of config)))
+    (subst (λ (ls : List Line). AreCaused (Begin config Moves ∷ ls)) (lines_of-append first rest (start_of config)) are)
 
 -- what the beginning of a report tells of its requests, where a run has that report
 so_far_served : (jobs : List Job) (before : Option (List (List ℕ))) (report : List Line) → HasRunSoFar jobs before report → ServesRequestsSoFar jobs before report
@@ -216,7 +235,7 @@ honest_run config detail history before now h long runs of =
 report_honest : (config : Options) (detail : Detail) (history : List Happening) → IsTold config detail history → honest_part (kept_of detail (report_of config detail history)) ≡ kept_of detail (report_of config detail (honest_history history))
 report_honest config detail history h = honest_kept detail (report_of config detail history) ∙ ap (kept_of detail) (honest_report config detail history h.possible)
 
--- where no line of a kept report is hostile, no word was overwritten
+-- where no line of a kept report is hostile, nothing was overwritten
 all_honest : (config : Options) (detail : Detail) (history : List Happening) → IsTold config detail history → IsHonest (kept_of detail (report_of config detail history)) → honest_history history ≡ history
 all_honest config detail history h honest = by_part (honest_with history (start_of config) [] h.possible)
   where
@@ -226,7 +245,7 @@ all_honest config detail history h honest = by_part (honest_with history (start_
     by_part : HonestWith history (start_of config) [] → honest_history history ≡ history
     by_part (inl all) = all
     by_part (inr k) =
-        let cut : HostileAfter (report_of config detail history) first = (k.0, k.1, k.2, k.3, ap (λ (l : List Line). Begin config detail ∷ l) (sym (append-nil (lines_of history (start_of config))) ∙ k.4)) in
+        let cut : HostileAfter (report_of config detail history) first = record { line = k.line; rest = k.rest; hostile = k.hostile; split = ap (λ (l : List Line). Begin config detail ∷ l) (sym (append-nil (lines_of history (start_of config))) ∙ k.split) } in
         absurd (not_honest (kept_of detail (report_of config detail history)) (kept_of detail first) (kept_after detail (report_of config detail history) first cut) honest)
 
 all_ended : (config : Options) (detail : Detail) (history : List Happening) → IsTold config detail history → IsHonest (kept_of detail (ended_report_of config detail history)) → honest_history history ≡ history
@@ -383,6 +402,7 @@ report_lawful config detail history before now h long runs =
       ring = λ moves. subst IsQuietRing (sym same) (report_quiet config detail (honest_history history) h.plain (allowed h) moves);
       agreed = λ moves. subst AreStatesAgreed (sym same) (alike detail config (honest_history history) h.agreed moves);
       ports = λ moves. report_ports config detail history;
+      causes = caused detail config history h.caused;
       moves = shown detail config history h.plain h.possible;
       work = λ moves. worked detail config history h.plain moves h.brief.reads;
     }
@@ -404,6 +424,7 @@ ended_lawful config detail history before now h long runs =
           of_part config detail history h AreStatesAgreed (λ all. ended_alike detail config history (subst (λ (hs : List Happening). AreAgreed hs (start_of config)) all h.agreed) moves)
           (alike detail config (honest_history history) h.agreed moves);
       ports = λ moves. ended_ports config detail history;
+      causes = ended_caused detail config history h.caused;
       moves = ended_shown detail config history h.plain h.possible;
       work = λ moves. ended_worked detail config history h.plain moves h.brief.reads;
     }
@@ -426,6 +447,7 @@ begun_lawful config detail history before said rest h all run =
       ring = λ moves. obeys_before IsQuietRingAt (honest_part one) part.0 (subst (Obeys IsQuietRingAt) (sym part.1) (ended_quiet config detail (honest_history history) h.plain (allowed h) moves));
       agreed = λ moves. obeys_before IsAgreedAt (honest_part one) part.0 (subst (Obeys IsAgreedAt) (sym part.1) (ended_alike detail config (honest_history history) h.agreed moves));
       ports = λ moves. obeys_before IsFewPortsAt one other (subst (Obeys IsFewPortsAt) (sym split) (ended_ports config detail history));
+      causes = λ moves. obeys_before IsCausedAt one other (subst (Obeys IsCausedAt) (sym split) (ended_caused detail config history h.caused moves));
       moves = λ moves. moves_before config.order one other (subst (ObeysMoves config.order) (sym split) (ended_shown detail config history h.plain h.possible moves));
       work = λ moves. work_before one other (subst ShowsWork (sym split) (ended_worked detail config history h.plain moves h.brief.reads));
     }
@@ -457,6 +479,7 @@ nothing_lawful config detail jobs before =
       ring = λ same. obeys_none IsQuietRingAt;
       agreed = λ same. obeys_none IsAgreedAt;
       ports = λ same. obeys_none IsFewPortsAt;
+      causes = λ same. obeys_none IsCausedAt;
       moves = λ same. record { coherent = obeys_none _; answered = obeys_none _; touched = obeys_none _; grantable = obeys_none _; overruns = obeys_none _; stretches = obeys_none _; dumps = obeys_none _; layout = obeys_none _ };
       work = λ same. record { steps = obeys_none _; data_given = obeys_none _; effects = obeys_none _; unmaps = obeys_none _; own = obeys_none _; replies = obeys_none _ };
     }

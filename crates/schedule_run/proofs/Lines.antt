@@ -1,4 +1,8 @@
 -- Lines of a schedule, over plain lists.
+use Rattle.std.specs.Prelude.{nat_lt, nat_le, ◌&&◌}
+use Rattle.std.specs.List.{list_all}
+use Rattle.line_text.proofs.Both.{both_true}
+use Rattle.line_text.specs.Texts.{is_key_name, is_key_text, is_name_byte, is_graphic}
 use Rattle.std.proofs.Common.{◌≡◌, ◌≢◌, ℕ, ◌+◌, ◌*◌, ◌<◌, ◌≤◌, ◌^◌, true, not, ◌==◌, cond, List, [], ◌∷◌, ◌++◌, length, Option, Some, None, refl, sym, ap, ◌∙◌, subst, arith, append_assoc, append-nil, length-append, decimal, codes, option_to_list}
 use Rattle.std.proofs.lemmas.Bool.Decides.{nat_tests}
 use Rattle.std.proofs.lemmas.List.Sums.{take_while-cons}
@@ -71,6 +75,15 @@ four_words v w a b = simp (length-append {A = ℕ}) (omega arith)
 five_words : (v w a b c : List ℕ) → length (joined (v ∷ w ∷ a ∷ b ∷ c ∷ [])) ≡ length v + length w + length a + length b + length c + 4
 five_words v w a b c = simp (length-append {A = ℕ}) (omega arith)
 
+-- the name and the text of a key are short
+name_short : (name : List ℕ) → is_key_name name ≡ true → length name ≤ 32
+unfolding is_key_name
+name_short name e = let sized = both_true (nat_lt 0 (length name) && nat_le (length name) 32) (list_all is_name_byte name) e in grind (arith, nat_tests)
+
+text_short : (text : List ℕ) → is_key_text text ≡ true → length text ≤ 64
+unfolding is_key_text
+text_short text e = let sized = both_true (nat_lt 0 (length text) && nat_le (length text) 64) (list_all is_graphic text) e in grind (arith, nat_tests)
+
 -- the text of an event that is carried out is short
 carried_short : (event : Event) → EventHasWidths event → is_carried event ≡ true → length (event_text event) ≤ 128
 carried_short (events.Submit (jobs.Read s c)) h e =
@@ -91,6 +104,9 @@ carried_short events.Look h e = omega arith
 carried_short (events.Notify end) h e = omega (arith, two_words (codes "notify") (end_word end), end_short end)
 carried_short (events.Close end) h e = omega (arith, two_words (codes "close") (end_word end), end_short end)
 carried_short (events.Poke f w v) h e = omega (arith, four_words (codes "poke") (decimal f) (decimal w) (decimal v), word_short f h.0, word_short w h.1, word_short v h.2)
+carried_short (events.Key name text) h e =
+    let both = both_true (is_key_name name) (is_key_text text) e in
+    omega (arith, three_words (codes "key") name text, name_short name both.0, text_short text both.1)
 carried_short events.Dump h e = omega arith
 carried_short event h e = cc
 

@@ -1,7 +1,9 @@
 -- What a move of the machine makes happen, by what its calls say.
+use Rattle.split_model.specs.Keys.{front_path}
 use Rattle.std.proofs.Common.{◌≡◌, Bool, true, false, true≢false, not, ◌||◌, if◌then◌else◌, ℕ, ◌+◌, ◌<◌, ◌≤◌, ◌^◌, length, List, [], ◌∷◌, ◌++◌, Option, Some, None, Result, Ok, Err, refl, ap, sym, ◌∙◌, subst, arith}
 use Rattle.std.proofs.lemmas.List.{append-nil}
 use Rattle.std.proofs.lemmas.Option.{none-some, same_Some}
+use Rattle.blk_base.specs.declared.ask.FrontAsk.TheVariants as front_asks
 use Rattle.blk_base.specs.declared.ask.FrontAnswer.{FrontAnswer}
 use Rattle.blk_base.specs.declared.ask.BackAnswer.{BackAnswer}
 use Rattle.blk_base.specs.declared.ask.FrontAsk.{FrontAsk}
@@ -16,7 +18,7 @@ use Rattle.schedule_text.specs.Recorder.{RecorderSeen, Gained, StopsAmong, Adds}
 use Rattle.schedule_text.proofs.Adding.{gained_none}
 use Rattle.hypervisor.specs.Hypervisor.{Hypervisor}
 use Rattle.blk_base.specs.declared.parts.End.TheVariants as end
-use Rattle.hypervisor.specs.Act.{FrontAct, BackAct, Outcome, Took, IsGiven, front_act, front_seen, front_under, back_act, back_seen, back_under, outcome_told}
+use Rattle.hypervisor.specs.Act.{FrontAct, BackAct, Outcome, Took, IsGiven, front_act, front_seen, front_under, back_act, back_seen, back_under, outcome_told, key_set}
 use Rattle.event_channel.specs.Channels.{is_pending}
 use Rattle.key_directory.specs.Watches.{is_empty_list, first_of}
 use Rattle.blk_base.specs.declared.ask.BackAsk.TheVariants as back_asks
@@ -49,13 +51,13 @@ use Rattle.vbd_back.specs.Ask as back
 use Rattle.vbd_back.specs.Step as back_step
 use Rattle.split_model.specs.World as rings
 use Rattle.split_model.specs.Happening as ring
-use Rattle.split_model.specs.Happening.{is_guest_word}
+use Rattle.split_model.specs.Happening.{is_guest_word, is_guest_key}
 use Rattle.xen_pages.specs.Pages.{with_word}
 use Rattle.hypervisor.specs.Act.{with_pages}
 use Rattle.split_model.specs.Leads as ring_leads
 use Rattle.vbd_model.specs.World.{World, frontend_of, backend_of}
 use Rattle.vbd_model.specs.Fit.{IsFit}
-use Rattle.vbd_model.specs.Happening.{Happening, FrontMoves, BackMoves, JobMoves, Closes, Dumps, does, front_turn, back_turn, front_bus, back_bus, happens, lines_at, DiskGoes}
+use Rattle.vbd_model.specs.Happening.{Happening, FrontMoves, BackMoves, JobMoves, Closes, Dumps, does, front_turn, back_turn, front_bus, back_bus, happens, lines_at, DiskGoes, OverwritesKey}
 use Rattle.vbd_model.specs.Kind.{IsJobMove}
 use Rattle.vbd_model.specs.Leads.{moment, Goes, Is}
 use Rattle.vbd_model.specs.Mappings.{mappings_in, mappings_of}
@@ -386,6 +388,19 @@ front_part_fit h x w f does_it front back news same world fit =
 -- a word of the guest's memory was overwritten
 pub poked : (w : rings.World) (frame word value : ℕ) (u : Hypervisor) → is_guest_word frame word ≡ true → u ≡ with_pages w.under (with_word w.under.pages frame word value) → record { front = w.front; back = w.back; under = u } ≡ ring.happens w (ring.Pokes frame word value)
 poked w frame word value u there wrote = rw (wrote, there) refl
+
+-- a key of the front was: the front's ask for it was carried out
+pub wrote_key : (h : Hypervisor) (name path text said : List ℕ) (u : Hypervisor) → path ≡ front_path name → said ≡ text → u ≡ front_under h (front_act h (front_asks.SetKey path said)) → u ≡ key_set h (front_path name) text
+wrote_key h name path text said u there same set =
+    subst (λ (t : List ℕ). u ≡ front_under h (front_act h (front_asks.SetKey (front_path name) t))) same (subst (λ (p : List ℕ). u ≡ front_under h (front_act h (front_asks.SetKey p said))) there set)
+
+pub overwrote : (w : rings.World) (name text : List ℕ) (u : Hypervisor) → is_guest_key name text ≡ true → u ≡ key_set w.under (front_path name) text → record { front = w.front; back = w.back; under = u } ≡ ring.happens w (ring.OverwritesKey name text)
+overwrote w name text u allowed set = rw (set, allowed) refl
+
+-- or there was no memory for it
+pub key_lacks : (w : World) (name text : List ℕ) (u : Hypervisor) (c : DiskSeen) (r : RecorderSeen) → u ≡ w.rings.under
+    → Goes (Is (OverwritesKey name text ∷ [])) (Is (OverwritesKey name text ∷ [])) 0 (Err OutOfMemory) (moment w c r) (moment (record { rings = record { front = w.rings.front; back = w.rings.back; under = u }; front = w.front; back = w.back }) c r)
+key_lacks w name text u c r same = rw same (goes_lacking (Is (OverwritesKey name text ∷ [])) (Is (OverwritesKey name text ∷ [])) 0 (OverwritesKey name text) (moment w c r) (moment w c r) refl refl refl refl)
 
 -- the words of the ring were said of the machine as it stands
 pub dumped_goes : (w : World) (c : DiskSeen) (r s : RecorderSeen) (result : Result (Unit {0}) RecordStop) → Adds (ring.lines_at w.rings ring.Dumps) result r s → Goes (Is (Dumps ∷ [])) (Is (Dumps ∷ [])) 0 result (moment w c r) (moment w c s)

@@ -21,13 +21,14 @@ use Rattle.vbd_model.specs.Happening.{Happening, after, lines_at, lines_of}
 use Rattle.vbd_model.specs.Kind.{AreOf, AreOfAll, AreOfSoFar}
 use Rattle.vbd_model.specs.Leads.{Moment, moment, Leads, StopsShowing, LacksMemory, LeadsToStop, Goes}
 use Rattle.vbd_model.specs.Report.{report_of, ended_report_of}
-use Rattle.vbd_model.proofs.Running.{lines_of-append, report_lift, leads_as, stops_on}
+use Rattle.vbd_model.proofs.Running.{lines_of-append, leads_as, stops_on}
 use Rattle.vbd_model.proofs.Echo.{schedule_echo, kept_echo}
 use Rattle.vbd_model.proofs.Possible.{events_possible, events_so_far_possible}
 use Rattle.machine_pipeline.specs.Submissions.{jobs_of}
 use Rattle.vbd_model.proofs.Submitting.{events_submit, events_so_far_submit}
 use Rattle.vbd_laws.proofs.Served.{rings_possible, rings_served}
 use Rattle.vbd_laws.proofs.Quiet.{rings_agreed}
+use Rattle.vbd_laws.proofs.Causes.{rings_caused}
 use Rattle.disk_laws.proofs.Before.{HasRunSoFar}
 use Rattle.plain_disk.specs.Honest.{honest_part}
 use Rattle.pipeline_laws.specs.Effects.{IsOfADisk}
@@ -35,7 +36,7 @@ use Rattle.schedule_run.specs.Outcome.{Outside, outside, IsServed, HasCarried}
 use Rattle.schedule_run.specs.Lawful.{IsLawful, IsLawfulSoFar, HasLawfulReport, HasLawfulBeginning, EventLeaves}
 use Rattle.schedule_run.proofs.FewReads.{events_brief, events_so_far_brief}
 use Rattle.schedule_run.proofs.Lawful.{nothing_lawful}
-use Rattle.schedule_run.proofs.Whole.{to_rings, submitted, IsTold, history_first, content_kept, report_lawful, report_honest_run, begun_honest, begun_lawful, run_later}
+use Rattle.schedule_run.proofs.Whole.{submitted, IsTold, history_first, content_kept, report_lawful, report_honest_run, begun_honest, begun_lawful, run_later}
 use Rattle.schedule_run.proofs.Begins.{plain_of}
 use Rattle.schedule_run.proofs.Carrying.{events_lead_on}
 
@@ -55,6 +56,7 @@ is_told config events old now h =
       possible = rings_possible config leads.history served.carried served.options (events_possible events (start_of config) leads.history leads.is_kind);
       served = rings_served config leads.history served.carried served.options (events_possible events (start_of config) leads.history leads.is_kind);
       agreed = rings_agreed config leads.history served.carried served.options (events_possible events (start_of config) leads.history leads.is_kind);
+      caused = rings_caused config leads.history served.options.2;
       brief = events_brief config old.recorder.detail events leads.history (plain_of config served) leads.is_kind h.few;
     }
 
@@ -141,6 +143,7 @@ both_told config detail events event hs served few k =
       possible = rings_possible config (k.0 ++ k.1) served.carried served.options (events_so_far_possible events event start k.0 k.1 k.3 k.4);
       served = rings_served config (k.0 ++ k.1) served.carried served.options (events_so_far_possible events event start k.0 k.1 k.3 k.4);
       agreed = rings_agreed config (k.0 ++ k.1) served.carried served.options (events_so_far_possible events event start k.0 k.1 k.3 k.4);
+      caused = rings_caused config (k.0 ++ k.1) served.options.2;
       brief = events_so_far_brief config detail events event k.0 k.1 plain k.3 k.4 few;
     })
 

@@ -1,5 +1,5 @@
 -- The laws of the ring's machine, of the report of the whole machine, of which each happening is one or two of that machine's.
-use Rattle.std.proofs.Common.{◌≡◌, ℕ, ◌+◌, ◌⊎◌, inl, inr, true, List, [], ◌∷◌, ◌++◌, length, Option, refl, ap, sym, ◌∙◌, subst, arith, append_assoc, append-nil, length-append}
+use Rattle.std.proofs.Common.{◌≡◌, ℕ, ◌+◌, ◌⊎◌, inl, inr, true, List, [], ◌∷◌, ◌++◌, Option, refl, ap, sym, ◌∙◌, subst, append_assoc, append-nil}
 use Rattle.std.proofs.lemmas.List.Elements.{filter_map-append}
 use Rattle.blk_base.specs.Options.{Options}
 use Rattle.blk_base.specs.declared.config.Job.{Job}
@@ -49,6 +49,7 @@ told_first config detail first rest h = record {
   possible = possible_first first rest (rings.start_of config) h.possible;
   served = served_before first rest (rings.start_of config) h.served;
   agreed = of_rings.agreed_before first rest (rings.start_of config) h.agreed;
+  caused = of_rings.caused_before config first rest h.caused;
   brief = brief_first config detail first rest h.brief;
 }
 

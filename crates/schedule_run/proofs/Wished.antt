@@ -1,5 +1,5 @@
 -- In a possible history the order that is agreed is the one that the front wished.
-use Rattle.std.proofs.Common.{◌≡◌, ℕ, List, [], ◌∷◌, ◌∙◌, refl}
+use Rattle.std.proofs.Common.{ℕ, List, [], ◌∷◌, ◌∙◌, refl}
 use Rattle.blk_base.specs.Options.{Options}
 use Rattle.blk_front.specs.declared.state.FrontState.TheVariants.{Agreed}
 use Rattle.split_model.specs.World.{World, start_of}

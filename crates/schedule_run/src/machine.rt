@@ -13,6 +13,7 @@ ghost use Rattle.schedule_run.specs.Lawful.{EventLeaves};
 use crate::split::Split;
 use blk_base::{Config, OutOfMemory};
 use blk_io::SectorDisk;
+use line_text::{is_key_name, is_key_text};
 use schedule_text::{Event, RecordStop, Recorder};
 use std::alloc::Global;
 use std::marker::Model;
@@ -118,7 +119,8 @@ impl Machine {
             Event::Close(at) => self.split.close(at, recorder),
             Event::Poke { frame, word, value } => self.split.poke(frame, word, value, recorder),
             Event::Dump => self.split.dump(recorder),
-            Event::Suspend | Event::Key { .. } => Ok(()),
+            Event::Key { name, text } => self.split.overwrite_key(&name, &text, recorder),
+            Event::Suspend => Ok(()),
         }
     }
 }
@@ -134,7 +136,7 @@ pub fn can_serve(config: &Config) -> bool
 
 /// Whether an event is one that the machine carries out yet, with the numbers of the grammar: a
 /// submission, moves of the front, of the back or of a job, rounds, settling, a look, a close of an
-/// end, a spurious event, a word that a hostile hand overwrites, and a dump.
+/// end, a spurious event, a word or a key that a hostile hand overwrites, and a dump.
 pub fn can_carry_out(event: &Event) -> bool
     ensures { result ≡ is_carried event.now }
 {
@@ -144,7 +146,10 @@ pub fn can_carry_out(event: &Event) -> bool
         Event::Job { number, moves } => is_number(number) && is_number(moves),
         Event::Settle | Event::Look | Event::Notify(_) | Event::Close(_) | Event::Dump => true,
         Event::Poke { frame, word, .. } => frame < 1024 && word < 1024,
-        Event::Suspend | Event::Key { .. } => false,
+        Event::Key { name, text } => {
+            is_key_name(name.as_str().as_bytes()) && is_key_text(text.as_str().as_bytes())
+        }
+        Event::Suspend => false,
     }
 }
 

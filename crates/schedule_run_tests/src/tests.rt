@@ -541,6 +541,42 @@ fn a_producer_that_overruns_halts_the_back(rt: HostRuntime) -> Result<(), Fail> 
 }
 
 #[test]
+fn a_key_that_says_a_state_out_of_order_halts_the_back(rt: HostRuntime) -> Result<(), Fail> {
+    let alloc = rt.alloc();
+    let schedule = "settle\nkey state 7\nsettle\n";
+    let sink = report(alloc, schedule, zeros(alloc)?, Detail::Lines)?;
+    assert_eq!(rt;
+        sink.bytes(),
+        b"begin 64 0 0 0 0 rw 8 lines\nready\nquiet\nkey state 7\nhalt badorder 7\nclosing\nclosed\nquiet\nend\n".as_slice()
+    );
+    Ok(())
+}
+
+#[test]
+fn a_key_that_says_closed_halts_the_back(rt: HostRuntime) -> Result<(), Fail> {
+    let alloc = rt.alloc();
+    let schedule = "settle\nkey state 6\nsettle\n";
+    let sink = report(alloc, schedule, zeros(alloc)?, Detail::Lines)?;
+    assert_eq!(rt;
+        sink.bytes(),
+        b"begin 64 0 0 0 0 rw 8 lines\nready\nquiet\nkey state 6\nhalt gone 6\nclosing\nclosed\nquiet\nend\n".as_slice()
+    );
+    Ok(())
+}
+
+#[test]
+fn a_key_that_says_no_state_halts_the_back(rt: HostRuntime) -> Result<(), Fail> {
+    let alloc = rt.alloc();
+    let schedule = "settle\nkey state x\nsettle\n";
+    let sink = report(alloc, schedule, zeros(alloc)?, Detail::Lines)?;
+    assert_eq!(rt;
+        sink.bytes(),
+        b"begin 64 0 0 0 0 rw 8 lines\nready\nquiet\nkey state x\nhalt badkey state\nclosing\nclosed\nquiet\nend\n".as_slice()
+    );
+    Ok(())
+}
+
+#[test]
 fn an_operation_changed_while_its_entry_is_fetched_is_served_as_first_read(
     rt: HostRuntime,
 ) -> Result<(), Fail> {

@@ -27,7 +27,7 @@ use Rattle.plain_disk.specs.Echo.{is_echo, AnswersSubmit, AreRingWords}
 use Rattle.xen_pages.specs.Pages.{word_of}
 use Rattle.split_model.specs.World.{World}
 use Rattle.split_model.specs.Shown.{front_lines, back_lines, halt_lines, effect_line}
-use Rattle.split_model.specs.Happening.{Happening, FrontMoves, BackMoves, JobMoves, Negotiates, FrontEnters, BackAttaches, BackHalts, Submits, Notifies, Pokes, Dumps, Looks, Settles, is_guest_word, word_lines, ring_lines, happens, lines_at, lines_of, front_shows, back_shows, job_shows, front_turn, back_turn, job_turn, submit_line}
+use Rattle.split_model.specs.Happening.{Happening, FrontMoves, BackMoves, JobMoves, Negotiates, FrontEnters, BackAttaches, BackHalts, Submits, Notifies, Pokes, OverwritesKey, Dumps, Looks, Settles, is_guest_word, is_guest_key, word_lines, ring_lines, happens, lines_at, lines_of, front_shows, back_shows, job_shows, front_turn, back_turn, job_turn, submit_line}
 use Rattle.schedule_text.specs.Recorder.{recorded, kept_of}
 use Rattle.split_model.proofs.Keys.{negotiated_lines_are}
 use Rattle.split_model.proofs.Attaching.{attach_lines_are}
@@ -122,6 +122,7 @@ move_silent w (BackHalts why) m = halt_silent w.back.halted (let b : back.View =
 move_silent w (Notifies at) m = refl
 move_silent w (Submits job) m = absurd (cc)
 move_silent w (Pokes frame word value) m = absurd (cc)
+move_silent w (OverwritesKey name text) m = absurd (cc)
 move_silent w Dumps m = absurd (cc)
 move_silent w (Looks quiet) m = absurd (cc)
 move_silent w (Settles quiet) m = absurd (cc)
@@ -143,6 +144,10 @@ submit_answers job (Err r) = (submit_line job (Err r), refl, tt)
 -- a word that was overwritten is shown
 pub poke_echo : (w : World) (frame word value : ℕ) → is_guest_word frame word ≡ true → echo_of (lines_of (Pokes frame word value ∷ []) w) ≡ lines.Poke frame word value ∷ []
 poke_echo w frame word value allowed = rw allowed refl
+
+-- so is a key
+pub overwritten_echo : (w : World) (name text : List ℕ) → is_guest_key name text ≡ true → echo_of (lines_of (OverwritesKey name text ∷ []) w) ≡ lines.Key name text ∷ []
+overwritten_echo w name text allowed = rw allowed refl
 
 -- places from further on, and below a bound that is further on, are as good
 later_words : (from to bound : ℕ) (shown : List Line) → from ≤ to → AreRingWords to bound shown → AreRingWords from bound shown

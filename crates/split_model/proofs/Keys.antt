@@ -32,9 +32,9 @@ use Rattle.blk_back.specs.declared.stage.Stage.{Stage as BackStage}
 use Rattle.blk_back.specs.Ask as back_ends
 use Rattle.blk_back.specs.Step.{job_ask_of}
 use Rattle.split_model.specs.World.{World}
-use Rattle.split_model.specs.Keys.{KeyMove, Gets, Sets, Watches as WatchesPath, TakesWatch, mover_at, may_set, may_negotiate, keys_after, watched_lines, key_lines, negotiated, negotiated_lines}
-use Rattle.split_model.specs.Happening.{Happening, FrontMoves, BackMoves, JobMoves, Negotiates, FrontEnters, BackAttaches, BackHalts, Submits, Notifies, Pokes, Dumps, Looks, Settles, happens, front_after, back_after, job_after, front_turn, back_turn, job_turn}
-use Rattle.split_model.proofs.Overwriting.{poke_cases}
+use Rattle.split_model.specs.Keys.{KeyMove, front_path, Gets, Sets, Watches as WatchesPath, TakesWatch, mover_at, may_set, may_negotiate, keys_after, watched_lines, key_lines, negotiated, negotiated_lines}
+use Rattle.split_model.specs.Happening.{Happening, FrontMoves, BackMoves, JobMoves, Negotiates, FrontEnters, BackAttaches, BackHalts, Submits, Notifies, Pokes, OverwritesKey, Dumps, Looks, Settles, happens, front_after, back_after, job_after, front_turn, back_turn, job_turn, is_guest_key}
+use Rattle.split_model.proofs.Overwriting.{poke_cases, overwriting_cases}
 use Rattle.split_model.proofs.SafeActs.{of_front, of_back, of_read, of_disk, AsksBackKey, front_wait, back_wait}
 use Rattle.split_model.proofs.SafeAnswers.{AsksNoKey, fronts_no_key, IsBacks, backs_of, IsJobs, jobs_of}
 
@@ -178,23 +178,25 @@ job_turn_stays : (P : Directory → Type 0) → StaysTaken P → (w : World) (k 
 job_turn_stays P taking w k o None e u = u
 job_turn_stays P taking w k o (Some a) e u = back_stays P taking w.under (back_mover.Job k) (job_ask_of w.back k) o a (jobs_no_key (job_ask_of w.back k) (jobs_of w.back k)) u e
 
--- whatever happens: what an end does with the keys keeps it, and the taking of a watch
+-- whatever happens: what an end does with the keys keeps it, a key of the front that is overwritten, and the taking of a watch
 pub keys_happen :
     (P : Directory → Type 0) → StaysTaken P → (w : World) (h : Happening) → ((at : End) (move : KeyMove) → h ≡ Negotiates at move → P w.under.keys → P (negotiated w.back.stage at move w.under.keys))
+    → ((name text : List ℕ) → h ≡ OverwritesKey name text → is_guest_key name text ≡ true → P w.under.keys → P (written w.under.keys (front_path name) text))
     → P w.under.keys → (let v : World = happens w h in P v.under.keys)
-keys_happen P taking w FrontMoves kept u = front_turn_stays P taking w (front_turn w) refl u
-keys_happen P taking w BackMoves kept u = back_turn_stays P taking w (back_turn w Took) refl u
-keys_happen P taking w (JobMoves number outcome) kept u = job_turn_stays P taking w number outcome (job_turn w number outcome) refl u
-keys_happen P taking w (Negotiates at move) kept u = kept at move refl u
-keys_happen P taking w (FrontEnters state) kept u = u
-keys_happen P taking w (BackAttaches shape grefs port) kept u = u
-keys_happen P taking w (BackHalts why) kept u = u
-keys_happen P taking w (Submits job) kept u = u
-keys_happen P taking w (Notifies at) kept u = u
-keys_happen P taking w (Pokes frame word value) kept u = poke_cases (λ under shown. P under.keys) w.under frame word value (λ framed worded. u) u
-keys_happen P taking w Dumps kept u = u
-keys_happen P taking w (Looks quiet) kept u = u
-keys_happen P taking w (Settles quiet) kept u = u
+keys_happen P taking w FrontMoves kept set u = front_turn_stays P taking w (front_turn w) refl u
+keys_happen P taking w BackMoves kept set u = back_turn_stays P taking w (back_turn w Took) refl u
+keys_happen P taking w (JobMoves number outcome) kept set u = job_turn_stays P taking w number outcome (job_turn w number outcome) refl u
+keys_happen P taking w (Negotiates at move) kept set u = kept at move refl u
+keys_happen P taking w (FrontEnters state) kept set u = u
+keys_happen P taking w (BackAttaches shape grefs port) kept set u = u
+keys_happen P taking w (BackHalts why) kept set u = u
+keys_happen P taking w (Submits job) kept set u = u
+keys_happen P taking w (Notifies at) kept set u = u
+keys_happen P taking w (Pokes frame word value) kept set u = poke_cases (λ under shown. P under.keys) w.under frame word value (λ framed worded. u) u
+keys_happen P taking w (OverwritesKey name text) kept set u = overwriting_cases (λ under shown. P under.keys) w.under name text (λ allowed. set name text refl allowed u) u
+keys_happen P taking w Dumps kept set u = u
+keys_happen P taking w (Looks quiet) kept set u = u
+keys_happen P taking w (Settles quiet) kept set u = u
 
 -- no text, or one of this kind
 abbrev pub IsOrNone : (List ℕ → Bool) → Option (List ℕ) → Type 0
@@ -234,4 +236,5 @@ say_happens :
     (names kind : List ℕ → Bool) → ((at : End) (path text : List ℕ) → may_set at path text ≡ true → names path ≡ true → kind text ≡ true)
     → (w : World) (h : Happening) → SayOnly names kind w.under.keys → (let v : World = happens w h in SayOnly names kind v.under.keys)
 say_happens names kind set w h say =
-    keys_happen (SayOnly names kind) (λ at d here. say_watching names kind d at _ here) w h (λ at move is here. say_keys names kind set w.back.stage at move w.under.keys here) say
+    keys_happen (SayOnly names kind) (λ at d here. say_watching names kind d at _ here) w h (λ at move is here. say_keys names kind set w.back.stage at move w.under.keys here)
+    (λ name text is allowed here. say_written names kind (front_path name) text w.under.keys (set end.Front (front_path name) text refl) here) say

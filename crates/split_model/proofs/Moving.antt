@@ -1,4 +1,5 @@
 -- What a move of a job, a submission and an overwritten word make happen, by what the calls say.
+use Rattle.split_model.specs.Keys.{front_path}
 use Rattle.std.proofs.Common.{◌≡◌, true, ℕ, ◌+◌, ◌<◌, ◌≤◌, ◌^◌, length, List, [], ◌∷◌, ◌++◌, Option, Some, None, Result, Ok, refl, ap, sym, ◌∙◌, subst, arith}
 use Rattle.std.proofs.lemmas.List.{append-nil}
 use Rattle.std.proofs.lemmas.Option.{none-some, same_Some}
@@ -10,7 +11,7 @@ use Rattle.blk_base.specs.declared.moves.BackMover.{BackMover}
 use Rattle.blk_base.specs.declared.moves.BackMover.TheVariants.{Job as JobOf}
 use Rattle.blk_base.specs.declared.moves.Move.{Move as Shown}
 use Rattle.schedule_text.specs.declared.line.Line.{Line}
-use Rattle.schedule_text.specs.declared.line.Line.TheVariants.{Move, Poke}
+use Rattle.schedule_text.specs.declared.line.Line.TheVariants.{Move, Poke, Key}
 use Rattle.xen_pages.specs.Pages.{with_word}
 use Rattle.blk_io.specs.Disk.{DiskSeen}
 use Rattle.schedule_text.specs.declared.recorder.RecordStop.{RecordStop}
@@ -18,7 +19,7 @@ use Rattle.schedule_text.specs.Recorder.{RecorderSeen, Gained, Adds}
 use Rattle.schedule_text.proofs.Adding.{gained_none}
 use Rattle.grant_table.specs.Table.{GrantTable}
 use Rattle.hypervisor.specs.Hypervisor.{Hypervisor}
-use Rattle.hypervisor.specs.Act.{BackAct, Outcome, Took, back_act, back_seen, back_under, outcome_told, with_pages}
+use Rattle.hypervisor.specs.Act.{BackAct, Outcome, Took, back_act, back_seen, back_under, outcome_told, with_pages, key_set}
 use Rattle.hypervisor.specs.Disk.{DiskDoes}
 use Rattle.hypervisor.specs.May.{BackMay, BackTakesMemory}
 use Rattle.blk_front.specs.declared.told.Refusal.{Refusal}
@@ -34,7 +35,7 @@ use Rattle.back_jobs.specs.Hands.{Names}
 use Rattle.back_jobs.specs.Sound.{StaysInPageAndDisk}
 use Rattle.split_model.specs.World.{World}
 use Rattle.split_model.specs.Shown.{back_lines}
-use Rattle.split_model.specs.Happening.{Happening, JobMoves, Submits, Pokes, is_guest_word, submit_line, happens, lines_at, DiskGoes, job_after, job_shows, job_turn}
+use Rattle.split_model.specs.Happening.{Happening, JobMoves, Submits, Pokes, is_guest_word, submit_line, happens, lines_at, DiskGoes, job_after, job_shows, job_turn, OverwritesKey, is_guest_key}
 use Rattle.hypervisor.specs.Act.{IsGiven}
 use Rattle.split_model.specs.Leads.{moment, Goes, Is, IsJobMove}
 use Rattle.split_model.specs.Safe.{IsSafe}
@@ -200,3 +201,13 @@ pub poked_goes : (w : World) (frame word value : ℕ) (u : Hypervisor) (c : Disk
 poked_goes w frame word value u c r s result there wrote shown =
     goes_here (Is (Pokes frame word value ∷ [])) (Is (Pokes frame word value ∷ [])) 0 (Pokes frame word value) w (record { front = w.front; back = w.back; under = u }) c c r s result refl refl
     (poked w frame word value u there wrote) (rw wrote (omega arith)) refl refl (rw there shown)
+
+-- a key of the front was overwritten, and that was said
+overwrote : (w : World) (name text : List ℕ) (u : Hypervisor) → is_guest_key name text ≡ true → u ≡ key_set w.under (front_path name) text → record { front = w.front; back = w.back; under = u } ≡ happens w (OverwritesKey name text)
+overwrote w name text u allowed set = rw (set, allowed) refl
+
+pub overwrote_goes : (w : World) (name text : List ℕ) (u : Hypervisor) (c : DiskSeen) (r s : RecorderSeen) (result : Result (Unit {0}) RecordStop) → is_guest_key name text ≡ true → u ≡ key_set w.under (front_path name) text → Adds (Key name text ∷ []) result r s
+    → Goes (Is (OverwritesKey name text ∷ [])) (Is (OverwritesKey name text ∷ [])) 0 result (moment w c r) (moment (record { front = w.front; back = w.back; under = u }) c s)
+overwrote_goes w name text u c r s result allowed set shown =
+    goes_here (Is (OverwritesKey name text ∷ [])) (Is (OverwritesKey name text ∷ [])) 0 (OverwritesKey name text) w (record { front = w.front; back = w.back; under = u }) c c r s result refl refl
+    (overwrote w name text u allowed set) (rw set (omega arith)) refl refl (rw allowed shown)

@@ -1,4 +1,4 @@
--- A word of the guest's memory that a hostile hand overwrites, and the words of the ring that a dump shows.
+-- A word of the guest's memory and a key of the front that a hostile hand overwrites, and the words of the ring that a dump shows.
 use Rattle.std.proofs.Common.{◌≡◌, ℕ, zero, suc, ◌+◌, ◌<◌, ◌≤◌, Bool, true, false, List, [], ◌∷◌, ◌++◌, refl, subst, arith, ap, sym, ◌∙◌, append_assoc, append-nil}
 use Rattle.std.specs.Prelude.{◌-◌, ◌/◌, ◌%◌, ◌&&◌, nat_lt, if◌then◌else◌}
 use Rattle.std.specs.List.{AllByRecursion}
@@ -10,8 +10,10 @@ use Rattle.schedule_text.specs.Recorder.{RecorderSeen, Gained, StopsAmong}
 use Rattle.schedule_text.proofs.Adding.{gained_twice, stopped_first, stopped_last}
 use Rattle.xen_pages.specs.Pages.{word_of, with_word}
 use Rattle.hypervisor.specs.Hypervisor.{Hypervisor}
-use Rattle.hypervisor.specs.Act.{with_pages}
-use Rattle.split_model.specs.Happening.{is_guest_word, overwritten, poke_lines, word_lines, ring_lines}
+use Rattle.key_directory.specs.Directory.{written}
+use Rattle.hypervisor.specs.Act.{with_pages, with_keys}
+use Rattle.split_model.specs.Happening.{is_guest_word, overwritten, poke_lines, is_guest_key, key_overwritten, overwritten_lines, word_lines, ring_lines}
+use Rattle.split_model.specs.Keys.{front_path}
 
 -- a word of the guest's memory lies in one of 1024 frames of 1024 words
 pub within_guest : (frame word : ℕ) → is_guest_word frame word ≡ true → (frame < 1024) × (word < 1024)
@@ -32,6 +34,17 @@ poke_cases P h frame word value written none = at (is_guest_word frame word) ref
   where
     at : (b : Bool) → is_guest_word frame word ≡ b → P (overwritten h frame word value) (poke_lines frame word value)
     at true e = rw e (let within = within_guest frame word e in written within.0 within.1)
+    at false e = rw e none
+
+-- either name and text are of the grammar, and the key is written and shown, or nothing happens
+pub overwriting_cases :
+    (P : Hypervisor → List Line → Type 0) (h : Hypervisor) (name text : List ℕ)
+    → (is_guest_key name text ≡ true → P (with_keys h (written h.keys (front_path name) text)) (lines.Key name text ∷ []))
+    → P h [] → P (key_overwritten h name text) (overwritten_lines name text)
+overwriting_cases P h name text wrote none = at (is_guest_key name text) refl
+  where
+    at : (b : Bool) → is_guest_key name text ≡ b → P (key_overwritten h name text) (overwritten_lines name text)
+    at true e = rw e (wrote e)
     at false e = rw e none
 
 -- each line of a dump shows a word of the ring's page as it is
@@ -60,6 +73,13 @@ pub poke_lines_are : (P : Line → Type 0) (frame word value : ℕ) → P (lines
 poke_lines_are P frame word value is = at (is_guest_word frame word)
   where
     at : (b : Bool) → AllByRecursion P (if b then lines.Poke frame word value ∷ [] else [])
+    at true = (is, tt)
+    at false = tt
+
+pub overwritten_lines_are : (P : Line → Type 0) (name text : List ℕ) → P (lines.Key name text) → AllByRecursion P (overwritten_lines name text)
+overwritten_lines_are P name text is = at (is_guest_key name text)
+  where
+    at : (b : Bool) → AllByRecursion P (if b then lines.Key name text ∷ [] else [])
     at true = (is, tt)
     at false = tt
 

@@ -40,8 +40,8 @@ use Rattle.blk_back.specs.Hands.{hands_at, hands_of}
 use Rattle.blk_back.proofs.Hands.{hands_after, halted_hands, job_hands_after, step_info}
 use Rattle.segment_list.specs.declared.verdict.DiskInfo.{DiskInfo}
 use Rattle.split_model.specs.World.{World, start_of}
-use Rattle.split_model.proofs.Overwriting.{poke_cases}
-use Rattle.split_model.specs.Happening.{Happening, FrontMoves, BackMoves, JobMoves, Negotiates, FrontEnters, BackAttaches, BackHalts, Submits, Notifies, Pokes, Dumps, Looks, Settles, happens, after, front_after, back_after, job_after, front_turn, back_turn, job_turn, other_end}
+use Rattle.split_model.proofs.Overwriting.{poke_cases, overwriting_cases}
+use Rattle.split_model.specs.Happening.{Happening, FrontMoves, BackMoves, JobMoves, Negotiates, FrontEnters, BackAttaches, BackHalts, Submits, Notifies, Pokes, OverwritesKey, Dumps, Looks, Settles, happens, after, front_after, back_after, job_after, front_turn, back_turn, job_turn, other_end}
 use Rattle.split_model.specs.Safe.{AreHeld, IsPorted, IsSafe}
 use Rattle.split_model.proofs.SafeActs.{of_back, of_read, of_disk, held_after, made_front, back_wait, back_keys, back_key_channels}
 use Rattle.split_model.proofs.SafeAnswers.{IsFronts, IsBacks, IsJobs, fronts_at, backs_of, jobs_of, back_answered, job_answered}
@@ -223,6 +223,13 @@ safe_poke w frame word value safe =
     (λ framed worded. record { ported = safe.ported; held = safe.held; sized = safe.sized; front_told = safe.front_told; back_told = safe.back_told })
     (record { ported = safe.ported; held = safe.held; sized = safe.sized; front_told = safe.front_told; back_told = safe.back_told })
 
+-- so is a key
+safe_key : (w : World) (name text : List ℕ) → IsSafe w → IsSafe (happens w (OverwritesKey name text))
+safe_key w name text safe =
+    overwriting_cases (λ under shown. IsSafe (record { front = w.front; back = w.back; under = under })) w.under name text
+    (λ allowed. record { ported = safe.ported; held = safe.held; sized = safe.sized; front_told = safe.front_told; back_told = safe.back_told })
+    (record { ported = safe.ported; held = safe.held; sized = safe.sized; front_told = safe.front_told; back_told = safe.back_told })
+
 -- what the front asks may be carried out
 front_may_at : (h : Hypervisor) (ask : FrontAsk) → IsFronts h.channels ask → front_ends.StaysInMemory ask → FrontMay h ask
 front_may_at h front_ask.Wait own within = tt
@@ -311,6 +318,7 @@ safe_happens w (BackHalts why) safe = safe_halt w why safe
 safe_happens w (Submits job) safe = safe_submit w job safe
 safe_happens w (Notifies at) safe = safe_notify w at safe
 safe_happens w (Pokes frame word value) safe = safe_poke w frame word value safe
+safe_happens w (OverwritesKey name text) safe = safe_key w name text safe
 safe_happens w Dumps safe = safe
 safe_happens w (Looks quiet) safe = safe
 safe_happens w (Settles quiet) safe = safe

@@ -9,7 +9,7 @@ use Rattle.blk_front.specs.View as front
 use Rattle.blk_back.specs.Step as back_step
 use Rattle.blk_back.specs.View as back
 use Rattle.split_model.specs.World.{World, start_of}
-use Rattle.split_model.specs.Happening.{Happening, FrontMoves, BackMoves, JobMoves, Negotiates, FrontEnters, BackAttaches, BackHalts, Submits, Notifies, Pokes, Dumps, Looks, Settles, happens, after, front_after, back_after, job_after, front_turn, back_turn, job_turn}
+use Rattle.split_model.specs.Happening.{Happening, FrontMoves, BackMoves, JobMoves, Negotiates, FrontEnters, BackAttaches, BackHalts, Submits, Notifies, Pokes, OverwritesKey, Dumps, Looks, Settles, happens, after, front_after, back_after, job_after, front_turn, back_turn, job_turn}
 use Rattle.split_model.proofs.FewFront.{IsShort, IsModest, step_modest, entered_modest, submit_modest}
 use Rattle.split_model.proofs.FewJobs.{HasRoom, back_room, attached_room, halted_room, job_room}
 use Rattle.split_model.proofs.Attaching.{attach_cases}
@@ -54,6 +54,7 @@ tight_happens w (BackHalts why) t = record { front = t.front; back = halted_room
 tight_happens w (Submits job) t = record { front = submit_modest w.front job t.front; back = t.back }
 tight_happens w (Notifies at) t = record { front = t.front; back = t.back }
 tight_happens w (Pokes frame word value) t = record { front = t.front; back = t.back }
+tight_happens w (OverwritesKey name text) t = record { front = t.front; back = t.back }
 tight_happens w Dumps t = t
 tight_happens w (Looks quiet) t = t
 tight_happens w (Settles quiet) t = t

@@ -1,5 +1,5 @@
 -- What an end does with the keys of both (`io/xenbus.h`), what that makes of the directory, and the lines that it shows.
-use Rattle.std.specs.Prelude.{ℕ, Bool, true, false, not, ◌&&◌, ◌||◌, List, [], ◌∷◌, Option, Some, None, if◌then◌else◌, ◌==◌, codes}
+use Rattle.std.specs.Prelude.{ℕ, Bool, true, false, not, ◌&&◌, ◌||◌, List, [], ◌∷◌, ◌++◌, Option, Some, None, if◌then◌else◌, ◌==◌, codes}
 use Rattle.std.specs.Str.{bytes_eq}
 use Rattle.blk_base.specs.declared.operation.Abi.{Abi}
 use Rattle.blk_base.specs.declared.operation.Abi.TheVariants.{X64, X32}
@@ -10,6 +10,7 @@ use Rattle.blk_base.specs.declared.moves.Mover.TheVariants as mover
 use Rattle.blk_base.specs.declared.moves.Move.TheVariants as moves
 use Rattle.schedule_text.specs.declared.line.Line.{Line}
 use Rattle.schedule_text.specs.declared.line.Line.TheVariants.{Move}
+use Rattle.key_directory.specs.Paths.{directory_of}
 use Rattle.key_directory.specs.Directory.{Directory, key_of, written, watches_of, with_watches}
 use Rattle.key_directory.specs.Watches.{with_watch, next_watch, taken}
 use Rattle.hypervisor.specs.Act.{is_own_path}
@@ -30,6 +31,10 @@ pub data KeyMove : Type 0 where
 abbrev pub mover_at : End → Mover
 mover_at end.Front = mover.Front
 mover_at end.Back = mover.Back
+
+-- where a key of the front of this name lies
+abbrev pub front_path : List ℕ → List ℕ
+front_path name = directory_of end.Front ++ 47 ∷ name
 
 -- the front's key for the layout of entries (`protocol` of `io/blkif.h`), and whether its text names this one: that of 64-bit guests where there is no such key
 abbrev pub layout_path : List ℕ

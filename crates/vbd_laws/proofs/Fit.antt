@@ -1,4 +1,7 @@
 -- The machine is fit at the start and stays so.
+use Rattle.xenbus_state.specs.declared.keys.BackKey.{BackKey}
+use Rattle.split_model.specs.Keys.{front_path}
+use Rattle.vbd_laws.proofs.FitSaid.{said_kept, written_keeps}
 use Rattle.std.proofs.Common.{◌≡◌, ℕ, ◌+◌, ◌≤◌, Bool, true, false, true≢false, not, ◌&&◌, if◌then◌else◌, List, [], ◌∷◌, length, refl, sym, ap, ◌∙◌, subst}
 use Rattle.std.specs.Prelude.{Option, Some, None, Result, Err, nat_lt, nat_le, ◌==◌}
 use Rattle.blk_base.specs.Options.{Options}
@@ -7,10 +10,10 @@ use Rattle.blk_base.specs.declared.parts.End.{End}
 use Rattle.blk_base.specs.declared.parts.End.TheVariants as end
 use Rattle.schedule_text.specs.declared.line.Line.{Line}
 use Rattle.segment_list.specs.declared.verdict.DiskInfo.{DiskInfo}
-use Rattle.key_directory.specs.Directory.{Directory}
+use Rattle.key_directory.specs.Directory.{Directory, written}
 use Rattle.hypervisor.specs.Hypervisor.{Hypervisor}
 use Rattle.xen_pages.specs.Pages.{with_word}
-use Rattle.hypervisor.specs.Act.{BackAct, Outcome, with_pages}
+use Rattle.hypervisor.specs.Act.{BackAct, Outcome, with_pages, with_keys}
 use Rattle.ring_words.specs.Shape.{Shape, entries_of}
 use Rattle.blk_front.specs.declared.request.Wish.{Wish}
 use Rattle.blk_front.specs.declared.told.Refusal.{Refusal}
@@ -34,9 +37,9 @@ use Rattle.split_model.proofs.Narrow.{submit_shape}
 use Rattle.xenbus_state.specs.Offer.{facts_of}
 use Rattle.xenbus_state.proofs.BackTurns.{back_starts}
 use Rattle.vbd_back.specs.View.{offer}
-use Rattle.split_model.proofs.Overwriting.{poke_cases}
+use Rattle.split_model.proofs.Overwriting.{poke_cases, overwriting_cases}
 use Rattle.vbd_model.specs.World.{World, start_of}
-use Rattle.vbd_model.specs.Happening.{Happening, FrontMoves, BackMoves, JobMoves, Closes, Submits, Notifies, Pokes, Dumps, Looks, Settles, happens, after}
+use Rattle.vbd_model.specs.Happening.{Happening, FrontMoves, BackMoves, JobMoves, Closes, Submits, Notifies, Pokes, OverwritesKey, Dumps, Looks, Settles, happens, after}
 use Rattle.vbd_model.specs.Fit.{FrontOrdered, IsUnbound, has_terms, IsOffered, SaysKey, SaidAt, IsFit}
 use Rattle.vbd_laws.proofs.FitChannels.{IsUnported, job_leaves, notified}
 use Rattle.vbd_laws.proofs.FitFront.{fit_front_moves, fit_front_closes}
@@ -79,7 +82,7 @@ record IsLike (w : World) (r : rings.World) : Type 0 where
   halted : r.back.halted ≡ w.rings.back.halted
   terms : terms_in r.back ≡ terms_in w.rings.back
   info : r.back.jobs.info ≡ w.rings.back.jobs.info
-  keys : r.under.keys ≡ w.rings.under.keys
+  keys : (k : BackKey) → SaysKey w.rings.under.keys w.back.features w.back.disk k → SaysKey r.under.keys w.back.features w.back.disk k
 
 fit_rings : (w : World) (r : rings.World) → IsFit w → IsSafe r → IsLike w r → IsUnported r.under.channels → IsUnbound w.rings.back.stage r.under.channels → IsFit (with_rings w r)
 fit_rings w r fit safe like unported unbound = record {
@@ -89,7 +92,7 @@ fit_rings w r fit safe like unported unbound = record {
   offers = fit.offers;
   limited = fit.limited;
   published = subst (λ (i : DiskInfo). IsOffered i w.back.features) (sym like.info) fit.published;
-  said = subst (λ (d : Directory). SaidAt (SaysKey d w.back.features w.back.disk) w.back.stage) (sym like.keys) fit.said;
+  said = said_kept _ _ like.keys w.back.stage fit.said;
   front = rw like.front fit.front;
   closing = λ whole. like.closing ∙ fit.closing (ap is_broken (sym like.front) ∙ whole);
   through = λ e whole. like.through (fit.through e (ap is_broken (sym like.front) ∙ whole));
@@ -110,7 +113,7 @@ fit_job : (w : World) (k : ℕ) (outcome : Outcome) (act : Option BackAct) → I
 fit_job w k outcome None fit e safe = fit
 fit_job w k outcome (Some a) fit e safe =
     let same = job_leaves w.rings.under k (job_ask_of w.rings.back k) outcome a (jobs_of w.rings.back k) e in
-    fit_rings w (ring.job_after w.rings k (Some a)) fit safe (record { front = refl; shape = refl; closing = refl; through = λ is. is; back = refl; halted = refl; terms = refl; info = job_step_info w.rings.back k a.answer; keys = same.1 }) (rw same.0 fit.unported) (rw same.0 fit.unbound)
+    fit_rings w (ring.job_after w.rings k (Some a)) fit safe (record { front = refl; shape = refl; closing = refl; through = λ is. is; back = refl; halted = refl; terms = refl; info = job_step_info w.rings.back k a.answer; keys = λ k says. subst (λ (d : Directory). SaysKey d w.back.features w.back.disk k) (sym same.1) says }) (rw same.0 fit.unported) (rw same.0 fit.unbound)
 
 -- a submission leaves whether the front closes, and one that closes takes none
 either_closing : (b c : Bool) (x y : Result ℕ Refusal × View) → x.1.closing ≡ c → y.1.closing ≡ c → (if b then x else y).1.closing ≡ c
@@ -145,12 +148,12 @@ through_submit v job through = by_test (v.last == 4294967295) v.closing (both_tr
 fit_submit : (w : World) (job : Job) → IsFit w → IsFit (happens w (Submits job))
 fit_submit w job fit =
     fit_rings w (ring.happens w.rings (ring.Submits job)) fit (safe_happens w.rings (ring.Submits job) fit.safe)
-    (record { front = (submit_kept w.rings.front job).stage; shape = submit_shape w.rings.front job; closing = closing_submit w.rings.front job; through = through_submit w.rings.front job; back = refl; halted = refl; terms = refl; info = refl; keys = refl }) fit.unported fit.unbound
+    (record { front = (submit_kept w.rings.front job).stage; shape = submit_shape w.rings.front job; closing = closing_submit w.rings.front job; through = through_submit w.rings.front job; back = refl; halted = refl; terms = refl; info = refl; keys = λ k says. says }) fit.unported fit.unbound
 
 fit_notify : (w : World) (at : End) → IsFit w → IsFit (happens w (Notifies at))
 fit_notify w at fit =
     let channels = notified at w.rings.back.stage w.rings.under.channels fit.unported fit.unbound in
-    fit_rings w (ring.happens w.rings (ring.Notifies at)) fit (safe_happens w.rings (ring.Notifies at) fit.safe) (record { front = refl; shape = refl; closing = refl; through = λ is. is; back = refl; halted = refl; terms = refl; info = refl; keys = refl }) channels.0 channels.1
+    fit_rings w (ring.happens w.rings (ring.Notifies at)) fit (safe_happens w.rings (ring.Notifies at) fit.safe) (record { front = refl; shape = refl; closing = refl; through = λ is. is; back = refl; halted = refl; terms = refl; info = refl; keys = λ k says. says }) channels.0 channels.1
 
 -- the rings over this
 abbrev with_under : rings.World → Hypervisor → rings.World
@@ -159,7 +162,13 @@ with_under r under = record { front = r.front; back = r.back; under = under }
 fit_poke : (w : World) (frame word value : ℕ) → IsFit w → IsFit (happens w (Pokes frame word value))
 fit_poke w frame word value fit =
     poke_cases (λ (under : Hypervisor) (shown : List Line). IsSafe (with_under w.rings under) → IsFit (with_rings w (with_under w.rings under))) w.rings.under frame word value
-    (λ framed worded safe. fit_rings w (with_under w.rings (with_pages w.rings.under (with_word w.rings.under.pages frame word value))) fit safe (record { front = refl; shape = refl; closing = refl; through = λ is. is; back = refl; halted = refl; terms = refl; info = refl; keys = refl }) fit.unported fit.unbound) (λ safe. fit) (safe_happens w.rings (ring.Pokes frame word value) fit.safe)
+    (λ framed worded safe. fit_rings w (with_under w.rings (with_pages w.rings.under (with_word w.rings.under.pages frame word value))) fit safe (record { front = refl; shape = refl; closing = refl; through = λ is. is; back = refl; halted = refl; terms = refl; info = refl; keys = λ k says. says }) fit.unported fit.unbound) (λ safe. fit) (safe_happens w.rings (ring.Pokes frame word value) fit.safe)
+
+-- a key of the front's is none of the back's
+fit_key : (w : World) (name text : List ℕ) → IsFit w → IsFit (happens w (OverwritesKey name text))
+fit_key w name text fit =
+    overwriting_cases (λ (under : Hypervisor) (shown : List Line). IsSafe (with_under w.rings under) → IsFit (with_rings w (with_under w.rings under))) w.rings.under name text
+    (λ allowed safe. fit_rings w (with_under w.rings (with_keys w.rings.under (written w.rings.under.keys (front_path name) text))) fit safe (record { front = refl; shape = refl; closing = refl; through = λ is. is; back = refl; halted = refl; terms = refl; info = refl; keys = λ k says. written_keeps w.back.features w.back.disk w.rings.under.keys k name text says }) fit.unported fit.unbound) (λ safe. fit) (safe_happens w.rings (ring.OverwritesKey name text) fit.safe)
 
 -- whatever happens
 pub fit_happens : (w : World) (h : Happening) → IsFit w → IsFit (happens w h)
@@ -172,6 +181,7 @@ fit_happens w (Closes end.Back) fit = fit_back_closes w fit
 fit_happens w (Submits job) fit = fit_submit w job fit
 fit_happens w (Notifies at) fit = fit_notify w at fit
 fit_happens w (Pokes frame word value) fit = fit_poke w frame word value fit
+fit_happens w (OverwritesKey name text) fit = fit_key w name text fit
 fit_happens w Dumps fit = fit
 fit_happens w (Looks quiet) fit = fit
 fit_happens w (Settles quiet) fit = fit

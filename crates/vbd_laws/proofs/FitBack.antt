@@ -147,7 +147,7 @@ never : (b : Bool) → (b && false) ≡ false
 never true = refl
 never false = refl
 
-asks_publishing : (w : World) (k : BackKey) → w.back.stage ≡ stage.Publish k → (says_closing w.back ≡ false) × (back_asks w ≡ back_bus.SetKey k (back_value w.back.features w.back.disk k))
+pub asks_publishing : (w : World) (k : BackKey) → w.back.stage ≡ stage.Publish k → (says_closing w.back ≡ false) × (back_asks w ≡ back_bus.SetKey k (back_value w.back.features w.back.disk k))
 asks_publishing w k here =
     let on : says_closing w.back ≡ false = ap (λ (b : BackStage). w.back.unplugged && says_closing_at b w.back.state) here ∙ never w.back.unplugged in
     (on, ap (λ (c : Bool). if c then back_bus.SetState state.Closing else ask_at w.back.stage w.back) on ∙ ap (λ (b : BackStage). ask_at b w.back) here)

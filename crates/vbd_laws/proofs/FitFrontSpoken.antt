@@ -33,7 +33,7 @@ use Rattle.vbd_model.specs.Fit.{FrontRests, FrontGoesWith, OpenOrdered, RestsOrd
 use Rattle.vbd_laws.proofs.FitFrontBus.{FrontFits, IsUnoccupied, due_cases, closing_cases, rests_open, open_whole, Settles, settles_begun, settles_rest, settles_closing}
 
 -- the front leaves, once the back is gone, only where no request is left
-abbrev LeavesIdle : Bool → FrontAction → Type 0
+abbrev pub LeavesIdle : Bool → FrontAction → Type 0
 LeavesIdle idle action.Leave = idle ≡ true
 LeavesIdle idle act = Unit {0}
 
@@ -54,7 +54,7 @@ gone_leaves : (idle : Bool) (word : ℕ) → LeavesIdle idle (on_gone idle word)
 gone_leaves true word = refl
 gone_leaves false word = tt
 
-action_leaves : (own : BusState) (closing idle : Bool) (read : Option BusState) → LeavesIdle idle (front_action own closing idle read)
+pub action_leaves : (own : BusState) (closing idle : Bool) (read : Option BusState) → LeavesIdle idle (front_action own closing idle read)
 action_leaves own true true (Some state.InitWait) = tt
 action_leaves own true false (Some state.InitWait) = offer_leaves own false
 action_leaves own false idle (Some state.InitWait) = offer_leaves own idle

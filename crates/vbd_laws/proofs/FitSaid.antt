@@ -63,8 +63,11 @@ module _ (f : Features) (disk : DiskFacts) (d : Directory) (k : BackKey) where
   set_keeps : (at : End) (path text : List ℕ) → Says (written d path text) → Says d → Says (keys_after at (Sets path text) d)
   set_keeps at path text set says = either Says (may_set at path text) (written d path text) d set says
 
+  pub written_keeps : (name text : List ℕ) → Says d → Says (written d (path_under end.Front name) text)
+  written_keeps name text says = ap (λ (texts : BackKey → Option (List ℕ)). texts k) (back_texts_other d.keys name text) ∙ says
+
   front_set : (name text : List ℕ) → Says d → Says (keys_after end.Front (Sets (path_under end.Front name) text) d)
-  front_set name text says = set_keeps end.Front (path_under end.Front name) text (ap (λ (texts : BackKey → Option (List ℕ)). texts k) (back_texts_other d.keys name text) ∙ says) says
+  front_set name text says = set_keeps end.Front (path_under end.Front name) text (written_keeps name text says) says
 
   pub front_keeps : (s : BackRing) (a : FrontBusAsk) → Says d → Says (negotiated s end.Front (front_key a) d)
   front_keeps s (front_ask.SetState own) says = front_set (codes "state") (decimal (state_number own)) says
@@ -102,8 +105,8 @@ asked_keeps v s d k = back_keeps v.features v.disk d k s (ask_of v) (by_test (sa
     by_test false = own_at v.stage v
 
 -- the keys that are said
-four_kept : (P Q : BackKey → Type 0) → ((k : BackKey) → P k → Q k) → IsServiceSaid P → IsServiceSaid Q
-four_kept P Q keeps said = record { barrier = keeps key.FeatureBarrier said.barrier; flush = keeps key.FeatureFlushCache said.flush; discard = keeps key.FeatureDiscard said.discard; indirect = keeps key.FeatureMaxIndirectSegments said.indirect }
+all_kept : (P Q : BackKey → Type 0) → ((k : BackKey) → P k → Q k) → IsServiceSaid P → IsServiceSaid Q
+all_kept P Q keeps said = record { barrier = keeps key.FeatureBarrier said.barrier; flush = keeps key.FeatureFlushCache said.flush; discard = keeps key.FeatureDiscard said.discard; indirect = keeps key.FeatureMaxIndirectSegments said.indirect; order = keeps key.MaxRingPageOrder said.order }
 
 before_kept : (P Q : BackKey → Type 0) → ((k : BackKey) → P k → Q k) → (k : BackKey) → SaidBefore P k → SaidBefore Q k
 before_kept P Q keeps key.FeatureBarrier said = tt
@@ -111,13 +114,14 @@ before_kept P Q keeps key.FeatureFlushCache said = keeps key.FeatureBarrier said
 before_kept P Q keeps key.FeatureDiscard said = (keeps key.FeatureBarrier said.0, keeps key.FeatureFlushCache said.1)
 before_kept P Q keeps key.FeaturePersistent said = (keeps key.FeatureBarrier said.0, keeps key.FeatureFlushCache said.1, keeps key.FeatureDiscard said.2)
 before_kept P Q keeps key.FeatureMaxIndirectSegments said = (keeps key.FeatureBarrier said.0, keeps key.FeatureFlushCache said.1, keeps key.FeatureDiscard said.2)
-before_kept P Q keeps k said = four_kept P Q keeps said
+before_kept P Q keeps key.MaxRingPageOrder said = (keeps key.FeatureBarrier said.0, keeps key.FeatureFlushCache said.1, keeps key.FeatureDiscard said.2, keeps key.FeatureMaxIndirectSegments said.3)
+before_kept P Q keeps k said = all_kept P Q keeps said
 
 pub said_kept : (P Q : BackKey → Type 0) → ((k : BackKey) → P k → Q k) → (b : BackStage) → SaidAt P b → SaidAt Q b
 said_kept P Q keeps (stage.Publish k) said = before_kept P Q keeps k said
-said_kept P Q keeps b said = four_kept P Q keeps said
+said_kept P Q keeps b said = all_kept P Q keeps said
 
-said_all : (P : BackKey → Type 0) (b : BackStage) → is_publishing b ≡ false → SaidAt P b → IsServiceSaid P
+pub said_all : (P : BackKey → Type 0) (b : BackStage) → is_publishing b ≡ false → SaidAt P b → IsServiceSaid P
 said_all P (stage.Publish k) past said = absurd (true≢false past)
 said_all P b past said = said
 
@@ -127,7 +131,7 @@ all_said P b past said = said
 
 -- once all are said they stay so at each later stage
 pub said_past : (P Q : BackKey → Type 0) → ((k : BackKey) → P k → Q k) → (b c : BackStage) → is_publishing b ≡ false → is_publishing c ≡ false → SaidAt P b → SaidAt Q c
-said_past P Q keeps b c past later said = all_said Q c later (four_kept P Q keeps (said_all P b past said))
+said_past P Q keeps b c past later said = all_said Q c later (all_kept P Q keeps (said_all P b past said))
 
 -- the next one is said
 pub said_next : (P : BackKey → Type 0) (k : BackKey) → SaidBefore P k → P k → SaidAt P (after_feature (next_feature k))
@@ -135,7 +139,8 @@ said_next P key.FeatureBarrier said is = is
 said_next P key.FeatureFlushCache said is = (said, is)
 said_next P key.FeatureDiscard said is = (said.0, said.1, is)
 said_next P key.FeaturePersistent said is = said
-said_next P key.FeatureMaxIndirectSegments said is = record { barrier = said.0; flush = said.1; discard = said.2; indirect = is }
+said_next P key.FeatureMaxIndirectSegments said is = (said.0, said.1, said.2, is)
+said_next P key.MaxRingPageOrder said is = record { barrier = said.0; flush = said.1; discard = said.2; indirect = said.3; order = is }
 said_next P k said is = said
 
 pub set_says : (f : Features) (disk : DiskFacts) (s : BackRing) (d : Directory) (k : BackKey) → s ≡ ring.InitWait → may_set end.Back (path_under end.Back (back_name k)) (text_of (back_value f disk k)) ≡ true

@@ -80,7 +80,7 @@ pub record Begins (v : FrontView) (r : Ring) (n : ℕ) : Type 0 where
   pub own : v.state ≡ state.Initialising
   pub first : r ≡ ring.RingWord 0
 
-acted_begins : (act : FrontAction) (v : FrontView) → is_begun (acted act v).stage ≡ false
+pub acted_begins : (act : FrontAction) (v : FrontView) → is_begun (acted act v).stage ≡ false
 acted_begins action.Nothing v = refl
 acted_begins action.Publish v = refl
 acted_begins action.Connect v = refl
@@ -89,11 +89,11 @@ acted_begins action.CloseAndConnect v = refl
 acted_begins action.Leave v = refl
 acted_begins (action.Break word) v = refl
 
-published_begins : (next : Option FrontKey) → is_begun (after_published next) ≡ false
+pub published_begins : (next : Option FrontKey) → is_begun (after_published next) ≡ false
 published_begins None = refl
 published_begins (Some k) = refl
 
-fact_begins : (k : BackKey) (n : Option ℕ) (v : FrontView) → is_begun (fact_step k n v).stage ≡ false
+pub fact_begins : (k : BackKey) (n : Option ℕ) (v : FrontView) → is_begun (fact_step k n v).stage ≡ false
 fact_begins k None v = refl
 fact_begins k (Some n) v = by_next (next_fact k)
   where
@@ -101,14 +101,14 @@ fact_begins k (Some n) v = by_next (next_fact k)
     by_next None = refl
     by_next (Some k) = refl
 
-state_begins : (own : BusState) → is_begun (after_state own) ≡ false
+pub state_begins : (own : BusState) → is_begun (after_state own) ≡ false
 state_begins state.Closed = refl
 state_begins own = refl
 
 abbrev StepBegins : FrontStage → FrontView → Bool → FrontAnswer → Ring → ℕ → Type 0
 StepBegins d v idle x r n = front.speaks (ask_at d v) ≡ true → is_begun (step_at d (at d v) idle x).stage ≡ true → Begins v r n
 
-none_begins : {A : Type 0} (b : Bool) → b ≡ false → b ≡ true → A
+pub none_begins : {A : Type 0} (b : Bool) → b ≡ false → b ≡ true → A
 none_begins b none e = absurd (true≢false (sym e ∙ none))
 
 step_begins : (d : FrontStage) (v : FrontView) (idle : Bool) (x : FrontAnswer) (r : Ring) (n : ℕ) → FrontGoesWith d v r → FrontOrdered d v n → StepBegins d v idle x r n
@@ -143,7 +143,7 @@ grants_end : (port : Option ℕ) → is_begun (after_grants port) ≡ false
 grants_end None = refl
 grants_end (Some p) = refl
 
-ends_begins : (d : FrontStage) (u : FrontView) (idle : Bool) → ask_at d u ≡ ask.EndOtherGrants → is_begun (step_at d (at d u) idle answer.Done).stage ≡ false
+pub ends_begins : (d : FrontStage) (u : FrontView) (idle : Bool) → ask_at d u ≡ ask.EndOtherGrants → is_begun (step_at d (at d u) idle answer.Done).stage ≡ false
 ends_begins stage.EndOtherGrants u idle e = grants_end u.port
 ends_begins d u idle e = absurd (cc)
 
@@ -189,7 +189,7 @@ offer_read n j =
     subst HasOffer j.stands (λ has. read_all _ _ _ _ _ _ has h.front.read ∙ sym h.back.offer)
 
 -- so the order that is agreed is the one that it wished
-no_less : (wished offered : ℕ) → wished ≤ 4 → offered ≡ 4 → min wished offered ≡ wished
+pub no_less : (wished offered : ℕ) → wished ≤ 4 → offered ≡ 4 → min wished offered ≡ wished
 no_less wished offered few most = omega arith
 
 pub agreed_is : (w : World) (a : FrontAct) → IsFit w → Joined w → Speaks w.front → front_turn w ≡ Some a → front.speaks (front_asks w) ≡ true

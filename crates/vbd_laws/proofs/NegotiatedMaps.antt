@@ -1,4 +1,5 @@
 -- The back's end of the ring maps and binds what its negotiation read of the front's terms.
+use Rattle.vbd_laws.proofs.NegotiatedWay.{ring_made_now}
 use Rattle.std.proofs.Common.{inl, inr, ◌≡◌, ◌∙◌, ap, sym, subst, ℕ, ◌<◌, List, length, Bool, true, false, refl, arith, if◌then◌else◌}
 use Rattle.std.specs.Prelude.{slice_index, slice_index_or}
 use Rattle.blk_base.specs.declared.parts.Mapping.{Mapping}
@@ -17,7 +18,7 @@ use Rattle.xenbus_state.specs.BackAsk.{ask_of, ask_at, says_closing, next_gref}
 use Rattle.xenbus_state.specs.BackSound.{IsPlaced}
 use Rattle.vbd_model.specs.World.{World}
 use Rattle.vbd_model.specs.Fit.{BackGoesWith, HaveTerms, has_terms, IsFit}
-use Rattle.vbd_laws.specs.Served.{GoesByTheTerms}
+use Rattle.vbd_laws.specs.Served.{GoesByTheTerms, IsMadeFirst}
 use Rattle.vbd_laws.proofs.ServedFront as fronts
 use Rattle.vbd_laws.proofs.NegotiatedKept.{finds_now, asks_map, asks_bind}
 use Rattle.vbd_laws.proofs.NegotiatedEarly.{IsOnItsWay}
@@ -79,5 +80,8 @@ module _ (w : World) (fit : IsFit w) (speaks : fronts.Speaks w.front) where
   made_so (inr (inr (inl h))) gref asks = halted_not w.rings.back.stage h.ring (map_goes gref asks)
   made_so (inr (inr (inr p))) gref asks = p.made
 
-  pub goes_by_terms : IsOnItsWay w → GoesByTheTerms w
-  goes_by_terms way = record { maps = maps_so; made = made_so way; binds = binds_so }
+  pub goes_by_terms : GoesByTheTerms w
+  goes_by_terms = record { maps = maps_so; binds = binds_so }
+
+  pub is_made_first : IsOnItsWay w → IsMadeFirst w
+  is_made_first way = record { mapped = made_so way; moved = ring_made_now w fit speaks way }

@@ -1,4 +1,5 @@
 -- The back maps what the front granted: so the machine stays on its way as the back moves, and whatever happens.
+use Rattle.vbd_laws.specs.Served.{KeepsKeys}
 use Rattle.std.proofs.Common.{◌⊎◌, inl, inr, ◌≡◌, ◌∙◌, ap, sym, subst, ℕ, ◌+◌, ◌&&◌, Bool, true, false, true≢false, List, [], ◌∷◌, ◌++◌, length, refl, arith, if◌then◌else◌}
 use Rattle.std.specs.Prelude.{Option, Some, None, is_some, nat_lt}
 use Rattle.blk_base.specs.declared.parts.End.TheVariants as end
@@ -42,7 +43,7 @@ use Rattle.vbd_back.specs.View as back_view
 use Rattle.vbd_back.specs.Ask as back
 use Rattle.vbd_back.specs.Step as back_step
 use Rattle.vbd_model.specs.World.{World, backend_of}
-use Rattle.vbd_model.specs.Happening.{Happening, FrontMoves, BackMoves, Closes, back_turn, is_backs_ring, happens}
+use Rattle.vbd_model.specs.Happening.{Happening, FrontMoves, BackMoves, Closes, back_turn, is_backs_ring, happens, OverwritesKey}
 use Rattle.vbd_model.specs.Fit.{BackGoesWith, BackReads, BackHolds, has_terms, HaveTerms, IsFit}
 use Rattle.vbd_laws.specs.Moves.{IsNoMove, IsBackMove}
 use Rattle.vbd_laws.proofs.FitBackRing.{is_past, given, gives_past, unbound_past, past_step}
@@ -337,12 +338,13 @@ back_way w fit speaks way = by_act (back_turn w) refl
     by_act None e = let still : IsNoMove w BackMoves = back_move_none w fit e in rests_way (happens w BackMoves) w (same_rests (happens w BackMoves) w still.world) way
     by_act (Some a) e = let moved : IsBackMove w a = back_move_is w a fit e in subst IsOnItsWay (sym moved.world) (by_way a e (subst IsFit moved.world (fit_back_moves w fit)) way)
 
--- whatever happens
-pub on_its_way : (w : World) (h : Happening) → IsFit w → fronts.Speaks w.front → IsOnItsWay w → IsOnItsWay (happens w h)
-on_its_way w FrontMoves fit speaks way = front_way w fit way
-on_its_way w BackMoves fit speaks way = back_way w fit speaks way
-on_its_way w (Closes at) fit speaks way = close_way w at way
-on_its_way w h fit speaks way = rests_way (happens w h) w (apart_rests w h tt) way
+-- whatever happens, but that a hostile hand overwrites a key
+pub on_its_way : (w : World) (h : Happening) → KeepsKeys h → IsFit w → fronts.Speaks w.front → IsOnItsWay w → IsOnItsWay (happens w h)
+on_its_way w FrontMoves keeps fit speaks way = front_way w fit way
+on_its_way w BackMoves keeps fit speaks way = back_way w fit speaks way
+on_its_way w (Closes at) keeps fit speaks way = close_way w at way
+on_its_way w (OverwritesKey name text) keeps fit speaks way = absurd keeps
+on_its_way w h keeps fit speaks way = rests_way (happens w h) w (apart_rests w h tt) way
 
 -- the front's ring and port are made as the back's end moves, or the back has halted
 pub ring_made_now : (w : World) → IsFit w → fronts.Speaks w.front → IsOnItsWay w → back.ring_moves (back_asks w) w.rings.back.stage ≡ true → is_some w.rings.back.halted ≡ false → is_connected w.rings.front.stage ≡ true

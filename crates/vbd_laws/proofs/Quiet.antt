@@ -43,7 +43,7 @@ use Rattle.vbd_model.specs.World.{World, start_of, frontend_of, is_quiet}
 use Rattle.vbd_model.specs.Happening.{Happening, FrontMoves, BackMoves, Closes, Looks, Settles, front_turn, back_turn, entered_at, halted_at, front_key, back_key, closes_does, is_fronts_ring, is_backs_ring, attaches, back_negotiates, does, after}
 use Rattle.vbd_model.specs.Fit.{FrontRests, FrontGoesWith, IsFit}
 use Rattle.vbd_model.specs.Possible.{IsPossible}
-use Rattle.vbd_laws.specs.Quiet.{IsUnpoked, HaveBoth, StatesAgree, StatesAgreeAtQuiet, RingsAgreed}
+use Rattle.vbd_laws.specs.Quiet.{IsUntouched, HaveBoth, StatesAgree, StatesAgreeAtQuiet, RingsAgreed}
 use Rattle.vbd_laws.proofs.MovesTurns.{front_asks, back_asks, back_learns}
 use Rattle.vbd_laws.proofs.NegotiatedRun.{Reached, negotiation_of}
 use Rattle.vbd_laws.proofs.ServedHonest.{Honest, whole_now, honest_start, honest_after, all_of}
@@ -163,8 +163,8 @@ module _ (config : Options) (w : World) (honest : Honest config w) (quiet : is_q
       by_state (inr (inr waits)) = absurd (true≢false (sym is_idle ∙ waits.busy))
 
 pub states_agree_at_quiet : StatesAgreeAtQuiet
-states_agree_at_quiet config hs carried options are unpoked quiet =
-    quiet_agrees config (after hs (start_of config)) (honest_after config hs (start_of config) unpoked (honest_start config carried options) are) quiet
+states_agree_at_quiet config hs carried options are untouched quiet =
+    quiet_agrees config (after hs (start_of config)) (honest_after config hs (start_of config) untouched (honest_start config carried options) are) quiet
 
 -- what the directory says of both states, in the words of a report's rules
 have_said : (w : World) (s : BusState) → HaveBoth w s → HasBoth (state_text s) w.rings.under.keys
@@ -196,19 +196,20 @@ closes_agreed : (at : End) (v : rings.World) → AreAgreed (closes_does at) v
 closes_agreed end.Front v = (tt, tt)
 closes_agreed end.Back v = tt
 
-agreed_at : (config : Options) (w : World) (h : Happening) → IsUnpoked h → Honest config w → IsPossible w h → AreAgreed (does w h) w.rings
-agreed_at config w FrontMoves unpoked honest is =
+agreed_at : (config : Options) (w : World) (h : Happening) → IsUntouched h → Honest config w → IsPossible w h → AreAgreed (does w h) w.rings
+agreed_at config w FrontMoves untouched honest is =
     move_agreed (is_fronts_ring w) (front.speaks (front_asks w)) ring.FrontMoves end.Front (front_key (front_asks w)) ring.FrontEnters (entered_at w (front_turn w)) w.rings tt (λ s u. tt)
-agreed_at config w BackMoves unpoked honest is = back_agreed w (is_backs_ring w) (attaches w (back_learns w))
-agreed_at config w (Closes at) unpoked honest is = closes_agreed at w.rings
-agreed_at config w (Looks quiet) unpoked honest is = (λ e. alike w (quiet_agrees config w honest (is e)), tt)
-agreed_at config w (Settles quiet) unpoked honest is = (λ e. alike w (quiet_agrees config w honest (is e)), tt)
-agreed_at config w h unpoked honest is = (tt, tt)
+agreed_at config w BackMoves untouched honest is = back_agreed w (is_backs_ring w) (attaches w (back_learns w))
+agreed_at config w (Closes at) untouched honest is = closes_agreed at w.rings
+agreed_at config w (Looks quiet) untouched honest is = (λ e. alike w (quiet_agrees config w honest (is e)), tt)
+agreed_at config w (Settles quiet) untouched honest is = (λ e. alike w (quiet_agrees config w honest (is e)), tt)
+agreed_at config w h untouched honest is = (tt, tt)
 
--- all of it, up to the first word that is overwritten
+-- all of it, up to the first word or key that is overwritten
 agreed_then : (hs rest : List ring.Happening) (w : rings.World) → AreAgreed hs w → AreAgreed (honest_history rest) (ring.after hs w) → AreAgreed (honest_history (hs ++ rest)) w
 agreed_then [] rest w are later = later
 agreed_then (ring.Pokes frame word value ∷ hs) rest w are later = tt
+agreed_then (ring.OverwritesKey name text ∷ hs) rest w are later = tt
 agreed_then (h ∷ hs) rest w are later = (are.0, agreed_then hs rest (ring.happens w h) are.1 later)
 
 pub rings_agreed : RingsAgreed

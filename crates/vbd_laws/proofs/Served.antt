@@ -1,10 +1,12 @@
--- Whatever a schedule makes happen is possible for the ring's machine, and served until a word is overwritten.
+-- Whatever a schedule makes happen is possible for the ring's machine, and served until a word or a key is overwritten.
+use Rattle.vbd_laws.proofs.NegotiatedEarly.{IsOnItsWay}
+use Rattle.vbd_laws.proofs.NegotiatedWay.{on_its_way}
 use Rattle.std.proofs.Common.{List, [], ◌∷◌}
 use Rattle.vbd_model.specs.World.{World, start_of}
 use Rattle.vbd_model.specs.Happening.{Happening, happens, after}
-use Rattle.vbd_laws.specs.Served.{RingsPossible, RingsServed, RingGoesByTheTerms}
-use Rattle.vbd_laws.proofs.NegotiatedMaps.{goes_by_terms}
-use Rattle.vbd_laws.proofs.ServedPossible.{Stands, stands_start, stands_on, all_possible}
+use Rattle.vbd_laws.specs.Served.{RingsPossible, RingsServed, RingGoesByTheTerms, RingIsMadeFirst, AllKeepKeys}
+use Rattle.vbd_laws.proofs.NegotiatedMaps.{goes_by_terms, is_made_first}
+use Rattle.vbd_laws.proofs.ServedPossible.{way_start, Stands, stands_start, stands_on, all_possible}
 use Rattle.vbd_laws.proofs.ServedHonest.{honest_start, all_served}
 
 pub rings_possible : RingsPossible
@@ -21,4 +23,15 @@ stands_after (h ∷ hs) w stands = stands_after hs (happens w h) (stands_on w h 
 pub ring_goes_by_terms : RingGoesByTheTerms
 ring_goes_by_terms config hs carried options =
     let stands = stands_after hs (start_of config) (stands_start config options) in
-    goes_by_terms (after hs (start_of config)) stands.fit stands.front stands.way
+    goes_by_terms (after hs (start_of config)) stands.fit stands.front
+
+-- until a key is overwritten
+way_after : (hs : List Happening) (w : World) → AllKeepKeys hs → Stands w → IsOnItsWay w → IsOnItsWay (after hs w)
+way_after [] w keep stands way = way
+way_after (h ∷ hs) w keep stands way = way_after hs (happens w h) keep.1 (stands_on w h stands) (on_its_way w h keep.0 stands.fit stands.front way)
+
+pub ring_is_made_first : RingIsMadeFirst
+ring_is_made_first config hs carried options keep =
+    let start = stands_start config options in
+    let stands = stands_after hs (start_of config) start in
+    is_made_first (after hs (start_of config)) stands.fit stands.front (way_after hs (start_of config) keep start (way_start config options))

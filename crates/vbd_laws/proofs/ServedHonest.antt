@@ -1,4 +1,6 @@
 -- What happens before a hostile hand first overwrites a word is served by the machine of the ring.
+use Rattle.vbd_laws.specs.Served.{KeepsKeys}
+use Rattle.vbd_laws.proofs.NegotiatedEarly.{IsOnItsWay}
 use Rattle.std.proofs.Common.{◌⊎◌, inl, inr, ◌≡◌, ◌∙◌, ap, sym, subst, ℕ, zero, suc, ◌+◌, ◌^◌, ◌<◌, ◌≤◌, ◌==◌, ◌&&◌, Bool, true, false, true≢false, List, [], ◌∷◌, ◌++◌, map, refl, arith, if◌then◌else◌}
 use Rattle.std.specs.Prelude.{Option, Some, None, IsSome, is_some, unwrap_or}
 use Rattle.std.specs.List.{AllByRecursion, range_with_len}
@@ -79,12 +81,12 @@ use Rattle.vbd_front.specs.Step as front_step
 use Rattle.vbd_back.specs.Ask as back
 use Rattle.vbd_back.specs.Step as back_step
 use Rattle.vbd_model.specs.World.{World, start_of, frontend_of, backend_of}
-use Rattle.vbd_model.specs.Happening.{Happening, FrontMoves, BackMoves, JobMoves, Closes, Submits, Notifies, Pokes, Dumps, Looks, Settles, front_turn, back_turn, entered_at, halted_at, reasons_of, front_key, closes_does, front_does, back_does, is_backs_ring, attaches, back_negotiates, does, happens, after, all_does}
+use Rattle.vbd_model.specs.Happening.{Happening, FrontMoves, BackMoves, JobMoves, Closes, Submits, Notifies, Pokes, OverwritesKey, Dumps, Looks, Settles, front_turn, back_turn, entered_at, halted_at, reasons_of, front_key, closes_does, front_does, back_does, is_backs_ring, attaches, back_negotiates, does, happens, after, all_does}
 use Rattle.vbd_model.specs.Possible.{IsPossible, ArePossible}
 use Rattle.vbd_model.specs.Kind.{are_carried}
 use Rattle.vbd_model.specs.Fit.{OpenOrdered, RestsOrdered, FrontRests, FrontGoesWith, FrontOrdered, IsGivingUp as GivesUp, IsUnmapping, is_serving, BackRests, BackReads, BackGoesWith, IsFit}
 use Rattle.vbd_laws.specs.Moves.{IsNoMove, IsFrontMove, IsBackMove}
-use Rattle.vbd_laws.specs.Quiet.{IsUnpoked, AreUnpoked}
+use Rattle.vbd_laws.specs.Quiet.{IsUntouched, AreUntouched}
 use Rattle.vbd_laws.proofs.FitBackBus.{waits_reading}
 use Rattle.vbd_laws.proofs.MovesTurns.{front_asks, back_asks, back_learns, back_takes, front_cases, back_cases, back_speaks}
 use Rattle.vbd_laws.proofs.MovesAttached.{taken}
@@ -98,12 +100,13 @@ use Rattle.vbd_laws.proofs.NegotiatedBack.{a_page, keys_heard, IsGiven, back_goe
 use Rattle.vbd_laws.proofs.NegotiatedKept.{IsTimely, states_timely}
 use Rattle.vbd_laws.proofs.NegotiatedRests.{apart_rests, closes_joined}
 use Rattle.vbd_laws.proofs.NegotiatedAgreed.{keeps_order}
-use Rattle.vbd_laws.proofs.NegotiatedWay.{ring_made_now, key_given, wait_given}
-use Rattle.vbd_laws.proofs.ServedPossible.{IsWord, same_is, entered_words, Stands, stands_start, stands_on, joined_start, quiet_of}
+use Rattle.vbd_laws.proofs.NegotiatedWay.{ring_made_now, key_given, wait_given, on_its_way}
+use Rattle.vbd_laws.proofs.ServedPossible.{way_start, IsWord, same_is, entered_words, Stands, stands_start, stands_on, joined_start, quiet_of}
 
 -- the machine before a word is overwritten: its negotiation is a run, and the machine of its ring stands for a pipeline
 pub record Honest (config : Options) (w : World) : Type 0 where
   pub stands : Stands w
+  pub way : IsOnItsWay w
   pub joined : Joined w
   pub plain : IsPlain config
   pub standing : IsStanding config w.rings
@@ -311,7 +314,7 @@ module _ (config : Options) (w : World) (honest : Honest config w) where
       by_halt (Some why) e = (farewell v a why same says turn e, tt)
 
   moves_allowed : back.ring_moves (back_asks w) w.rings.back.stage ≡ true → is_some w.rings.back.halted ≡ false → is_connected w.rings.front.stage ≡ true
-  moves_allowed moves = ring_made_now w fit honest.stands.front honest.stands.way moves
+  moves_allowed moves = ring_made_now w fit honest.stands.front honest.way moves
 
 -- no map and no bind is refused, and the back finds no overrun
 loop_refuses : (v : ring_view.View) (r : Option Reply) (x : BackAnswer) → ring_ask.IsAnswer (ring_ask.loop_ask v r) x → IsGiven x
@@ -564,17 +567,18 @@ closes_served : (w : rings.World) (at : End) → ring_allowed.AreServed (closes_
 closes_served w end.Front = (tt, tt)
 closes_served w end.Back = tt
 
-served_at : (config : Options) (w : World) (h : Happening) → IsUnpoked h → Honest config w → IsPossible w h → ring_allowed.AreServed (does w h) w.rings
-served_at config w FrontMoves unpoked honest is = front_served config w honest
-served_at config w BackMoves unpoked honest is = back_served config w honest
-served_at config w (JobMoves number outcome) unpoked honest is = (is, tt)
-served_at config w (Closes at) unpoked honest is = closes_served w.rings at
-served_at config w (Submits job) unpoked honest is = (is, tt)
-served_at config w (Notifies at) unpoked honest is = (tt, tt)
-served_at config w (Pokes frame word value) unpoked honest is = absurd unpoked
-served_at config w Dumps unpoked honest is = (tt, tt)
-served_at config w (Looks quiet) unpoked honest is = (λ e. quiet_of w (is e), tt)
-served_at config w (Settles quiet) unpoked honest is = (λ e. quiet_of w (is e), tt)
+served_at : (config : Options) (w : World) (h : Happening) → IsUntouched h → Honest config w → IsPossible w h → ring_allowed.AreServed (does w h) w.rings
+served_at config w FrontMoves untouched honest is = front_served config w honest
+served_at config w BackMoves untouched honest is = back_served config w honest
+served_at config w (JobMoves number outcome) untouched honest is = (is, tt)
+served_at config w (Closes at) untouched honest is = closes_served w.rings at
+served_at config w (Submits job) untouched honest is = (is, tt)
+served_at config w (Notifies at) untouched honest is = (tt, tt)
+served_at config w (Pokes frame word value) untouched honest is = absurd untouched
+served_at config w (OverwritesKey name text) untouched honest is = absurd untouched
+served_at config w Dumps untouched honest is = (tt, tt)
+served_at config w (Looks quiet) untouched honest is = (λ e. quiet_of w (is e), tt)
+served_at config w (Settles quiet) untouched honest is = (λ e. quiet_of w (is e), tt)
 
 -- the negotiation goes on as a run
 front_joins : (config : Options) (w : World) → Honest config w → Joined (happens w FrontMoves)
@@ -586,40 +590,48 @@ front_joins config w honest = by_act (front_turn w) refl
         let moved : IsFrontMove w a = front_move_is w a honest.stands.fit e in
         subst Joined (sym moved.world) (front_goes w a honest.stands.fit (whole_now config w.rings honest.standing) honest.joined e)
 
-joins : (config : Options) (w : World) (h : Happening) → Honest config w → Joined (happens w h)
-joins config w FrontMoves honest = front_joins config w honest
-joins config w BackMoves honest = back_joins config w honest
-joins config w (Closes at) honest = closes_joined w at honest.joined
-joins config w h honest = let rests = apart_rests w h tt in reached_as (negotiation_of w) (negotiation_of (happens w h)) rests.bus honest.joined
+joins : (config : Options) (w : World) (h : Happening) → IsUntouched h → Honest config w → Joined (happens w h)
+joins config w FrontMoves untouched honest = front_joins config w honest
+joins config w BackMoves untouched honest = back_joins config w honest
+joins config w (Closes at) untouched honest = closes_joined w at honest.joined
+joins config w (OverwritesKey name text) untouched honest = absurd untouched
+joins config w h untouched honest = let rests = apart_rests w h tt in reached_as (negotiation_of w) (negotiation_of (happens w h)) rests.bus honest.joined
+
+untouched_keeps : (h : Happening) → IsUntouched h → KeepsKeys h
+untouched_keeps (OverwritesKey name text) untouched = untouched
+untouched_keeps h untouched = tt
 
 -- the machine after one happening more, and after all of them
-honest_on : (config : Options) (w : World) (h : Happening) → IsUnpoked h → Honest config w → IsPossible w h → Honest config (happens w h)
-honest_on config w h unpoked honest is =
+honest_on : (config : Options) (w : World) (h : Happening) → IsUntouched h → Honest config w → IsPossible w h → Honest config (happens w h)
+honest_on config w h untouched honest is =
     let standing = honest.standing in
     record {
       stands = stands_on w h honest.stands;
-      joined = joins config w h honest;
+      way = on_its_way w h (untouched_keeps h untouched) honest.stands.fit honest.stands.front honest.way;
+      joined = joins config w h untouched honest;
       plain = honest.plain;
-      standing = run_kept config (does w h) w.rings standing.pipeline honest.plain standing.safe standing.kept (served_at config w h unpoked honest is);
+      standing = run_kept config (does w h) w.rings standing.pipeline honest.plain standing.safe standing.kept (served_at config w h untouched honest is);
     }
 
-pub honest_after : (config : Options) (hs : List Happening) (w : World) → AreUnpoked hs → Honest config w → ArePossible hs w → Honest config (after hs w)
-honest_after config [] w unpoked honest are = honest
-honest_after config (h ∷ hs) w unpoked honest are = honest_after config hs (happens w h) unpoked.1 (honest_on config w h unpoked.0 honest are.0) are.1
+pub honest_after : (config : Options) (hs : List Happening) (w : World) → AreUntouched hs → Honest config w → ArePossible hs w → Honest config (after hs w)
+honest_after config [] w untouched honest are = honest
+honest_after config (h ∷ hs) w untouched honest are = honest_after config hs (happens w h) untouched.1 (honest_on config w h untouched.0 honest are.0) are.1
 
--- all of it, up to the first word that is overwritten
+-- all of it, up to the first word or key that is overwritten
 served_then : (hs rest : List ring_happening.Happening) (w : rings.World) → ring_allowed.AreServed hs w → ring_allowed.AreServed (honest_history rest) (ring_happening.after hs w) → ring_allowed.AreServed (honest_history (hs ++ rest)) w
 served_then [] rest w are later = later
 served_then (ring_happening.Pokes frame word value ∷ hs) rest w are later = absurd are.0
+served_then (ring_happening.OverwritesKey name text ∷ hs) rest w are later = absurd are.0
 served_then (h ∷ hs) rest w are later = (are.0, served_then hs rest (ring_happening.happens w h) are.1 later)
 
--- what holds of the rings' happenings of each happening holds of all of them, up to the first word that is overwritten
+-- what holds of the rings' happenings of each happening holds of all of them, up to the first word or key that is overwritten
 module _ (config : Options) (Are : List ring_happening.Happening → rings.World → Type 0) (none : (w : rings.World) → Are [] w)
     (more : (hs rest : List ring_happening.Happening) (w : rings.World) → Are hs w → Are (honest_history rest) (ring_happening.after hs w) → Are (honest_history (hs ++ rest)) w)
-    (each : (w : World) (h : Happening) → IsUnpoked h → Honest config w → IsPossible w h → Are (does w h) w.rings) where
+    (each : (w : World) (h : Happening) → IsUntouched h → Honest config w → IsPossible w h → Are (does w h) w.rings) where
   pub all_of : (hs : List Happening) (w : World) → Honest config w → ArePossible hs w → Are (honest_history (all_does hs w)) w.rings
   all_of [] w honest are = none w.rings
   all_of (Pokes frame word value ∷ hs) w honest are = none w.rings
+  all_of (OverwritesKey name text ∷ hs) w honest are = none w.rings
   all_of (h ∷ hs) w honest are =
       more (does w h) (all_does hs (happens w h)) w.rings (each w h tt honest are.0) (all_of hs (happens w h) (honest_on config w h tt honest are.0) are.1)
 
@@ -635,6 +647,7 @@ honest_start config carried are =
     let plain = plain_of config are in
     record {
       stands = stands_start config are;
+      way = way_start config are;
       joined = joined_start config are;
       plain = plain;
       standing = always_stands config [] plain tt;

@@ -1,4 +1,5 @@
 -- Whatever happens to the machine is possible for the machine of its ring.
+use Rattle.vbd_laws.proofs.Offered.{IsOffering, offers_on, offers_start, agreed_offered}
 use Rattle.std.proofs.Common.{inl, inr, ◌≡◌, ◌∙◌, ap, sym, ℕ, ◌^◌, ◌<◌, ◌≤◌, ◌&&◌, Bool, true, true≢false, List, [], ◌∷◌, ◌++◌, map, refl, arith}
 use Rattle.std.specs.Prelude.{Option, Some, None}
 use Rattle.std.specs.List.{AllByRecursion}
@@ -33,7 +34,7 @@ use Rattle.vbd_back.specs.View as back_view
 use Rattle.vbd_back.specs.Ask as back
 use Rattle.vbd_back.specs.Step as back_step
 use Rattle.vbd_model.specs.World.{World, start_of, frontend_of, backend_of, is_quiet}
-use Rattle.vbd_model.specs.Happening.{Happening, FrontMoves, BackMoves, JobMoves, Closes, Submits, Notifies, Pokes, Dumps, Looks, Settles, front_turn, back_turn, entered_at, halted_at, reasons_of, closes_does, front_does, back_does, does, happens, all_does}
+use Rattle.vbd_model.specs.Happening.{Happening, FrontMoves, BackMoves, JobMoves, Closes, Submits, Notifies, Pokes, OverwritesKey, Dumps, Looks, Settles, front_turn, back_turn, entered_at, halted_at, reasons_of, closes_does, front_does, back_does, does, happens, all_does}
 use Rattle.vbd_model.specs.Possible.{IsPossible, ArePossible}
 use Rattle.vbd_model.specs.Fit.{IsFit}
 use Rattle.vbd_laws.proofs.Fit.{fit_start, fit_happens}
@@ -42,7 +43,7 @@ use Rattle.vbd_laws.proofs.ServedFront as fronts
 use Rattle.vbd_laws.proofs.ServedFront.{IsNewsAt, news_is, front_speaks, front_spelled, closed_speaks}
 use Rattle.vbd_laws.proofs.ServedBack as backs
 use Rattle.vbd_laws.proofs.ServedBack.{IsRead, halt_read, halt_said, back_speaks, back_spelled, terms_said, unplugged_speaks}
-use Rattle.vbd_laws.proofs.NegotiatedRun.{Joined}
+use Rattle.vbd_laws.proofs.NegotiatedRun.{Joined, negotiation_of}
 use Rattle.vbd_laws.proofs.NegotiatedAgreed.{IsSame, Begins, begins, begins_now, agreed_is, keeps_order}
 use Rattle.vbd_laws.proofs.NegotiatedEarly.{IsOnItsWay}
 use Rattle.vbd_laws.proofs.NegotiatedWay.{on_its_way, ring_made_now, key_given}
@@ -50,7 +51,7 @@ use Rattle.vbd_laws.proofs.NegotiatedWay.{on_its_way, ring_made_now, key_given}
 -- what is true at every moment
 pub record Stands (w : World) : Type 0 where
   pub fit : IsFit w
-  pub way : IsOnItsWay w
+  pub offering : IsOffering (negotiation_of w)
   pub front : fronts.Speaks w.front
   pub back : backs.Speaks w.back
 
@@ -98,29 +99,12 @@ news_words n s offers (Some news.Closing) b order is agrees = (tt, due_words n b
 news_words n s offers (Some news.Closed) b order is agrees = (tt, due_words n b order agrees)
 news_words n s offers (Some (news.Broken word)) b order is agrees = (is, due_words n b order agrees)
 
--- a front that begins its ring has made none, and has written no state, so the back hasn't mapped it: the order is the one that the front wished
-unmade : {A : Type 0} (w : World) → Begins w.front w.rings.front.stage w.rings.front.shape.order → is_connected w.rings.front.stage ≡ true → A
-unmade w is made = absurd (true≢false (sym made ∙ ap is_connected is.first))
-
-agrees_now : (w : World) (a : FrontAct) → Stands w → front_turn w ≡ Some a → front.speaks (front_asks w) ≡ true
-    → begins (ask_of (front_step.bus_after (frontend_of w) a.answer) (front_view.is_unoccupied w.rings.front)) ≡ true → ring_order (front_step.bus_after (frontend_of w) a.answer) ≡ w.rings.front.shape.order
-agrees_now w a stands turn says e = by_way stands.way
-  where
-    begun : Begins w.front w.rings.front.stage w.rings.front.shape.order
-    begun = begins_now w a.answer stands.fit says e
-
-    by_way : IsOnItsWay w → ring_order (front_step.bus_after (frontend_of w) a.answer) ≡ w.rings.front.shape.order
-    by_way (inl b) = agreed_is w a stands.fit b.joined stands.front turn says e
-    by_way (inr (inl b)) = unmade w begun b.made
-    by_way (inr (inr (inl h))) = let own : state_number w.front.state ≡ 1 = ap state_number begun.own in let late : 5 ≤ state_number w.front.state = h.late in absurd (omega arith)
-    by_way (inr (inr (inr p))) = unmade w begun p.made
-
 pub entered_words : (w : World) (act : Option FrontAct) → Stands w → front_turn w ≡ act → front.speaks (front_asks w) ≡ true → AllByRecursion (IsWord w.rings.front.shape.order) (entered_at w act)
 entered_words w None stands turn says = tt
 entered_words w (Some a) stands turn says =
     let idle : Bool = front_view.is_unoccupied w.rings.front in
     news_words w.rings.front.shape.order (due w.front idle) (front_step.offers_of (front_step.bus_after (frontend_of w) a.answer)) (front_step.news_of (frontend_of w) a.answer) (ask_of (front_step.bus_after (frontend_of w) a.answer) idle)
-    (ring_order (front_step.bus_after (frontend_of w) a.answer)) (news_is w.front idle a.answer) (agrees_now w a stands turn says)
+    (ring_order (front_step.bus_after (frontend_of w) a.answer)) (news_is w.front idle a.answer) (agreed_offered w a stands.fit stands.offering stands.front turn says)
 
 front_possible : (w : World) → Stands w → ring_allowed.ArePossible (front_does w) w.rings
 front_possible w stands =
@@ -143,7 +127,7 @@ back_possible w stands =
     back_cases (λ does asked step. back_act w.rings.under back_mover.Back asked Took ≡ back_turn w → ring_allowed.ArePossible does w.rings) w
     (λ says untaken e. (back_spelled w stands.fit.offers stands.fit.limited stands.back, halted_possible w _ (back_turn w) stands.back e))
     (λ says takes e. (terms_said (back_learns w) (back_speaks w stands.back), tt))
-    (λ quiet moves e. (ring_made_now w stands.fit stands.front stands.way moves, tt))
+    (λ quiet moves e. (tt, tt))
     (λ quiet still e. (back_spelled w stands.fit.offers stands.fit.limited stands.back, tt)) refl
 
 -- where all is quiet the ring's machine is
@@ -162,6 +146,7 @@ possible_at w (Closes at) stands is = closes_possible w.rings at
 possible_at w (Submits job) stands is = (is, tt)
 possible_at w (Notifies at) stands is = (tt, tt)
 possible_at w (Pokes frame word value) stands is = (is, tt)
+possible_at w (OverwritesKey name text) stands is = (is, tt)
 possible_at w Dumps stands is = (tt, tt)
 possible_at w (Looks quiet) stands is = (λ e. quiet_of w (is e), tt)
 possible_at w (Settles quiet) stands is = (λ e. quiet_of w (is e), tt)
@@ -179,7 +164,7 @@ back_stands w (Closes end.Back) stands = unplugged_speaks w.back stands.back
 back_stands w h stands = stands.back
 
 pub stands_on : (w : World) (h : Happening) → Stands w → Stands (happens w h)
-stands_on w h stands = record { fit = fit_happens w h stands.fit; way = on_its_way w h stands.fit stands.front stands.way; front = front_stands w h stands; back = back_stands w h stands }
+stands_on w h stands = record { fit = fit_happens w h stands.fit; offering = offers_on w h stands.fit stands.offering; front = front_stands w h stands; back = back_stands w h stands }
 
 pub all_possible : (hs : List Happening) (w : World) → Stands w → ArePossible hs w → ring_allowed.ArePossible (all_does hs w) w.rings
 all_possible [] w stands are = tt
@@ -199,10 +184,13 @@ joined_start config are = record {
   stands = refl;
 }
 
+pub way_start : (config : Options) → AreOptions config → IsOnItsWay (start_of config)
+way_start config are = inl (record { joined = joined_start config are; ring = refl; early = refl })
+
 pub stands_start : (config : Options) → AreOptions config → Stands (start_of config)
 stands_start config are = record {
   fit = fit_start config are.2;
-  way = inl (record { joined = joined_start config are; ring = refl; early = refl });
+  offering = offers_start config;
   front = record { order = are.0; port = tt; stage = tt };
   back = record { sectors = are.4; order = omega arith; grefs = tt; port = omega arith; stage = tt };
 }

@@ -37,6 +37,7 @@ ring_sectors_kept w (ring.BackHalts why) = refl
 ring_sectors_kept w (ring.Submits job) = let kept = submit_kept w.front job in kept.sectors
 ring_sectors_kept w (ring.Notifies at) = refl
 ring_sectors_kept w (ring.Pokes frame word value) = refl
+ring_sectors_kept w (ring.OverwritesKey name text) = refl
 ring_sectors_kept w ring.Dumps = refl
 ring_sectors_kept w (ring.Looks quiet) = refl
 ring_sectors_kept w (ring.Settles quiet) = refl

@@ -1,4 +1,6 @@
 -- How many mappings what happens comes to: a move of the back one of its own and those of a job that it begins, of which each move that copies a word of its entry bears a part, and nothing else any.
+use Rattle.split_model.specs.Keys.{front_path}
+use Rattle.key_directory.specs.Directory.{written}
 use Rattle.std.proofs.Common.{◌≡◌, ℕ, zero, suc, ◌+◌, ◌*◌, ◌/◌, ◌%◌, ◌^◌, ◌≤◌, Bool, true, false, not, if◌then◌else◌, cond, List, [], ◌∷◌, ◌++◌, length, take, drop, refl, ap, ◌∙◌, arith}
 use Rattle.std.specs.Prelude.{Option, Some, None, Result, Ok, Err, is_some, position, sum_by, map, slice_index, slice_set, ◌==◌, nat_le, nat_lt}
 use Rattle.std.proofs.lemmas.Bool.Decides.{nat_tests}
@@ -28,7 +30,7 @@ use Rattle.segment_list.specs.Verdict.{verdict_of, transfer_verdict}
 use Rattle.segment_list.proofs.Served.{transfer_served}
 use Rattle.grant_table.specs.Table.{GrantTable, frame_of, verdict_at}
 use Rattle.hypervisor.specs.Hypervisor.{Hypervisor}
-use Rattle.hypervisor.specs.Act.{FrontAct, BackAct, Outcome, Took, Gave, Failed, back_act, map_act, with_pages}
+use Rattle.hypervisor.specs.Act.{FrontAct, BackAct, Outcome, Took, Gave, Failed, back_act, map_act, with_pages, with_keys}
 use Rattle.xen_pages.specs.Pages.{word_of, with_word}
 use Rattle.back_jobs.specs.declared.stage.Stage.{Stage as JobStage}
 use Rattle.back_jobs.specs.declared.stage.Stage.TheVariants as job_stage
@@ -399,6 +401,7 @@ ring_left w (ring.BackHalts why) = let less = halted_left why w.back in omega ar
 ring_left w (ring.Submits job) = omega arith
 ring_left w (ring.Notifies at) = omega arith
 ring_left w (ring.Pokes frame word value) = let same = overwritten_left (ring.is_guest_word frame word) w (with_pages w.under (with_word w.under.pages frame word value)) refl in omega arith
+ring_left w (ring.OverwritesKey name text) = let same = overwritten_left (ring.is_guest_key name text) w (with_keys w.under (written w.under.keys (front_path name) text)) refl in omega arith
 ring_left w ring.Dumps = omega arith
 ring_left w (ring.Looks quiet) = omega arith
 ring_left w (ring.Settles quiet) = omega arith

@@ -186,12 +186,13 @@ pub record IsOffered (info : DiskInfo) (f : Features) : Type 0 where
 abbrev pub SaysKey : Directory → Features → DiskFacts → BackKey → Type 0
 SaysKey d f disk k = key_of d.keys (path_under end.Back (back_name k)) ≡ Some (text_of (back_value f disk k))
 
--- the keys for what it serves say so: those before the key at hand while it publishes, then all
+-- the keys for what it serves, and for how many pages a ring may have, say so: those before the key at hand while it publishes, then all
 pub record IsServiceSaid (says : BackKey → Type 0) : Type 0 where
   pub barrier : says back_key.FeatureBarrier
   pub flush : says back_key.FeatureFlushCache
   pub discard : says back_key.FeatureDiscard
   pub indirect : says back_key.FeatureMaxIndirectSegments
+  pub order : says back_key.MaxRingPageOrder
 
 abbrev pub SaidBefore : (says : BackKey → Type 0) → BackKey → Type 0
 SaidBefore says back_key.FeatureBarrier = Unit {0}
@@ -199,6 +200,7 @@ SaidBefore says back_key.FeatureFlushCache = says back_key.FeatureBarrier
 SaidBefore says back_key.FeatureDiscard = says back_key.FeatureBarrier × says back_key.FeatureFlushCache
 SaidBefore says back_key.FeaturePersistent = says back_key.FeatureBarrier × says back_key.FeatureFlushCache × says back_key.FeatureDiscard
 SaidBefore says back_key.FeatureMaxIndirectSegments = says back_key.FeatureBarrier × says back_key.FeatureFlushCache × says back_key.FeatureDiscard
+SaidBefore says back_key.MaxRingPageOrder = says back_key.FeatureBarrier × says back_key.FeatureFlushCache × says back_key.FeatureDiscard × says back_key.FeatureMaxIndirectSegments
 SaidBefore says k = IsServiceSaid says
 
 abbrev pub SaidAt : (says : BackKey → Type 0) → BackStage → Type 0

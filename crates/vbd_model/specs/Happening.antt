@@ -28,7 +28,7 @@ use Rattle.vbd_back.specs.Ask as back
 use Rattle.vbd_back.specs.Step as back_step
 use Rattle.vbd_model.specs.World.{World, frontend_of, backend_of}
 
--- a move of the front, of the back, or of the job of a number with what the disk answers it; an end that is asked to close; a submission; a spurious event at an end's bound port; a word of the guest's memory overwritten by a hostile hand; a look at the words of the ring, at whether all is quiet, with what was found, and one when the rounds are over
+-- a move of the front, of the back, or of the job of a number with what the disk answers it; an end that is asked to close; a submission; a spurious event at an end's bound port; a word of the guest's memory, or a key of the front, overwritten by a hostile hand; a look at the words of the ring, at whether all is quiet, with what was found, and one when the rounds are over
 pub data Happening : Type 0 where
   FrontMoves : Happening
   BackMoves : Happening
@@ -37,6 +37,7 @@ pub data Happening : Type 0 where
   Submits : (job : Job) → Happening
   Notifies : (at : End) → Happening
   Pokes : (frame word value : ℕ) → Happening
+  OverwritesKey : (name text : List ℕ) → Happening
   Dumps : Happening
   Looks : (quiet : Bool) → Happening
   Settles : (quiet : Bool) → Happening
@@ -141,6 +142,7 @@ does w (Closes at) = closes_does at
 does w (Submits job) = ring.Submits job ∷ []
 does w (Notifies at) = ring.Notifies at ∷ []
 does w (Pokes frame word value) = ring.Pokes frame word value ∷ []
+does w (OverwritesKey name text) = ring.OverwritesKey name text ∷ []
 does w Dumps = ring.Dumps ∷ []
 does w (Looks quiet) = ring.Looks quiet ∷ []
 does w (Settles quiet) = ring.Settles quiet ∷ []

@@ -9,8 +9,8 @@ use Rattle.schedule_text.specs.declared.event.Event.TheVariants as events
 use Rattle.blk_front.specs.Submit.{unfinished, sectors_owed}
 use Rattle.blk_back.specs.Step.{next_job_of}
 use Rattle.vbd_model.specs.World.{World, is_quiet}
-use Rattle.split_model.specs.Happening.{is_guest_word}
-use Rattle.vbd_model.specs.Happening.{Happening, FrontMoves, BackMoves, JobMoves, Closes, Submits, Notifies, Pokes, Dumps, Looks, Settles, happens, after}
+use Rattle.split_model.specs.Happening.{is_guest_word, is_guest_key}
+use Rattle.vbd_model.specs.Happening.{Happening, FrontMoves, BackMoves, JobMoves, Closes, Submits, Notifies, Pokes, OverwritesKey, Dumps, Looks, Settles, happens, after}
 
 -- the options that are carried out yet: either layout, a ring of 1 to 16 pages from any start, indirect requests of up to 960 segments, and a disk of any size, read-only or not
 abbrev pub are_carried : Options → Bool
@@ -28,6 +28,7 @@ is_carried events.Look = true
 is_carried (events.Notify at) = true
 is_carried (events.Close at) = true
 is_carried (events.Poke frame word value) = is_guest_word frame word
+is_carried (events.Key name text) = is_guest_key name text
 is_carried events.Dump = true
 is_carried event = false
 
@@ -140,6 +141,7 @@ Makes events.Look w hs = hs ≡ Looks (is_quiet w) ∷ []
 Makes (events.Notify at) w hs = hs ≡ Notifies at ∷ []
 Makes (events.Close at) w hs = hs ≡ Closes at ∷ []
 Makes (events.Poke frame word value) w hs = (hs ≡ Pokes frame word value ∷ []) × (value < 2 ^ 32)
+Makes (events.Key name text) w hs = hs ≡ OverwritesKey name text ∷ []
 Makes events.Dump w hs = hs ≡ Dumps ∷ []
 Makes event w hs = ⊥
 

@@ -1,14 +1,18 @@
-// The guest's memory, as a hostile hand overwrites it and as a dump shows it.
+// The guest's memory and keys, as a hostile hand overwrites them and as a dump shows its words.
 ghost use Rattle.std.specs.Prelude.{◌≡◌, ◌<◌, ◌+◌, ◌/◌, ◌%◌, ◌^◌, ◌∷◌, [], true};
 ghost use Rattle.blk_io.specs.Disk.{DiskSeen};
 ghost use Rattle.schedule_text.specs.Recorder.{Adds};
 ghost use Rattle.xen_pages.specs.Pages.{word_of};
-ghost use Rattle.split_model.specs.Happening.{is_guest_word, word_lines};
-ghost use Rattle.vbd_model.specs.Happening.{Pokes, Dumps};
+ghost use Rattle.split_model.specs.Happening.{is_guest_word, is_guest_key, word_lines};
+ghost use Rattle.split_model.specs.Keys.{front_path};
+ghost use Rattle.vbd_model.specs.Happening.{Pokes, OverwritesKey, Dumps};
 ghost use Rattle.vbd_model.specs.Leads.{Goes, Is, moment};
 
 use super::Split;
-use schedule_text::{Line, RecordStop, Recorder};
+use arrayvec::ArrayString;
+use blk_base::{End, FrontAsk, Lent, Path, ShortText, Text};
+use key_directory::directory_of;
+use schedule_text::{KeyName, Line, RecordStop, Recorder};
 
 // The frame of the ring's first page.
 const RING_FRAME: u32 = 2;
@@ -31,6 +35,31 @@ impl Split {
     {
         self.under.overwrite(frame, word, value);
         recorder.add(&Line::Poke { frame, word, value })
+    }
+
+    /// A hostile hand overwrites a key below the front's directory, with a name and a text of the
+    /// grammar, and that is shown; whoever watches it is told. Where there is no memory for the key
+    /// nothing happens.
+    pub fn overwrite_key<R: Recorder>(
+        &mut self,
+        name: &KeyName,
+        text: &Text,
+        recorder: &mut R,
+    ) -> Result<(), RecordStop>
+        requires allowed { is_guest_key name.now text.now ≡ true }
+        ensures { (disk : DiskSeen) → Goes (Is (OverwritesKey name.now text.now ∷ [])) (Is (OverwritesKey name.now text.now ∷ [])) 0 result
+            (moment self.old disk (R.seen recorder.old))
+            (moment self.new disk (R.seen recorder.new)) }
+    {
+        let path = path_of(name);
+        let ask = FrontAsk::SetKey(Lent::at(&path), Lent::at(text));
+        let Ok(_) = self.under.front(&ask, &mut self.room) else {
+            return Err(RecordStop::OutOfMemory);
+        };
+        recorder.add(&Line::Key {
+            name: *name,
+            text: *text,
+        })
     }
 
     /// Shows each word of the ring that isn't 0, in order: 1024 words of each of its pages.
@@ -62,4 +91,15 @@ impl Split {
         }
         recorder.add(&Line::Word { frame, word, value })
     }
+}
+
+// Where the front's key of this name lies.
+fn path_of(name: &KeyName) -> Path
+    ensures { result ≡ front_path name.now }
+{
+    let mut path: ArrayString<80> = ArrayString::new();
+    path.push_str(directory_of(End::Front));
+    path.push_str("/");
+    path.push_str(name.as_str());
+    ShortText::of(path.as_str())
 }

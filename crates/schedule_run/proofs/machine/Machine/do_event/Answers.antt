@@ -89,3 +89,11 @@ pub invariant_of-self-in-Notify : goal.invariant_of-self-in-Notify
 invariant_of-self-in-Notify g c =
     let few : c.self.inside.events < 10 ^ 9 = subst (λ (m : Run). m.events < 10 ^ 9) (sym c.self.view_is) c.requires.few in
     runs_one (Notifies c.in-Notify.at) c.self.inside.split c.notify.new.self c.self.inside.events few c.notify.ensures (rw c.notify.ensures (omega arith)) c.self.invariant
+
+pub invariant_of-self-in-Key : goal.invariant_of-self-in-Key
+invariant_of-self-in-Key g c =
+    let few : c.self.inside.events < 10 ^ 9 = subst (λ (m : Run). m.events < 10 ^ 9) (sym c.self.view_is) c.requires.few in
+    runs_on _ _ 0 _ _ _ c.self.inside.events (omega arith) few (c.overwrite_key.ensures (g.D.SectorDisk.seen c.args.disk.now)) c.self.invariant
+
+pub returns-in-Key-clause-goes : goal.returns-in-Key-clause-goes
+returns-in-Key-clause-goes g c = rw (c.in-Key.is, ← c.self.view_is) (goes_as _ _ _ _ 0 (10 ^ 10) _ _ _ (omega arith) (λ hs k. k) (λ hs k. k) (c.overwrite_key.ensures (g.D.SectorDisk.seen c.args.disk.now)))

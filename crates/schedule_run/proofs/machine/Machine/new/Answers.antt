@@ -1,8 +1,8 @@
 use Rattle.std.proofs.Common.{rules, sym, subst}
-use Rattle.vbd_model.specs.World.{World, start_of}
+use Rattle.vbd_model.specs.World.{World}
 use Rattle.schedule_run.specs.Machine.{IsRunning}
 use Rattle.schedule_run.specs.Outcome.{IsServed}
-use Rattle.schedule_run.proofs.Begins.{plain_of, running_start}
+use Rattle.schedule_run.proofs.Begins.{running_start}
 use Rattle.schedule_run.proofs.machine.Machine.new.Goals as goal
 
 pub invariant_of-result : goal.invariant_of-result

@@ -1,0 +1,159 @@
+-- The key of the back that the front reads is one of those of its stage, whatever happens.
+use Rattle.std.proofs.Common.{◌≡◌, ℕ, ◌+◌, ◌||◌, Bool, true, false, if◌then◌else◌, List, refl, sym, subst}
+use Rattle.std.specs.Prelude.{Option, Some, None, nat_lt, ◌==◌}
+use Rattle.blk_base.specs.declared.ask.FrontAnswer.{FrontAnswer}
+use Rattle.blk_base.specs.declared.ask.FrontAnswer.TheVariants as front_answer
+use Rattle.blk_front.specs.declared.stage.Stage.{Stage as FrontRing}
+use Rattle.blk_front.specs.declared.stage.Stage.TheVariants as front_ring
+use Rattle.xenbus_state.specs.declared.keys.BackKey.{BackKey}
+use Rattle.xenbus_state.specs.declared.keys.BackKey.TheVariants as key
+use Rattle.xenbus_state.specs.declared.keys.FrontKey.{FrontKey}
+use Rattle.xenbus_state.specs.declared.state.BusState.{BusState}
+use Rattle.xenbus_state.specs.declared.state.BusState.TheVariants as state
+use Rattle.xenbus_state.specs.declared.stage.FrontStage.{FrontStage}
+use Rattle.xenbus_state.specs.declared.stage.FrontStage.TheVariants as stage
+use Rattle.xenbus_state.specs.declared.front.FrontBusAsk.{FrontBusAsk}
+use Rattle.xenbus_state.specs.declared.front.FrontBusAsk.TheVariants as ask
+use Rattle.xenbus_state.specs.declared.table.FrontAction.{FrontAction}
+use Rattle.xenbus_state.specs.declared.table.FrontAction.TheVariants as action
+use Rattle.xenbus_state.specs.States.{state_read}
+use Rattle.xenbus_state.specs.Tables as tables
+use Rattle.xenbus_state.specs.Programs.{IsFeature, IsFact, next_feature, next_fact, next_published}
+use Rattle.xenbus_state.specs.Reading.{count_read, fact_read}
+use Rattle.xenbus_state.specs.Causes.{IsBadBackKey}
+use Rattle.xenbus_state.specs.FrontView.{FrontView, closed, pages_of, ring_order, is_broken as is_broken_bus}
+use Rattle.xenbus_state.specs.FrontAsk.{ask_of, due, leaving, closing_stage}
+use Rattle.xenbus_state.specs.FrontStep.{at, acted, feature_step, fact_step, after_feature, after_fact, after_published, after_grants, after_state, step_at, step_of}
+use Rattle.vbd_front.specs.View.{is_broken}
+use Rattle.vbd_front.specs.Step.{settled_at, bus_told, woken, followed, waited}
+use Rattle.vbd_laws.proofs.FitFrontBus.{due_cases}
+
+-- the key that the front reads is one of those of its stage
+abbrev pub IsPlaced : FrontStage → Type 0
+IsPlaced (stage.ReadFeature k) = IsFeature k
+IsPlaced (stage.ReadFact k) = IsFact k
+IsPlaced s = Unit {0}
+
+feature_placed : (k : BackKey) → IsPlaced (after_feature (next_feature k))
+feature_placed key.FeatureBarrier = tt
+feature_placed key.FeatureFlushCache = tt
+feature_placed key.FeatureDiscard = tt
+feature_placed key.FeaturePersistent = tt
+feature_placed key.FeatureMaxIndirectSegments = tt
+feature_placed k = tt
+
+fact_placed : (k : BackKey) → IsPlaced (after_fact (next_fact k))
+fact_placed key.Sectors = tt
+fact_placed key.SectorSize = tt
+fact_placed k = tt
+
+read_feature : (k : BackKey) (n : Option ℕ) (v : FrontView) → IsPlaced (feature_step k n v).stage
+read_feature k None v = tt
+read_feature k (Some n) v = feature_placed k
+
+read_fact : (k : BackKey) (n : Option ℕ) (v : FrontView) → IsPlaced (fact_step k n v).stage
+read_fact k None v = tt
+read_fact k (Some n) v = fact_placed k
+
+acted_placed : (act : FrontAction) (v : FrontView) → IsPlaced (acted act v).stage
+acted_placed action.Nothing v = tt
+acted_placed action.Publish v = tt
+acted_placed action.Connect v = tt
+acted_placed action.Close v = tt
+acted_placed action.CloseAndConnect v = tt
+acted_placed action.Leave v = tt
+acted_placed (action.Break word) v = tt
+
+either : (b : Bool) (x y : FrontStage) → IsPlaced x → IsPlaced y → IsPlaced (if b then x else y)
+either true x y p q = p
+either false x y p q = q
+
+published_placed : (next : Option FrontKey) → IsPlaced (after_published next)
+published_placed None = tt
+published_placed (Some k) = tt
+
+grants_placed : (number : Option ℕ) → IsPlaced (after_grants number)
+grants_placed None = tt
+grants_placed (Some number) = tt
+
+written_placed : (s : BusState) → IsPlaced (after_state s)
+written_placed state.Closed = tt
+written_placed s = tt
+
+at_placed : (s : FrontStage) (v : FrontView) (idle : Bool) (x : FrontAnswer) → IsPlaced s → v.stage ≡ s → IsPlaced (step_at s v idle x).stage
+at_placed stage.Rest v idle (front_answer.Watched path) placed here = tt
+at_placed stage.ReadState v idle (front_answer.Key text) placed here = acted_placed (tables.front_action v.state v.closing idle (state_read text)) v
+at_placed (stage.ReadFeature k) v idle (front_answer.Key text) placed here = read_feature k (count_read text) v
+at_placed stage.NewPort v idle (front_answer.Port number) placed here = tt
+at_placed (stage.ReadFact k) v idle (front_answer.Key text) placed here = read_fact k (fact_read k text) v
+at_placed (stage.WriteState s) v idle front_answer.Done placed here = written_placed s
+at_placed stage.ClosePort v idle front_answer.Done placed here = tt
+at_placed (stage.RingWord word) v idle front_answer.Done placed here = either (word == 15) (stage.Grant 0) (stage.RingWord (word + 1)) tt tt
+at_placed (stage.Grant page) v idle front_answer.Done placed here = either (nat_lt (page + 1) (pages_of v)) (stage.Grant (page + 1)) stage.NewPort tt tt
+at_placed (stage.Publish k) v idle front_answer.Done placed here = published_placed (next_published (ring_order v) k)
+at_placed (stage.EndGrant page) v idle front_answer.Done placed here = either (nat_lt (page + 1) (pages_of v)) (stage.EndGrant (page + 1)) stage.EndOtherGrants tt tt
+at_placed stage.EndOtherGrants v idle front_answer.Done placed here = grants_placed v.port
+at_placed s v idle front_answer.Done placed here = placed
+at_placed s v idle x placed here = subst IsPlaced (sym here) placed
+
+closing_placed : (s : BusState) (v : FrontView) → IsPlaced (closing_stage s v)
+closing_placed state.Closing v = leaving_placed v.gone v.port
+  where
+    leaving_placed : (gone : Bool) (number : Option ℕ) → IsPlaced (leaving gone number)
+    leaving_placed false number = tt
+    leaving_placed true (Some number) = tt
+    leaving_placed true None = tt
+closing_placed s v = tt
+
+pub due_placed : (v : FrontView) (idle : Bool) → IsPlaced v.stage → IsPlaced (due v idle)
+due_placed v idle placed = due_cases IsPlaced v idle placed (λ rests closes none. closing_placed v.state v)
+
+step_placed : (v : FrontView) (idle : Bool) (x : FrontAnswer) → IsPlaced v.stage → IsPlaced (step_of v idle x).stage
+step_placed v idle x placed = at_placed (due v idle) (at (due v idle) v) idle x (due_placed v idle placed) refl
+
+-- told what its own negotiation asked, or the outcome of a move of the end of the ring
+pub told_placed : (v : FrontView) (idle : Bool) (x : FrontAnswer) → IsPlaced v.stage → IsPlaced (bus_told idle v x).stage
+told_placed v idle x placed = settled_placed (ask_of (step_of v idle x) idle) (step_of v idle x) (step_placed v idle x placed)
+  where
+    settled_placed : (a : FrontBusAsk) (u : FrontView) → IsPlaced u.stage → IsPlaced (settled_at a idle u).stage
+    settled_placed ask.EndOtherGrants u was = step_placed u idle front_answer.Done was
+    settled_placed a u was = was
+
+woken_placed : (broken : Bool) (v : FrontView) (idle : Bool) (x : FrontAnswer) → IsPlaced v.stage → IsPlaced (woken broken idle v x).stage
+woken_placed false v idle (front_answer.Watched path) placed = told_placed v idle (front_answer.Watched path) placed
+woken_placed broken v idle x placed = placed
+
+pub followed_placed : (b : FrontBusAsk) (s : FrontRing) (v : FrontView) (idle : Bool) (x : FrontAnswer) → IsPlaced v.stage → IsPlaced (followed b s idle v x).stage
+followed_placed (ask.WriteRingWord word) s v idle x placed = told_placed v idle x placed
+followed_placed (ask.Grant page) (front_ring.RingFrame k) v idle x placed = told_placed v idle x placed
+followed_placed (ask.Grant page) front_ring.NewPort v idle x placed = told_placed v idle x placed
+followed_placed ask.NewPort s v idle x placed = told_placed v idle x placed
+followed_placed (ask.EndGrant page) (front_ring.RingRead k) v idle x placed = told_placed v idle front_answer.Done placed
+followed_placed (ask.EndGrant page) front_ring.ClosePort v idle x placed = told_placed v idle front_answer.Done placed
+followed_placed ask.ClosePort s v idle x placed = told_placed v idle x placed
+followed_placed ask.Wait s v idle x placed = woken_placed (is_broken s) v idle x placed
+followed_placed b s v idle x placed = placed
+
+pub waited_placed : (b : FrontBusAsk) (v : FrontView) (idle : Bool) (x : FrontAnswer) → IsPlaced v.stage → IsPlaced (waited b idle v x).stage
+waited_placed ask.Wait v idle x placed = woken_placed false v idle x placed
+waited_placed b v idle x placed = placed
+
+pub closed_placed : (v : FrontView) → IsPlaced v.stage → IsPlaced (closed v).stage
+closed_placed v placed = by_test (v.closing || is_broken_bus v.stage)
+  where
+    by_test : (b : Bool) → IsPlaced (if b then v else record v { closing = true }).stage
+    by_test true = placed
+    by_test false = placed
+
+-- such a key that isn't read as a number is malformed, or missing
+pub bad_feature : (k : BackKey) (text : Option (List ℕ)) → IsFeature k → count_read text ≡ None → IsBadBackKey k text
+bad_feature key.Sectors text is e = absurd is
+bad_feature key.SectorSize text is e = absurd is
+bad_feature key.Info text is e = absurd is
+bad_feature k text is e = e
+
+pub bad_fact : (k : BackKey) (text : Option (List ℕ)) → IsFact k → fact_read k text ≡ None → IsBadBackKey k text
+bad_fact key.Sectors text is e = e
+bad_fact key.SectorSize text is e = e
+bad_fact key.Info text is e = e
+bad_fact k text is e = absurd is

@@ -1,0 +1,272 @@
+-- What the front's negotiation does goes with what it read last of the back's state, and with its watch.
+use Rattle.std.proofs.Common.{◌⊎◌, inl, inr, ◌≡◌, ◌∙◌, ap, sym, subst, refl, ℕ, ◌&&◌, Bool, true, false, true≢false, if◌then◌else◌, List, arith}
+use Rattle.std.specs.Prelude.{Option, Some, None, ◌==◌}
+use Rattle.std.specs.Str.{bytes_eq}
+use Rattle.std.proofs.lemmas.Bool.Decides.{nat_tests}
+use Rattle.line_text.proofs.Both.{both_true}
+use Rattle.blk_base.specs.declared.parts.End.TheVariants.{Back}
+use Rattle.blk_base.specs.declared.ask.FrontAnswer.{FrontAnswer}
+use Rattle.blk_base.specs.declared.ask.FrontAnswer.TheVariants as answer
+use Rattle.blk_front.specs.declared.stage.Stage.{Stage as Ring}
+use Rattle.xenbus_state.specs.declared.keys.BackKey.{BackKey}
+use Rattle.xenbus_state.specs.declared.keys.BackKey.TheVariants as back_key
+use Rattle.xenbus_state.specs.declared.keys.FrontKey.{FrontKey}
+use Rattle.xenbus_state.specs.declared.state.BusState.{BusState}
+use Rattle.xenbus_state.specs.declared.state.BusState.TheVariants as state
+use Rattle.xenbus_state.specs.declared.stage.FrontStage.{FrontStage}
+use Rattle.xenbus_state.specs.declared.stage.FrontStage.TheVariants as stage
+use Rattle.xenbus_state.specs.declared.front.FrontBusAsk.TheVariants as bus_ask
+use Rattle.xenbus_state.specs.declared.table.FrontAction.TheVariants as action
+use Rattle.xenbus_state.specs.Keys.{back_name, path_under}
+use Rattle.xenbus_state.specs.States.{state_number, state_read}
+use Rattle.xenbus_state.specs.Programs.{next_feature, next_fact, next_published}
+use Rattle.xenbus_state.specs.Reading.{count_read, fact_read}
+use Rattle.xenbus_state.specs.Tables.{front_action, on_offer, on_connected, on_closing, on_gone}
+use Rattle.xenbus_state.specs.FrontView.{FrontView, ring_order}
+use Rattle.xenbus_state.specs.FrontAsk.{leaving, closing_stage, due, ask_at, IsAnswer}
+use Rattle.xenbus_state.specs.FrontStep.{at, acted, feature_step, fact_step, after_feature, after_fact, after_published, after_grants, step_at, step_of}
+use Rattle.vbd_front.specs.Ask as front
+use Rattle.vbd_front.specs.Step.{settled_at, settled}
+use Rattle.vbd_model.specs.Fit.{FrontGoesWith}
+use Rattle.vbd_laws.specs.Waits.{Heard, Unwatched, Watching, Fired, Read, front_hears}
+use Rattle.vbd_laws.proofs.FitFrontBus.{due_cases}
+
+-- two states that differ
+apart : {A : Type 0} (a b : BusState) → (state_number a == state_number b) ≡ false → a ≡ b → A
+apart a b differ same = absurd (true≢false (sym (is_same (state_number b)) ∙ (ap (λ (s : BusState). state_number s == state_number b) (sym same) ∙ differ)))
+  where
+    is_same : (n : ℕ) → (n == n) ≡ true
+    is_same n = grind (arith, nat_tests)
+
+-- it read last that the back is gone
+abbrev pub IsGone : Heard → Type 0
+IsGone (Read (Some state.Closed)) = Unit {0}
+IsGone (Read (Some state.Unknown)) = Unit {0}
+IsGone h = ⊥
+
+-- what it read last is dealt with
+abbrev pub IsDealt : BusState → (closing gone : Bool) → Heard → Type 0
+IsDealt own closing gone Unwatched = ⊥
+IsDealt own closing gone Fired = ⊥
+IsDealt own closing gone Watching = gone ≡ false
+IsDealt own closing gone (Read None) = ⊥
+IsDealt own closing gone (Read (Some state.Closed)) = (gone ≡ true) × (closing ≡ true)
+IsDealt own closing gone (Read (Some state.Unknown)) = (gone ≡ true) × (closing ≡ true)
+IsDealt own closing gone (Read (Some state.Closing)) = (gone ≡ false) × (closing ≡ true)
+IsDealt own closing gone (Read (Some state.InitWait)) = (gone ≡ false) × (own ≡ state.Initialising → closing ≡ true)
+IsDealt own closing gone (Read (Some state.Connected)) = (gone ≡ false) × (own ≡ state.Initialised → closing ≡ true)
+IsDealt own closing gone (Read (Some s)) = gone ≡ false
+
+-- it publishes, connects
+abbrev pub Publishes : Bool → Heard → Type 0
+Publishes gone h = (h ≡ Read (Some state.InitWait)) × (gone ≡ false)
+
+abbrev pub Connects : (closing gone : Bool) → Heard → Type 0
+Connects closing gone h = ((h ≡ Read (Some state.Connected)) ⊎ ((h ≡ Read (Some state.Closing)) × (closing ≡ true))) × (gone ≡ false)
+
+abbrev pub HearsAt : FrontStage → BusState → (closing gone : Bool) → Heard → Type 0
+HearsAt stage.Start own closing gone h = (h ≡ Unwatched) × (gone ≡ false)
+HearsAt stage.Rest own closing gone h = IsDealt own closing gone h
+HearsAt stage.ReadState own closing gone h = (h ≡ Fired) × (gone ≡ false)
+HearsAt (stage.ReadFeature key) own closing gone h = Publishes gone h
+HearsAt (stage.RingWord word) own closing gone h = Publishes gone h
+HearsAt (stage.Grant page) own closing gone h = Publishes gone h
+HearsAt stage.NewPort own closing gone h = Publishes gone h
+HearsAt (stage.Publish key) own closing gone h = Publishes gone h
+HearsAt (stage.WriteState state.Initialised) own closing gone h = Publishes gone h
+HearsAt (stage.ReadFact key) own closing gone h = Connects closing gone h
+HearsAt (stage.WriteState state.Connected) own closing gone h = Connects closing gone h
+HearsAt (stage.WriteState s) own closing gone h = IsGone h
+HearsAt (stage.EndGrant page) own closing gone h = IsGone h
+HearsAt stage.EndOtherGrants own closing gone h = IsGone h
+HearsAt stage.ClosePort own closing gone h = IsGone h
+HearsAt stage.Closed own closing gone h = Unit {0}
+HearsAt (stage.Broken word) own closing gone h = Unit {0}
+
+abbrev pub Hears : FrontView → Heard → Type 0
+Hears v h = HearsAt v.stage v.state v.closing v.gone h
+
+-- the back's state was read
+offered : (v : FrontView) (own : BusState) → v.state ≡ own → v.gone ≡ false → Hears (acted (on_offer own) v) (Read (Some state.InitWait))
+offered v state.Initialising own gone = (refl, gone)
+offered v state.Unknown own gone = (gone, λ e. apart state.Unknown state.Initialising refl (sym own ∙ e))
+offered v state.InitWait own gone = (gone, λ e. apart state.InitWait state.Initialising refl (sym own ∙ e))
+offered v state.Initialised own gone = (gone, λ e. apart state.Initialised state.Initialising refl (sym own ∙ e))
+offered v state.Connected own gone = (gone, λ e. apart state.Connected state.Initialising refl (sym own ∙ e))
+offered v state.Closing own gone = (gone, λ e. apart state.Closing state.Initialising refl (sym own ∙ e))
+offered v state.Closed own gone = (gone, λ e. apart state.Closed state.Initialising refl (sym own ∙ e))
+offered v state.Reconfiguring own gone = (gone, λ e. apart state.Reconfiguring state.Initialising refl (sym own ∙ e))
+offered v state.Reconfigured own gone = (gone, λ e. apart state.Reconfigured state.Initialising refl (sym own ∙ e))
+
+connected : (v : FrontView) (own : BusState) → v.state ≡ own → v.gone ≡ false → Hears (acted (on_connected own) v) (Read (Some state.Connected))
+connected v state.Initialised own gone = (inl refl, gone)
+connected v state.Unknown own gone = (gone, λ e. apart state.Unknown state.Initialised refl (sym own ∙ e))
+connected v state.InitWait own gone = (gone, λ e. apart state.InitWait state.Initialised refl (sym own ∙ e))
+connected v state.Initialising own gone = (gone, λ e. apart state.Initialising state.Initialised refl (sym own ∙ e))
+connected v state.Connected own gone = (gone, λ e. apart state.Connected state.Initialised refl (sym own ∙ e))
+connected v state.Closing own gone = (gone, λ e. apart state.Closing state.Initialised refl (sym own ∙ e))
+connected v state.Closed own gone = (gone, λ e. apart state.Closed state.Initialised refl (sym own ∙ e))
+connected v state.Reconfiguring own gone = (gone, λ e. apart state.Reconfiguring state.Initialised refl (sym own ∙ e))
+connected v state.Reconfigured own gone = (gone, λ e. apart state.Reconfigured state.Initialised refl (sym own ∙ e))
+
+closes : (v : FrontView) (own : BusState) (idle : Bool) → v.gone ≡ false → Hears (acted (on_closing own idle) v) (Read (Some state.Closing))
+closes v state.Initialised false gone = (inr (refl, refl), gone)
+closes v state.Initialised true gone = (gone, refl)
+closes v own idle gone = (gone, refl)
+
+leaves : (v : FrontView) (idle : Bool) (word : ℕ) (s : BusState) → IsGone (Read (Some s)) → Hears (acted (on_gone idle word) v) (Read (Some s))
+leaves v true word state.Closed is = (refl, refl)
+leaves v true word state.Unknown is = (refl, refl)
+leaves v true word s is = absurd is
+leaves v false word s is = tt
+
+acted_hears : (v : FrontView) (idle : Bool) (read : Option BusState) → v.gone ≡ false → Hears (acted (front_action v.state v.closing idle read) v) (Read read)
+acted_hears v idle (Some state.Initialising) gone = gone
+acted_hears v idle (Some state.InitWait) gone = by_test (v.closing && idle) refl
+  where
+    by_test : (b : Bool) → (v.closing && idle) ≡ b → Hears (acted (if b then action.Nothing else on_offer v.state) v) (Read (Some state.InitWait))
+    by_test true e = (gone, λ own. (both_true v.closing idle e).0)
+    by_test false e = offered v v.state refl gone
+acted_hears v idle (Some state.Initialised) gone = gone
+acted_hears v idle (Some state.Connected) gone = by_test (v.closing && idle) refl
+  where
+    by_test : (b : Bool) → (v.closing && idle) ≡ b → Hears (acted (if b then action.Nothing else on_connected v.state) v) (Read (Some state.Connected))
+    by_test true e = (gone, λ own. (both_true v.closing idle e).0)
+    by_test false e = connected v v.state refl gone
+acted_hears v idle (Some state.Closing) gone = closes v v.state idle gone
+acted_hears v idle (Some state.Closed) gone = leaves v idle 6 state.Closed tt
+acted_hears v idle (Some state.Unknown) gone = leaves v idle 0 state.Unknown tt
+acted_hears v idle (Some state.Reconfiguring) gone = gone
+acted_hears v idle (Some state.Reconfigured) gone = gone
+acted_hears v idle None gone = tt
+
+-- another key is none of a state
+unlike_state : (key : BackKey) → bytes_eq (path_under Back (back_name key)) front.other_state ≡ false
+unlike_state back_key.FeatureBarrier = refl
+unlike_state back_key.FeatureFlushCache = refl
+unlike_state back_key.FeatureDiscard = refl
+unlike_state back_key.FeaturePersistent = refl
+unlike_state back_key.FeatureMaxIndirectSegments = refl
+unlike_state back_key.MaxRingPageOrder = refl
+unlike_state back_key.Sectors = refl
+unlike_state back_key.SectorSize = refl
+unlike_state back_key.Info = refl
+
+key_heard : (key : BackKey) (text : Option (List ℕ)) (h : Heard) → front_hears (front.key_ask (bus_ask.GetKey key)) (answer.Key text) h ≡ h
+key_heard key text h = ap (λ (b : Bool). if b then Read (state_read text) else h) (unlike_state key)
+
+feature_hears : (key : BackKey) (n : Option ℕ) (v : FrontView) (h : Heard) → Publishes v.gone h → Hears (feature_step key n v) h
+feature_hears key None v h is = tt
+feature_hears key (Some n) v h is = by_next (next_feature key)
+  where
+    by_next : (next : Option BackKey) → HearsAt (after_feature next) v.state v.closing v.gone h
+    by_next (Some k) = is
+    by_next None = is
+
+fact_hears : (key : BackKey) (n : Option ℕ) (v : FrontView) (h : Heard) → Connects v.closing v.gone h → Hears (fact_step key n v) h
+fact_hears key None v h is = tt
+fact_hears key (Some n) v h is = by_next (next_fact key)
+  where
+    by_next : (next : Option BackKey) → HearsAt (after_fact next) v.state v.closing v.gone h
+    by_next (Some k) = is
+    by_next None = is
+
+published_hears : (next : Option FrontKey) (own : BusState) (closing gone : Bool) (h : Heard) → Publishes gone h → HearsAt (after_published next) own closing gone h
+published_hears (Some k) own closing gone h is = is
+published_hears None own closing gone h is = is
+
+-- its negotiation speaks at a stage that it has begun
+pub says_at : (s : FrontStage) (v : FrontView) (idle : Bool) (r : Ring) (h : Heard) (a : FrontAnswer) → FrontGoesWith s v r → HearsAt s v.state v.closing v.gone h → front.speaks (ask_at s v) ≡ true → IsAnswer (ask_at s v) a
+    → Hears (step_at s (at s v) idle a) (front_hears (front.key_ask (ask_at s v)) a h)
+says_at stage.Start v idle r h answer.Done goes is says allowed = is.1
+says_at stage.ReadState v idle r h (answer.Key text) goes is says allowed = acted_hears (at stage.ReadState v) idle (state_read text) is.1
+says_at (stage.ReadFeature key) v idle r h (answer.Key text) goes is says allowed =
+    subst (λ (x : Heard). Hears (feature_step key (count_read text) (at (stage.ReadFeature key) v)) x) (sym (key_heard key text h)) (feature_hears key (count_read text) (at (stage.ReadFeature key) v) h is)
+says_at (stage.Publish key) v idle r h answer.Done goes is says allowed = published_hears (next_published (ring_order v) key) v.state v.closing v.gone h is
+says_at (stage.ReadFact key) v idle r h (answer.Key text) goes is says allowed =
+    subst (λ (x : Heard). Hears (fact_step key (fact_read key text) (at (stage.ReadFact key) v)) x) (sym (key_heard key text h)) (fact_hears key (fact_read key text) (at (stage.ReadFact key) v) h is)
+says_at (stage.WriteState state.Initialised) v idle r h answer.Done goes is says allowed =
+    subst (λ (x : Heard). IsDealt state.Initialised v.closing v.gone x) (sym is.0) (is.1, λ e. apart state.Initialised state.Initialising refl e)
+says_at (stage.WriteState state.Connected) v idle r h answer.Done goes is says allowed = by_read is.0
+  where
+    by_read : (h ≡ Read (Some state.Connected)) ⊎ ((h ≡ Read (Some state.Closing)) × (v.closing ≡ true)) → IsDealt state.Connected v.closing v.gone h
+    by_read (inl e) = subst (λ (x : Heard). IsDealt state.Connected v.closing v.gone x) (sym e) (is.1, λ own. apart state.Connected state.Initialised refl own)
+    by_read (inr e) = subst (λ (x : Heard). IsDealt state.Connected v.closing v.gone x) (sym e.0) (is.1, e.1)
+says_at (stage.WriteState state.Closed) v idle r h answer.Done goes is says allowed = tt
+says_at (stage.WriteState s) v idle r h answer.Done goes is says allowed = absurd goes
+says_at stage.Start v idle r h a goes is says allowed = absurd allowed
+says_at stage.ReadState v idle r h a goes is says allowed = absurd allowed
+says_at (stage.ReadFeature key) v idle r h a goes is says allowed = absurd allowed
+says_at (stage.Publish key) v idle r h a goes is says allowed = absurd allowed
+says_at (stage.ReadFact key) v idle r h a goes is says allowed = absurd allowed
+says_at (stage.WriteState s) v idle r h a goes is says allowed = absurd allowed
+says_at s v idle r h a goes is says allowed = absurd (true≢false (sym says))
+
+-- and where it begins to close
+pub dealt_closing : (own : BusState) (closing gone : Bool) (h : Heard) → IsDealt own closing gone h → closing ≡ true → IsDealt state.Closing closing gone h
+dealt_closing own closing gone Unwatched is e = absurd is
+dealt_closing own closing gone Fired is e = absurd is
+dealt_closing own closing gone Watching is e = is
+dealt_closing own closing gone (Read None) is e = absurd is
+dealt_closing own closing gone (Read (Some state.InitWait)) is e = (is.0, λ own. e)
+dealt_closing own closing gone (Read (Some state.Connected)) is e = (is.0, λ own. e)
+dealt_closing own closing gone (Read (Some s)) is e = is
+
+pub dealt_gone : (own : BusState) (closing gone : Bool) (h : Heard) → IsDealt own closing gone h → gone ≡ true → IsGone h
+dealt_gone own closing gone Unwatched is e = is
+dealt_gone own closing gone Fired is e = is
+dealt_gone own closing gone Watching is e = true≢false (sym e ∙ is)
+dealt_gone own closing gone (Read None) is e = is
+dealt_gone own closing gone (Read (Some state.Closed)) is e = tt
+dealt_gone own closing gone (Read (Some state.Unknown)) is e = tt
+dealt_gone own closing gone (Read (Some state.Closing)) is e = true≢false (sym e ∙ is.0)
+dealt_gone own closing gone (Read (Some state.InitWait)) is e = true≢false (sym e ∙ is.0)
+dealt_gone own closing gone (Read (Some state.Connected)) is e = true≢false (sym e ∙ is.0)
+dealt_gone own closing gone (Read (Some s)) is e = true≢false (sym e ∙ is)
+
+-- it was asked to close
+dealt_closed : (own : BusState) (closing gone : Bool) (h : Heard) → IsDealt own closing gone h → IsDealt own true gone h
+dealt_closed own closing gone Unwatched is = is
+dealt_closed own closing gone Fired is = is
+dealt_closed own closing gone Watching is = is
+dealt_closed own closing gone (Read None) is = is
+dealt_closed own closing gone (Read (Some state.Closed)) is = (is.0, refl)
+dealt_closed own closing gone (Read (Some state.Unknown)) is = (is.0, refl)
+dealt_closed own closing gone (Read (Some state.Closing)) is = (is.0, refl)
+dealt_closed own closing gone (Read (Some state.InitWait)) is = (is.0, λ own. refl)
+dealt_closed own closing gone (Read (Some state.Connected)) is = (is.0, λ own. refl)
+dealt_closed own closing gone (Read (Some s)) is = is
+
+connects_closed : (closing gone : Bool) (h : Heard) → Connects closing gone h → Connects true gone h
+connects_closed closing gone h is = (elim is.0 [ inl e ↦ inl e | inr e ↦ inr (e.0, refl) ], is.1)
+
+pub hears_closed : (s : FrontStage) (own : BusState) (closing gone : Bool) (h : Heard) → HearsAt s own closing gone h → HearsAt s own true gone h
+hears_closed stage.Rest own closing gone h is = dealt_closed own closing gone h is
+hears_closed (stage.ReadFact key) own closing gone h is = connects_closed closing gone h is
+hears_closed (stage.WriteState state.Connected) own closing gone h is = connects_closed closing gone h is
+hears_closed s own closing gone h is = is
+
+-- a front without other grants goes on
+after_hears : (port : Option ℕ) (own : BusState) (closing gone : Bool) (h : Heard) → IsGone h → HearsAt (after_grants port) own closing gone h
+after_hears None own closing gone h is = is
+after_hears (Some p) own closing gone h is = is
+
+pub settled_hears : (idle : Bool) (u : FrontView) (h : Heard) → Hears u h → Hears (settled idle u) h
+settled_hears idle u h is =
+    due_cases (λ (d : FrontStage). due u idle ≡ d → Hears (settled_at (ask_at d u) idle u) h) u idle (λ e. begun u.stage e is) (λ here closing is_idle. by_state u.state here) refl
+  where
+    ends : due u idle ≡ stage.EndOtherGrants → IsGone h → Hears (step_of u idle answer.Done) h
+    ends e gone = subst (λ (d : FrontStage). Hears (step_at d (at d u) idle answer.Done) h) (sym e) (after_hears u.port u.state u.closing u.gone h gone)
+
+    begun : (s : FrontStage) → due u idle ≡ s → HearsAt s u.state u.closing u.gone h → Hears (settled_at (ask_at s u) idle u) h
+    begun stage.EndOtherGrants e gone = ends e gone
+    begun s e there = is
+
+    by_state : (own : BusState) → u.stage ≡ stage.Rest → due u idle ≡ closing_stage own u → Hears (settled_at (ask_at (closing_stage own u) u) idle u) h
+    by_state state.Closing here e = by_port u.gone u.port refl e
+      where
+        by_port : (gone : Bool) (port : Option ℕ) → u.gone ≡ gone → due u idle ≡ leaving gone port → Hears (settled_at (ask_at (leaving gone port) u) idle u) h
+        by_port false port g e = is
+        by_port true (Some p) g e = is
+        by_port true None g e = ends e (dealt_gone u.state u.closing u.gone h (subst (λ (s : FrontStage). HearsAt s u.state u.closing u.gone h) here is) g)
+    by_state own here e = is
