@@ -1,17 +1,20 @@
 /*
- * EDK2's own front of a Xen disk uses a ring in a guest's memory: the shim of its libraries and of its bus, and the program around it.
+ * EDK2's own front of a Xen disk in a guest: the shim of its libraries and of its bus, and the program around it.
  *
- *     edk2 NAME=TEXT...
+ *     edk2-front
  *
- * The words are the keys that its back published, but for the state. The guest's memory is 1024 frames of 4096 bytes, with its grant table in frames 0 and 1 and its ring in frame 2; the frames of data
- * are 18 and on. Standard input and output are a conversation with whoever holds the machine, line by line. At each memory barrier, and
- * wherever else the front waits, it tells each word that it changed since, and that it sent an event, and then gives the turn away:
+ * The guest's memory is 1024 frames of 4096 bytes, with its grant table in frames 0 and 1 and EDK2's ring in frame 3; the frames of data
+ * are 18 and on. Its event channel is the one that was made before it began, port 1. Standard input and output are a conversation with
+ * whoever holds the machine, line by line. It tells each word that it changed, each key that it wrote and each event that it sent, in
+ * order, and at each memory barrier, and wherever else the front waits, it gives the turn away:
  *
  *     word FRAME WORD VALUE       a word that the front changed
+ *     key NAME TEXT               it wrote this key of its own directory
  *     event                       it sent an event
  *     turn                        and now others move
  *
- * It is answered by words that others changed, in the same form, and `go`. After `next` it is given an operation:
+ * It is answered by words that others changed and keys that the back wrote, in the same form, and `go`. After `next` it is given an
+ * operation:
  *
  *     write SECTOR COUNT OFFSET TAG    so many sectors are written from a buffer that begins at this sector of its first frame, 0 to 7;
  *                                      word i of sector s of the request is TAG + 131 s + i
@@ -26,6 +29,7 @@
  * for each request that was issued, in order.
  */
 /* First, since EDK2's headers hide whatever is named after them. */
+#include <stdarg.h>
 #include <stdio.h>
 #include <stdlib.h>
 #include <string.h>
@@ -42,16 +46,20 @@
 
 #define FRAMES 1024
 #define WORDS 1024
-#define RING_FRAME 2
+#define RING_FRAME 3
+#define PORT 1
 #define FIRST_DATA 18
 #define LAST_DATA 1017
 #define MOST_ISSUED 64
 #define MOST_SECTORS 88
+#define MOST_KEYS 32
+#define KEY_ROOM 64
 
 static UINT32 *guest, seen[FRAMES * WORDS];
 static unsigned next_frame = FIRST_DATA;
-static char **keys;
-static int key_count, event_sent, state_of_front;
+/* The keys that the back published, with their texts. */
+static char keys[MOST_KEYS][2][KEY_ROOM];
+static unsigned key_count;
 static XEN_BLOCK_FRONT_DEVICE *device;
 
 static void give_up(const char *what)
@@ -85,16 +93,27 @@ static void tell_words(void)
             }
         }
     }
-    if (event_sent) {
-        printf("event\n");
-        event_sent = 0;
+}
+
+/* Takes in a key that the back published, for the first time or anew. */
+static void keep_key(const char *name, const char *text)
+{
+    unsigned place = 0;
+    while (place < key_count && strcmp(keys[place][0], name)) {
+        place++;
     }
+    if (place == MOST_KEYS) {
+        give_up("too many keys");
+    }
+    key_count += place == key_count;
+    strcpy(keys[place][0], name);
+    strcpy(keys[place][1], text);
 }
 
 /* Gives the turn away, and takes in what others changed. */
 static void give_turn(void)
 {
-    char line[128];
+    char line[2 * KEY_ROOM + 8], name[KEY_ROOM], text[KEY_ROOM];
     unsigned frame, word, value;
     tell_words();
     printf("turn\n");
@@ -103,10 +122,13 @@ static void give_turn(void)
         if (!strcmp(line, "go")) {
             return;
         }
-        if (sscanf(line, "word %u %u %u", &frame, &word, &value) != 3 || frame >= FRAMES || word >= WORDS) {
+        if (sscanf(line, "key %63s %63s", name, text) == 2) {
+            keep_key(name, text);
+        } else if (sscanf(line, "word %u %u %u", &frame, &word, &value) == 3 && frame < FRAMES && word < WORDS) {
+            guest[frame * WORDS + word] = seen[frame * WORDS + word] = value;
+        } else {
             give_up("a line that is none of the conversation");
         }
-        guest[frame * WORDS + word] = seen[frame * WORDS + word] = value;
     }
     exit(0);
 }
@@ -261,36 +283,35 @@ static XENSTORE_STATUS EFIAPI read_own(XENBUS_PROTOCOL *This, CONST XENSTORE_TRA
     return XENSTORE_STATUS_SUCCESS;
 }
 
-/* A key that the back published, or nothing. */
-static const char *key_of(const char *name)
-{
-    size_t length = strlen(name);
-    for (int i = 0; i < key_count; i++) {
-        if (!strncmp(keys[i], name, length) && keys[i][length] == '=') {
-            return keys[i] + length + 1;
-        }
-    }
-    return NULL;
-}
-
-/* What the back says by its keys. Its state is connected until the front says that it closes, and then follows it. */
 static XENSTORE_STATUS EFIAPI read_back(XENBUS_PROTOCOL *This, CONST XENSTORE_TRANSACTION *T, CONST CHAR8 *Node, VOID **Result)
 {
-    char state[24];
-    const char *text = strcmp(Node, "state") ? key_of(Node) : state;
-    snprintf(state, sizeof state, "%d", state_of_front == XenbusStateInitialising ? XenbusStateInitWait : state_of_front);
-    if (!text) {
-        return XENSTORE_STATUS_ENOENT;
+    for (unsigned place = 0; place < key_count; place++) {
+        if (!strcmp(keys[place][0], Node)) {
+            *Result = text_of(keys[place][1]);
+            return XENSTORE_STATUS_SUCCESS;
+        }
     }
-    *Result = text_of(text);
-    return XENSTORE_STATUS_SUCCESS;
+    return XENSTORE_STATUS_ENOENT;
 }
 
-static XENSTORE_STATUS EFIAPI print_key(XENBUS_PROTOCOL *This, CONST XENSTORE_TRANSACTION *T, CONST CHAR8 *D, CONST CHAR8 *N, CONST CHAR8 *F, ...)
+/* Of EDK2's formats the front uses two: a number, and a text of bytes. */
+static XENSTORE_STATUS EFIAPI print_key(XENBUS_PROTOCOL *This, CONST XENSTORE_TRANSACTION *T, CONST CHAR8 *D, CONST CHAR8 *Node, CONST CHAR8 *Format, ...)
 {
+    va_list arguments;
+    va_start(arguments, Format);
+    tell_words();
+    if (!strcmp(Format, "%d")) {
+        printf("key %s %d\n", Node, va_arg(arguments, int));
+    } else if (!strcmp(Format, "%a")) {
+        printf("key %s %s\n", Node, va_arg(arguments, const char *));
+    } else {
+        give_up("a format that the front didn't use");
+    }
+    va_end(arguments);
     return XENSTORE_STATUS_SUCCESS;
 }
 
+/* Nobody reads a key of a front that has left, and it stays. */
 static XENSTORE_STATUS EFIAPI remove_key(XENBUS_PROTOCOL *This, CONST XENSTORE_TRANSACTION *T, CONST CHAR8 *Node)
 {
     return XENSTORE_STATUS_SUCCESS;
@@ -308,7 +329,8 @@ static XENSTORE_STATUS EFIAPI end(XENBUS_PROTOCOL *This, CONST XENSTORE_TRANSACT
 
 static XENSTORE_STATUS EFIAPI set_state(XENBUS_PROTOCOL *This, CONST XENSTORE_TRANSACTION *T, XenBusState State)
 {
-    state_of_front = State;
+    tell_words();
+    printf("key state %d\n", State);
     return XENSTORE_STATUS_SUCCESS;
 }
 
@@ -320,13 +342,14 @@ static EFI_STATUS EFIAPI grant(XENBUS_PROTOCOL *This, domid_t Domain, UINTN Fram
 
 static UINT32 EFIAPI new_port(XENBUS_PROTOCOL *This, domid_t Domain, evtchn_port_t *Port)
 {
-    *Port = 1;
+    *Port = PORT;
     return 0;
 }
 
 static UINT32 EFIAPI notify(XENBUS_PROTOCOL *This, evtchn_port_t Port)
 {
-    event_sent = 1;
+    tell_words();
+    printf("event\n");
     return 0;
 }
 
@@ -472,11 +495,9 @@ static void obey(const char *line)
     }
 }
 
-int main(int count, char **words)
+int main(void)
 {
     char line[128];
-    keys = words + 1;
-    key_count = count - 1;
     guest = mmap(NULL, 4 * FRAMES * WORDS, PROT_READ | PROT_WRITE, MAP_PRIVATE | MAP_ANONYMOUS, -1, 0);
     if (guest == MAP_FAILED) {
         give_up("there is no memory");
