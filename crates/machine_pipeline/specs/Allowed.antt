@@ -109,7 +109,7 @@ IsStated w state = Unit {0}
 abbrev pub AreSaid : List ℕ → ℕ → Type 0
 AreSaid grefs port = All (λ (gref : ℕ). gref < 2 ^ 32) grefs × (port < 2 ^ 32)
 
--- what may happen where a word of the guest's memory or a key of the front may be overwritten too
+-- what may happen where a word of the guest's memory or a key of the front may be overwritten too; all may then be found quiet where an end waits for its negotiation
 abbrev pub IsPossible : World → Happening → Type 0
 IsPossible w FrontMoves = Unit {0}
 IsPossible w BackMoves = Unit {0}
@@ -118,6 +118,8 @@ IsPossible w (BackAttaches shape grefs port) = AreSaid grefs port
 IsPossible w (BackHalts why) = IsSaid why
 IsPossible w (Pokes frame word value) = (is_guest_word frame word ≡ true) × (value < 2 ^ 32)
 IsPossible w (OverwritesKey name text) = is_guest_key name text ≡ true
+IsPossible w (Looks quiet) = Unit {0}
+IsPossible w (Settles quiet) = Unit {0}
 IsPossible w h = IsServed w h
 
 abbrev pub ArePossible : List Happening → World → Type 0

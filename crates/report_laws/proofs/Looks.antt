@@ -16,7 +16,7 @@ use Rattle.split_model.specs.Happening.{Happening, FrontMoves, BackMoves, JobMov
 use Rattle.schedule_text.specs.Recorder.{kept_of}
 use Rattle.split_model.specs.Report.{report_of, ended_report_of}
 use Rattle.split_model.proofs.Running.{lines_of-append, kept_of-append}
-use Rattle.machine_pipeline.specs.Allowed.{IsPossible, ArePossible}
+use Rattle.machine_pipeline.specs.Allowed.{IsServed, AreServed}
 use Rattle.report_laws.proofs.Lines.{says_quiet, AreUsual, AreUnquiet, usual_unquiet, front_usual, back_usual, job_usual, keys_usual, attach_usual, states_unquiet, halt_usual, submit_usual, poke_usual, dump_usual, overwritten_usual}
 
 -- a rule that says nothing of any other line than `quiet`
@@ -88,25 +88,25 @@ abbrev pub HoldsWhereQuiet : (List Line → Line → Type 0) → Options → Det
 HoldsWhereQuiet Rule config detail history =
     (first rest : List Happening) → history ≡ first ++ rest → is_quiet (after first (start_of config)) ≡ true → Rule (report_of config detail first) lines.Quiet
 
--- in a possible history the machine is quiet wherever it is found so
-possible_found : (w : World) (h : Happening) → IsPossible w h → finds_quiet h ≡ true → is_quiet w ≡ true
-possible_found w (Looks quiet) may found = may found
-possible_found w (Settles quiet) may found = may found
-possible_found w h may found = absurd (true≢false (sym found))
+-- in a served history the machine is quiet wherever it is found so
+served_found : (w : World) (h : Happening) → IsServed w h → finds_quiet h ≡ true → is_quiet w ≡ true
+served_found w (Looks quiet) may found = may found
+served_found w (Settles quiet) may found = may found
+served_found w h may found = absurd (true≢false (sym found))
 
-possible_at : (first rest : List Happening) (h : Happening) (w : World) → ArePossible (first ++ h ∷ rest) w → IsPossible (after first w) h
-possible_at [] rest h w may = may.0
-possible_at (g ∷ first) rest h w may = possible_at first rest h (happens w g) may.1
+served_at : (first rest : List Happening) (h : Happening) (w : World) → AreServed (first ++ h ∷ rest) w → IsServed (after first w) h
+served_at [] rest h w may = may.0
+served_at (g ∷ first) rest h w may = served_at first rest h (happens w g) may.1
 
-quiet_found : (Rule : List Line → Line → Type 0) (config : Options) (detail : Detail) (history : List Happening) → ArePossible history (start_of config) → HoldsWhereQuiet Rule config detail history → HoldsWhereFound Rule config detail history
+quiet_found : (Rule : List Line → Line → Type 0) (config : Options) (detail : Detail) (history : List Happening) → AreServed history (start_of config) → HoldsWhereQuiet Rule config detail history → HoldsWhereFound Rule config detail history
 quiet_found Rule config detail history may holds first rest h e found =
-    let here : ArePossible (first ++ h ∷ rest) (start_of config) = subst (λ (hs : List Happening). ArePossible hs (start_of config)) e may in
-    holds first (h ∷ rest) e (possible_found (after first (start_of config)) h (possible_at first rest h (start_of config) here) found)
+    let here : AreServed (first ++ h ∷ rest) (start_of config) = subst (λ (hs : List Happening). AreServed hs (start_of config)) e may in
+    holds first (h ∷ rest) e (served_found (after first (start_of config)) h (served_at first rest h (start_of config) here) found)
 
-pub reports_obey : (Rule : List Line → Line → Type 0) → SpeaksOfQuiet Rule → (config : Options) (detail : Detail) (history : List Happening) → ArePossible history (start_of config) → HoldsWhereQuiet Rule config detail history → Obeys Rule (report_of config detail history)
+pub reports_obey : (Rule : List Line → Line → Type 0) → SpeaksOfQuiet Rule → (config : Options) (detail : Detail) (history : List Happening) → AreServed history (start_of config) → HoldsWhereQuiet Rule config detail history → Obeys Rule (report_of config detail history)
 reports_obey Rule free config detail history may holds = reports_found Rule free config detail history (quiet_found Rule config detail history may holds)
 
-pub ended_obey : (Rule : List Line → Line → Type 0) → SpeaksOfQuiet Rule → (config : Options) (detail : Detail) (history : List Happening) → ArePossible history (start_of config) → HoldsWhereQuiet Rule config detail history → Obeys Rule (ended_report_of config detail history)
+pub ended_obey : (Rule : List Line → Line → Type 0) → SpeaksOfQuiet Rule → (config : Options) (detail : Detail) (history : List Happening) → AreServed history (start_of config) → HoldsWhereQuiet Rule config detail history → Obeys Rule (ended_report_of config detail history)
 ended_obey Rule free config detail history may holds = ended_found Rule free config detail history (quiet_found Rule config detail history may holds)
 
 -- and of what a recorder keeps of it, where the rule asks for nothing that isn't kept

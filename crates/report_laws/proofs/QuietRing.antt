@@ -22,7 +22,7 @@ use Rattle.move_laws.proofs.Recorded.{report_kept, ended_kept}
 use Rattle.machine_pipeline.specs.Plain.{IsPlain}
 use Rattle.machine_pipeline.specs.Allowed.{AreServed}
 use Rattle.machine_pipeline.proofs.Flow.{wrapped}
-use Rattle.machine_pipeline.proofs.Allowed.{served_first, served_possible}
+use Rattle.machine_pipeline.proofs.Allowed.{served_first}
 use Rattle.machine_pipeline.proofs.Over.{IsDrained}
 use Rattle.machine_pipeline.proofs.Together.{always_stands}
 use Rattle.machine_pipeline.proofs.AtRest.{IsIdleRing, quiet_rests}
@@ -91,11 +91,11 @@ quiet_where_quiet config history plain may first rest e quiet =
 
 report_quiet_moves : (config : Options) (history : List Happening) → IsPlain config → AreServed history (world.start_of config) → IsQuietRing (kept_of Moves (report_of config Moves history))
 report_quiet_moves config history plain may =
-    subst IsQuietRing (sym (report_kept config history)) (reports_obey IsQuietRingAt quiet_free config Moves history (served_possible history (world.start_of config) plain.order may) (quiet_where_quiet config history plain may))
+    subst IsQuietRing (sym (report_kept config history)) (reports_obey IsQuietRingAt quiet_free config Moves history may (quiet_where_quiet config history plain may))
 
 ended_quiet_moves : (config : Options) (history : List Happening) → IsPlain config → AreServed history (world.start_of config) → IsQuietRing (kept_of Moves (ended_report_of config Moves history))
 ended_quiet_moves config history plain may =
-    subst IsQuietRing (sym (ended_kept config history)) (ended_obey IsQuietRingAt quiet_free config Moves history (served_possible history (world.start_of config) plain.order may) (quiet_where_quiet config history plain may))
+    subst IsQuietRing (sym (ended_kept config history)) (ended_obey IsQuietRingAt quiet_free config Moves history may (quiet_where_quiet config history plain may))
 
 -- of each report that shows the moves
 pub report_quiet : (config : Options) (detail : Detail) (history : List Happening) → IsPlain config → AreServed history (world.start_of config) → detail ≡ Moves → IsQuietRing (kept_of detail (report_of config detail history))

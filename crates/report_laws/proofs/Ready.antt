@@ -24,7 +24,7 @@ use Rattle.split_model.specs.Happening.{Happening, after}
 use Rattle.schedule_text.specs.Recorder.{kept_of}
 use Rattle.split_model.specs.Report.{report_of, ended_report_of}
 use Rattle.split_model.proofs.SafeFront.{submit_kept}
-use Rattle.machine_pipeline.specs.Allowed.{ArePossible}
+use Rattle.machine_pipeline.specs.Allowed.{AreServed}
 use Rattle.report_laws.specs.Ready.{says_outcome, IsReadyAt, IsReadyFirst}
 use Rattle.report_laws.proofs.Announced.{Has, has_first, has_later, IsAnnounced, all_said}
 use Rattle.report_laws.proofs.Looks.{SpeaksOfQuiet, HoldsWhereQuiet, reports_obey, ended_obey, kept_obeys}
@@ -132,10 +132,10 @@ outcome_kept detail (line ∷ ls) h = by_line (says_outcome line) refl (outcome_
     by_line true e rest h = has_first says_outcome (recorded detail line) (kept_of detail ls) (one_kept detail line e)
     by_line false e rest h = has_later says_outcome (recorded detail line) (kept_of detail ls) (rest h)
 
-pub report_ready : (config : Options) (detail : Detail) (history : List Happening) → ArePossible history (start_of config) → IsReadyFirst (kept_of detail (report_of config detail history))
+pub report_ready : (config : Options) (detail : Detail) (history : List Happening) → AreServed history (start_of config) → IsReadyFirst (kept_of detail (report_of config detail history))
 report_ready config detail history may =
     kept_obeys IsReadyAt ready_free detail (outcome_kept detail) (report_of config detail history) (reports_obey IsReadyAt ready_free config detail history may (ready_where_quiet config detail history))
 
-pub ended_ready : (config : Options) (detail : Detail) (history : List Happening) → ArePossible history (start_of config) → IsReadyFirst (kept_of detail (ended_report_of config detail history))
+pub ended_ready : (config : Options) (detail : Detail) (history : List Happening) → AreServed history (start_of config) → IsReadyFirst (kept_of detail (ended_report_of config detail history))
 ended_ready config detail history may =
     kept_obeys IsReadyAt ready_free detail (outcome_kept detail) (ended_report_of config detail history) (ended_obey IsReadyAt ready_free config detail history may (ready_where_quiet config detail history))

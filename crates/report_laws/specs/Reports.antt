@@ -21,19 +21,19 @@ OfEachReport Rule = (config : Options) (detail : Detail) (history : List Happeni
 abbrev pub OfEachEnded : (Options → Detail → List Line → Type 0) → Type 0
 OfEachEnded Rule = (config : Options) (detail : Detail) (history : List Happening) → Rule config detail (kept_of detail (ended_report_of config detail history))
 
--- of the report of each history that may happen, with words of the guest's memory overwritten
-abbrev pub OfPossibleReports : (Options → Detail → List Line → Type 0) → Type 0
-OfPossibleReports Rule =
-    (config : Options) (detail : Detail) (history : List Happening) → ArePossible history (start_of config)
+-- of the report of each history of reads, writes, barriers, flushes and discards
+abbrev pub OfServedReports : (Options → Detail → List Line → Type 0) → Type 0
+OfServedReports Rule =
+    (config : Options) (detail : Detail) (history : List Happening) → AreServed history (start_of config)
     → Rule config detail (kept_of detail (report_of config detail history))
 
 -- of each of these with its last line
-abbrev pub OfPossibleEnded : (Options → Detail → List Line → Type 0) → Type 0
-OfPossibleEnded Rule =
-    (config : Options) (detail : Detail) (history : List Happening) → ArePossible history (start_of config)
+abbrev pub OfServedEnded : (Options → Detail → List Line → Type 0) → Type 0
+OfServedEnded Rule =
+    (config : Options) (detail : Detail) (history : List Happening) → AreServed history (start_of config)
     → Rule config detail (kept_of detail (ended_report_of config detail history))
 
--- of the report of each such history with options of the grammar, where it has fewer than 2 ^ 64 lines
+-- of the report of each history that may happen, with words and keys overwritten, with options of the grammar, where it has fewer than 2 ^ 64 lines
 abbrev pub OfShortReports : (Options → Detail → List Line → Type 0) → Type 0
 OfShortReports Rule =
     (config : Options) (detail : Detail) (history : List Happening) → AreOptions config → ArePossible history (start_of config) → length (report_of config detail history) < 2 ^ 64

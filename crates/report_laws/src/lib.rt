@@ -7,9 +7,9 @@
 //! list of happenings, of what a recorder keeps of the report, so with and without the lines of moves
 //! (`OfEachReport`), and where it says `OfPlain` the premises are those of `machine_pipeline`: reads,
 //! of which the disk gives 128 words of 32 bits, writes, barriers, flushes and discards, and a machine
-//! that is quiet where it is found so. `OfPossible` lets a hostile hand overwrite words too, and so
-//! does `OfShort`, of reports of fewer than 2^64 lines. What obeys a rule obeys it up to each of its
-//! lines.
+//! that is quiet where it is found so. `OfServed` has the same without those of its options.
+//! `OfShort`, of reports of fewer than 2^64 lines, lets a hostile hand overwrite words and keys too.
+//! What obeys a rule obeys it up to each of its lines.
 #![tactic(auto)]
 
 ghost use Rattle.std.specs.Prelude.{◌≡◌, ℕ, ◌≤◌, ◌^◌, List, [], ◌∷◌, ◌++◌, Contains};
@@ -30,7 +30,7 @@ ghost use Rattle.report_laws.specs.QuietRing.{IsQuietRing};
 ghost use Rattle.report_laws.specs.States.{AreStatesAgreed};
 ghost use Rattle.report_laws.specs.Ports.{AreFewPorts};
 ghost use Rattle.report_laws.specs.Grammar.{AreInGrammar, IsInGrammar};
-ghost use Rattle.report_laws.specs.Reports.{OfEachReport, OfEachEnded, OfPossibleReports, OfPossibleEnded, OfShortReports, OfShortEnded, OfPlainReports, OfPlainEnded, OfPlainMachines, OfAgreedReports, OfAgreedEnded};
+ghost use Rattle.report_laws.specs.Reports.{OfEachReport, OfEachEnded, OfServedReports, OfServedEnded, OfShortReports, OfShortEnded, OfPlainReports, OfPlainEnded, OfPlainMachines, OfAgreedReports, OfAgreedEnded};
 ghost use Rattle.report_laws.specs.Wrong.{begun_twice, moved, ready_late, unserved, unread, connected_alone, closed_unsaid, five_ports};
 
 /// `begin` is its first line and stands nowhere else, and lines of moves stand only where it says
@@ -42,11 +42,11 @@ pub fn every_report_begins_once()
         → IsBegunSoFar config detail first }
 {}
 
-/// A `ready`, a `closed` or a `broken` line stands before each `quiet` line. The premise
-/// (`ArePossible`) is that where all is found quiet it is.
+/// A `ready`, a `closed` or a `broken` line stands before each `quiet` line, where no hostile hand
+/// overwrites a word or a key. The premise (`AreServed`) is that where all is found quiet it is.
 pub fn no_report_is_quiet_before_it_is_ready()
-    ensures report { OfPossibleReports (λ config detail report. IsReadyFirst report) }
-    ensures ended { OfPossibleEnded (λ config detail report. IsReadyFirst report) }
+    ensures report { OfServedReports (λ config detail report. IsReadyFirst report) }
+    ensures ended { OfServedEnded (λ config detail report. IsReadyFirst report) }
     ensures before { (first more : List Line) → IsReadyFirst (first ++ more) → IsReadyFirst first }
 {}
 

@@ -48,7 +48,7 @@ use Rattle.plain_disk.specs.Disk.{disk_of}
 use Rattle.blk_base.specs.declared.config.Job.{Job}
 use Rattle.report_laws.specs.Begun.{IsBegun}
 use Rattle.report_laws.specs.Grammar.{IsInGrammar}
-use Rattle.report_laws.specs.Ready.{IsReadyAt}
+use Rattle.report_laws.specs.Ready.{IsReadyAt, IsReadyFirst}
 use Rattle.report_laws.specs.QuietRing.{IsQuietRing, IsQuietRingAt}
 use Rattle.report_laws.specs.States.{IsAgreedAt, AreStatesAgreed}
 use Rattle.report_laws.specs.Ports.{IsFewPortsAt}
@@ -398,7 +398,7 @@ report_lawful config detail history before now h long runs =
       honest = λ of.
           subst (ServesRequestsSoFar (submitted_of history) before.content) (sym same)
           (so_far_served (submitted_of history) before.content first (honest_run config detail history before now h long runs (subst (IsOfADisk config.sectors before.content) same of)));
-      ready = report_ready config detail history h.possible;
+      ready = subst IsReadyFirst (sym same) (report_ready config detail (honest_history history) (allowed h));
       ring = λ moves. subst IsQuietRing (sym same) (report_quiet config detail (honest_history history) h.plain (allowed h) moves);
       agreed = λ moves. subst AreStatesAgreed (sym same) (alike detail config (honest_history history) h.agreed moves);
       ports = λ moves. report_ports config detail history;
@@ -416,7 +416,9 @@ ended_lawful config detail history before now h long runs =
       grammar = ended_grammar config detail history h.options h.possible h.brief.numbers;
       requests = λ honest of. ended_serves config detail history before now h long runs (all_ended config detail history h honest) of;
       honest = λ of. so_far_served (submitted_of history) before.content _ (ended_honest_run config detail history before now h long runs of);
-      ready = ended_ready config detail history h.possible;
+      ready =
+          of_part config detail history h IsReadyFirst (λ all. ended_ready config detail history (served_whole h all))
+          (report_ready config detail (honest_history history) (allowed h));
       ring = λ moves.
           of_part config detail history h IsQuietRing (λ all. ended_quiet config detail history h.plain (served_whole h all) moves)
           (report_quiet config detail (honest_history history) h.plain (allowed h) moves);
@@ -443,7 +445,7 @@ begun_lawful config detail history before said rest h all run =
       begun = begun_before config detail one other (subst (IsBegun config detail) (sym split) (ended_begun config detail history));
       grammar = grammar_before one other (subst IsInGrammar (sym split) (ended_grammar config detail history h.options h.possible h.brief.numbers));
       honest = λ of. so_far_served (submitted_of history) before (honest_part one) (run of);
-      ready = obeys_before IsReadyAt one other (subst (Obeys IsReadyAt) (sym split) (ended_ready config detail history h.possible));
+      ready = obeys_before IsReadyAt (honest_part one) part.0 (subst (Obeys IsReadyAt) (sym part.1) (ended_ready config detail (honest_history history) (allowed h)));
       ring = λ moves. obeys_before IsQuietRingAt (honest_part one) part.0 (subst (Obeys IsQuietRingAt) (sym part.1) (ended_quiet config detail (honest_history history) h.plain (allowed h) moves));
       agreed = λ moves. obeys_before IsAgreedAt (honest_part one) part.0 (subst (Obeys IsAgreedAt) (sym part.1) (ended_alike detail config (honest_history history) h.agreed moves));
       ports = λ moves. obeys_before IsFewPortsAt one other (subst (Obeys IsFewPortsAt) (sym split) (ended_ports config detail history));

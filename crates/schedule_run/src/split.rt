@@ -335,7 +335,7 @@ impl Split {
     pub fn is_quiet(&self) -> bool
         ensures { result ≡ is_quiet self.now }
     {
-        self.front.idle()
+        self.front.waits()
             && self.back.idle()
             && !self.under.has_to_take(End::Front)
             && !self.under.has_to_take(End::Back)

@@ -1,5 +1,5 @@
 -- What the backend asks: its negotiation speaks first (`io/xenbus.h`), between two steps of the ring's end; else that end has the move, where the negotiation asks for its page or its port to be mapped, bound or given up, or rests.
-use Rattle.std.specs.Prelude.{ℕ, Bool, true, false, ◌&&◌, List, codes, decimal, if◌then◌else◌}
+use Rattle.std.specs.Prelude.{ℕ, Bool, true, false, ◌&&◌, ◌||◌, List, codes, decimal, if◌then◌else◌}
 use Rattle.blk_base.specs.declared.parts.End.TheVariants.{Front, Back}
 use Rattle.blk_base.specs.declared.ask.BackAsk.{BackAsk}
 use Rattle.blk_base.specs.declared.ask.BackAsk.TheVariants.{Wait, Watch, GetKey, SetKey}
@@ -97,3 +97,7 @@ IsAnswer ask a = ring.IsAnswer ask a
 -- nothing is to be done until an event or a watch comes
 abbrev pub is_waiting : View → Bool
 is_waiting v = ring.is_wait (ask_of v)
+
+-- it waits for an event or a watch, and no job is held: none is before its end of the ring has its terms
+abbrev pub is_idle : View → Bool
+is_idle v = is_waiting v && (ring.is_led v.ring.stage || ring.is_idle v.ring)

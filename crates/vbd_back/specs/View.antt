@@ -1,12 +1,10 @@
 -- What contracts see of the backend.
-use Rattle.std.specs.Prelude.{ℕ, Bool, true, false, not, ◌&&◌, None}
+use Rattle.std.specs.Prelude.{ℕ, Bool, true, false, not, None}
 use Rattle.blk_base.specs.Options.{Options}
 use Rattle.blk_back.specs.View as ring
-use Rattle.blk_back.specs.Ask.{is_idle as ring_is_idle}
 use Rattle.xenbus_state.specs.declared.offer.Features.{Features}
 use Rattle.xenbus_state.specs.Offer.{facts_of}
 use Rattle.xenbus_state.specs.BackView as bus
-use Rattle.xenbus_state.specs.BackAsk.{ask_of as bus_ask_of}
 use Rattle.xenbus_state.specs.declared.back.BackBusAsk.{BackBusAsk}
 use Rattle.xenbus_state.specs.declared.back.BackBusAsk.TheVariants as bus_ask
 
@@ -34,7 +32,3 @@ heard v = let r : ring.View = v.ring in record v { ring = record r { told = None
 abbrev pub rests : BackBusAsk → Bool
 rests bus_ask.Wait = true
 rests ask = false
-
--- it waits for an event or a watch, and no job is held
-abbrev pub is_idle : View → Bool
-is_idle v = rests (bus_ask_of v.bus) && ring_is_idle v.ring

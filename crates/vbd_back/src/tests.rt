@@ -159,9 +159,9 @@ fn begin(rt: &impl Abort, backend: &mut Backend) -> Result<(), OutOfMemory> {
     offer(rt, backend)?;
     let path = short(FRONT_STATE);
     assert_eq!(rt; ask(backend), BackAsk::Watch(Lent::at(&path)));
-    assert!(rt; !waits(backend));
+    assert!(rt; !waits(backend) && !idle(backend));
     tell(backend, BackAnswer::Done)?;
-    assert!(rt; waits(backend));
+    assert!(rt; waits(backend) && idle(backend));
     assert_eq!(rt; ask(backend), BackAsk::Wait);
     Ok(())
 }

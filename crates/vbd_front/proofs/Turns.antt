@@ -1,5 +1,5 @@
 -- Whose turn it is: what is asked and done then is what the frontend asks and does.
-use Rattle.std.proofs.Common.{◌≡◌, ℕ, ◌==◌, Bool, true, false, ◌&&◌, ◌||◌, if◌then◌else◌, refl, sym, ap, ◌∙◌, subst}
+use Rattle.std.proofs.Common.{◌≡◌, ℕ, ◌==◌, Bool, true, false, not, ◌&&◌, ◌||◌, if◌then◌else◌, refl, sym, ap, ◌∙◌, subst}
 use Rattle.std.specs.Prelude.{Option, Some, None}
 use Rattle.blk_base.specs.declared.ask.FrontAsk.{FrontAsk}
 use Rattle.blk_base.specs.declared.ask.FrontAsk.TheVariants as ask
@@ -16,7 +16,7 @@ use Rattle.blk_front.specs.Request.{is_indirect}
 use Rattle.blk_front.specs.View.{View as Ring, next_request, ring_frame, slot_frame, slot_word}
 use Rattle.blk_front.specs.Ask as ring
 use Rattle.blk_front.specs.Step as step_ring
-use Rattle.blk_front.specs.Submit.{is_connected}
+use Rattle.blk_front.specs.Submit.{is_connected, is_led, is_wait, is_idle}
 use Rattle.xenbus_state.specs.declared.stage.FrontStage.{FrontStage}
 use Rattle.xenbus_state.specs.declared.stage.FrontStage.TheVariants as bus_stage
 use Rattle.xenbus_state.specs.declared.front.FrontBusAsk.{FrontBusAsk}
@@ -155,6 +155,19 @@ pub made_asks : (v : View) → turn_of v ≡ turn.Ring → ask_of v ≡ ring.ask
 made_asks v t =
     let whose = turn_is v t in
     ap (λ (a : FrontBusAsk). ask_at a v) whose.0 ∙ ap (λ (b : Bool). ring_ask b v) whose.2
+
+-- the end of the ring waits exactly where it is idle or waits for its negotiation
+or_none : (b : Bool) → b ≡ b || false
+or_none true = refl
+or_none false = refl
+
+waits_at : (s : Stage) (v : Ring) → is_wait (ring.ask_at s v) ≡ (not (is_led s) && is_wait (ring.ask_at s v)) || is_led s
+waits_at stage.Initialised v = refl
+waits_at stage.Left v = refl
+waits_at s v = or_none (is_wait (ring.ask_at s v))
+
+pub idle_or_led : (v : Ring) → is_wait (ring.ask_of v) ≡ is_idle v || is_led v.stage
+idle_or_led v = waits_at v.stage v
 
 pub made_answers : (v : View) (x : FrontAnswer) → turn_of v ≡ turn.Ring → IsAnswer (ask_of v) x → ring.IsAnswer (ring.ask_of v.ring) x
 made_answers v x t h = narrowed (ring.ask_of v.ring) x (of_ring v.ring.stage v.ring) (subst (λ (a : FrontAsk). IsAnswer a x) (made_asks v t) h)

@@ -7,7 +7,7 @@ use Rattle.blk_base.specs.declared.ask.FrontAnswer.{FrontAnswer}
 use Rattle.blk_base.specs.declared.ask.FrontAnswer.TheVariants as answer
 use Rattle.blk_front.specs.declared.stage.Stage.{Stage}
 use Rattle.blk_front.specs.declared.stage.Stage.TheVariants as stage
-use Rattle.blk_front.specs.Submit.{is_connected}
+use Rattle.blk_front.specs.Submit.{is_connected, is_wait}
 use Rattle.blk_front.specs.Ask as ring
 use Rattle.xenbus_state.specs.declared.front.FrontBusAsk.{FrontBusAsk}
 use Rattle.xenbus_state.specs.declared.front.FrontBusAsk.TheVariants as bus_ask
@@ -73,6 +73,10 @@ ask_at a v = if speaks a then key_ask a else ring_ask (ring_moves a v.ring.stage
 
 abbrev pub ask_of : View → FrontAsk
 ask_of v = ask_at (bus_ask_of v) v
+
+-- nothing is to be done until an event or a watch comes
+abbrev pub is_waiting : View → Bool
+is_waiting v = is_wait (ask_of v)
 
 -- an answer of the ask's kind
 abbrev pub IsAnswer : FrontAsk → FrontAnswer → Type 0

@@ -1,12 +1,11 @@
 -- What contracts see of the frontend.
-use Rattle.std.specs.Prelude.{Bool, true, false, ◌&&◌, ◌||◌, ◌==◌, Option, None}
+use Rattle.std.specs.Prelude.{Bool, true, false, ◌&&◌, ◌==◌, Option, None}
 use Rattle.blk_base.specs.Options.{Options}
 use Rattle.blk_front.specs.View as ring
 use Rattle.blk_front.specs.declared.stage.Stage.{Stage}
 use Rattle.blk_front.specs.declared.stage.Stage.TheVariants as ring_stage
-use Rattle.blk_front.specs.Submit.{unfinished, is_idle as ring_is_idle}
+use Rattle.blk_front.specs.Submit.{unfinished}
 use Rattle.xenbus_state.specs.FrontView as bus
-use Rattle.xenbus_state.specs.FrontAsk.{ask_of as bus_ask_of}
 use Rattle.xenbus_state.specs.declared.front.FrontNews.{FrontNews}
 use Rattle.xenbus_state.specs.declared.front.FrontBusAsk.{FrontBusAsk}
 use Rattle.xenbus_state.specs.declared.front.FrontBusAsk.TheVariants as bus_ask
@@ -50,11 +49,3 @@ rests ask = false
 abbrev pub is_broken : Stage → Bool
 is_broken (ring_stage.Broken word) = true
 is_broken s = false
-
--- the negotiation waits: it has begun nothing, or its end of the ring is broken
-abbrev pub is_at_rest : View → Bool
-is_at_rest v = rests (bus_ask_of v.bus (is_unoccupied v.ring)) || is_broken v.ring.stage
-
--- it is connected, closed or broken, and waits for an event or a watch
-abbrev pub is_idle : View → Bool
-is_idle v = is_at_rest v && ring_is_idle v.ring

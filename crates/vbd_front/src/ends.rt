@@ -2,9 +2,9 @@
 ghost use Rattle.std.specs.Prelude.{◌≡◌, ◌||◌, ◌≤◌, ◌^◌, None, is_some, IfOk, true, false};
 ghost use Rattle.blk_front.specs.Ask.{ask_of as ring_ask_of, IsAnswer as IsRingAnswer};
 ghost use Rattle.blk_front.specs.Step.{step_of as ring_step_of};
-ghost use Rattle.blk_front.specs.Submit.{submit_of, unfinished, sectors_owed, is_idle as ring_is_idle};
+ghost use Rattle.blk_front.specs.Submit.{submit_of, unfinished, sectors_owed, is_wait};
 ghost use Rattle.xenbus_state.specs.FrontAsk.{IsAnswer as IsBusAnswer};
-ghost use Rattle.vbd_front.specs.View.{start_of, heard, is_still, is_broken, is_unoccupied};
+ghost use Rattle.vbd_front.specs.View.{start_of, heard, is_still, is_unoccupied};
 ghost use Rattle.vbd_front.specs.Ask.{bus_ask_of, ring_moves, ask_of, IsAnswer, StaysInMemory};
 ghost use Rattle.vbd_front.specs.Step.{spoken, ring_step, step_of, closes};
 ghost use Rattle.vbd_front.specs.Turn.{turn_of};
@@ -174,19 +174,13 @@ impl Ends {
         self.ring.submit(job)
     }
 
-    /// Whether the ring's end asks for nothing but an event, and isn't led by the negotiation.
+    /// Whether the ring's end asks for nothing but an event.
     #[inline(always)]
-    pub fn ring_idle(&self) -> bool
-        ensures { result ≡ ring_is_idle self.now.ring }
+    #[tactic(auto, using(crate::proofs::Turns::idle_or_led))]
+    pub fn ring_waits(&self) -> bool
+        ensures { result ≡ is_wait (ring_ask_of self.now.ring) }
     {
-        self.ring.idle()
-    }
-
-    /// Whether the ring's end found a word that no honest back leaves.
-    pub fn is_broken(&self) -> bool
-        ensures { result ≡ is_broken self.now.ring.stage }
-    {
-        matches!(self.ring.stage(), Stage::Broken(_))
+        self.ring.idle() || matches!(self.ring.stage(), Stage::Initialised | Stage::Left)
     }
 
     /// How many requests are unfinished, and how many sectors they move.

@@ -1,8 +1,8 @@
 // The frontend.
 ghost use Rattle.std.specs.Prelude.{◌≡◌, ◌||◌, ◌≤◌, ◌^◌, None, is_some, IfOk, IsOk, OnErr};
 ghost use Rattle.blk_front.specs.Submit.{submit_of, unfinished, sectors_owed};
-ghost use Rattle.vbd_front.specs.View.{start_of, heard, rests, is_idle};
-ghost use Rattle.vbd_front.specs.Ask.{ask_of, bus_ask_of, IsAnswer, StaysInMemory};
+ghost use Rattle.vbd_front.specs.View.{start_of, heard};
+ghost use Rattle.vbd_front.specs.Ask.{ask_of, is_waiting, IsAnswer, StaysInMemory};
 ghost use Rattle.vbd_front.specs.Step.{step_of, closes};
 
 use crate::ends::Ends;
@@ -12,7 +12,7 @@ use blk_base::{Config, Endpoint, FrontAnswer, FrontAsk, Job, OutOfMemory};
 use blk_front::{Refusal, Told};
 use std::alloc::Global;
 use std::marker::Model;
-use xenbus_state::{FrontBusAsk, FrontNews};
+use xenbus_state::FrontNews;
 
 /// The front end of a block device: its end of a ring, which it makes, serves and gives up
 /// as the negotiation with the back asks for it. To contracts it is both ends; whose turn it is,
@@ -69,22 +69,15 @@ impl Frontend {
         self.key = Key::of(&self.ends.bus_ask());
     }
 
-    /// Whether it is connected, closed or broken, and waits for nothing but an event or a watch.
+    /// Whether it asks for nothing but an event or a watch.
     #[inline(always)]
-    pub fn idle(&self) -> bool
-        ensures { result ≡ is_idle self.now }
-    {
-        self.ends.ring_idle() && (self.rests() || self.ends.is_broken())
-    }
-
-    // Whether the negotiation asks for nothing.
-    fn rests(&self) -> bool
-        ensures { result ≡ rests (bus_ask_of self.now) }
+    #[tactic(auto, using(crate::proofs::Turns::made_asks))]
+    pub fn waits(&self) -> bool
+        ensures { result ≡ is_waiting self.now }
     {
         match self.turn {
-            Turn::Keys => false,
-            Turn::Ring => true,
-            Turn::Either => matches!(self.ends.bus_ask(), FrontBusAsk::Wait),
+            Turn::Ring => self.ends.ring_waits(),
+            _ => matches!(self.ask_by_turn(), FrontAsk::Wait),
         }
     }
 

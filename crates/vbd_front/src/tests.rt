@@ -283,7 +283,7 @@ fn looks(
 fn the_state_is_read_after_each_watch_until_the_back_offers(rt: HostRuntime) -> Result<(), Fail> {
     let mut front = watching(&rt, rt.alloc())?;
     sees(&rt, &mut front, "1")?;
-    assert!(rt; !front.idle());
+    assert!(rt; front.waits());
     reads_offer(&rt, &mut front)?;
     writes(&rt, &mut front, 2, 0, 7)
 }
@@ -295,7 +295,7 @@ fn the_ring_is_published_and_waits_for_the_back(rt: HostRuntime) -> Result<(), F
     publishes(&rt, &mut front)?;
     sees(&rt, &mut front, "2")?;
     assert_eq!(rt; front.ask(), FrontAsk::Wait);
-    assert!(rt; !front.idle());
+    assert!(rt; front.waits());
     Ok(())
 }
 
@@ -314,11 +314,11 @@ fn a_ready_front_issues_sleeps_and_takes_its_watch(rt: HostRuntime) -> Result<()
     assert_eq!(rt; looks(&rt, &mut front, 7)?, (None, None));
     writes(&rt, &mut front, 2, 3, 8)?;
     asks(&rt, &mut front, &FrontAsk::Fence, &nothing())?;
-    assert!(rt; !front.idle());
+    assert!(rt; !front.waits());
     assert_eq!(rt; looks(&rt, &mut front, 7)?, (None, None));
-    assert!(rt; front.idle());
+    assert!(rt; front.waits());
     sees(&rt, &mut front, "4")?;
-    assert!(rt; front.idle());
+    assert!(rt; front.waits());
     assert_eq!(rt; submit(&mut front)?, Ok(1));
     assert_eq!(rt; front.owed(), (1, 1));
     writes(&rt, &mut front, 18, 0, 7)
@@ -330,7 +330,7 @@ fn a_broken_front_takes_its_watch_and_reads_nothing(rt: HostRuntime) -> Result<(
     assert!(rt; !front.has_told());
     assert_eq!(rt; looks(&rt, &mut front, 8)?, (Some(Told::Broken(8)), None));
     for _ in 0..2 {
-        assert!(rt; front.idle());
+        assert!(rt; front.waits());
         asks(&rt, &mut front, &FrontAsk::Wait, &nothing())?;
     }
     Ok(())
@@ -359,13 +359,13 @@ fn a_front_that_closes_leaves_once_the_back_is_gone(rt: HostRuntime) -> Result<(
     assert_eq!(rt; submit(&mut front)?, Err(Refusal::Closing));
     assert_eq!(rt; says(&rt, &mut front, "5")?, (None, None));
     sees(&rt, &mut front, "5")?;
-    assert!(rt; front.idle());
+    assert!(rt; front.waits());
     sees(&rt, &mut front, "6")?;
-    assert!(rt; !front.idle());
+    assert!(rt; !front.waits());
     leaves(&rt, &mut front)?;
     let closed = says(&rt, &mut front, "6")?;
     assert_eq!(rt; closed, (None, Some(FrontNews::Closed)));
-    assert!(rt; front.idle());
+    assert!(rt; front.waits());
     Ok(())
 }
 
@@ -393,6 +393,6 @@ fn a_front_that_reads_no_state_is_broken(rt: HostRuntime) -> Result<(), Fail> {
     let read = FrontAsk::GetKey(Lent::at(&path));
     let told = move_at(&rt, &mut front, &read, &Other::new("four", 0))?;
     assert_eq!(rt; told, (None, Some(FrontNews::Broken(9))));
-    assert!(rt; front.idle());
+    assert!(rt; front.waits());
     Ok(())
 }

@@ -40,7 +40,7 @@ use Rattle.vbd_back.specs.View.{offer}
 use Rattle.split_model.proofs.Overwriting.{poke_cases, overwriting_cases}
 use Rattle.vbd_model.specs.World.{World, start_of}
 use Rattle.vbd_model.specs.Happening.{Happening, FrontMoves, BackMoves, JobMoves, Closes, Submits, Notifies, Pokes, OverwritesKey, Dumps, Looks, Settles, happens, after}
-use Rattle.vbd_model.specs.Fit.{FrontOrdered, IsUnbound, has_terms, IsOffered, SaysKey, SaidAt, IsFit}
+use Rattle.vbd_model.specs.Fit.{FrontOrdered, IsUnbound, has_terms, IsOffered, SaysKey, IsFit}
 use Rattle.vbd_laws.proofs.FitChannels.{IsUnported, job_leaves, notified}
 use Rattle.vbd_laws.proofs.FitFront.{fit_front_moves, fit_front_closes}
 use Rattle.vbd_laws.proofs.FitBackShares.{Terms, terms_in}

@@ -59,3 +59,4 @@ pub mod WaitsBackHeard
 pub mod WaitsBackAlone
 pub mod WaitsJobs
 pub mod WaitsJobsHeld
+pub mod AtRest

@@ -1,5 +1,5 @@
 -- The front reads what its back offers only once the back has said all of it, whatever the front's own keys say; so it agrees the order that it wished.
-use Rattle.std.proofs.Common.{◌≡◌, ◌∙◌, ap, sym, subst, ℕ, ◌+◌, ◌==◌, ◌<◌, ◌≤◌, ◌^◌, ◌||◌, Bool, true, false, true≢false, List, [], ◌∷◌, refl, arith, decimal, if◌then◌else◌}
+use Rattle.std.proofs.Common.{◌≡◌, ◌∙◌, ap, sym, subst, ℕ, ◌+◌, ◌==◌, ◌≤◌, ◌||◌, Bool, true, false, true≢false, List, refl, arith, decimal, if◌then◌else◌}
 use Rattle.std.specs.Prelude.{Option, Some, None, codes, nat_lt}
 use Rattle.std.proofs.lemmas.Fmt.{decimal_digit}
 use Rattle.std.proofs.lemmas.Option.{same_Some}

@@ -1,76 +1,44 @@
 -- Where all is quiet, before a hostile hand first overwrites a word, both ends have written the same state last, and Closed only as the front closes, and the directory of keys says so.
-use Rattle.std.proofs.Common.{◌⊎◌, inl, inr, ◌≡◌, ◌∙◌, ap, sym, subst, ◌+◌, ◌==◌, ◌&&◌, ◌||◌, ℕ, Bool, true, false, true≢false, List, [], ◌∷◌, ◌++◌, map, length, refl, if◌then◌else◌}
+use Rattle.std.proofs.Common.{◌⊎◌, inl, inr, ◌≡◌, ◌∙◌, ap, sym, subst, ◌+◌, ◌==◌, ◌&&◌, ℕ, Bool, true, false, true≢false, List, [], ◌∷◌, ◌++◌, map, length, refl, if◌then◌else◌}
 use Rattle.std.specs.Prelude.{Option, Some}
 use Rattle.std.specs.Fmt.{digits}
-use Rattle.std.proofs.lemmas.Bool.{or_parts}
 use Rattle.blk_base.specs.Options.{Options}
 use Rattle.blk_base.specs.declared.parts.End.{End}
 use Rattle.blk_base.specs.declared.parts.End.TheVariants as end
-use Rattle.line_text.proofs.Both.{both_true}
-use Rattle.event_channel.specs.Channels.{is_pending}
-use Rattle.key_directory.specs.Watches.{has_pending}
-use Rattle.hypervisor.specs.Act.{has_to_take}
 use Rattle.blk_front.specs.declared.request.Request.{Request}
 use Rattle.blk_front.specs.declared.stage.Stage.{Stage}
 use Rattle.blk_front.specs.declared.stage.Stage.TheVariants as front_ring
 use Rattle.blk_front.specs.Submit as front_submit
-use Rattle.blk_back.specs.Ask as back_ring
 use Rattle.xenbus_state.specs.declared.state.BusState.{BusState}
 use Rattle.xenbus_state.specs.declared.state.BusState.TheVariants as state
 use Rattle.xenbus_state.specs.declared.stage.FrontStage.{FrontStage}
 use Rattle.xenbus_state.specs.declared.stage.FrontStage.TheVariants as stage
 use Rattle.xenbus_state.specs.FrontView.{FrontView}
-use Rattle.xenbus_state.specs.declared.front.FrontBusAsk.{FrontBusAsk}
-use Rattle.xenbus_state.specs.declared.front.FrontBusAsk.TheVariants as front_ask
-use Rattle.xenbus_state.specs.declared.back.BackBusAsk.{BackBusAsk}
-use Rattle.xenbus_state.specs.declared.back.BackBusAsk.TheVariants as back_ask
 use Rattle.split_model.specs.World as rings
 use Rattle.split_model.specs.Keys.{KeyMove}
 use Rattle.split_model.specs.Honest.{honest_history}
 use Rattle.split_model.specs.Happening as ring
-use Rattle.machine_pipeline.proofs.Quiet.{AreQuiet, all_quiet}
 use Rattle.machine_pipeline.proofs.AtRest.{IsIdleRing, quiet_rests}
 use Rattle.negotiation_laws.specs.Negotiation.{Negotiation, state_text}
 use Rattle.negotiation_laws.specs.Laws.{AreStatesSaid, IsAtRest, AreBoth, WaitsForRequests}
 use Rattle.negotiation_laws.proofs.Found.{states_said}
-use Rattle.negotiation_laws.proofs.Resting.{agree_at_rest}
 use Rattle.report_laws.specs.Agreed.{HasBoth, AreAlike, IsAgreed, AreAgreed}
 use Rattle.vbd_front.specs.View as front_view
 use Rattle.vbd_front.specs.Ask as front
-use Rattle.vbd_back.specs.View as back_view
 use Rattle.vbd_back.specs.Ask as back
-use Rattle.vbd_model.specs.World.{World, start_of, frontend_of, is_quiet}
+use Rattle.vbd_model.specs.World.{World, start_of, is_quiet}
 use Rattle.vbd_model.specs.Happening.{Happening, FrontMoves, BackMoves, Closes, Looks, Settles, front_turn, back_turn, entered_at, halted_at, front_key, back_key, closes_does, is_fronts_ring, is_backs_ring, attaches, back_negotiates, does, after}
 use Rattle.vbd_model.specs.Fit.{FrontRests, FrontGoesWith, IsFit}
 use Rattle.vbd_model.specs.Possible.{IsPossible}
 use Rattle.vbd_laws.specs.Quiet.{IsUntouched, HaveBoth, StatesAgree, StatesAgreeAtQuiet, RingsAgreed}
 use Rattle.vbd_laws.proofs.MovesTurns.{front_asks, back_asks, back_learns}
 use Rattle.vbd_laws.proofs.NegotiatedRun.{Reached, negotiation_of}
-use Rattle.vbd_laws.proofs.ServedHonest.{Honest, whole_now, honest_start, honest_after, all_of}
+use Rattle.vbd_laws.proofs.AtRest.{agrees_at, at_rest}
+use Rattle.vbd_laws.proofs.ServedHonest.{Honest, whole_now, waiting, quiet_ring, honest_start, honest_after, all_of}
 
--- at rest both ends of the negotiation agree, or the front waits for its requests; and the directory says their states
-abbrev AgreesAt : (idle : Bool) → Negotiation → Type 0
-AgreesAt idle n = (n.front.state ≡ state.Closing → idle ≡ true) → IsAtRest idle n → AreBoth n state.Connected ⊎ AreBoth n state.Closed ⊎ WaitsForRequests idle n
-
-agrees_at : (n : Negotiation) (idle : Bool) → Reached n → AgreesAt idle n
-agrees_at n idle j = subst (AgreesAt idle) j.stands (agree_at_rest j.run idle j.served)
-
+-- the directory says both states
 said_at : (n : Negotiation) → Reached n → AreStatesSaid n
 said_at n j = subst AreStatesSaid j.stands (states_said j.run)
-
--- a negotiation that rests waits
-front_waits : (b : FrontBusAsk) → front_view.rests b ≡ true → b ≡ front_ask.Wait
-front_waits front_ask.Wait e = refl
-front_waits b e = absurd (true≢false (sym e))
-
-back_waits : (b : BackBusAsk) → back_view.rests b ≡ true → b ≡ back_ask.Wait
-back_waits back_ask.Wait e = refl
-back_waits b e = absurd (true≢false (sym e))
-
--- a front whose end of the ring isn't broken is at rest as its negotiation rests
-unbroken_rests : (rests broken : Bool) → (rests || broken) ≡ true → broken ≡ false → rests ≡ true
-unbroken_rests true broken at whole = refl
-unbroken_rests false broken at whole = absurd (true≢false (sym at ∙ whole))
 
 -- a front without requests, in its loop or closed, is unoccupied
 still_at : (requests : List Request) (s : Stage) → requests ≡ [] → (s ≡ front_ring.Loop) ⊎ (s ≡ front_ring.Closed) → (length requests + front_submit.ending_of s == 0 && front_view.is_still s) ≡ true
@@ -118,23 +86,14 @@ module _ (config : Options) (w : World) (honest : Honest config w) (quiet : is_q
   abbrev idle : Bool
   idle = front_view.is_unoccupied w.rings.front
 
-  all : ((front_view.is_at_rest (frontend_of w) && back_view.rests (back_asks w)) ≡ true) × (rings.is_quiet w.rings ≡ true)
-  all = both_true (front_view.is_at_rest (frontend_of w) && back_view.rests (back_asks w)) (rings.is_quiet w.rings) quiet
+  rest : IsIdleRing w.rings
+  rest = quiet_rests config w.rings (quiet_ring config w honest quiet) honest.standing
 
   is_idle : idle ≡ true
-  is_idle = let rest : IsIdleRing w.rings = quiet_rests config w.rings all.1 honest.standing in still_at w.rings.front.requests w.rings.front.stage rest.no_request rest.front_at
+  is_idle = still_at w.rings.front.requests w.rings.front.stage rest.no_request rest.front_at
 
-  at_rest : IsAtRest idle (negotiation_of w)
-  at_rest =
-      let both = both_true (front_view.is_at_rest (frontend_of w)) (back_view.rests (back_asks w)) all.0 in
-      let rests = unbroken_rests (front_view.rests (front_asks w)) (front_view.is_broken w.rings.front.stage) both.0 (whole_now config w.rings honest.standing) in
-      let parts : AreQuiet (front_submit.is_idle w.rings.front) (back_ring.is_idle w.rings.back) (has_to_take w.rings.under end.Front) (has_to_take w.rings.under end.Back) = all_quiet _ _ _ _ all.1 in
-      record {
-        front_waits = front_waits (front_asks w) rests;
-        back_waits = back_waits (back_asks w) both.1;
-        front_taken = (or_parts (is_pending w.rings.under.channels end.Front) (has_pending w.rings.under.keys.front) parts.no_front).1;
-        back_taken = (or_parts (is_pending w.rings.under.channels end.Back) (has_pending w.rings.under.keys.back) parts.no_back).1;
-      }
+  resting : IsAtRest idle (negotiation_of w)
+  resting = at_rest config w honest.front_checks.0 honest.back_checks.0 honest.front_checks.1 honest.back_checks.1 honest.joined honest.standing (whole_now config w.rings honest.standing) (waiting config w honest quiet)
 
   have_both : (s : BusState) → AreBoth (negotiation_of w) s → HaveBoth w s
   have_both s both =
@@ -150,12 +109,11 @@ module _ (config : Options) (w : World) (honest : Honest config w) (quiet : is_q
   closes : w.front.state ≡ state.Closed → w.rings.front.closing ≡ true
   closes own =
       let fit : IsFit w = honest.stands.fit in
-      let rest : IsIdleRing w.rings = quiet_rests config w.rings all.1 honest.standing in
       let whole : front_view.is_broken w.rings.front.stage ≡ false = whole_at w.rings.front.stage rest.front_at in
       fit.closing whole ∙ closed_closes w.front.stage w.front w.rings.front.stage fit.front own whole
 
   quiet_agrees : StatesAgree w
-  quiet_agrees = by_state (agrees_at (negotiation_of w) idle honest.joined (λ closing. is_idle) at_rest)
+  quiet_agrees = by_state (agrees_at (negotiation_of w) idle honest.joined (λ closing. is_idle) resting)
     where
       by_state : AreBoth (negotiation_of w) state.Connected ⊎ AreBoth (negotiation_of w) state.Closed ⊎ WaitsForRequests idle (negotiation_of w) → StatesAgree w
       by_state (inl both) = inl (have_both state.Connected both)

@@ -1,7 +1,7 @@
 -- What happens before a hostile hand first overwrites a word is served by the machine of the ring.
 use Rattle.vbd_laws.specs.Served.{KeepsKeys}
 use Rattle.vbd_laws.proofs.NegotiatedEarly.{IsOnItsWay}
-use Rattle.std.proofs.Common.{◌⊎◌, inl, inr, ◌≡◌, ◌∙◌, ap, sym, subst, ℕ, zero, suc, ◌+◌, ◌^◌, ◌<◌, ◌≤◌, ◌==◌, ◌&&◌, Bool, true, false, true≢false, List, [], ◌∷◌, ◌++◌, map, refl, arith, if◌then◌else◌}
+use Rattle.std.proofs.Common.{◌⊎◌, inl, inr, ◌≡◌, ◌∙◌, ap, sym, subst, ℕ, zero, suc, ◌+◌, ◌^◌, ◌<◌, ◌≤◌, ◌==◌, ◌&&◌, ◌||◌, Bool, true, false, true≢false, List, [], ◌∷◌, ◌++◌, map, refl, arith, if◌then◌else◌}
 use Rattle.std.specs.Prelude.{Option, Some, None, IsSome, is_some, unwrap_or}
 use Rattle.std.specs.List.{AllByRecursion, range_with_len}
 use Rattle.std.proofs.lemmas.Option.{none-some}
@@ -11,11 +11,13 @@ use Rattle.blk_base.specs.declared.parts.End.TheVariants as end
 use Rattle.blk_base.specs.declared.operation.Abi.{Abi}
 use Rattle.blk_base.specs.declared.parts.Mapping.{Mapping}
 use Rattle.blk_base.specs.declared.moves.BackMover.TheVariants as back_mover
+use Rattle.blk_base.specs.declared.ask.FrontAsk.{FrontAsk}
+use Rattle.blk_base.specs.declared.ask.FrontAsk.TheVariants as front_asked
 use Rattle.blk_base.specs.declared.ask.BackAsk.{BackAsk}
 use Rattle.blk_base.specs.declared.ask.BackAsk.TheVariants as back_ask
 use Rattle.blk_base.specs.declared.ask.BackAnswer.{BackAnswer}
 use Rattle.blk_base.specs.declared.ask.BackAnswer.TheVariants as answer
-use Rattle.hypervisor.specs.Act.{FrontAct, BackAct, Took, back_act}
+use Rattle.hypervisor.specs.Act.{FrontAct, BackAct, Took, back_act, has_to_take}
 use Rattle.schedule_text.specs.Range.{AreOptions}
 use Rattle.line_text.proofs.Both.{both_true}
 use Rattle.ring_words.specs.Ring.{requests_of}
@@ -26,6 +28,7 @@ use Rattle.blk_front.specs.declared.state.FrontState.{FrontState}
 use Rattle.blk_front.specs.declared.state.FrontState.TheVariants as entered
 use Rattle.blk_front.specs.declared.state.Offers.{Offers}
 use Rattle.blk_front.specs.View as front_ends
+use Rattle.blk_front.specs.Submit as front_submit
 use Rattle.blk_front.specs.Ask.{is_through}
 use Rattle.blk_front.specs.State.{is_made}
 use Rattle.blk_front.specs.Submit.{is_connected}
@@ -69,6 +72,7 @@ use Rattle.machine_pipeline.proofs.Flow.{Flow}
 use Rattle.machine_pipeline.proofs.Holds.{Holds}
 use Rattle.machine_pipeline.proofs.Over.{IsGivingUp, Over, IsKept}
 use Rattle.machine_pipeline.proofs.BackMoves.{back_moves}
+use Rattle.machine_pipeline.proofs.Quiet.{AreQuiet, all_quiet}
 use Rattle.machine_pipeline.proofs.Together.{IsStanding, run_kept, always_stands}
 use Rattle.negotiation_laws.specs.Negotiation.{Negotiation}
 use Rattle.negotiation_laws.specs.Run.{now}
@@ -80,7 +84,7 @@ use Rattle.vbd_front.specs.Ask as front
 use Rattle.vbd_front.specs.Step as front_step
 use Rattle.vbd_back.specs.Ask as back
 use Rattle.vbd_back.specs.Step as back_step
-use Rattle.vbd_model.specs.World.{World, start_of, frontend_of, backend_of}
+use Rattle.vbd_model.specs.World.{World, start_of, frontend_of, backend_of, is_quiet}
 use Rattle.vbd_model.specs.Happening.{Happening, FrontMoves, BackMoves, JobMoves, Closes, Submits, Notifies, Pokes, OverwritesKey, Dumps, Looks, Settles, front_turn, back_turn, entered_at, halted_at, reasons_of, front_key, closes_does, front_does, back_does, is_backs_ring, attaches, back_negotiates, does, happens, after, all_does}
 use Rattle.vbd_model.specs.Possible.{IsPossible, ArePossible}
 use Rattle.vbd_model.specs.Kind.{are_carried}
@@ -101,7 +105,18 @@ use Rattle.vbd_laws.proofs.NegotiatedKept.{IsTimely, states_timely}
 use Rattle.vbd_laws.proofs.NegotiatedRests.{apart_rests, closes_joined}
 use Rattle.vbd_laws.proofs.NegotiatedAgreed.{keeps_order}
 use Rattle.vbd_laws.proofs.NegotiatedWay.{ring_made_now, key_given, wait_given, on_its_way}
-use Rattle.vbd_laws.proofs.ServedPossible.{way_start, IsWord, same_is, entered_words, Stands, stands_start, stands_on, joined_start, quiet_of}
+use Rattle.vbd_laws.specs.Waits.{Check, Awake, front_check_in, back_check_in}
+use Rattle.vbd_laws.proofs.WaitsFront.{Knows as FrontKnows, knows_on as front_knows_on, knows_start as front_knows_start}
+use Rattle.vbd_laws.proofs.WaitsBack.{Knows as BackKnows, knows_on as back_knows_on, knows_start as back_knows_start}
+use Rattle.vbd_laws.proofs.AtRest.{AreWaiting, are_unled}
+use Rattle.vbd_laws.proofs.ServedPossible.{way_start, IsWord, same_is, entered_words, Stands, stands_start, stands_on, joined_start}
+
+-- each end is somewhere in its final check
+abbrev FrontChecks : World → Type 0
+FrontChecks w = (c : Check) × FrontKnows w c
+
+abbrev BackChecks : World → Type 0
+BackChecks w = (c : Check) × BackKnows w c
 
 -- the machine before a word is overwritten: its negotiation is a run, and the machine of its ring stands for a pipeline
 pub record Honest (config : Options) (w : World) : Type 0 where
@@ -110,6 +125,8 @@ pub record Honest (config : Options) (w : World) : Type 0 where
   pub joined : Joined w
   pub plain : IsPlain config
   pub standing : IsStanding config w.rings
+  pub front_checks : FrontChecks w
+  pub back_checks : BackChecks w
 
 -- the front's end of the ring is never broken
 whole_holds : (config : Options) (w : rings.World) (g : Flow) (d : Pipeline) (s : FrontRing) (b : BackRing) → Holds config w g d s b → front_view.is_broken s ≡ false
@@ -567,6 +584,35 @@ closes_served : (w : rings.World) (at : End) → ring_allowed.AreServed (closes_
 closes_served w end.Front = (tt, tt)
 closes_served w end.Back = tt
 
+-- where all is quiet both negotiations rest, and so the ring's machine is quiet
+front_wait : (a : FrontAsk) → front_submit.is_wait a ≡ true → a ≡ front_asked.Wait
+front_wait front_asked.Wait is = refl
+front_wait a is = absurd (true≢false (sym is))
+
+back_wait : (a : BackAsk) → ring_ask.is_wait a ≡ true → a ≡ back_ask.Wait
+back_wait back_ask.Wait is = refl
+back_wait a is = absurd (true≢false (sym is))
+
+unled_idle : (led idle : Bool) → (led || idle) ≡ true → led ≡ false → idle ≡ true
+unled_idle true idle either unled = absurd (true≢false unled)
+unled_idle false idle either unled = either
+
+module _ (config : Options) (w : World) (honest : Honest config w) (quiet : is_quiet w ≡ true) where
+  parts : AreQuiet (front.is_waiting (frontend_of w)) (back.is_idle (backend_of w)) (has_to_take w.rings.under end.Front) (has_to_take w.rings.under end.Back)
+  parts = all_quiet _ _ _ _ quiet
+
+  back_parts : (back.is_waiting (backend_of w) ≡ true) × ((ring_ask.is_led w.rings.back.stage || ring_ask.is_idle w.rings.back) ≡ true)
+  back_parts = both_true _ _ parts.back
+
+  pub waiting : AreWaiting w
+  waiting = record { front = front_wait (front.ask_of (frontend_of w)) parts.front; back = back_wait (back.ask_of (backend_of w)) back_parts.0; front_taken = parts.no_front; back_taken = parts.no_back }
+
+  unled : (front_submit.is_idle w.rings.front ≡ true) × (ring_ask.is_led w.rings.back.stage ≡ false)
+  unled = are_unled config w honest.front_checks.0 honest.back_checks.0 honest.front_checks.1 honest.back_checks.1 honest.joined honest.standing (whole_now config w.rings honest.standing) waiting
+
+  pub quiet_ring : rings.is_quiet w.rings ≡ true
+  quiet_ring = let back_idle = unled_idle (ring_ask.is_led w.rings.back.stage) (ring_ask.is_idle w.rings.back) back_parts.1 unled.1 in rw (unled.0, back_idle, parts.no_front, parts.no_back) refl
+
 served_at : (config : Options) (w : World) (h : Happening) → IsUntouched h → Honest config w → IsPossible w h → ring_allowed.AreServed (does w h) w.rings
 served_at config w FrontMoves untouched honest is = front_served config w honest
 served_at config w BackMoves untouched honest is = back_served config w honest
@@ -577,8 +623,8 @@ served_at config w (Notifies at) untouched honest is = (tt, tt)
 served_at config w (Pokes frame word value) untouched honest is = absurd untouched
 served_at config w (OverwritesKey name text) untouched honest is = absurd untouched
 served_at config w Dumps untouched honest is = (tt, tt)
-served_at config w (Looks quiet) untouched honest is = (λ e. quiet_of w (is e), tt)
-served_at config w (Settles quiet) untouched honest is = (λ e. quiet_of w (is e), tt)
+served_at config w (Looks quiet) untouched honest is = (λ e. quiet_ring config w honest (is e), tt)
+served_at config w (Settles quiet) untouched honest is = (λ e. quiet_ring config w honest (is e), tt)
 
 -- the negotiation goes on as a run
 front_joins : (config : Options) (w : World) → Honest config w → Joined (happens w FrontMoves)
@@ -611,6 +657,8 @@ honest_on config w h untouched honest is =
       joined = joins config w h untouched honest;
       plain = honest.plain;
       standing = run_kept config (does w h) w.rings standing.pipeline honest.plain standing.safe standing.kept (served_at config w h untouched honest is);
+      front_checks = (front_check_in w h honest.front_checks.0, front_knows_on w h honest.front_checks.0 honest.front_checks.1);
+      back_checks = (back_check_in w h honest.back_checks.0, back_knows_on w h honest.back_checks.0 honest.back_checks.1);
     }
 
 pub honest_after : (config : Options) (hs : List Happening) (w : World) → AreUntouched hs → Honest config w → ArePossible hs w → Honest config (after hs w)
@@ -651,4 +699,6 @@ honest_start config carried are =
       joined = joined_start config are;
       plain = plain;
       standing = always_stands config [] plain tt;
+      front_checks = (Awake, front_knows_start config are.2);
+      back_checks = (Awake, back_knows_start config are.2);
     }

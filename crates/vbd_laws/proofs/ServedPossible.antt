@@ -1,6 +1,6 @@
 -- Whatever happens to the machine is possible for the machine of its ring.
 use Rattle.vbd_laws.proofs.Offered.{IsOffering, offers_on, offers_start, agreed_offered}
-use Rattle.std.proofs.Common.{inl, inr, ◌≡◌, ◌∙◌, ap, sym, ℕ, ◌^◌, ◌<◌, ◌≤◌, ◌&&◌, Bool, true, true≢false, List, [], ◌∷◌, ◌++◌, map, refl, arith}
+use Rattle.std.proofs.Common.{inl, ◌≡◌, ◌∙◌, sym, ℕ, ◌^◌, ◌<◌, Bool, true, List, [], ◌∷◌, ◌++◌, map, refl, arith}
 use Rattle.std.specs.Prelude.{Option, Some, None}
 use Rattle.std.specs.List.{AllByRecursion}
 use Rattle.blk_base.specs.Options.{Options}
@@ -9,12 +9,9 @@ use Rattle.blk_base.specs.declared.parts.End.TheVariants as end
 use Rattle.blk_base.specs.declared.moves.BackMover.TheVariants as back_mover
 use Rattle.hypervisor.specs.Act.{FrontAct, BackAct, Took, back_act}
 use Rattle.schedule_text.specs.Range.{AreOptions}
-use Rattle.line_text.proofs.Both.{both_true}
 use Rattle.blk_front.specs.declared.state.FrontState.{FrontState}
 use Rattle.blk_front.specs.declared.state.FrontState.TheVariants as enter
 use Rattle.blk_front.specs.declared.state.Offers.{Offers}
-use Rattle.blk_front.specs.Submit.{is_connected}
-use Rattle.xenbus_state.specs.States.{state_number}
 use Rattle.xenbus_state.specs.declared.stage.FrontStage.{FrontStage}
 use Rattle.xenbus_state.specs.declared.front.FrontBusAsk.{FrontBusAsk}
 use Rattle.xenbus_state.specs.declared.front.FrontBusAsk.TheVariants as front_ask
@@ -33,7 +30,7 @@ use Rattle.vbd_front.specs.Step as front_step
 use Rattle.vbd_back.specs.View as back_view
 use Rattle.vbd_back.specs.Ask as back
 use Rattle.vbd_back.specs.Step as back_step
-use Rattle.vbd_model.specs.World.{World, start_of, frontend_of, backend_of, is_quiet}
+use Rattle.vbd_model.specs.World.{World, start_of, frontend_of, backend_of}
 use Rattle.vbd_model.specs.Happening.{Happening, FrontMoves, BackMoves, JobMoves, Closes, Submits, Notifies, Pokes, OverwritesKey, Dumps, Looks, Settles, front_turn, back_turn, entered_at, halted_at, reasons_of, closes_does, front_does, back_does, does, happens, all_does}
 use Rattle.vbd_model.specs.Possible.{IsPossible, ArePossible}
 use Rattle.vbd_model.specs.Fit.{IsFit}
@@ -44,9 +41,9 @@ use Rattle.vbd_laws.proofs.ServedFront.{IsNewsAt, news_is, front_speaks, front_s
 use Rattle.vbd_laws.proofs.ServedBack as backs
 use Rattle.vbd_laws.proofs.ServedBack.{IsRead, halt_read, halt_said, back_speaks, back_spelled, terms_said, unplugged_speaks}
 use Rattle.vbd_laws.proofs.NegotiatedRun.{Joined, negotiation_of}
-use Rattle.vbd_laws.proofs.NegotiatedAgreed.{IsSame, Begins, begins, begins_now, agreed_is, keeps_order}
+use Rattle.vbd_laws.proofs.NegotiatedAgreed.{IsSame, begins, keeps_order}
 use Rattle.vbd_laws.proofs.NegotiatedEarly.{IsOnItsWay}
-use Rattle.vbd_laws.proofs.NegotiatedWay.{on_its_way, ring_made_now, key_given}
+use Rattle.vbd_laws.proofs.NegotiatedWay.{key_given}
 
 -- what is true at every moment
 pub record Stands (w : World) : Type 0 where
@@ -130,10 +127,6 @@ back_possible w stands =
     (λ quiet moves e. (tt, tt))
     (λ quiet still e. (back_spelled w stands.fit.offers stands.fit.limited stands.back, tt)) refl
 
--- where all is quiet the ring's machine is
-pub quiet_of : (w : World) → is_quiet w ≡ true → rings.is_quiet w.rings ≡ true
-quiet_of w e = (both_true (front_view.is_at_rest (frontend_of w) && back_view.rests (back_asks w)) (rings.is_quiet w.rings) e).1
-
 closes_possible : (w : rings.World) (at : End) → ring_allowed.ArePossible (closes_does at) w
 closes_possible w end.Front = (tt, tt)
 closes_possible w end.Back = tt
@@ -148,8 +141,8 @@ possible_at w (Notifies at) stands is = (tt, tt)
 possible_at w (Pokes frame word value) stands is = (is, tt)
 possible_at w (OverwritesKey name text) stands is = (is, tt)
 possible_at w Dumps stands is = (tt, tt)
-possible_at w (Looks quiet) stands is = (λ e. quiet_of w (is e), tt)
-possible_at w (Settles quiet) stands is = (λ e. quiet_of w (is e), tt)
+possible_at w (Looks quiet) stands is = (tt, tt)
+possible_at w (Settles quiet) stands is = (tt, tt)
 
 front_stands : (w : World) (h : Happening) → Stands w → (let v : World = happens w h in fronts.Speaks v.front)
 front_stands w FrontMoves stands = front_speaks w stands.fit stands.front

@@ -78,6 +78,14 @@ loops_ready ring_stage.Left ready still = absurd (true≢false (sym ready))
 loops_ready ring_stage.Closed ready still = absurd (true≢false (sym ready))
 loops_ready s ready still = absurd (true≢false (sym still))
 
+ready_connected : (s : Stage) → is_ready s ≡ true → is_connected s ≡ true
+ready_connected (ring_stage.RingWord n) is = absurd (true≢false (sym is))
+ready_connected (ring_stage.RingFrame n) is = absurd (true≢false (sym is))
+ready_connected (ring_stage.RingFence n) is = absurd (true≢false (sym is))
+ready_connected (ring_stage.RingFlags n) is = absurd (true≢false (sym is))
+ready_connected ring_stage.NewPort is = absurd (true≢false (sym is))
+ready_connected s is = refl
+
 module _ (w : World) (c : Check) (k : Knows w c) where
   abbrev v : front_view.View
   v = frontend_of w
@@ -150,24 +158,19 @@ module _ (w : World) (c : Check) (k : Knows w c) where
       leaves true None rests e = absurd rests
       leaves true (Some p) rests e = ending 0 r refl rests e
 
-  -- connected, it sleeps in its loop
+  -- connected, its end of the ring waits
+  pub ready_asks : front_asks w ≡ bus_ask.Wait → front.ask_of v ≡ front_ask.Wait → is_ready r ≡ true → front_ring.ask_at r w.rings.front ≡ front_ask.Wait
+  ready_asks rests e ready = sym (ap (λ (b : FrontBusAsk). front.ask_at b v) rests ∙ ring_asks bus_ask.Wait r true refl refl (ready_connected r ready)) ∙ e
+
+  -- it sleeps in its loop
   sleeps_so : front_asks w ≡ bus_ask.Wait → front.ask_of v ≡ front_ask.Wait → (w.front.closing && idle) ≡ false → front_view.is_broken r ≡ false → w.front.state ≡ state.Connected → is_ready r ≡ true → MayWait w c
   sleeps_so rests e remains whole own ready =
-      let does : is_connected r ≡ true = ready_connected r ready in
-      let asks : front_ring.ask_at r w.rings.front ≡ front_ask.Wait = sym (ap (λ (b : FrontBusAsk). front.ask_at b v) rests ∙ ring_asks bus_ask.Wait r true refl refl does) ∙ e in
+      let asks : front_ring.ask_at r w.rings.front ≡ front_ask.Wait = ready_asks rests e ready in
       let here : r ≡ ring_stage.Loop = ready_waits r w.rings.front c ready k.ring asks in
       let looped = loop_waits w.rings.front (sym (ap (λ (t : Stage). front_ring.ask_at t w.rings.front) here) ∙ asks) in
       let stands = subst (λ (t : Stage). StandsAt t w.rings.front c) here k.ring in
       inr (inl (record { connected = own; rests = rests; nothing_found = asleep_is c (stands.0.0 ∙ slept here looped.1); none_waits = looped.0; none_begun = ap front_view.is_still here }))
     where
-      ready_connected : (s : Stage) → is_ready s ≡ true → is_connected s ≡ true
-      ready_connected (ring_stage.RingWord n) is = absurd (true≢false (sym is))
-      ready_connected (ring_stage.RingFrame n) is = absurd (true≢false (sym is))
-      ready_connected (ring_stage.RingFence n) is = absurd (true≢false (sym is))
-      ready_connected (ring_stage.RingFlags n) is = absurd (true≢false (sym is))
-      ready_connected ring_stage.NewPort is = absurd (true≢false (sym is))
-      ready_connected s is = refl
-
       -- a front that is through closes, and its negotiation with it
       slept : r ≡ ring_stage.Loop → (w.rings.front.asleep || front_ring.is_through w.rings.front) ≡ true → w.rings.front.asleep ≡ true
       slept here is = by_asleep w.rings.front.asleep refl is

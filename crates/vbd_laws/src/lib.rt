@@ -68,7 +68,8 @@ pub fn whatever_happens_is_possible()
 
 /// What happens before a hostile hand first overwrites a word or a key is served by the machine of the
 /// ring: the front connects, closes and leaves in order and is never broken, and leaves after the
-/// back; the back halts only as its front closes, with no request left.
+/// back; the back halts only as its front closes, with no request left; and where all is found quiet
+/// neither end waits for its negotiation.
 pub fn the_honest_part_is_served()
     ensures { RingsServed }
 {}

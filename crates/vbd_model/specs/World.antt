@@ -1,13 +1,16 @@
 -- The machine with the negotiation of its ends.
-use Rattle.std.specs.Prelude.{Bool, ◌&&◌, None}
+use Rattle.std.specs.Prelude.{Bool, not, ◌&&◌, None}
+use Rattle.blk_base.specs.declared.parts.End.TheVariants as end
 use Rattle.blk_base.specs.Options.{Options}
 use Rattle.xenbus_state.specs.FrontView.{FrontView, start_of as front_bus_start}
 use Rattle.xenbus_state.specs.BackView.{BackView, start_of as back_bus_start}
-use Rattle.xenbus_state.specs.BackAsk.{ask_of as back_bus_ask}
 use Rattle.xenbus_state.specs.Offer.{facts_of}
+use Rattle.hypervisor.specs.Act.{has_to_take}
 use Rattle.split_model.specs.World as rings
 use Rattle.vbd_front.specs.View as front
+use Rattle.vbd_front.specs.Ask.{is_waiting}
 use Rattle.vbd_back.specs.View as back
+use Rattle.vbd_back.specs.Ask.{is_idle}
 
 -- the ends of the ring with what lies under both, and each end's negotiation
 pub record World : Type 0 where
@@ -26,6 +29,6 @@ frontend_of w = record { ring = w.rings.front; bus = w.front; news = None }
 abbrev pub backend_of : World → back.View
 backend_of w = record { ring = w.rings.back; bus = w.back }
 
--- quiet: both ends wait, and not for their own negotiation, no job is held, and neither an event nor a watch is pending
+-- quiet: both ends wait, no job is held, and neither an event nor a watch is pending
 abbrev pub is_quiet : World → Bool
-is_quiet w = front.is_at_rest (frontend_of w) && back.rests (back_bus_ask w.back) && rings.is_quiet w.rings
+is_quiet w = is_waiting (frontend_of w) && is_idle (backend_of w) && not (has_to_take w.rings.under end.Front) && not (has_to_take w.rings.under end.Back)

@@ -4,15 +4,14 @@ ghost use Rattle.blk_back.specs.Hands.{hands_of};
 ghost use Rattle.back_jobs.specs.Task.{IsAnswer};
 ghost use Rattle.back_jobs.specs.Sound.{StaysInPageAndDisk};
 ghost use Rattle.back_jobs.specs.Hands.{Names, HandsAfter};
-ghost use Rattle.vbd_back.specs.View.{heard, is_idle};
-ghost use Rattle.vbd_back.specs.Ask.{is_waiting};
+ghost use Rattle.vbd_back.specs.View.{heard};
+ghost use Rattle.vbd_back.specs.Ask.{is_waiting, is_idle};
 ghost use Rattle.vbd_back.specs.Step.{job_ask_of, job_step, next_job_of};
 
 use super::Backend;
 use crate::turn::Turn;
-use blk_back::{BackTold, Halt};
+use blk_back::{BackTold, Halt, Stage};
 use blk_base::{BackAnswer, BackAsk};
-use xenbus_state::BackBusAsk;
 
 impl Backend {
     /// What the job of the `number`-th request that was fetched in this epoch asks next; `Wait` also
@@ -61,12 +60,11 @@ impl Backend {
         }
     }
 
-    /// Whether the ring's end asks for nothing but an event, no job is held, and the negotiation has
-    /// begun nothing, or has halted and given all up.
+    /// Whether it asks for nothing but an event or a watch, and no job is held.
     pub fn idle(&self) -> bool
         ensures { result ≡ is_idle self.now }
     {
-        matches!(self.bus.ask(), BackBusAsk::Wait) && self.ring.idle()
+        self.waits() && (matches!(self.ring.stage(), Stage::InitWait) || self.ring.idle())
     }
 
     /// What happened at the ring in the last move, once; `None` exactly where nothing is left to tell.
