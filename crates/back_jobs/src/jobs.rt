@@ -91,6 +91,13 @@ impl Jobs {
         })
     }
 
+    /// The disk that its jobs move sectors of.
+    pub fn info(&self) -> DiskInfo
+        ensures { result ≡ self.now.info }
+    {
+        self.info
+    }
+
     // Where the job of a number stands.
     #[inline(always)]
     fn place(&self, number: u64) -> Option<usize>

@@ -57,20 +57,23 @@ info_of config = record {
 abbrev pub no_shape : Shape
 no_shape = record { abi = X64; order = 0 }
 
--- a back that waits for the terms of its front
-abbrev pub start_of : Options → View
-start_of config = record {
-  ring = record { entries = entries_of 0; prod = config.start; cons = config.start };
+-- a back that waits for the terms of its front, of a ring of this first index and of this disk
+abbrev pub new_of : (start : ℕ) → DiskInfo → View
+new_of start info = record {
+  ring = record { entries = entries_of 0; prod = start; cons = start };
   stage = stage.InitWait;
   asleep = false;
-  seen = config.start;
+  seen = start;
   shape = no_shape;
   grefs = [];
   port = 0;
   pages = [];
   entry = [];
   fetched = 0;
-  jobs = none_held (entries_of 4) (info_of config);
+  jobs = none_held (entries_of 4) info;
   told = None;
   halted = None;
 }
+
+abbrev pub start_of : Options → View
+start_of config = new_of config.start (info_of config)

@@ -1,7 +1,7 @@
 // The back end.
 ghost use Rattle.std.specs.Prelude.{◌≡◌, ◌<◌, ◌≤◌, IfOk, IsOk, IsErr, OnErr, None, length};
 ghost use Rattle.ring_words.specs.Shape.{entry_words_of};
-ghost use Rattle.blk_back.specs.View.{start_of, page_of, slot_page, slot_word};
+ghost use Rattle.blk_back.specs.View.{start_of, new_of, page_of, slot_page, slot_word};
 ghost use Rattle.blk_back.specs.Ask.{ask_of, loop_ask, reply_ask, entry_ask, index_ask, unmap_ask, next_gref, next_reply, response_word, IsAnswer, StaysInPage};
 ghost use Rattle.blk_back.specs.Step.{step_of, step_at, job_step, attaches};
 ghost use Rattle.blk_back.specs.Hands.{hands_of};
@@ -62,8 +62,6 @@ impl Back {
     pub fn new(alloc: Global, config: &Config) -> Result<Back, OutOfMemory>
         ensures { IfOk result (λ back. back ≡ start_of config.now) }
     {
-        let shape = RingShape::of(Abi::X64, 0);
-        let largest = RingShape::of(Abi::X64, 4);
         let info = DiskInfo {
             sectors: config.sectors,
             read_only: config.read_only,
@@ -72,12 +70,29 @@ impl Back {
             discard: !config.read_only,
             max_indirect: config.indirect,
         };
+        Back::of(alloc, config.start, info)
+    }
+
+    /// A new back of the same disk, which waits for the terms of its front, of a ring of this first
+    /// index. It fails only where there is not enough memory.
+    pub fn renewed(&self, alloc: Global, start: u32) -> Result<Back, OutOfMemory>
+        ensures { IfOk result (λ back. back ≡ new_of start self.now.jobs.info) }
+    {
+        Back::of(alloc, start, self.jobs.info())
+    }
+
+    // A back of this disk, of a ring of this first index.
+    fn of(alloc: Global, start: u32, info: DiskInfo) -> Result<Back, OutOfMemory>
+        ensures { IfOk result (λ back. back ≡ new_of start info) }
+    {
+        let shape = RingShape::of(Abi::X64, 0);
+        let largest = RingShape::of(Abi::X64, 4);
         let jobs = Jobs::reserve(alloc, largest, info)?;
         Ok(Back {
-            ring: BackRing::attach(shape, config.start),
+            ring: BackRing::attach(shape, start),
             stage: Stage::InitWait,
             asleep: false,
-            seen: config.start,
+            seen: start,
             abi: Abi::X64,
             order: 0,
             grefs: ArrayVec::new(),

@@ -92,6 +92,7 @@ ask_at (stage.ResponseLast low high) v = Read (slot_frame v.shape v.ring.cons 2)
 ask_at (stage.GrantRead place) v = revoke_ask v.ending place
 ask_at (stage.GrantEnd place seen) v = end_ask v.ending place seen
 ask_at (stage.ReadData n) v = read_ask v.ending n
+ask_at (stage.LeftData n) v = read_ask v.ending n
 ask_at stage.StoreEvent v = Write ring_frame 3 (next_of v.ring.cons)
 ask_at stage.EventFence v = Fence
 ask_at stage.LookAgain v = Read ring_frame 2

@@ -8,4 +8,5 @@ pub mod Ask
 pub mod Step
 pub mod Submit
 pub mod State
+pub mod Suspend
 pub mod Sound

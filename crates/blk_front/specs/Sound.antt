@@ -1,5 +1,5 @@
 -- What is true of the front at every moment.
-use Rattle.std.specs.Prelude.{◌≡◌, ℕ, ◌+◌, ◌^◌, ◌<◌, ◌≤◌, List, length, All, AllPairs, IfSome}
+use Rattle.std.specs.Prelude.{◌≡◌, ◌≢◌, ℕ, ◌+◌, ◌^◌, ◌<◌, ◌≤◌, List, length, All, AllPairs, Option, IfSome, IsSome}
 use Rattle.blk_base.specs.Distance.{distance_of}
 use Rattle.ring_words.specs.Shape.{Shape, entries_of, entry_words_of}
 use Rattle.blk_front.specs.declared.request.Request.{Request}
@@ -25,14 +25,22 @@ IsPlaced (stage.Slot k) shape = k < entry_words_of shape.abi
 IsPlaced (stage.GrantRead place) shape = place < 962
 IsPlaced (stage.GrantEnd place before) shape = place < 962
 IsPlaced (stage.ReadData n) shape = n < 983040
+IsPlaced (stage.LeftData n) shape = n < 983040
 IsPlaced (stage.RingRead page) shape = page < 2 ^ shape.order
 IsPlaced (stage.RingEnd page seen) shape = page < 2 ^ shape.order
 IsPlaced s shape = Unit {0}
 
--- before the ring is made there is no request
-abbrev pub IsUnused : Stage → ℕ → Type 0
-IsUnused (stage.RingWord k) count = count ≡ 0
-IsUnused s count = Unit {0}
+-- before the ring is made none is issued
+abbrev pub IsUnissued : Stage → (count waiting : ℕ) → Type 0
+IsUnissued (stage.RingWord k) count waiting = count ≡ waiting
+IsUnissued (stage.LeftData n) count waiting = count ≡ waiting
+IsUnissued s count waiting = Unit {0}
+
+-- while data are told, the request is there
+abbrev pub IsHeld : Stage → Option Ending → Type 0
+IsHeld (stage.ReadData n) ending = IsSome ending
+IsHeld (stage.LeftData n) ending = IsSome ending
+IsHeld s ending = Unit {0}
 
 -- while a request is issued, one waits
 abbrev pub IsIssuing : Stage → ℕ → Type 0
@@ -55,6 +63,11 @@ IsReading s ahead = Unit {0}
 abbrev pub AreAscending : List Request → Type 0
 AreAscending requests = AllPairs (λ (r s : Request). r.number < s.number) requests
 
+-- the request that is ending is none of the others, and its number was given
+pub record IsApart (requests : List Request) (last : ℕ) (e : Ending) : Type 0 where
+  pub given : e.request.number ≤ last
+  pub other : All (λ (r : Request). r.number ≢ e.request.number) requests
+
 pub record IsSound (v : View) : Type 0 where
   pub order : v.shape.order ≤ 4
   pub entries : v.ring.entries ≡ entries_of v.shape.order
@@ -64,7 +77,7 @@ pub record IsSound (v : View) : Type 0 where
   -- no more responses were seen than requests were pushed
   pub seen : distance_of v.ring.cons v.seen ≤ distance_of v.ring.cons v.ring.prod
   pub placed : IsPlaced v.stage v.shape
-  pub unmade : IsUnused v.stage (length v.requests)
+  pub unissued : IsUnissued v.stage (length v.requests) v.waiting
   pub issuing : IsIssuing v.stage v.waiting
   pub reading : IsReading v.stage (distance_of v.ring.cons v.seen)
   -- numbers were given in order, so an id is found without a walk
@@ -72,4 +85,6 @@ pub record IsSound (v : View) : Type 0 where
   pub given : All (λ (r : Request). r.number ≤ v.last) v.requests
   -- each has its sectors and its frames
   pub shaped : All IsShaped v.requests
+  pub held : IsHeld v.stage v.ending
   pub ending : IfSome v.ending (λ (e : Ending). IsShaped e.request)
+  pub apart : IfSome v.ending (IsApart v.requests v.last)

@@ -1,5 +1,5 @@
 -- When the front may enter a state that its negotiation has it enter, and what that makes of it (`io/xenbus.h`).
-use Rattle.std.specs.Prelude.{Bool, true, false, not, ◌&&◌, if◌then◌else◌, ◌==◌, nat_le}
+use Rattle.std.specs.Prelude.{Bool, true, false, not, ◌&&◌, if◌then◌else◌, ◌==◌, nat_le, length}
 use Rattle.ring_words.specs.Shape.{entries_of}
 use Rattle.blk_front.specs.declared.stage.Stage.{Stage}
 use Rattle.blk_front.specs.declared.stage.Stage.TheVariants as stage
@@ -32,9 +32,9 @@ abbrev pub is_unmade : Stage → Bool
 is_unmade (stage.RingWord k) = k == 0
 is_unmade s = false
 
--- An order no greater than it wished is agreed before its ring is begun. It is connected where it waits for it, and begins to close once. It leaves, and is closed, only with no request left, and is closed only without a ring.
+-- An order no greater than it wished, of a ring with an entry for each request, is agreed before its ring is begun. It is connected where it waits for it, and begins to close once. It leaves, and is closed, only with no request left, and is closed only without a ring.
 abbrev pub may_enter : FrontState → View → Bool
-may_enter (state.Agreed order) v = is_unmade v.stage && nat_le order v.shape.order
+may_enter (state.Agreed order) v = is_unmade v.stage && nat_le order v.shape.order && nat_le (length v.requests) (entries_of order)
 may_enter (state.Connected offers) v = is_initialised v.stage
 may_enter state.Closing v = not v.closing && is_open v.stage
 may_enter state.Leaving v = is_through v && is_made v.stage

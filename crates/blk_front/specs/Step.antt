@@ -138,6 +138,13 @@ data_step (Some e) n word v =
     if nat_lt (n + 1) (words_in e.request) then at (stage.ReadData (n + 1)) (sector_told e n (slice_set v.words (n % 128) word) v)
     else finished e (sector_told e n (slice_set v.words (n % 128) word) v)
 
+-- the same after a suspend: after the last word of all the ring is made anew
+abbrev pub left_step : Option Ending → ℕ → ℕ → View → View
+left_step None n word v = v
+left_step (Some e) n word v =
+    if nat_lt (n + 1) (words_in e.request) then at (stage.LeftData (n + 1)) (sector_told e n (slice_set v.words (n % 128) word) v)
+    else at (stage.RingWord 0) (finished e (sector_told e n (slice_set v.words (n % 128) word) v))
+
 -- the grant entry was read: it may be ended where the back has no mapping of it
 abbrev pub end_step : View → ℕ → ℕ → View
 end_step v place word = if is_mapped word then broken word v else at (stage.GrantEnd place word) v
@@ -190,6 +197,7 @@ step_at (stage.ResponseLast low high) v (Word last) = response_step v low high l
 step_at (stage.GrantRead place) v (Word word) = end_step v place word
 step_at (stage.GrantEnd place before) v (Word word) = exchanged v place before word
 step_at (stage.ReadData n) v (Word word) = data_step v.ending n word v
+step_at (stage.LeftData n) v (Word word) = left_step v.ending n word v
 step_at stage.StoreEvent v answer = at stage.EventFence v
 step_at stage.EventFence v answer = at stage.LookAgain v
 step_at stage.LookAgain v (Word word) = looked v word (record v { seen = word; stage = stage.Loop; asleep = true })
@@ -215,4 +223,5 @@ IsRevoking s = ⊥
 abbrev pub IsEndingStage : Stage → Type 0
 IsEndingStage (stage.GrantEnd place before) = Unit {0}
 IsEndingStage (stage.ReadData n) = Unit {0}
+IsEndingStage (stage.LeftData n) = Unit {0}
 IsEndingStage s = ⊥

@@ -28,6 +28,7 @@ is_ready (stage.RingFence page) = false
 is_ready (stage.RingFlags page) = false
 is_ready stage.NewPort = false
 is_ready stage.Initialised = false
+is_ready (stage.LeftData n) = false
 is_ready (stage.RingRead page) = false
 is_ready (stage.RingEnd page seen) = false
 is_ready stage.ClosePort = false
@@ -43,6 +44,7 @@ is_connected (stage.RingFrame page) = false
 is_connected (stage.RingFence page) = false
 is_connected (stage.RingFlags page) = false
 is_connected stage.NewPort = false
+is_connected (stage.LeftData n) = false
 is_connected s = true
 
 -- a request whose grants are being ended, or whose data are told, is unfinished still
@@ -50,6 +52,7 @@ abbrev pub ending_of : Stage → ℕ
 ending_of (stage.GrantRead place) = 1
 ending_of (stage.GrantEnd place before) = 1
 ending_of (stage.ReadData n) = 1
+ending_of (stage.LeftData n) = 1
 ending_of s = 0
 
 abbrev pub unfinished : View → ℕ

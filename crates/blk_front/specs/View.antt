@@ -69,13 +69,17 @@ fresh_word start k =
 abbrev pub next_request : View → Option Request
 next_request v = if v.waiting == 0 then None else slice_get v.requests (length v.requests - v.waiting)
 
+-- a back that serves reads and writes alone
+abbrev pub no_offers : Offers
+no_offers = record { barrier = false; flush = false; discard = false; indirect = 0 }
+
 -- a front that makes its ring next
 abbrev pub start_of : Options → View
 start_of config = record {
   sectors = config.sectors;
   read_only = config.read_only;
   start = config.start;
-  offers = record { barrier = false; flush = false; discard = false; indirect = 0 };
+  offers = no_offers;
   shape = record { abi = config.abi; order = config.order };
   ring = record { entries = entries_of config.order; prod = config.start; cons = config.start };
   stage = stage.RingWord 0;

@@ -13,6 +13,7 @@ ghost use Rattle.blk_front.specs.Submit.{submit_of, unfinished};
 mod state;
 mod steps;
 mod submit;
+mod suspend;
 
 use crate::frames::SpareLists;
 use crate::place;
@@ -83,12 +84,7 @@ impl Front {
             sectors: config.sectors,
             read_only: config.read_only,
             start: config.start,
-            offers: Offers {
-                barrier: false,
-                flush: false,
-                discard: false,
-                indirect: 0,
-            },
+            offers: Offers::none(),
             abi: config.abi,
             order: config.order,
             ring: FrontRing::attach(shape, config.start),
@@ -465,7 +461,7 @@ impl<'a> Endpoint<'a> for Front {
             Stage::ResponseLast(_, _) => self.read_response(2),
             Stage::GrantRead(place) => self.read_grant(place),
             Stage::GrantEnd(place, seen) => self.end_grant_of(place, seen),
-            Stage::ReadData(n) => self.read_word(n),
+            Stage::ReadData(n) | Stage::LeftData(n) => self.read_word(n),
             Stage::StoreEvent => write(
                 place::RING_FRAME,
                 RSP_EVENT,
@@ -515,6 +511,7 @@ impl<'a> Endpoint<'a> for Front {
                 self.ended_grant(place, before, *word);
             }
             (Stage::ReadData(n), FrontAnswer::Word(word)) => self.read_data(n, *word),
+            (Stage::LeftData(n), FrontAnswer::Word(word)) => self.read_left(n, *word),
             (Stage::StoreEvent, _) => self.stage = Stage::EventFence,
             (Stage::EventFence, _) => self.stage = Stage::LookAgain,
             (Stage::LookAgain, FrontAnswer::Word(word)) => self.look_again(*word),

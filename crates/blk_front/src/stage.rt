@@ -56,6 +56,8 @@ pub enum Stage {
     GrantEnd(u32, u32),
     /// Reads the data of a read that was answered: the word of this number is read next, 0 to 983039.
     ReadData(u32),
+    /// The same after a suspend, before the ring is made anew: the data in hand are told first.
+    LeftData(u32),
     /// Looks for responses a last time: the event word, a fence, the producer again. The fence has the
     /// event word seen before the producer is read (`RING_FINAL_CHECK_FOR_RESPONSES`).
     StoreEvent,

@@ -1,4 +1,6 @@
 // The states that the negotiation has the front enter.
+ghost use Rattle.std.specs.Prelude.{◌≡◌};
+ghost use Rattle.blk_front.specs.View.{no_offers};
 
 /// What the back serves beside reads and writes, as it published it (`feature-barrier`,
 /// `feature-flush-cache` and `feature-discard` of `io/blkif.h`), and how many segments it takes in
@@ -9,6 +11,20 @@ pub struct Offers {
     pub flush: bool,
     pub discard: bool,
     pub indirect: u32,
+}
+
+impl Offers {
+    /// Reads and writes alone.
+    pub fn none() -> Offers
+        ensures { result ≡ no_offers }
+    {
+        Offers {
+            barrier: false,
+            flush: false,
+            discard: false,
+            indirect: 0,
+        }
+    }
 }
 
 /// A state that the front enters as its negotiation with the back goes (`io/xenbus.h`).

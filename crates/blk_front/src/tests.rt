@@ -7,6 +7,7 @@ mod indirect;
 mod long;
 mod reads;
 mod shapes;
+mod suspend;
 
 use crate::{FrontState, Refusal, Told};
 use blk_base::{FrontAsk, Job, SectorCount};

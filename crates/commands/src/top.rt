@@ -39,8 +39,8 @@ use std::alloc::Global;
 /// - 1: `check` found a line that breaks a rule; the output gained `broken`, the line's number and the
 ///   rule. Or `inspect` found another number of bytes than the ring's, and nothing was written.
 /// - 2: the words ask for nothing, or for help. Nothing was read or written.
-/// - 3: a line of the schedule isn't carried out. Those before it were, and are reported. For `check` a
-///   line is none of a report, and those before it break no rule.
+/// - 3: a line of the schedule isn't in the grammar. Those before it were carried out, and are reported.
+///   For `check` a line is none of a report, and those before it break no rule.
 /// - 4: the source failed. The whole lines that were read were carried out, and are reported.
 /// - 5: the output failed. A beginning of the text may have been written, lawful as far as its whole
 ///   lines go.

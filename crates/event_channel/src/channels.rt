@@ -72,6 +72,13 @@ impl Channels {
         }
     }
 
+    /// How many ports were ever made.
+    pub fn made(&self) -> u32
+        ensures { result ≡ self.now.made }
+    {
+        self.made
+    }
+
     /// A new port of the front, for the back to bind. At most 4 are made between two resets.
     pub fn alloc_unbound(&mut self) -> Port
         requires number_left { self.old.made < 4294967295 }

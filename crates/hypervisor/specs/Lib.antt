@@ -2,3 +2,4 @@ pub mod Hypervisor
 pub mod Act
 pub mod May
 pub mod Disk
+pub mod Suspend

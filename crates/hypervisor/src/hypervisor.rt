@@ -17,6 +17,7 @@ mod back;
 mod front;
 mod keys;
 mod shown;
+mod suspend;
 
 pub use keys::Room;
 pub use shown::front_shown;

@@ -422,3 +422,81 @@ fn a_key_of_the_other_end_is_read_and_not_written(rt: HostRuntime) -> Result<(),
     );
     Ok(())
 }
+
+fn suspend(under: &mut Hypervisor, state: &str) -> Result<(), OutOfMemory>
+    requires { length state.now ≤ 64 }
+{
+    under.suspend(&text_of(state))
+}
+
+#[test]
+fn a_suspend_clears_the_grants_and_no_other_frame(rt: HostRuntime) -> Result<(), Fail> {
+    let alloc = rt.alloc();
+    let mut under = start(alloc)?;
+    let mut disk = no_sectors(alloc)?;
+    let mut room = Room::new();
+    // Reference 24 grants frame 18: words 48 and 49 of frame 0.
+    write(&mut under, 0, 49, 18);
+    write(&mut under, 0, 48, 1);
+    write(&mut under, 1, 1023, 5);
+    write(&mut under, 2, 0, 7);
+    let _ = map_and_read(&mut under, 24, &mut disk, &mut room)?;
+    suspend(&mut under, "1")?;
+    assert_eq!(rt; (read(&under, 0, 48), read(&under, 0, 49)), (0, 0));
+    assert_eq!(rt; (read(&under, 1, 1023), read(&under, 2, 0)), (0, 7));
+    Ok(())
+}
+
+// The back sets a watch at the front's state.
+fn watch_state<D: SectorDisk>(
+    under: &mut Hypervisor,
+    disk: &mut D,
+    room: &mut Room,
+) -> Result<(), OutOfMemory> {
+    let path = path_of("/local/domain/1/device/vbd/51712/state");
+    let ask = BackAsk::Watch(Lent::at(&path));
+    let _ = back(under, BackMover::Back, &ask, disk, room)?;
+    Ok(())
+}
+
+// The front reads a key, which has this text, or isn't there.
+fn reads_key(
+    rt: &impl Abort,
+    under: &mut Hypervisor,
+    path: &Path,
+    text: Option<&Text>,
+    room: &mut Room,
+) -> Result<(), OutOfMemory> {
+    let told = front(under, &FrontAsk::GetKey(Lent::at(path)), room)?;
+    match text {
+        Some(text) => assert_eq!(rt; told, Some(FrontAnswer::Key(Some(Lent::at(text))))),
+        None => assert_eq!(rt; told, Some(FrontAnswer::Key(None))),
+    }
+    Ok(())
+}
+
+#[test]
+fn a_suspend_leaves_both_states_and_no_other_key_event_or_watch(
+    rt: HostRuntime,
+) -> Result<(), Fail> {
+    let alloc = rt.alloc();
+    let mut under = start(alloc)?;
+    let mut disk = no_sectors(alloc)?;
+    let mut room = Room::new();
+    bind(&rt, &mut under, &mut disk, &mut room)?;
+    send(&rt, &mut under, &mut room)?;
+    watch_state(&mut under, &mut disk, &mut room)?;
+    let key = path_of("/local/domain/1/device/vbd/51712/ring-ref");
+    set_key(&rt, &mut under, &key, &text_of("8"), &mut room)?;
+    suspend(&mut under, "6")?;
+    assert_eq!(rt; pending(&under), (false, false));
+    assert_eq!(rt; watches_pending(&under), (false, false));
+    reads_key(&rt, &mut under, &key, None, &mut room)?;
+    let state = path_of("/local/domain/1/device/vbd/51712/state");
+    reads_key(&rt, &mut under, &state, Some(&text_of("6")), &mut room)?;
+    // Nor is there a port that could be bound.
+    let bind = BackAsk::Bind(1);
+    let (refused, _) = back(&mut under, BackMover::Back, &bind, &mut disk, &mut room)?;
+    assert_eq!(rt; refused, Some(BackAnswer::BindRefused));
+    Ok(())
+}

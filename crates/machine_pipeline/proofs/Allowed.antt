@@ -8,7 +8,7 @@ use Rattle.blk_front.specs.View as front
 use Rattle.blk_front.specs.declared.state.FrontState.{FrontState}
 use Rattle.blk_front.specs.declared.state.FrontState.TheVariants.{Agreed, Broken}
 use Rattle.split_model.specs.World.{World}
-use Rattle.split_model.specs.Happening.{Happening, FrontMoves, BackMoves, FrontEnters, BackAttaches, BackHalts, Pokes, OverwritesKey, Looks, Settles, happens}
+use Rattle.split_model.specs.Happening.{Happening, FrontMoves, BackMoves, FrontEnters, BackAttaches, BackHalts, Pokes, OverwritesKey, Suspends, Looks, Settles, happens}
 use Rattle.split_model.proofs.Narrow.{happens_narrow}
 use Rattle.machine_pipeline.specs.Allowed.{MayEnter, AreTerms, IsStated, AreSaid, IsServed, AreServed, IsPossible, ArePossible}
 use Rattle.machine_pipeline.proofs.Slots.{few_pages}
@@ -55,6 +55,7 @@ served_possible (h ∷ hs) w narrow p = (one_possible h p.0, served_possible hs 
     one_possible (BackHalts why) may = may.said
     one_possible (Pokes frame word value) may = absurd may
     one_possible (OverwritesKey name text) may = absurd may
+    one_possible Suspends may = absurd may
     one_possible (Looks quiet) may = tt
     one_possible (Settles quiet) may = tt
     one_possible x may = may

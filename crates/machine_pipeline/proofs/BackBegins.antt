@@ -24,7 +24,8 @@ use Rattle.blk_back.specs.Step.{fetched}
 use Rattle.machine_pipeline.specs.Plain.{IsPlain}
 use Rattle.machine_pipeline.proofs.Flow.{own_segments, worked}
 use Rattle.machine_pipeline.proofs.Segments.{own_direct, own_here, own_sound, own_sectors, ranged, eleven}
-use Rattle.machine_pipeline.proofs.Holds.{IsPooled, IsSubmitted, AreNumbers, AtWork, IsUnhindered, AreWorks, IsWork}
+use Rattle.machine_pipeline.proofs.Series.{IsSeries, lower}
+use Rattle.machine_pipeline.proofs.Holds.{IsPooled, IsSubmitted, AreSubmitted, AreNumbers, AtWork, IsUnhindered, AreWorks, IsWork}
 use Rattle.blk_base.specs.declared.operation.Abi.{Abi}
 use Rattle.blk_layout.specs.Entry.{request_of}
 use Rattle.blk_layout.specs.Range.{IsInRange, AreWords}
@@ -292,39 +293,50 @@ at_begin (transfer.Barrier tag) number size r is shaped fits = moves (is_indirec
     moves true large = begins_copying true number size r large fits (ap is_write is)
     moves false direct = begins_moving true number size r shaped (ap is_moving is) (ap is_write is)
 
--- that job is the one of the request
-pub is_work : (submitted : List Request) (fetched size sectors : ℕ) (number : ℕ) (r : Request)
+-- that job is the one of the request, which stands at that index
+pub is_work : {series : List Request} (submitted : List Request) (fetched size sectors : ℕ) (number : ℕ) (r : Request)
     → number ≡ fetched + 1
-    → slice_get submitted fetched ≡ Some r
-    → IsSubmitted sectors fetched r
+    → slice_get series fetched ≡ Some r
+    → slice_get submitted (r.number - 1) ≡ Some r
+    → IsSubmitted sectors (r.number - 1) r
     → size ≡ sectors
-    → IsWork submitted (fetched + 1) (job_as r.transfer number size r)
-is_work submitted fetched size sectors number r e known s whole =
+    → IsWork submitted series (fetched + 1) (job_as r.transfer number size r)
+is_work {series} submitted fetched size sectors number r e here known s whole =
     let t : Work = job_as r.transfer number size r in
     let it : IsJobOf r.transfer number r t = is_job r.transfer number size r s.shaped refl in
     let before : t.number - 1 ≡ fetched = omega (arith, it.numbered) in
     record {
       r = r;
-      known = ap (λ (k : ℕ). slice_get submitted k) before ∙ known;
-      positive = omega (arith, it.numbered);
+      known = ap (λ (k : ℕ). slice_get submitted (k - 1)) it.id ∙ known;
+      positive = omega (arith, it.id, s.number);
+      issued = ap (slice_get series) before ∙ here;
+      counted = omega (arith, it.numbered);
       reached = omega (arith, it.numbered);
-      id = it.id ∙ (s.number ∙ (sym e ∙ sym it.numbered));
       op = it.op;
       at = at_begin r.transfer number size r refl s.shaped (let fits = s.sector in omega arith);
     }
 
 -- the jobs with it
-pub works_with : (submitted : List Request) (fetched : ℕ) (works : List Work) (t : Work)
-    → AreWorks submitted fetched works
-    → IsWork submitted (fetched + 1) t
-    → t.number ≡ fetched + 1
+pub works_with : {series : List Request} (submitted : List Request) (sectors last fetched : ℕ) (works : List Work) (t : Work) (r : Request)
+    → IsSeries submitted series
+    → AreSubmitted submitted sectors last
+    → AreWorks submitted series fetched works
+    → IsWork submitted series (fetched + 1) t
+    → slice_get series fetched ≡ Some r
+    → t.id ≡ r.number
     → ((u : Work) → IsUnhindered u t)
-    → AreWorks submitted (fetched + 1) (works ++ t ∷ [])
-works_with submitted fetched works t h here number fresh = record {
-  each = All-push (IsWork submitted (fetched + 1)) works t (λ k d lt. one_further (h.each k d lt)) here;
-  ascending = all_pairs_push (λ (a b : Work). a.number < b.number) works t h.ascending (λ k d lt. let was = h.each k d lt in omega (arith, was.reached));
+    → AreWorks submitted series (fetched + 1) (works ++ t ∷ [])
+works_with {series} submitted sectors last fetched works t r order all h here at id fresh = record {
+  each = All-push (IsWork submitted series (fetched + 1)) works t (λ k d lt. one_further (h.each k d lt)) here;
+  ascending = all_pairs_push (λ (a b : Work). a.id < b.id) works t h.ascending (λ k d lt. earlier (h.each k d lt));
   clear = all_pairs_push IsUnhindered works t h.clear (λ k d lt. fresh (get_or works k d));
 }
   where
-    one_further : {u : Work} → IsWork submitted fetched u → IsWork submitted (fetched + 1) u
-    one_further w = record { r = w.r; known = w.known; positive = w.positive; reached = let le = w.reached in omega arith; id = w.id; op = w.op; at = w.at }
+    one_further : {u : Work} → IsWork submitted series fetched u → IsWork submitted series (fetched + 1) u
+    one_further w = record { r = w.r; known = w.known; positive = w.positive; issued = w.issued; counted = w.counted; reached = let le = w.reached in omega arith; op = w.op; at = w.at }
+
+    earlier : {u : Work} → IsWork submitted series fetched u → u.id < t.id
+    earlier {u} w =
+        let number = all.each (u.id - 1) w.r w.known in
+        let less = lower series (u.number - 1) fetched w.r r order.ascending w.issued at (omega (arith, w.counted, w.reached)) in
+        omega (arith, number.number, w.positive, less, id)

@@ -55,7 +55,7 @@ entry_word w i = word_of w.under.pages (frame_of w.under.grants (slot_page w.bac
 -- the next request that was pushed and not fetched, and each word of its entry
 pub record IsNext (w : World) (g : Flow) : Type 0 where
   pub r : Request
-  pub known : slice_get g.submitted g.fetched ≡ Some r
+  pub known : slice_get g.series g.fetched ≡ Some r
   pub words : (i : ℕ) → i < entry_words_of g.shape.abi → entry_word w i ≡ slice_index (entry_of g.shape.abi r) i
 
 pub next_pushed : (config : Options) (w : World) (g : Flow) (d : Pipeline) (b : BackStage) → BackStands config w g d b → IsBetween b w.back → g.fetched < g.back_seen → IsNext w g
@@ -63,8 +63,8 @@ next_pushed config w g d b p i some =
     let h : Holds config w g d w.front.stage b = p.holds in
     let x = h.indices in
     let pushed : g.fetched < g.pushed = omega (arith, x.back_to) in
-    let within : g.fetched < length g.submitted = omega (arith, x.all, h.submitted.counted) in
-    let found = get_within g.submitted g.fetched within in
+    let within : g.fetched < length g.series = omega (arith, x.all) in
+    let found = get_within g.series g.fetched within in
     record {
       r = found.0;
       known = found.1;
@@ -99,7 +99,7 @@ goes_first config w g d shown given word read awake some p =
     let i : IsBetween stage.Loop w.back = between stage.Loop w.back refl refl refl in
     let more : g.fetched < g.back_seen = some_requests g.start g.fetched g.back_seen w.back.seen w.back.ring x.fetched x.back_saw x.back_from some in
     let n : IsNext w g = next_pushed config w g d stage.Loop p i more in
-    let s = begins_fetch config g d (is_ready w.front.stage) (is_issuing w.front.stage) (ending_at w.front.stage w.front.ending) (telling_at w.front.stage) None w.front.requests w.back.jobs.works w.under.pages (omega (arith, more, x.back_to)) h.stations in
+    let s = begins_fetch config g d (is_ready w.front.stage) (is_issuing w.front.stage) (ending_at w.front.stage w.front.ending) (telling_at w.front.stage) None w.front.requests w.back.jobs.works w.under.pages n.r h.queue.ordered n.known (omega (arith, more, x.back_to)) h.stations in
     goes_moved config w g d (s.step ∷ []) stage.Loop (stage.Fetch 1) (record w.back { entry = word ∷ [] }) w.under.pages w.under.channels g.back_seen shown given (does_step shown (back_lines w.back.told given ++ halt_lines w.back.halted w.back.halted) (rw (p.untold, h.unhalted) refl) s) p
     (quiet_with config w g d stage.Loop (stage.Fetch 1) w.back.asleep w.back.seen (word ∷ []) w.under.channels g.back_seen h i (between (stage.Fetch 1) w.back refl refl refl) s.now x
     (omega arith, many_words g.shape.abi, more, (n.r, n.known, one_more g.shape.abi n.r 0 word [] (some_words g.shape.abi) refl (read ∙ n.words 0 (some_words g.shape.abi))))

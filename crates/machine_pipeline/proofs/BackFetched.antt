@@ -1,7 +1,7 @@
 -- The last word of an entry is read: its job is begun.
-use Rattle.std.proofs.Common.{◌≡◌, ◌≢◌, ℕ, ◌+◌, ◌%◌, ◌^◌, ◌<◌, ◌==◌, Bool, true, false, if◌then◌else◌, List, [], ◌∷◌, ◌++◌, length, take, refl, ap, sym, subst, ◌∙◌, arith, length-append}
+use Rattle.std.proofs.Common.{◌≡◌, ◌≢◌, ℕ, ◌+◌, ◌-◌, ◌%◌, ◌^◌, ◌<◌, ◌==◌, Bool, true, false, if◌then◌else◌, List, [], ◌∷◌, ◌++◌, length, take, refl, ap, sym, subst, ◌∙◌, arith, length-append}
 use Rattle.std.specs.Prelude.{Some, None, slice_get, slice_index, count_by}
-use Rattle.std.proofs.lemmas.Option.{same_Some}
+use Rattle.std.proofs.lemmas.Option.{same_Some, slice_get_within}
 use Rattle.std.proofs.lemmas.Bool.{false≢true}
 use Rattle.std.proofs.lemmas.Bool.Decides.{nat_tests}
 use Rattle.blk_base.specs.Options.{Options}
@@ -24,6 +24,7 @@ use Rattle.split_model.specs.World.{World}
 use Rattle.split_model.specs.Shown.{back_lines, halt_lines}
 use Rattle.machine_pipeline.specs.Step.{IsSame}
 use Rattle.machine_pipeline.proofs.Flow.{Flow, is_issuing, ending_at, telling_at}
+use Rattle.machine_pipeline.proofs.Series.{numbered_more}
 use Rattle.machine_pipeline.proofs.Stations.{AreStations}
 use Rattle.machine_pipeline.proofs.StationsBack.{fetches}
 use Rattle.machine_pipeline.proofs.Holds.{Holds, AreIndices, IsSubmitted, IsWork, AreReplies, AreSlots}
@@ -54,7 +55,7 @@ indices_with g front_ring back_ring front_seen back_seen number last waiting unf
   fetched = next_wrapped g.start g.fetched back_ring.cons x.fetched;
   front_saw = x.front_saw;
   back_saw = x.back_saw;
-  count = omega (arith, x.count, x.few, x.all, x.back_to);
+  count = omega (arith, x.count, x.few, x.all, x.given, x.back_to);
   taken_replied = x.taken_replied;
   replied_fetched = omega (arith, x.replied_fetched);
   fetched_pushed = omega (arith, x.back_to);
@@ -63,20 +64,21 @@ indices_with g front_ring back_ring front_seen back_seen number last waiting unf
   back_from = omega arith;
   back_to = x.back_to;
   all = x.all;
+  given = x.given;
   few = x.few;
   held = x.held;
   room = x.room;
 }
 
-replies_with : (fetched taken replied : ℕ) (replies : List Reply) → AreReplies fetched taken replied replies → AreReplies (fetched + 1) taken replied replies
+replies_with : {series : List Request} (fetched taken replied : ℕ) (replies : List Reply) → AreReplies series fetched taken replied replies → AreReplies series (fetched + 1) taken replied replies
 replies_with fetched taken replied replies h = record {
   counted = h.counted;
-  each = λ k d lt. let was = h.each k d lt in record { positive = was.positive; reached = let le = was.reached in omega arith; op = was.op };
+  each = λ k d lt. let was = h.each k d lt in record { positive = was.positive; reached = numbered_more fetched (fetched + 1) _ (omega arith) was.reached; op = was.op };
   distinct = h.distinct;
 }
 
-slots_with : (shape : Shape) (start fetched pushed taken replied : ℕ) (submitted : List Request) (replies : List Reply) (pages : List ℕ) (s : FrontStage) (k : ℕ) → AreSlots shape start fetched pushed taken replied submitted replies pages s (stage.Fetch k) → AreSlots shape start (fetched + 1) pushed taken replied submitted replies pages s stage.Loop
-slots_with shape start fetched pushed taken replied submitted replies pages s k h = record {
+slots_with : (shape : Shape) (start fetched pushed taken replied : ℕ) (series : List Request) (replies : List Reply) (pages : List ℕ) (s : FrontStage) (k : ℕ) → AreSlots shape start fetched pushed taken replied series replies pages s (stage.Fetch k) → AreSlots shape start (fetched + 1) pushed taken replied series replies pages s stage.Loop
+slots_with shape start fetched pushed taken replied series replies pages s k h = record {
   entries = λ j r from to e i lt. h.entries j r (omega arith) to e i lt;
   entry = h.entry;
   responses = h.responses;
@@ -85,7 +87,7 @@ slots_with shape start fetched pushed taken replied submitted replies pages s k 
 
 goes_fetched : (config : Options) (w : World) (g : Flow) (d : Pipeline) (k : ℕ) (shown : Shown) (given : BackAnswer) (r : Request) (words : List ℕ)
     → BackStands config w g d (stage.Fetch k)
-    → slice_get g.submitted g.fetched ≡ Some r
+    → slice_get g.series g.fetched ≡ Some r
     → words ≡ entry_of w.back.shape.abi r
     → LooksAs config w d shown given (fetched w.back words)
 goes_fetched config w g d k shown given r words p known e = subst (λ (ws : List ℕ). LooksAs config w d shown given (fetched w.back ws)) (sym e) (record {
@@ -101,7 +103,7 @@ goes_fetched config w g d k shown given r words p known e = subst (λ (ws : List
     submitted = h.submitted;
     pool = h.pool;
     stations = s.now;
-    works = works_with g.submitted g.fetched w.back.jobs.works t h.works is (it.numbered ∙ number) it.unhindered;
+    works = works_with g.submitted w.front.sectors w.front.last g.fetched w.back.jobs.works t r h.queue.ordered h.submitted h.works is known it.id it.unhindered;
     counted = omega (arith, length-append w.back.jobs.works (t ∷ []), h.counted);
     info = h.info;
     replies = replies_with g.fetched g.taken g.replied g.replies h.replies;
@@ -111,7 +113,7 @@ goes_fetched config w g d k shown given r words p known e = subst (λ (ws : List
     unhalted = h.unhalted;
     memory = h.memory;
     ring = h.ring;
-    slots = slots_with g.shape g.start g.fetched g.pushed g.taken g.replied g.submitted g.replies w.under.pages w.front.stage k h.slots;
+    slots = slots_with g.shape g.start g.fetched g.pushed g.taken g.replied g.series g.replies w.under.pages w.front.stage k h.slots;
     frames = h.frames;
     telling = h.telling;
     entries = h.entries;
@@ -133,25 +135,31 @@ goes_fetched config w g d k shown given r words p known e = subst (λ (ws : List
     awake = h.back_sleep.may refl
 
     number : next_number w.back ≡ g.fetched + 1
-    number = omega (arith, x.count, x.few, x.all, x.fetched_pushed)
+    number = omega (arith, x.count, x.few, x.all, x.given, x.fetched_pushed)
 
     t : Work
     t = begun (next_number w.back) (request_of w.back.shape.abi (entry_of w.back.shape.abi r)) w.back.jobs.info.sectors (verdict_of (request_of w.back.shape.abi (entry_of w.back.shape.abi r)) w.back.jobs.info)
 
-    sub : IsSubmitted config.sectors g.fetched r
-    sub = subst (λ (sectors : ℕ). IsSubmitted sectors g.fetched r) h.sized.sectors (h.submitted.each g.fetched r known)
+    asked : slice_get g.submitted (r.number - 1) ≡ Some r
+    asked = h.queue.ordered.known g.fetched r known
+
+    few : r.number - 1 < 2 ^ 32
+    few = let within = slice_get_within g.submitted (r.number - 1) r asked in omega (arith, x.few, h.submitted.counted)
+
+    sub : IsSubmitted config.sectors (r.number - 1) r
+    sub = subst (λ (sectors : ℕ). IsSubmitted sectors (r.number - 1) r) h.sized.sectors (h.submitted.each (r.number - 1) r asked)
 
     made : t ≡ job_as r.transfer (next_number w.back) w.back.jobs.info.sectors r
-    made = ap (λ (i : DiskInfo). begun (next_number w.back) (request_of w.back.shape.abi (entry_of w.back.shape.abi r)) w.back.jobs.info.sectors (verdict_of (request_of w.back.shape.abi (entry_of w.back.shape.abi r)) i)) h.info ∙ entry_job w.back.shape.abi config (next_number w.back) w.back.jobs.info.sectors g.fetched r p.plain (omega (arith, x.few, x.all, x.fetched_pushed)) sub (h.sized.writable g.fetched r known) (h.sized.served g.fetched r known) (h.sized.short g.fetched r known)
+    made = ap (λ (i : DiskInfo). begun (next_number w.back) (request_of w.back.shape.abi (entry_of w.back.shape.abi r)) w.back.jobs.info.sectors (verdict_of (request_of w.back.shape.abi (entry_of w.back.shape.abi r)) i)) h.info ∙ entry_job w.back.shape.abi config (next_number w.back) w.back.jobs.info.sectors (r.number - 1) r p.plain few sub (h.sized.writable (r.number - 1) r asked) (h.sized.served (r.number - 1) r asked) (h.sized.short (r.number - 1) r asked)
 
     it : IsJobOf r.transfer (next_number w.back) r t
     it = subst (IsJobOf r.transfer (next_number w.back) r) (sym made) (is_job r.transfer (next_number w.back) w.back.jobs.info.sectors r sub.shaped refl)
 
-    is : IsWork g.submitted (g.fetched + 1) t
-    is = subst (λ (u : Work). IsWork g.submitted (g.fetched + 1) u) (sym made) (is_work g.submitted g.fetched w.back.jobs.info.sectors config.sectors (next_number w.back) r number known sub (ap (λ (i : DiskInfo). i.sectors) h.info))
+    is : IsWork g.submitted g.series (g.fetched + 1) t
+    is = subst (λ (u : Work). IsWork g.submitted g.series (g.fetched + 1) u) (sym made) (is_work g.submitted g.fetched w.back.jobs.info.sectors config.sectors (next_number w.back) r number known asked sub (ap (λ (i : DiskInfo). i.sectors) h.info))
 
     s : Stepped None IsSame d [] (λ p. AreStations config (record g { fetched = g.fetched + 1 }) p (is_ready w.front.stage) (is_issuing w.front.stage) false (ending_at w.front.stage w.front.ending) (telling_at w.front.stage) None w.front.requests (w.back.jobs.works ++ t ∷ []) w.under.pages)
-    s = fetches config g d (is_ready w.front.stage) (is_issuing w.front.stage) (ending_at w.front.stage w.front.ending) (telling_at w.front.stage) None w.front.requests w.back.jobs.works w.under.pages t (omega (arith, x.back_to, h.back_at.2)) (it.numbered ∙ number) it.unmoved (it.unread w.under.pages) h.stations
+    s = fetches config g d (is_ready w.front.stage) (is_issuing w.front.stage) (ending_at w.front.stage w.front.ending) (telling_at w.front.stage) None w.front.requests w.back.jobs.works w.under.pages t r h.queue.ordered known (omega (arith, x.back_to, h.back_at.2)) it.id it.unmoved (it.unread w.under.pages) h.stations
 
 goes_further : (config : Options) (w : World) (g : Flow) (d : Pipeline) (k word : ℕ) (shown : Shown) (given : BackAnswer) (last : Bool)
     → (k + 1 == entry_words_of w.back.shape.abi) ≡ last
@@ -178,7 +186,7 @@ goes_further config w g d k word shown given last tested read p = by_test last t
     r : Request
     r = h.back_at.3.0
 
-    known : slice_get g.submitted g.fetched ≡ Some r
+    known : slice_get g.series g.fetched ≡ Some r
     known = h.back_at.3.1
 
     same : n.r ≡ r

@@ -79,6 +79,7 @@ look config w g d b word h i here =
         back_from = x.fetched_pushed;
         back_to = omega arith;
         all = x.all;
+        given = x.given;
         few = x.few;
         held = x.held;
         room = x.room;
@@ -113,6 +114,7 @@ producer config w g d b p i =
   where
     rung : (s : FrontStage) → is_connected s ≡ true → has_ring s ≡ true
     rung (front.RingWord k) c = c
+    rung (front.LeftData n) c = c
     rung s c = refl
 
 -- where nothing is new the back sleeps

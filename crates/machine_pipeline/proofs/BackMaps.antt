@@ -77,11 +77,11 @@ mapped_beside live h gref apart =
     omega (arith, sum, none)
 
 -- the entries of a request stay as they are where a mapping of a page of the ring is made
-granted_still : (pushed : ℕ) (old new : List ℕ) (live : List Held) (h : Held) (s : FrontStage) (r : Request)
+granted_still : {series : List Request} (pushed : ℕ) (old new : List ℕ) (live : List Held) (h : Held) (s : FrontStage) (r : Request)
     → ((place : ℕ) → place < frames_of r → h.mapping.gref ≢ frame_at r place + 6)
     → SameGrants old new r
-    → IsGranted pushed old live s r
-    → IsGranted pushed new (live ++ h ∷ []) s r
+    → IsGranted series pushed old live s r
+    → IsGranted series pushed new (live ++ h ∷ []) s r
 granted_still pushed old new live h s r apart same was = record {
   named = λ le place lt. let entry = same place lt in entry.frame ∙ was.named le place lt;
   named_next = λ e place t lt. let entry = same place lt in entry.frame ∙ was.named_next e place t lt;
@@ -107,11 +107,11 @@ pub record IsSetting (b : BackStage) : Type 0 where
 setting : (b : BackStage) → has_terms b ≡ true → is_fetching b ≡ false → reply_at b ≡ None → is_back_arming b ≡ false → is_bound_back b ≡ false → given_up b ≡ [] → IsSetting b
 setting b terms fetching replying unarmed unbound given = record { terms = terms; fetching = fetching; replying = replying; unarmed = unarmed; unbound = unbound; given = given }
 
-back_at_setting : (b : BackStage) (shape : Shape) (start fetched back_seen replied : ℕ) (submitted : List Request) (works : List Work) (entry : List ℕ) → IsSetting b → fetched ≡ 0 → BackAt shape start fetched back_seen replied submitted works entry b
-back_at_setting stage.MapRing shape start fetched back_seen replied submitted works entry i none = none
-back_at_setting stage.Bind shape start fetched back_seen replied submitted works entry i none = none
-back_at_setting stage.InitWait shape start fetched back_seen replied submitted works entry i none = none
-back_at_setting b shape start fetched back_seen replied submitted works entry i none = absurd (cc)
+back_at_setting : (b : BackStage) (shape : Shape) (start fetched back_seen replied : ℕ) (series : List Request) (works : List Work) (entry : List ℕ) → IsSetting b → fetched ≡ 0 → BackAt shape start fetched back_seen replied series works entry b
+back_at_setting stage.MapRing shape start fetched back_seen replied series works entry i none = none
+back_at_setting stage.Bind shape start fetched back_seen replied series works entry i none = none
+back_at_setting stage.InitWait shape start fetched back_seen replied series works entry i none = none
+back_at_setting b shape start fetched back_seen replied series works entry i none = absurd (cc)
 
 -- one page more is mapped
 gref_more : (pages : List Mapping) (m : Mapping) → ((page : ℕ) → page < length pages → (slice_index_or pages page no_page).gref ≡ 8 + page) → m.gref ≡ 8 + length pages → (page : ℕ) → page < length (pages ++ m ∷ []) → (slice_index_or (pages ++ m ∷ []) page no_page).gref ≡ 8 + page
@@ -168,7 +168,7 @@ maps config w g d verdict b' p e named stepped i mapped = subst (λ (x : Result 
         replies = h.replies;
         front_at = h.front_at;
         offered = h.offered;
-        back_at = back_at_setting b' g.shape g.start g.fetched g.back_seen g.replied g.submitted w.back.jobs.works w.back.entry i h.back_at;
+        back_at = back_at_setting b' g.shape g.start g.fetched g.back_seen g.replied g.series w.back.jobs.works w.back.entry i h.back_at;
         unhalted = h.unhalted;
         memory = length-set w.under.pages (gref / 512 * 1024 + 2 * (gref % 512)) value ∙ h.memory;
         ring = record {
@@ -178,16 +178,16 @@ maps config w g d verdict b' p e named stepped i mapped = subst (λ (x : Result 
           named = λ page lt from. (let x = beside page (let all = named_to w.front.stage (2 ^ g.shape.order) p.connected in omega arith) (let long = more in omega arith) in x.frame) ∙ h.ring.named page lt (let long = more in omega arith);
           granted = λ page lt from. (let x = beside page (let all = granted_to w.front.stage (2 ^ g.shape.order) p.connected in omega arith) (let long = more in omega arith) in x.flags) ∙ h.ring.granted page lt (let long = more in omega arith);
         };
-        slots = slots_at g.shape g.start g.fetched g.pushed g.taken g.replied g.submitted g.replies new w.front.stage stage.MapRing b' (λ rep t k lt. absurd (none-some rep (sym i.replying ∙ t))) (slots_kept g.shape g.start g.fetched g.pushed g.taken g.replied g.submitted g.replies w.under.pages new w.front.stage stage.MapRing h.shaped.narrow (λ f v from to within behind. others f (omega arith) v within) h.slots);
+        slots = slots_at g.shape g.start g.fetched g.pushed g.taken g.replied g.series g.replies new w.front.stage stage.MapRing b' (λ rep t k lt. absurd (none-some rep (sym i.replying ∙ t))) (slots_kept g.shape g.start g.fetched g.pushed g.taken g.replied g.series g.replies w.under.pages new w.front.stage stage.MapRing h.shaped.narrow (λ f v from to within behind. others f (omega arith) v within) h.slots);
         frames = frames_elsewhere config w g d w.front.stage stage.MapRing new h (λ f low high. others f (omega arith));
         telling = told_elsewhere config w g d w.front.stage stage.MapRing new h (λ f low high. others f (omega arith));
         entries = record {
-          each = all_from (IsGranted g.pushed new (w.under.grants.live ++ made ∷ []) w.front.stage) w.front.requests (λ k r at.
+          each = all_from (IsGranted g.series g.pushed new (w.under.grants.live ++ made ∷ []) w.front.stage) w.front.requests (λ k r at.
               let is = is_submitted config w g d w.front.stage stage.MapRing h k r at in
               granted_still g.pushed w.under.pages new w.under.grants.live made w.front.stage r
               (λ place lt. let pooled = pooled_at r is.frames place in omega (arith, pooled.0, low))
               (entry_beside w.under.pages gref value r low is.frames)
-              (all_at (IsGranted g.pushed w.under.pages w.under.grants.live w.front.stage) w.front.requests k r h.entries.each at));
+              (all_at (IsGranted g.series g.pushed w.under.pages w.under.grants.live w.front.stage) w.front.requests k r h.entries.each at));
           ending = λ e at place from lt.
               let is = ending_submitted config w g d w.front.stage stage.MapRing e h (revoking_ends w.front.stage w.front.ending e at) in
               let entry = entry_beside w.under.pages gref value e.request low is.frames place lt in
@@ -292,7 +292,7 @@ binds config w g d port state p one e =
       memory = h.memory;
       others = λ f apart k lt. refl;
       ring = h.ring;
-      slots = slots_at g.shape g.start g.fetched g.pushed g.taken g.replied g.submitted g.replies w.under.pages w.front.stage stage.Bind stage.Loop (λ rep t i lt. cc) h.slots;
+      slots = slots_at g.shape g.start g.fetched g.pushed g.taken g.replied g.series g.replies w.under.pages w.front.stage stage.Bind stage.Loop (λ rep t i lt. cc) h.slots;
       hands = refl;
       paged = record { shaped = λ t. h.paged.shaped refl; entries_are = λ t. h.paged.entries_are refl; grefs_are = λ t. h.paged.grefs_are refl; port_is = λ t. h.paged.port_is refl; mapped = h.paged.mapped; gref = h.paged.gref; mode = h.paged.mode };
       front_sleep = front_sleep_at g.start g.taken g.replied w.under.pages w.front.asleep w.under.channels.front_pending w.front.stage stage.Bind stage.Loop (λ t s. absurd s) h.front_sleep;

@@ -59,11 +59,11 @@ paged_at shape back_shape entries grefs port pages b b' bound still h = record {
 }
 
 -- with the same memory at another stage
-pub slots_at : (shape : Shape) (start fetched pushed taken replied : ℕ) (submitted : List Request) (replies : List Reply) (pages : List ℕ) (s : FrontStage) (b b' : BackStage)
+pub slots_at : (shape : Shape) (start fetched pushed taken replied : ℕ) (series : List Request) (replies : List Reply) (pages : List ℕ) (s : FrontStage) (b b' : BackStage)
     → ((rep : Reply) → reply_at b' ≡ Some rep → (i : ℕ) → i < responded b' → slot_of pages shape (wrapped start replied) i ≡ response_word rep i)
-    → AreSlots shape start fetched pushed taken replied submitted replies pages s b
-    → AreSlots shape start fetched pushed taken replied submitted replies pages s b'
-slots_at shape start fetched pushed taken replied submitted replies pages s b b' here h = record { entries = h.entries; entry = h.entry; responses = h.responses; response = here }
+    → AreSlots shape start fetched pushed taken replied series replies pages s b
+    → AreSlots shape start fetched pushed taken replied series replies pages s b'
+slots_at shape start fetched pushed taken replied series replies pages s b b' here h = record { entries = h.entries; entry = h.entry; responses = h.responses; response = here }
 
 pub front_sleep_at : (start taken replied : ℕ) (pages : List ℕ) (asleep pending : Bool) (s : FrontStage) (b b' : BackStage)
     → (asleep ≡ true → BackSends b replied taken → (replied ≡ taken) ⊎ (pending ≡ true) ⊎ BackSends b' replied taken)
@@ -122,7 +122,7 @@ pub quiet_with : {d' : Pipeline} (config : Options) (w : World) (g : Flow) (d : 
     → IsBetween b' w.back
     → AreStations config g d' (is_ready w.front.stage) (is_issuing w.front.stage) (is_fetching b') (ending_at w.front.stage w.front.ending) (telling_at w.front.stage) (reply_at b') w.front.requests w.back.jobs.works w.under.pages
     → AreIndices (record g { back_seen = seen }) w.front.ring w.back.ring w.front.seen word w.back.fetched w.front.last w.front.waiting (length w.front.requests) (ending_of w.front.stage)
-    → BackAt g.shape g.start g.fetched seen g.replied g.submitted w.back.jobs.works entry b'
+    → BackAt g.shape g.start g.fetched seen g.replied g.series w.back.jobs.works entry b'
     → IsFrontSleep g.start g.taken g.replied w.under.pages w.front.asleep channels.front_pending w.front.stage b'
     → IsBackSleep g.start g.fetched g.pushed w.under.pages asleep channels.back_pending w.front.stage b'
     → channels.made ≡ w.under.channels.made
@@ -139,7 +139,7 @@ quiet_with config w g d b b' asleep word entry channels seen h i j stations indi
   memory = h.memory;
   others = λ f apart k lt. refl;
   ring = h.ring;
-  slots = slots_at g.shape g.start g.fetched g.pushed g.taken g.replied g.submitted g.replies w.under.pages w.front.stage b b' (λ rep t k lt. absurd (none-some rep (sym j.none ∙ t))) h.slots;
+  slots = slots_at g.shape g.start g.fetched g.pushed g.taken g.replied g.series g.replies w.under.pages w.front.stage b b' (λ rep t k lt. absurd (none-some rep (sym j.none ∙ t))) h.slots;
   hands = j.hands ∙ sym i.hands;
   paged = paged_at g.shape w.back.shape w.back.ring.entries w.back.grefs w.back.port w.back.pages b b' i.bound j.bound h.paged;
   front_sleep = front_sleep;
@@ -153,7 +153,7 @@ pub quiet : (config : Options) (w : World) (g : Flow) (d : Pipeline) (b b' : Bac
     → IsBetween b w.back
     → IsBetween b' w.back
     → AreStations config g d (is_ready w.front.stage) (is_issuing w.front.stage) (is_fetching b') (ending_at w.front.stage w.front.ending) (telling_at w.front.stage) (reply_at b') w.front.requests w.back.jobs.works w.under.pages
-    → BackAt g.shape g.start g.fetched g.back_seen g.replied g.submitted w.back.jobs.works w.back.entry b'
+    → BackAt g.shape g.start g.fetched g.back_seen g.replied g.series w.back.jobs.works w.back.entry b'
     → (w.front.asleep ≡ true → BackSends b g.replied g.taken → (g.replied ≡ g.taken) ⊎ (w.under.channels.front_pending ≡ true) ⊎ BackSends b' g.replied g.taken)
     → (is_back_arming b' ≡ true → is_back_arming b ≡ true)
     → (may_back_sleep b' ≡ false → w.back.asleep ≡ false)

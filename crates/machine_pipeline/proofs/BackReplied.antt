@@ -38,6 +38,7 @@ use Rattle.blk_front.specs.declared.stage.Ending.{Ending}
 use Rattle.machine_pipeline.proofs.Lists.{get_append}
 use Rattle.pipeline_laws.specs.Station.{Replying, Replied}
 use Rattle.machine_pipeline.specs.Step.{IsSame}
+use Rattle.machine_pipeline.proofs.Series.{HasNumber}
 use Rattle.machine_pipeline.proofs.Stations.{AreStations, apart, finishing, finishing_kind}
 use Rattle.machine_pipeline.proofs.StationsBack.{replies}
 
@@ -60,6 +61,7 @@ indices_replied g replies front_ring back_ring front_seen back_seen number last 
   back_from = x.back_from;
   back_to = x.back_to;
   all = x.all;
+  given = x.given;
   few = x.few;
   held = x.held;
   room = x.room;
@@ -72,8 +74,8 @@ last_or_before [] rep r (suc k) e = absurd (none-some r e)
 last_or_before (x ∷ replies) rep r zero e = inl e
 last_or_before (x ∷ replies) rep r (suc k) e = elim (last_or_before replies rep r k e) [ inl h ↦ inl h | inr h ↦ inr (let at = h.0 in omega arith, h.1) ]
 
-slots_replied : (shape : Shape) (start fetched pushed taken replied old : ℕ) (submitted : List Request) (replies : List Reply) (pages : List ℕ) (s : FrontStage) (rep : Reply) → length replies + taken ≡ replied → AreSlots shape start fetched pushed taken replied submitted replies pages s (stage.Producer rep) → AreSlots shape start fetched pushed taken (replied + 1) submitted (replies ++ rep ∷ []) pages s (stage.ProducerFence old)
-slots_replied shape start fetched pushed taken replied old submitted replies pages s rep counted h = record {
+slots_replied : (shape : Shape) (start fetched pushed taken replied old : ℕ) (series : List Request) (replies : List Reply) (pages : List ℕ) (s : FrontStage) (rep : Reply) → length replies + taken ≡ replied → AreSlots shape start fetched pushed taken replied series replies pages s (stage.Producer rep) → AreSlots shape start fetched pushed taken (replied + 1) series (replies ++ rep ∷ []) pages s (stage.ProducerFence old)
+slots_replied shape start fetched pushed taken replied old series replies pages s rep counted h = record {
   entries = h.entries;
   entry = h.entry;
   responses = λ k r e i lt. elim (last_or_before replies rep r k e) [
@@ -104,10 +106,10 @@ front_sleep_replied start taken replied old pages asleep pending s rep h = recor
 }
 
 -- one response more
-replies_more : (fetched taken replied : ℕ) (replies : List Reply) (rep : Reply) → 1 ≤ rep.id → rep.id ≤ fetched → rep.op < 2 ^ 8 → ((i : ℕ) (other : Reply) → slice_get replies i ≡ Some other → other.id ≢ rep.id) → AreReplies fetched taken replied replies → AreReplies fetched taken (replied + 1) (replies ++ rep ∷ [])
-replies_more fetched taken replied replies rep positive reached op others h = record {
+replies_more : {series : List Request} (fetched taken replied : ℕ) (replies : List Reply) (rep : Reply) → 1 ≤ rep.id → HasNumber series fetched rep.id → rep.op < 2 ^ 8 → ((i : ℕ) (other : Reply) → slice_get replies i ≡ Some other → other.id ≢ rep.id) → AreReplies series fetched taken replied replies → AreReplies series fetched taken (replied + 1) (replies ++ rep ∷ [])
+replies_more {series} fetched taken replied replies rep positive reached op others h = record {
   counted = omega (arith, length-append replies (rep ∷ []), h.counted);
-  each = All-push (IsReply fetched) replies rep h.each (record { positive = positive; reached = reached; op = op });
+  each = All-push (IsReply series fetched) replies rep h.each (record { positive = positive; reached = reached; op = op });
   distinct = all_pairs_push (λ (a b : Reply). a.id ≢ b.id) replies rep h.distinct (λ i x lt. others i _ (slice_get-get_or replies i x lt));
 }
 
@@ -135,6 +137,7 @@ front_still shape start pushed taken seen submitted before next entry ending (fr
     (h.0, h.1, ending_still submitted before rep h.0 (other h.0 h.1) h.2, h.3)
 front_still shape start pushed taken seen submitted before next entry ending (front.ReadData n) rep other h =
     (h.0, h.1, ending_still submitted before rep h.0 (other h.0 h.1) h.2, h.3)
+front_still shape start pushed taken seen submitted before next entry ending (front.LeftData n) rep other h = absurd h
 front_still shape start pushed taken seen submitted before next entry ending s rep other h = h
 
 pub goes_producer : (config : Options) (w : World) (g : Flow) (d : Pipeline) (rep : Reply) → BackStands config w g d (stage.Producer rep) → BackGoes config w d (stage.Producer rep)
@@ -161,7 +164,7 @@ goes_producer config w g d rep p = record {
     unhalted = h.unhalted;
     memory = wrote.memory;
     ring = ring_replied g.shape.order g.start g.pushed g.replied (length w.back.pages) word w.under.pages new w.front.stage wrote next p.connected h.paged.mapped h.ring;
-    slots = slots_replied g.shape g.start g.fetched g.pushed g.taken g.replied w.back.ring.prod g.submitted g.replies new w.front.stage rep h.replies.counted (slots_beside g.shape g.start g.fetched g.pushed g.taken g.replied 2 word g.submitted g.replies w.under.pages new w.front.stage (stage.Producer rep) wrote (omega arith) h.shaped.narrow h.slots);
+    slots = slots_replied g.shape g.start g.fetched g.pushed g.taken g.replied w.back.ring.prod g.series g.replies new w.front.stage rep h.replies.counted (slots_beside g.shape g.start g.fetched g.pushed g.taken g.replied 2 word g.series g.replies w.under.pages new w.front.stage (stage.Producer rep) wrote (omega arith) h.shaped.narrow h.slots);
     frames = frames_beside config w g d w.front.stage (stage.Producer rep) new h wrote.others;
     telling = told_elsewhere config w g d w.front.stage (stage.Producer rep) new h (λ f low high. wrote.others f (inr low));
     entries = entries_beside config w g d w.front.stage (stage.Producer rep) new h wrote.others;
@@ -182,7 +185,7 @@ goes_producer config w g d rep p = record {
     x : AreIndices g w.front.ring w.back.ring w.front.seen w.back.seen w.back.fetched w.front.last w.front.waiting (length w.front.requests) (ending_of w.front.stage)
     x = h.indices
 
-    a : IsReplying g.fetched w.back.jobs.works rep
+    a : IsReplying g.series g.fetched w.back.jobs.works rep
     a = h.back_at
 
     s : Stepped None IsSame d (lines.Reply rep.id rep.status ∷ []) (λ x. AreStations config (record g { replied = g.replied + 1; replies = g.replies ++ rep ∷ [] }) x (is_ready w.front.stage) (is_issuing w.front.stage) false (ending_at w.front.stage w.front.ending) (telling_at w.front.stage) None w.front.requests w.back.jobs.works w.under.pages)

@@ -39,7 +39,7 @@ use Rattle.machine_pipeline.specs.Step.{Does, IsSame}
 use Rattle.machine_pipeline.proofs.Stations.{AreStations}
 
 -- word i of the response at hand
-slots_written : (shape : Shape) (start fetched pushed taken replied last i : ℕ) (rep : Reply) (submitted : List Request) (replies : List Reply) (old new : List ℕ) (s : FrontStage) (b b' : BackStage)
+slots_written : (shape : Shape) (start fetched pushed taken replied last i : ℕ) (rep : Reply) (series : List Request) (replies : List Reply) (old new : List ℕ) (s : FrontStage) (b b' : BackStage)
     → RingWritten old new (slot_frame shape (wrapped start replied) i) (slot_word shape (wrapped start replied) i) (response_word rep i)
     → shape.order ≤ 4
     → i < 3
@@ -50,14 +50,14 @@ slots_written : (shape : Shape) (start fetched pushed taken replied last i : ℕ
     → fetched ≤ pushed
     → pushed ≤ last
     → last ≤ taken + entries_of shape.order
-    → length submitted ≡ last
+    → length series ≡ last
     → length replies + taken ≡ replied
-    → AreSlots shape start fetched pushed taken replied submitted replies old s b
-    → AreSlots shape start fetched pushed taken replied submitted replies new s b'
-slots_written shape start fetched pushed taken replied last i rep submitted replies old new s b b' r narrow few here upto before owed reached issued room counted told h = record {
+    → AreSlots shape start fetched pushed taken replied series replies old s b
+    → AreSlots shape start fetched pushed taken replied series replies new s b'
+slots_written shape start fetched pushed taken replied last i rep series replies old new s b b' r narrow few here upto before owed reached issued room counted told h = record {
   entries = λ k q from to e j lt. other k j (λ same. slots_apart shape start replied k i j narrow (omega arith) (omega arith) three lt (sym same)) ∙ h.entries k q from to e j lt;
   entry = λ q e j lt in_it.
-      let within = slice_get_within submitted pushed q e in
+      let within = slice_get_within series pushed q e in
       other pushed j (λ same. slots_apart shape start replied pushed i j narrow (omega arith) (omega arith) three lt (sym same)) ∙ h.entry q e j lt in_it;
   responses = λ k q e j lt.
       let within = slice_get_within replies k q e in
@@ -101,10 +101,10 @@ pub goes_word : (config : Options) (w : World) (g : Flow) (d : Pipeline) (steps 
     → (BackSends b g.replied g.taken → ⊥)
     → ((j : ℕ) → j < i → slot_of w.under.pages g.shape (wrapped g.start g.replied) j ≡ response_word rep j)
     → AreStations config g (after_steps steps d) (is_ready w.front.stage) (is_issuing w.front.stage) (is_fetching b') (ending_at w.front.stage w.front.ending) (telling_at w.front.stage) (reply_at b') w.front.requests jobs.works w.under.pages
-    → AreWorks g.submitted g.fetched jobs.works
+    → AreWorks g.submitted g.series g.fetched jobs.works
     → length jobs.works + 1 + g.replied ≡ g.fetched
     → jobs.info ≡ w.back.jobs.info
-    → BackAt g.shape g.start g.fetched g.back_seen g.replied g.submitted jobs.works w.back.entry b'
+    → BackAt g.shape g.start g.fetched g.back_seen g.replied g.series jobs.works w.back.entry b'
     → hands_at b' (with_jobs w.back jobs) ≡ hands_at b w.back
     → Goes config (Move shown ∷ back_lines w.back.told given ++ halt_lines w.back.halted w.back.halted) (record { front = w.front; back = record w.back { jobs = jobs; stage = b'; told = None }; under = with_pages w.under (with_word w.under.pages frame (slot_word w.back.shape w.back.ring.prod i) (response_word rep i)) }) d
 goes_word config w g d steps b b' rep i jobs frame shown given does p a placed unsent before stations works counted info at hands =
@@ -119,7 +119,7 @@ goes_word config w g d steps b b' rep i jobs frame shown given does p a placed u
       memory = r.memory;
       others = r.others;
       ring = ring_beside g.shape.order g.start g.pushed g.replied (length w.back.pages) (slot_frame g.shape index i) (slot_word g.shape index i) (response_word rep i) w.under.pages new w.front.stage r (omega (arith, behind)) (omega (arith, behind)) p.connected (all_mapped b g.shape.order (length w.back.pages) a.bound h.paged.mapped) h.ring;
-      slots = slots_written g.shape g.start g.fetched g.pushed g.taken g.replied w.front.last i rep g.submitted g.replies w.under.pages new w.front.stage b b' r h.shaped.narrow few a.here a.upto before (omega arith) x.fetched_pushed (omega (arith, x.all)) (omega (arith, x.held, x.room)) h.submitted.counted h.replies.counted h.slots;
+      slots = slots_written g.shape g.start g.fetched g.pushed g.taken g.replied (length g.series) i rep g.series g.replies w.under.pages new w.front.stage b b' r h.shaped.narrow few a.here a.upto before (omega arith) x.fetched_pushed (omega (arith, x.all)) (omega (arith, x.held, x.room)) refl h.replies.counted h.slots;
       hands = hands;
       paged = paged_at g.shape w.back.shape w.back.ring.entries w.back.grefs w.back.port w.back.pages b b' a.bound a.bound_still h.paged;
       front_sleep = front_sleep_at g.start g.taken g.replied new w.front.asleep w.under.channels.front_pending w.front.stage b b' (λ t s. absurd (unsent s)) (front_sleep_kept g.start g.taken g.replied w.under.pages new w.front.asleep w.under.channels.front_pending w.front.stage b (r.words 2 3 (omega (arith, behind))) h.front_sleep);

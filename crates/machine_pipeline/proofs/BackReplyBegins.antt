@@ -1,5 +1,5 @@
 -- In the loop the lowest job that is done is taken, and its response begun.
-use Rattle.std.proofs.Common.{◌≡◌, ◌≢◌, ℕ, ◌+◌, ◌<◌, List, [], ◌∷◌, ◌++◌, length, refl, ap, sym, subst, ◌∙◌, inl, inr, arith, get_or, false}
+use Rattle.std.proofs.Common.{◌≡◌, ◌≢◌, ℕ, ◌+◌, ◌-◌, ◌<◌, List, [], ◌∷◌, ◌++◌, length, refl, ap, sym, subst, ◌∙◌, inl, inr, arith, get_or, false}
 use Rattle.std.specs.Prelude.{All, AllPairs, Option, Some, None, slice_get, option_and_then, position}
 use Rattle.std.specs.List.{remove}
 use Rattle.std.proofs.lemmas.Option.{none-some, same_Some, slice_get_within, get_or_from_slice_get}
@@ -23,7 +23,7 @@ use Rattle.blk_back.specs.Step.{fetched}
 use Rattle.split_model.specs.World.{World}
 use Rattle.split_model.specs.Shown.{back_lines, halt_lines}
 use Rattle.machine_pipeline.proofs.Flow.{Flow, is_issuing, ending_at, worked, telling_at}
-use Rattle.machine_pipeline.proofs.Holds.{Holds, IsUnhindered, AreWorks, IsWork, IsReplying}
+use Rattle.machine_pipeline.proofs.Holds.{Holds, IsUnhindered, AreSubmitted, AreWorks, IsWork, IsReplying}
 use Rattle.blk_front.specs.Submit.{is_ready}
 use Rattle.machine_pipeline.specs.Step.{IsSame}
 use Rattle.machine_pipeline.proofs.Turns.{Goes, Stepped, does_step}
@@ -48,7 +48,7 @@ all_remove P xs n within all k x lt = elim (cases_lt k n) [
 ]
 
 -- in an ascending list each other number is another one
-others_apart : (works : List Work) (n : ℕ) (t : Work) → slice_get works n ≡ Some t → AllPairs (λ (a b : Work). a.number < b.number) works → All (λ (u : Work). u.number ≢ t.number) (remove works n)
+others_apart : (works : List Work) (n : ℕ) (t : Work) → slice_get works n ≡ Some t → AllPairs (λ (a b : Work). a.id < b.id) works → All (λ (u : Work). u.id ≢ t.id) (remove works n)
 others_apart works n t at up k x lt = elim (cases_lt k n) [
   | inl before ↦ rw (get_or-remove_below works n x k before within) (λ same. let below = apart k n x before within in let e = here x in omega arith)
   | inr behind ↦ rw (get_or-remove_above works n x k behind within) (λ same. let below = apart n (k + 1) x (omega arith) (let one = length-remove works n within in omega arith) in let e = here x in omega arith)
@@ -57,11 +57,11 @@ others_apart works n t at up k x lt = elim (cases_lt k n) [
     within : n < length works
     within = slice_get_within works n t at
 
-    apart : (i j : ℕ) (x : Work) → i < j → j < length works → (let a : Work = get_or works i x in a.number) < (let b : Work = get_or works j x in b.number)
+    apart : (i j : ℕ) (x : Work) → i < j → j < length works → (let a : Work = get_or works i x in a.id) < (let b : Work = get_or works j x in b.id)
     apart i j x first second = up i j x first second
 
-    here : (x : Work) → (let a : Work = get_or works n x in a.number) ≡ t.number
-    here x = ap (λ (a : Work). a.number) (get_or_from_slice_get works n t x at)
+    here : (x : Work) → (let a : Work = get_or works n x in a.id) ≡ t.id
+    here x = ap (λ (a : Work). a.id) (get_or_from_slice_get works n t x at)
 
 -- the lowest job that is done, whose response this is
 pub record IsLowestDone (works : List Work) (rep : Reply) : Type 0 where
@@ -96,17 +96,18 @@ lowest_done works rep (Some place) found e = by_work (slice_get works place) ref
     by_work (Some t) at e = by_stage t t.stage at refl e
 
 -- the job's result is taken: what is known of its response
-pub replying : (submitted : List Request) (fetched : ℕ) (works : List Work) (rep : Reply) (l : IsLowestDone works rep) → AreWorks submitted fetched works → IsReplying fetched (remove works l.place) rep
-replying submitted fetched works rep l h =
+pub replying : {series : List Request} (submitted : List Request) (sectors last fetched : ℕ) (works : List Work) (rep : Reply) (l : IsLowestDone works rep) → AreSubmitted submitted sectors last → AreWorks submitted series fetched works → IsReplying series fetched (remove works l.place) rep
+replying {series} submitted sectors last fetched works rep l all h =
     let t : Work = l.t in
     let within : l.place < length works = slice_get_within works l.place t l.at in
-    let is : IsWork submitted fetched t = subst (λ (u : Work). IsWork submitted fetched u) (get_or_from_slice_get works l.place t t l.at) (h.each l.place t within) in
-    let number : rep.id ≡ t.number = l.id ∙ is.id in
+    let is : IsWork submitted series fetched t = subst (λ (u : Work). IsWork submitted series fetched u) (get_or_from_slice_get works l.place t t l.at) (h.each l.place t within) in
+    let number : rep.id ≡ t.id = l.id in
+    let numbered = all.each (t.id - 1) is.r is.known in
     record {
       positive = omega (arith, is.positive);
-      reached = omega (arith, is.reached);
+      reached = record { r = is.r; among = record { index = t.number - 1; early = omega (arith, is.reached, is.counted); at = is.issued }; same = omega (arith, numbered.number, is.positive, l.id) };
       op = omega (arith, is.op, l.op, small_operation is.r.transfer);
-      alone = subst (λ (k : ℕ). All (λ (u : Work). u.number ≢ k) (remove works l.place)) (sym number) (others_apart works l.place t l.at h.ascending);
+      alone = subst (λ (k : ℕ). All (λ (u : Work). u.id ≢ k) (remove works l.place)) (sym number) (others_apart works l.place t l.at h.ascending);
     }
 
 pub goes_reply : (config : Options) (w : World) (g : Flow) (d : Pipeline) (rep : Reply) (frame : ℕ) (shown : Shown) (given : BackAnswer)
@@ -119,10 +120,10 @@ goes_reply config w g d rep frame shown given p placed e =
     (record { few = omega arith; here = refl; upto = refl; bound = refl; bound_still = refl; unarmed = refl; sleeps = refl })
     placed (λ s. s) (λ j lt. absurd (omega arith))
     (rw gone s.now)
-    (rw gone (record { each = all_remove (IsWork g.submitted g.fetched) works l.place within h.works.each; ascending = all_pairs_remove (λ (a b : Work). a.number < b.number) works l.place within h.works.ascending; clear = all_pairs_remove IsUnhindered works l.place within h.works.clear }))
+    (rw gone (record { each = all_remove (IsWork g.submitted g.series g.fetched) works l.place within h.works.each; ascending = all_pairs_remove (λ (a b : Work). a.id < b.id) works l.place within h.works.ascending; clear = all_pairs_remove IsUnhindered works l.place within h.works.clear }))
     (rw gone (omega (arith, length-remove works l.place within, h.counted)))
     refl
-    (rw gone (replying g.submitted g.fetched works rep l h.works))
+    (rw gone (replying g.submitted w.front.sectors w.front.last g.fetched works rep l h.submitted h.works))
     (ap (λ (m : List Mapping). m ++ w.back.pages) (done_hands w.back.jobs))
   where
     h : Holds config w g d w.front.stage stage.Loop
@@ -140,8 +141,8 @@ goes_reply config w g d rep frame shown given p placed e =
     gone : (let j : Jobs = without_done w.back.jobs in j.works) ≡ remove works l.place
     gone = ap (λ (place : Option ℕ). removed_at works place) l.found
 
-    is : IsWork g.submitted g.fetched l.t
-    is = all_at (IsWork g.submitted g.fetched) works l.place l.t h.works.each l.at
+    is : IsWork g.submitted g.series g.fetched l.t
+    is = all_at (IsWork g.submitted g.series g.fetched) works l.place l.t h.works.each l.at
 
     s : Stepped None IsSame d [] (λ x. AreStations config g x (is_ready w.front.stage) (is_issuing w.front.stage) false (ending_at w.front.stage w.front.ending) (telling_at w.front.stage) (Some rep) w.front.requests (remove works l.place) w.under.pages)
-    s = begins_response config g d (is_ready w.front.stage) (is_issuing w.front.stage) false (ending_at w.front.stage w.front.ending) (telling_at w.front.stage) w.front.requests works w.under.pages l.place l.t rep l.at (ap (λ (j : JobStage). let u : Work = l.t in worked j u.moved) l.stage) (l.id ∙ is.id) h.works.ascending (λ i u at. let work = all_at (IsWork g.submitted g.fetched) works i u h.works.each at in work.positive) h.stations
+    s = begins_response config g d (is_ready w.front.stage) (is_issuing w.front.stage) false (ending_at w.front.stage w.front.ending) (telling_at w.front.stage) w.front.requests works w.under.pages l.place l.t rep l.at (ap (λ (j : JobStage). let u : Work = l.t in worked j u.moved) l.stage) l.id h.works.ascending (λ i u at. let work = all_at (IsWork g.submitted g.series g.fetched) works i u h.works.each at in work.positive) h.stations

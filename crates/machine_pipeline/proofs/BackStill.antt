@@ -44,15 +44,15 @@ IsRingless f = (f < 2) ⊎ (18 ≤ f)
 pub record Moves (config : Options) (w : World) (g : Flow) (d : Pipeline) (s : FrontStage) (b b' : BackStage) (v : View) (pages : List ℕ) (channels : ChannelState) (seen : ℕ) : Type 0 where
   pub indices : AreIndices (record g { back_seen = seen }) w.front.ring v.ring w.front.seen v.seen v.fetched w.front.last w.front.waiting (length w.front.requests) (ending_of s)
   pub stations : AreStations config g d (is_ready s) (is_issuing s) (is_fetching b') (ending_at s w.front.ending) (telling_at s) (reply_at b') w.front.requests v.jobs.works w.under.pages
-  pub works : AreWorks g.submitted g.fetched v.jobs.works
+  pub works : AreWorks g.submitted g.series g.fetched v.jobs.works
   pub counted : length v.jobs.works + reply_count (reply_at b') + g.replied ≡ g.fetched
   pub info : v.jobs.info ≡ w.back.jobs.info
-  pub back_at : BackAt g.shape g.start g.fetched seen g.replied g.submitted v.jobs.works v.entry b'
+  pub back_at : BackAt g.shape g.start g.fetched seen g.replied g.series v.jobs.works v.entry b'
   pub unhalted : v.halted ≡ None
   pub memory : length pages ≡ 1114112
   pub others : (f : ℕ) → IsRingless f → SameFrame w.under.pages pages f
   pub ring : AreRingWords g.shape.order g.start g.pushed g.replied pages s (length v.pages)
-  pub slots : AreSlots g.shape g.start g.fetched g.pushed g.taken g.replied g.submitted g.replies pages s b'
+  pub slots : AreSlots g.shape g.start g.fetched g.pushed g.taken g.replied g.series g.replies pages s b'
   pub hands : hands_at b' v ≡ hands_at b w.back
   pub paged : ArePaged g.shape v.shape v.ring.entries v.grefs v.port v.pages b'
   pub front_sleep : IsFrontSleep g.start g.taken g.replied pages w.front.asleep channels.front_pending s b'
@@ -79,7 +79,7 @@ ending_submitted config w g d s b e h same =
 pub frames_elsewhere : (config : Options) (w : World) (g : Flow) (d : Pipeline) (s : FrontStage) (b : BackStage) (pages : List ℕ)
     → Holds config w g d s b
     → ((f : ℕ) → 18 ≤ f → f < 1018 → SameFrame w.under.pages pages f)
-    → All (IsFilled g.pushed pages s) w.front.requests
+    → All (IsFilled g.series g.pushed pages s) w.front.requests
 frames_elsewhere config w g d s b pages h same =
     frames_kept g.pushed w.under.pages pages s w.front.requests
     (all_from (SameData w.under.pages pages) w.front.requests
@@ -95,7 +95,7 @@ told_elsewhere config w g d s b pages h same =
     (told_few g.shape g.start g.pushed g.taken g.front_seen g.submitted g.replies _ w.front.entry w.front.ending s h.front_at) h.telling
 
 -- the back's writes to the ring leave the requests' frames and the entries as they are
-pub frames_beside : (config : Options) (w : World) (g : Flow) (d : Pipeline) (s : FrontStage) (b : BackStage) (pages : List ℕ) → Holds config w g d s b → ((f : ℕ) → IsRingless f → SameFrame w.under.pages pages f) → All (IsFilled g.pushed pages s) w.front.requests
+pub frames_beside : (config : Options) (w : World) (g : Flow) (d : Pipeline) (s : FrontStage) (b : BackStage) (pages : List ℕ) → Holds config w g d s b → ((f : ℕ) → IsRingless f → SameFrame w.under.pages pages f) → All (IsFilled g.series g.pushed pages s) w.front.requests
 frames_beside config w g d s b pages h others = frames_elsewhere config w g d s b pages h (λ f low high. others f (inr low))
 
 -- where the frames of entries don't change, a request's entries don't
@@ -103,7 +103,7 @@ pub grants_same : (old new : List ℕ) (r : Request) → All IsPooled r.frames.i
 grants_same old new r all zeroth first place lt = let pooled = pooled_at r all place in
     same_entry old new (frame_at r place + 6) (omega (arith, pooled.1)) zeroth first
 
-pub entries_beside : (config : Options) (w : World) (g : Flow) (d : Pipeline) (s : FrontStage) (b : BackStage) (pages : List ℕ) → Holds config w g d s b → ((f : ℕ) → IsRingless f → SameFrame w.under.pages pages f) → AreEntries g.pushed pages w.under.grants.live s w.front.ending w.front.requests
+pub entries_beside : (config : Options) (w : World) (g : Flow) (d : Pipeline) (s : FrontStage) (b : BackStage) (pages : List ℕ) → Holds config w g d s b → ((f : ℕ) → IsRingless f → SameFrame w.under.pages pages f) → AreEntries g.series g.pushed pages w.under.grants.live s w.front.ending w.front.requests
 entries_beside config w g d s b pages h others =
     entries_kept g.pushed w.under.pages pages w.under.grants.live s w.front.ending w.front.requests
     (all_from (SameGrants w.under.pages pages) w.front.requests

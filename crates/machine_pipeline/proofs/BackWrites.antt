@@ -59,6 +59,7 @@ named_to (front.RingWord k) pages c = absurd (false≢true c)
 named_to (front.RingFrame page) pages c = absurd (false≢true c)
 named_to (front.RingFence page) pages c = absurd (false≢true c)
 named_to (front.RingFlags page) pages c = absurd (false≢true c)
+named_to (front.LeftData n) pages c = absurd (false≢true c)
 named_to s pages c = refl
 
 pub granted_to : (s : FrontStage) (pages : ℕ) → is_connected s ≡ true → granted_pages s pages ≡ pages
@@ -66,6 +67,7 @@ granted_to (front.RingWord k) pages c = absurd (false≢true c)
 granted_to (front.RingFrame page) pages c = absurd (false≢true c)
 granted_to (front.RingFence page) pages c = absurd (false≢true c)
 granted_to (front.RingFlags page) pages c = absurd (false≢true c)
+granted_to (front.LeftData n) pages c = absurd (false≢true c)
 granted_to s pages c = refl
 
 -- another word than the producers, where all pages of the ring are mapped
@@ -86,14 +88,14 @@ ring_beside order start pushed replied mapped frame word value old new s r first
 }
 
 -- and another than the entries'
-pub slots_beside : (shape : Shape) (start fetched pushed taken replied word value : ℕ) (submitted : List Request) (replies : List Reply) (old new : List ℕ) (s : FrontStage) (b : BackStage)
+pub slots_beside : (shape : Shape) (start fetched pushed taken replied word value : ℕ) (series : List Request) (replies : List Reply) (old new : List ℕ) (s : FrontStage) (b : BackStage)
     → RingWritten old new 2 word value
     → word < 16
     → shape.order ≤ 4
-    → AreSlots shape start fetched pushed taken replied submitted replies old s b
-    → AreSlots shape start fetched pushed taken replied submitted replies new s b
-slots_beside shape start fetched pushed taken replied word value submitted replies old new s b r low narrow h =
-    slots_kept shape start fetched pushed taken replied submitted replies old new s b narrow (λ f w from to within behind. r.words f w (λ same. omega arith)) h
+    → AreSlots shape start fetched pushed taken replied series replies old s b
+    → AreSlots shape start fetched pushed taken replied series replies new s b
+slots_beside shape start fetched pushed taken replied word value series replies old new s b r low narrow h =
+    slots_kept shape start fetched pushed taken replied series replies old new s b narrow (λ f w from to within behind. r.words f w (λ same. omega arith)) h
 
 pub next_wrapped : (start n index : ℕ) → index ≡ wrapped start n → next_of index ≡ wrapped start (n + 1)
 next_wrapped start n index e = omega arith
@@ -148,7 +150,7 @@ goes_store_event config w g d p =
       memory = r.memory;
       others = r.others;
       ring = ring_beside g.shape.order g.start g.pushed g.replied (length w.back.pages) 2 1 (next_of w.back.ring.cons) w.under.pages new w.front.stage r (omega arith) (omega arith) p.connected h.paged.mapped h.ring;
-      slots = slots_at g.shape g.start g.fetched g.pushed g.taken g.replied g.submitted g.replies new w.front.stage stage.StoreEvent stage.EventFence (λ rep t i lt. cc) (slots_beside g.shape g.start g.fetched g.pushed g.taken g.replied 1 (next_of w.back.ring.cons) g.submitted g.replies w.under.pages new w.front.stage stage.StoreEvent r (omega arith) h.shaped.narrow h.slots);
+      slots = slots_at g.shape g.start g.fetched g.pushed g.taken g.replied g.series g.replies new w.front.stage stage.StoreEvent stage.EventFence (λ rep t i lt. cc) (slots_beside g.shape g.start g.fetched g.pushed g.taken g.replied 1 (next_of w.back.ring.cons) g.series g.replies w.under.pages new w.front.stage stage.StoreEvent r (omega arith) h.shaped.narrow h.slots);
       hands = refl;
       paged = paged_at g.shape w.back.shape w.back.ring.entries w.back.grefs w.back.port w.back.pages stage.StoreEvent stage.EventFence refl refl h.paged;
       front_sleep = front_sleep_at g.start g.taken g.replied new w.front.asleep w.under.channels.front_pending w.front.stage stage.StoreEvent stage.EventFence (λ t s. absurd s) (front_sleep_kept g.start g.taken g.replied w.under.pages new w.front.asleep w.under.channels.front_pending w.front.stage stage.StoreEvent (r.words 2 3 (omega arith)) h.front_sleep);

@@ -47,34 +47,34 @@ none_own r reads direct m own = elim (cases_lt m (1024 * frames_for r.count)) [
 ]
 
 -- so none is filled
-frames_unfilled : (submitted requests : List Request) (pushed waiting : ℕ) (old new : List ℕ) (s s' : FrontStage) (r : Request)
-    → IsNext submitted requests pushed waiting r
+frames_unfilled : {series : List Request} (submitted requests : List Request) (pushed waiting : ℕ) (old new : List ℕ) (s s' : FrontStage) (r : Request)
+    → IsNext submitted series requests pushed waiting r
     → ((m : ℕ) → is_own r m ≡ true → ⊥)
     → All (SameData old new) requests
-    → All (IsFilled pushed old s) requests
-    → All (IsFilled pushed new s') requests
+    → All (IsFilled series pushed old s) requests
+    → All (IsFilled series pushed new s') requests
 frames_unfilled submitted requests pushed waiting old new s s' r next none same h k d lt =
     let here = same k d lt in
     let was = h k d lt in
-    let only = next.only k d lt in
+    let only = next.only (get_or requests k d) in
     record {
       whole = λ le n l own. here n l ∙ was.whole le n l own;
       begun = λ e n f l own. absurd (none n (subst (λ (q : Request). is_own q n ≡ true) (only e) own));
     }
 
 -- one without frames has no grant
-entries_bare : (submitted requests : List Request) (pushed waiting : ℕ) (old new : List ℕ) (live : List Held) (s s' : FrontStage) (ending : Option Ending) (r : Request)
+entries_bare : {series : List Request} (submitted requests : List Request) (pushed waiting : ℕ) (old new : List ℕ) (live : List Held) (s s' : FrontStage) (ending : Option Ending) (r : Request)
     → may_front_sleep s' ≡ true
-    → IsNext submitted requests pushed waiting r
+    → IsNext submitted series requests pushed waiting r
     → frames_of r ≡ 0
     → All (SameGrants old new) requests
-    → AreEntries pushed old live s ending requests
-    → AreEntries pushed new live s' ending requests
+    → AreEntries series pushed old live s ending requests
+    → AreEntries series pushed new live s' ending requests
 entries_bare submitted requests pushed waiting old new live s s' ending r i' next bare same h = record {
   each = λ k d lt.
       let here = same k d lt in
       let was = h.each k d lt in
-      let only = next.only k d lt in
+      let only = next.only (get_or requests k d) in
       record {
         named = λ le place in_it. let entry = here place in_it in entry.frame ∙ was.named le place in_it;
         named_next = λ e place t in_it. absurd (none (get_or requests k d) (only e) place in_it);
@@ -90,11 +90,11 @@ entries_bare submitted requests pushed waiting old new live s s' ending r i' nex
 -- the pipeline begins its entry
 begun : (config : Options) (w : World) (g : Flow) (d : Pipeline) (r : Request)
     → Holds config w g d front.Loop w.back.stage
-    → IsNext g.submitted w.front.requests g.pushed w.front.waiting r
+    → IsNext g.submitted g.series w.front.requests g.pushed w.front.waiting r
     → Stepped None IsSame d [] (λ p. AreStations config g p true true (is_fetching w.back.stage) None None (reply_at w.back.stage) w.front.requests w.back.jobs.works w.under.pages)
 begun config w g d r h following =
     begins_entry config g d true (is_fetching w.back.stage) None None (reply_at w.back.stage) w.front.requests w.back.jobs.works w.under.pages
-    (omega (arith, following.waits, h.indices.all, h.submitted.counted, h.stations.known.as_many)) h.stations
+    r (let queue = h.queue in queue.ordered) following.at h.stations
 
 -- a request without frames is begun by the first word of its entry
 bare_goes : (config : Options) (w : World) (g : Flow) (d : Pipeline) (r : Request) → IsSafe w → next_request w.front ≡ Some r → is_moving r.transfer ≡ false → is_write r.transfer ≡ false
@@ -111,7 +111,7 @@ bare_goes config w g d r safe e still unwritten h = record {
       (more_words g.shape.abi, (r, e, ap (λ (x : Shape). entry_of x.abi r) h.shaped.known)) (λ sends. sends));
 }
   where
-    following : IsNext g.submitted w.front.requests g.pushed w.front.waiting r
+    following : IsNext g.submitted g.series w.front.requests g.pushed w.front.waiting r
     following = next_is w.front g.submitted w.front.sectors w.front.last g.pushed None r h.queue h.submitted h.pool e
 
     none : r.count ≡ 0

@@ -1,5 +1,5 @@
--- Whatever happens, a connected front stays connected.
-use Rattle.std.proofs.Common.{◌≡◌, ℕ, ◌+◌, ◌*◌, ◌%◌, ◌^◌, ◌==◌, if◌then◌else◌, Bool, true, false, List, [], ◌∷◌, length, refl, sym, subst, true≢false}
+-- Whatever happens in an epoch, a front that was connected to its back is past its start for good.
+use Rattle.std.proofs.Common.{◌≡◌, ℕ, ◌+◌, ◌*◌, ◌%◌, ◌^◌, ◌==◌, if◌then◌else◌, Bool, true, false, List, [], ◌∷◌, length, refl, ap, sym, ◌∙◌, ◌⊎◌, inl, inr, subst, true≢false}
 use Rattle.std.specs.Prelude.{Option, Some, None, Result, Ok, Err, nat_lt, slice_set}
 use Rattle.blk_base.specs.Distance.{distance_of}
 use Rattle.blk_base.specs.declared.ask.FrontAnswer.{FrontAnswer}
@@ -25,20 +25,32 @@ use Rattle.blk_front.specs.declared.state.FrontState.{FrontState}
 use Rattle.blk_front.specs.declared.state.FrontState.TheVariants as state
 use Rattle.blk_front.specs.State.{may_enter, in_state}
 use Rattle.split_model.specs.World.{World}
-use Rattle.split_model.specs.Happening.{Happening, FrontMoves, BackMoves, JobMoves, FrontEnters, Submits, happens, after, back_turn, job_turn, back_after, job_after}
+use Rattle.split_model.specs.Happening.{Happening, FrontMoves, BackMoves, JobMoves, FrontEnters, Submits, Suspends, happens, after, back_turn, job_turn, back_after, job_after}
 use Rattle.split_model.proofs.States.{enters_cases}
 use Rattle.split_model.proofs.SafeFront.{submit_kept}
 use Rattle.machine_pipeline.proofs.Turns.{front_turn_at, front_next}
+use Rattle.machine_pipeline.proofs.Unsuspended.{IsUnsuspended, AreUnsuspended}
 
--- a front with that stage is connected
+-- the front tells the data that it had in hand, makes its ring and its port, or waits to be connected
+abbrev pub is_early : Stage → Bool
+is_early (front.RingWord k) = true
+is_early (front.RingFrame page) = true
+is_early (front.RingFence page) = true
+is_early (front.RingFlags page) = true
+is_early front.NewPort = true
+is_early front.Initialised = true
+is_early (front.LeftData n) = true
+is_early s = false
+
+-- a front with that stage is past that
 abbrev IsOn : View → Type 0
-IsOn x = is_connected x.stage ≡ true
+IsOn x = is_early x.stage ≡ false
 
 either : (b : Bool) (x y : View) → IsOn x → IsOn y → IsOn (if b then x else y)
 either true x y p q = p
 either false x y p q = q
 
-either_stage : (b : Bool) (x y : Stage) → is_connected x ≡ true → is_connected y ≡ true → is_connected (if b then x else y) ≡ true
+either_stage : (b : Bool) (x y : Stage) → is_early x ≡ false → is_early y ≡ false → is_early (if b then x else y) ≡ false
 either_stage true x y p q = p
 either_stage false x y p q = q
 
@@ -67,12 +79,12 @@ response_on v response low None = refl
 response_on v (Err word) low (Some found) = refl
 response_on v (Ok response) low (Some found) = either (length found.1.frames.items == 0) _ _ refl refl
 
-data_stage_on : (next : Option Request) (n : ℕ) → is_connected (data_stage next n) ≡ true
+data_stage_on : (next : Option Request) (n : ℕ) → is_early (data_stage next n) ≡ false
 data_stage_on None n = refl
 data_stage_on (Some r) n =
     either_stage (nat_lt (n + 1) (words_in r)) (front.Data (n + 1)) (after_data r) refl (either_stage (is_indirect r.count) (front.Pages 0) (front.GrantFrame 0) refl refl)
 
-page_stage_on : (next : Option Request) (n : ℕ) → is_connected (page_stage next n) ≡ true
+page_stage_on : (next : Option Request) (n : ℕ) → is_early (page_stage next n) ≡ false
 page_stage_on None n = refl
 page_stage_on (Some r) n = either_stage (nat_lt (n + 1) (naming_words r)) (front.Pages (n + 1)) (front.GrantFrame 0) refl refl
 
@@ -96,13 +108,15 @@ data_on v (Some e) n word p =
     let words : List ℕ = slice_set v.words (n % 128) word in
     either (nat_lt (n + 1) (words_in e.request)) (at (front.ReadData (n + 1)) (sector_told e n words v)) (finished e (sector_told e n words v)) refl refl
 
--- a connected front stays so, whatever it is told
-step_on : (s : Stage) (v : View) (x : FrontAnswer) → IsOn v → is_connected s ≡ true → IsOn (step_at s v x)
-step_on (front.RingWord k) v x p e = absurd (true≢false (sym e))
-step_on (front.RingFrame page) v x p e = absurd (true≢false (sym e))
-step_on (front.RingFence page) v x p e = absurd (true≢false (sym e))
-step_on (front.RingFlags page) v x p e = absurd (true≢false (sym e))
-step_on front.NewPort v x p e = refl
+-- it stays so, whatever it is told
+pub step_on : (s : Stage) (v : View) (x : FrontAnswer) → IsOn v → is_early s ≡ false → IsOn (step_at s v x)
+step_on (front.LeftData n) v x p e = absurd (true≢false e)
+step_on (front.RingWord k) v x p e = absurd (true≢false e)
+step_on (front.RingFrame page) v x p e = absurd (true≢false e)
+step_on (front.RingFence page) v x p e = absurd (true≢false e)
+step_on (front.RingFlags page) v x p e = absurd (true≢false e)
+step_on front.NewPort v x p e = absurd (true≢false e)
+step_on front.Initialised v x p e = absurd (true≢false e)
 step_on front.Loop v x p e = loop_on v (next_request v) x p
 step_on (front.Data n) v x p e = data_stage_on (next_request v) n
 step_on (front.Pages n) v x p e = page_stage_on (next_request v) n
@@ -128,16 +142,47 @@ step_on front.ClosePort v x p e = refl
 step_on front.LookAgain v (answer.Word word) p e = looked_on v word (record v { seen = word; stage = front.Loop; asleep = true }) refl
 step_on s v x p e = p
 
-front_on : (w : World) (s : Stage) (act : Option FrontAct) → is_connected w.front.stage ≡ true → is_connected s ≡ true → (let x : World = front_next s w act in is_connected x.front.stage ≡ true)
+front_on : (w : World) (s : Stage) (act : Option FrontAct) → is_early w.front.stage ≡ false → is_early s ≡ false → (let x : World = front_next s w act in is_early x.front.stage ≡ false)
 front_on w s None p e = p
 front_on w s (Some a) p e = step_on s w.front a.answer p e
 
--- nothing else than the front's own moves changes its stage, but that it enters a state
-back_same : (w : World) (act : Option BackAct) → (let x : World = back_after w act in x.front.stage ≡ w.front.stage)
+-- so a connected front stays connected
+late_connected : (s : Stage) → is_early s ≡ false → is_connected s ≡ true
+late_connected (front.LeftData n) e = absurd (true≢false e)
+late_connected (front.RingWord k) e = absurd (true≢false e)
+late_connected (front.RingFrame page) e = absurd (true≢false e)
+late_connected (front.RingFence page) e = absurd (true≢false e)
+late_connected (front.RingFlags page) e = absurd (true≢false e)
+late_connected front.NewPort e = absurd (true≢false e)
+late_connected front.Initialised e = absurd (true≢false e)
+late_connected s e = refl
+
+connected_late : (s : Stage) → is_connected s ≡ true → (s ≡ front.Initialised) ⊎ (is_early s ≡ false)
+connected_late (front.LeftData n) e = absurd (true≢false (sym e))
+connected_late (front.RingWord k) e = absurd (true≢false (sym e))
+connected_late (front.RingFrame page) e = absurd (true≢false (sym e))
+connected_late (front.RingFence page) e = absurd (true≢false (sym e))
+connected_late (front.RingFlags page) e = absurd (true≢false (sym e))
+connected_late front.NewPort e = absurd (true≢false (sym e))
+connected_late front.Initialised e = inl refl
+connected_late s e = inr refl
+
+waits_on : (w : World) (act : Option FrontAct) → is_connected w.front.stage ≡ true → (let x : World = front_next front.Initialised w act in is_connected x.front.stage ≡ true)
+waits_on w None e = e
+waits_on w (Some a) e = e
+
+front_stays : (w : World) (s : Stage) (act : Option FrontAct) → w.front.stage ≡ s → is_connected s ≡ true → (let x : World = front_next s w act in is_connected x.front.stage ≡ true)
+front_stays w s act here e = elim (connected_late s e) [
+  | inl waits ↦ subst (λ (t : Stage). let x : World = front_next t w act in is_connected x.front.stage ≡ true) (sym waits) (waits_on w act (ap is_connected here ∙ e))
+  | inr late ↦ late_connected _ (front_on w s act (ap is_early here ∙ late) late)
+]
+
+-- nothing else than the front's own moves changes the front, but that it enters a state, and a submission
+pub back_same : (w : World) (act : Option BackAct) → (let x : World = back_after w act in x.front ≡ w.front)
 back_same w None = refl
 back_same w (Some a) = refl
 
-job_same : (w : World) (number : ℕ) (act : Option BackAct) → (let x : World = job_after w number act in x.front.stage ≡ w.front.stage)
+pub job_same : (w : World) (number : ℕ) (act : Option BackAct) → (let x : World = job_after w number act in x.front ≡ w.front)
 job_same w number None = refl
 job_same w number (Some a) = refl
 
@@ -145,23 +190,24 @@ job_same w number (Some a) = refl
 abbrev Entered : (Stage → Type 0) → World → Type 0
 Entered P w = (s : FrontState) → may_enter s w.front ≡ true → (let x : View = in_state s w.front in P x.stage)
 
-stage_after : (P : Stage → Type 0) (w : World) (h : Happening) → Entered P w → P w.front.stage → ((let x : World = happens w FrontMoves in P x.front.stage)) → (let x : World = happens w h in P x.front.stage)
-stage_after P w FrontMoves entered p moved = moved
-stage_after P w BackMoves entered p moved = subst P (sym (back_same w (back_turn w Took))) p
-stage_after P w (JobMoves number outcome) entered p moved = subst P (sym (job_same w number (job_turn w number outcome))) p
-stage_after P w (FrontEnters s) entered p moved = enters_cases (λ v shown. P v.stage) s w.front (entered s) p
-stage_after P w (Submits job) entered p moved = let kept = submit_kept w.front job in subst P (sym kept.stage) p
-stage_after P w h entered p moved = p
+stage_after : (P : Stage → Type 0) (w : World) (h : Happening) → IsUnsuspended h → Entered P w → P w.front.stage → ((let x : World = happens w FrontMoves in P x.front.stage)) → (let x : World = happens w h in P x.front.stage)
+stage_after P w FrontMoves one entered p moved = moved
+stage_after P w BackMoves one entered p moved = subst (λ (v : View). P v.stage) (sym (back_same w (back_turn w Took))) p
+stage_after P w (JobMoves number outcome) one entered p moved = subst (λ (v : View). P v.stage) (sym (job_same w number (job_turn w number outcome))) p
+stage_after P w (FrontEnters s) one entered p moved = enters_cases (λ v shown. P v.stage) s w.front (entered s) p
+stage_after P w (Submits job) one entered p moved = let kept = submit_kept w.front job in subst P (sym kept.stage) p
+stage_after P w Suspends one entered p moved = absurd one
+stage_after P w h one entered p moved = p
 
 -- in each state a connected front stays so
-entered_on : (v : View) (s : FrontState) → IsOn v → IsOn (in_state s v)
+entered_on : (v : View) (s : FrontState) → is_connected v.stage ≡ true → (let x : View = in_state s v in is_connected x.stage ≡ true)
 entered_on v state.Closing p = p
 entered_on v (state.Agreed order) p = p
 entered_on v s p = refl
 
-pub connected_happens : (w : World) (h : Happening) → is_connected w.front.stage ≡ true → (let x : World = happens w h in is_connected x.front.stage ≡ true)
-connected_happens w h e = stage_after (λ (s : Stage). is_connected s ≡ true) w h (λ s may. entered_on w.front s e) e (front_on w w.front.stage (front_turn_at w.front.stage w) e e)
+pub connected_happens : (w : World) (h : Happening) → IsUnsuspended h → is_connected w.front.stage ≡ true → (let x : World = happens w h in is_connected x.front.stage ≡ true)
+connected_happens w h one e = stage_after (λ (s : Stage). is_connected s ≡ true) w h one (λ s may. entered_on w.front s e) e (front_stays w w.front.stage (front_turn_at w.front.stage w) refl e)
 
-pub connected_after : (hs : List Happening) (w : World) → is_connected w.front.stage ≡ true → (let x : World = after hs w in is_connected x.front.stage ≡ true)
-connected_after [] w e = e
-connected_after (h ∷ hs) w e = connected_after hs (happens w h) (connected_happens w h e)
+pub connected_after : (hs : List Happening) (w : World) → AreUnsuspended hs → is_connected w.front.stage ≡ true → (let x : World = after hs w in is_connected x.front.stage ≡ true)
+connected_after [] w one e = e
+connected_after (h ∷ hs) w one e = connected_after hs (happens w h) one.1 (connected_happens w h one.0 e)

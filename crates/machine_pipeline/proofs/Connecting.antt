@@ -100,7 +100,7 @@ becomes_ready config w g d offers published h = record {
     unhalted = h.unhalted;
     memory = h.memory;
     ring = (let was = h.ring in record { begun = tt; requests = was.requests; responses = was.responses; named = was.named; granted = was.granted });
-    slots = slots_rest g.shape g.start g.fetched g.pushed g.taken g.replied g.submitted g.replies w.under.pages front.Initialised front.Loop w.back.stage at_loop h.slots;
+    slots = slots_rest g.shape g.start g.fetched g.pushed g.taken g.replied g.series g.replies w.under.pages front.Initialised front.Loop w.back.stage at_loop h.slots;
     frames = frames_rest g.pushed w.under.pages front.Initialised front.Loop w.front.requests at_loop h.frames;
     telling = data_rests w.under.pages w.under.pages w.front.words w.front.ending w.front.ending front.Initialised front.Loop refl h.telling;
     entries = entries_rest g.pushed w.under.pages w.under.grants.live front.Initialised front.Loop w.front.ending w.front.ending w.front.requests at_loop
@@ -140,6 +140,7 @@ indices_closing g front_ring back_ring front_seen back_seen number last waiting 
   back_from = h.back_from;
   back_to = h.back_to;
   all = h.all;
+  given = h.given;
   few = h.few;
   held = h.held;
   room = h.room;
@@ -220,7 +221,7 @@ agrees config w g d order plain wished unmade h =
     x = h.indices
 
     none : g.pushed ≡ 0
-    none = (subst (λ (b : Bool). IsOffered b config.read_only config.indirect w.front.offers g.pushed w.front.last) (unmade_unready w.front.stage unmade) h.offered).0
+    none = (subst (λ (b : Bool). IsOffered b config.read_only config.indirect w.front.offers g.pushed) (unmade_unready w.front.stage unmade) h.offered)
 
     pushed : (g.taken ≤ g.pushed) × (g.front_seen ≤ g.pushed)
     pushed = (omega (arith, x.taken_replied, x.replied_fetched, x.fetched_pushed), omega (arith, x.front_to, x.replied_fetched, x.fetched_pushed))
@@ -237,9 +238,9 @@ enters_goes config w g d state plain may h = enters_cases (λ v shown. Goes conf
     unhalted t = true≢false (sym t ∙ ap is_some h.unhalted)
 
     entered : (s : FrontState) → MayEnter w s → may_enter s w.front ≡ true → Goes config (state_lines s) (record { front = in_state s w.front; back = w.back; under = w.under }) d
-    entered (states.Agreed order) may can = agrees config w g d order plain may (both_true (is_unmade w.front.stage) (nat_le order w.front.shape.order) can).0 h
+    entered (states.Agreed order) may can = agrees config w g d order plain may (both_true (is_unmade w.front.stage) (nat_le order w.front.shape.order) (both_true (is_unmade w.front.stage && nat_le order w.front.shape.order) _ can).0).0 h
     entered (states.Connected offers) may can = becomes_ready config w g d offers may (subst (λ (s : FrontStage). Holds config w g d s w.back.stage) (initialised_is w.front.stage can) h)
     entered states.Closing may can = begins_to_close config w g d (yet_open w.front.closing (is_open w.front.stage) can) h
-    entered states.Leaving may can = absurd (subst (BackAt g.shape g.start g.fetched g.back_seen g.replied g.submitted w.back.jobs.works w.back.entry) may h.back_at)
+    entered states.Leaving may can = absurd (subst (BackAt g.shape g.start g.fetched g.back_seen g.replied g.series w.back.jobs.works w.back.entry) may h.back_at)
     entered states.Closed may can = absurd (unhalted may)
     entered (states.Broken word) may can = absurd may

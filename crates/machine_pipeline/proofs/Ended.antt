@@ -62,7 +62,7 @@ pub ends_on : (config : Options) (w : World) (g : Flow) (d d' : Pipeline) (s s' 
     → ArePooled pool w.front.requests (ending_at s' ending)
     → FrontAt g.shape g.start g.pushed g.taken g.front_seen g.submitted g.replies (next_request w.front) w.front.entry ending s'
     → AreDataWords pages words ending s'
-    → AreEntries g.pushed pages w.under.grants.live s' ending w.front.requests
+    → AreEntries g.series g.pushed pages w.under.grants.live s' ending w.front.requests
     → length pages ≡ 1114112
     → ((f : ℕ) → 2 ≤ f → SameFrame w.under.pages pages f)
     → SameRing w.under.pages pages
@@ -81,7 +81,7 @@ ends_on config w g d d' s s' ending pool words pages i i' restless unarmed fewer
   info = h.info;
   replies = h.replies;
   front_at = at;
-  offered = subst (λ (b : Bool). IsOffered b config.read_only config.indirect w.front.offers g.pushed w.front.last) (i.ready ∙ sym i'.ready) h.offered;
+  offered = subst (λ (b : Bool). IsOffered b config.read_only config.indirect w.front.offers g.pushed) (i.ready ∙ sym i'.ready) h.offered;
   back_at = h.back_at;
   unhalted = h.unhalted;
   memory = sized;
@@ -92,7 +92,7 @@ ends_on config w g d d' s s' ending pool words pages i i' restless unarmed fewer
     named = λ page lt unmapped. let kept = entry page (among page (let all = i'.named (2 ^ g.shape.order) in omega arith)) in kept.frame ∙ was.named page (subst (λ (n : ℕ). page < n) (i'.named (2 ^ g.shape.order) ∙ sym (i.named (2 ^ g.shape.order))) lt) unmapped;
     granted = λ page lt unmapped. let kept = entry page (among page (let all = i'.granted (2 ^ g.shape.order) in omega arith)) in kept.flags ∙ was.granted page (subst (λ (n : ℕ). page < n) (i'.granted (2 ^ g.shape.order) ∙ sym (i.granted (2 ^ g.shape.order))) lt) unmapped;
   });
-  slots = slots_rest g.shape g.start g.fetched g.pushed g.taken g.replied g.submitted g.replies pages s s' w.back.stage i' (slots_kept g.shape g.start g.fetched g.pushed g.taken g.replied g.submitted g.replies w.under.pages pages s w.back.stage h.shaped.narrow (λ f x from to within behind. frames f from x within) h.slots);
+  slots = slots_rest g.shape g.start g.fetched g.pushed g.taken g.replied g.series g.replies pages s s' w.back.stage i' (slots_kept g.shape g.start g.fetched g.pushed g.taken g.replied g.series g.replies w.under.pages pages s w.back.stage h.shaped.narrow (λ f x from to within behind. frames f from x within) h.slots);
   frames = frames_rest g.pushed pages s s' w.front.requests i' (frames_kept g.pushed w.under.pages pages s w.front.requests
       (all_from (SameData w.under.pages pages) w.front.requests
       (λ j r e. let is = is_submitted config w g d s w.back.stage h j r e in data_same w.under.pages pages r is.frames
@@ -169,7 +169,7 @@ grant_read_goes config w g d place told h =
     flags : ℕ
     flags = flags_at e.request place
 
-    entries : AreEntries g.pushed w.under.pages w.under.grants.live (front.GrantRead place) w.front.ending w.front.requests
+    entries : AreEntries g.series g.pushed w.under.pages w.under.grants.live (front.GrantRead place) w.front.ending w.front.requests
     entries = h.entries
 
     stepped : end_step w.front place word ≡ at_stage (front.GrantEnd place flags) w.front
@@ -230,7 +230,7 @@ grant_end_goes config w g d place before untold h =
     Becomes : View → List ℕ → Type 0
     Becomes x ps = Goes config (lines.Move (moves.FrontCas (entry_frame frame) (entry_word frame) before 0 word) ∷ front_lines x.told) (record { front = record x { told = None }; back = w.back; under = record w.under { pages = ps } }) d
 
-    entries : AreEntries g.pushed w.under.pages w.under.grants.live (front.GrantEnd place before) w.front.ending w.front.requests
+    entries : AreEntries g.series g.pushed w.under.pages w.under.grants.live (front.GrantEnd place before) w.front.ending w.front.requests
     entries = h.entries
 
     same_word : word ≡ before
@@ -273,7 +273,7 @@ grant_end_goes config w g d place before untold h =
         apart_entry (frame_at r a + 6) (let top = in_pool.1 in omega arith) (λ same. apart (omega arith))
 
     entries_end : (s : FrontStage) (ending : Option Ending) → IsResting s → AreRevoked pages s ending
-        → AreEntries g.pushed pages w.under.grants.live s ending w.front.requests
+        → AreEntries g.series g.pushed pages w.under.grants.live s ending w.front.requests
     entries_end s ending i left =
         entries_rest g.pushed pages w.under.grants.live front.Loop s w.front.ending ending w.front.requests i left
         (entries_kept g.pushed w.under.pages pages w.under.grants.live front.Loop w.front.ending w.front.requests

@@ -29,14 +29,14 @@ use Rattle.machine_pipeline.proofs.ReadsKept.{stations_elsewhere}
 use Rattle.machine_pipeline.proofs.Slots.{with_slot, response_fits, slots_apart, other_slot, slot_written, same_slot, frames_beside, indices_beside}
 
 -- one word more of the entry that is being written, less than a ring after the first response that wasn't taken
-slots_entered : (shape : Shape) (start fetched pushed taken replied : ℕ) (submitted : List Request) (replies : List Reply) (old : List ℕ) (k : ℕ) (s s' : FrontStage) (b : BackStage) (r : Request)
+slots_entered : (shape : Shape) (start fetched pushed taken replied : ℕ) (series : List Request) (replies : List Reply) (old : List ℕ) (k : ℕ) (s s' : FrontStage) (b : BackStage) (r : Request)
     → shape.order ≤ 4 → entered s ≡ k
-    → length old ≡ 1114112 → k < entry_words_of shape.abi → ((i : ℕ) → i < entry_words_of shape.abi → i < entered s' → i ≤ k) → slice_get submitted pushed ≡ Some r
+    → length old ≡ 1114112 → k < entry_words_of shape.abi → ((i : ℕ) → i < entry_words_of shape.abi → i < entered s' → i ≤ k) → slice_get series pushed ≡ Some r
     → taken ≤ fetched → pushed < taken + entries_of shape.order → length replies + taken ≤ pushed → taken ≤ replied
     → ((rep : Reply) → reply_at b ≡ Some rep → replied < pushed)
-    → AreSlots shape start fetched pushed taken replied submitted replies old s b
-    → AreSlots shape start fetched pushed taken replied submitted replies (with_slot old shape (wrapped start pushed) k (slice_index (entry_of shape.abi r) k)) s' b
-slots_entered shape start fetched pushed taken replied submitted replies old k s s' b r narrow so_far sized within more known few room counted order behind h = record {
+    → AreSlots shape start fetched pushed taken replied series replies old s b
+    → AreSlots shape start fetched pushed taken replied series replies (with_slot old shape (wrapped start pushed) k (slice_index (entry_of shape.abi r) k)) s' b
+slots_entered shape start fetched pushed taken replied series replies old k s s' b r narrow so_far sized within more known few room counted order behind h = record {
   entries = λ m q from to e i lt. earlier m i to (omega arith) lt ∙ h.entries m q from to e i lt;
   entry = λ q e i lt in_it. by_place i lt (more i lt in_it) (same_Some r q (sym known ∙ e)) (λ less. h.entry q e i lt (omega (arith, so_far, less)));
   responses = λ m rep e i lt. let in_replies = slice_get_within replies m rep e in earlier (taken + m) i (omega arith) (omega arith) (response_fits shape.abi i lt) ∙ h.responses m rep e i lt;
@@ -64,13 +64,13 @@ pub word_entered : (config : Options) (w : World) (g : Flow) (d d' : Pipeline) (
     → Holds config w g d s w.back.stage
     → AreStations config g d' (is_ready s') (is_issuing s') (is_fetching w.back.stage) (ending_at s' w.front.ending) (telling_at s') (reply_at w.back.stage) w.front.requests w.back.jobs.works w.under.pages
     → next_request w.front ≡ Some r → k < entry_words_of g.shape.abi → ((i : ℕ) → i < entry_words_of g.shape.abi → i < entered s' → i ≤ k)
-    → ((new : List ℕ) → All (SameData w.under.pages new) w.front.requests → All (IsFilled g.pushed new s') w.front.requests)
-    → ((new : List ℕ) → All (SameGrants w.under.pages new) w.front.requests → AreEntries g.pushed new w.under.grants.live s' w.front.ending w.front.requests)
+    → ((new : List ℕ) → All (SameData w.under.pages new) w.front.requests → All (IsFilled g.series g.pushed new s') w.front.requests)
+    → ((new : List ℕ) → All (SameGrants w.under.pages new) w.front.requests → AreEntries g.series g.pushed new w.under.grants.live s' w.front.ending w.front.requests)
     → FrontAt g.shape g.start g.pushed g.taken g.front_seen g.submitted g.replies (next_request w.front) entry w.front.ending s'
     → (FrontSends s g.pushed g.fetched → ⊥)
     → Holds config (with_front w s' entry (with_slot w.under.pages g.shape (wrapped g.start g.pushed) k (slice_index (entry_of g.shape.abi r) k))) g d' s' w.back.stage
 word_entered config w g d d' k s s' r entry i i' so_far h stations e within more filled_so granted_so at unsent =
-    let next : IsNext g.submitted w.front.requests g.pushed w.front.waiting r = next_is w.front g.submitted w.front.sectors w.front.last g.pushed _ r h.queue h.submitted h.pool e in
+    let next : IsNext g.submitted g.series w.front.requests g.pushed w.front.waiting r = next_is w.front g.submitted w.front.sectors w.front.last g.pushed _ r h.queue h.submitted h.pool e in
     let x = h.indices in
     let y = h.replies in
     let unended = issuing s i in
@@ -85,8 +85,8 @@ word_entered config w g d d' k s s' r entry i i' so_far h stations e within more
     (length-set w.under.pages _ value ∙ h.memory)
     (λ z lt. indices_beside w.under.pages g.shape (wrapped g.start g.pushed) k value z lt)
     (λ page lt. entries (8 + page) (omega arith))
-    (slots_entered g.shape g.start g.fetched g.pushed g.taken g.replied g.submitted g.replies w.under.pages k s s' w.back.stage r h.shaped.narrow so_far h.memory within more next.known
-    (order x.taken_replied x.replied_fetched) (room (entries_of g.shape.order) g.pushed w.front.waiting (length w.front.requests) g.taken w.front.last x.all x.held few next.waits)
+    (slots_entered g.shape g.start g.fetched g.pushed g.taken g.replied g.series g.replies w.under.pages k s s' w.back.stage r h.shaped.narrow so_far h.memory within more next.at
+    (order x.taken_replied x.replied_fetched) (room (entries_of g.shape.order) g.pushed w.front.waiting (length w.front.requests) g.taken (length g.series) x.all x.held few next.waits)
     (counted y.counted x.replied_fetched x.fetched_pushed) x.taken_replied
     (λ rep at_reply. behind _ (ap reply_count at_reply) h.counted x.fetched_pushed) h.slots)
     (filled_so new (frames_elsewhere config w g d s w.back.stage h new (λ f from. elsewhere f (inr from))))

@@ -1,5 +1,5 @@
 -- The front writes a word of a request's data, or of its indirect pages.
-use Rattle.std.proofs.Common.{◌≡◌, ◌≢◌, ℕ, ◌+◌, ◌*◌, ◌/◌, ◌%◌, ◌<◌, ◌==◌, Bool, true, false, inl, inr, List, [], ◌∷◌, length, refl, sym, ◌∙◌, subst, arith, length-set}
+use Rattle.std.proofs.Common.{◌≡◌, ◌≢◌, ℕ, ◌+◌, ◌*◌, ◌/◌, ◌%◌, ◌<◌, ◌==◌, Bool, true, false, inl, inr, List, [], ◌∷◌, length, get_or, refl, sym, ◌∙◌, subst, arith, length-set}
 use Rattle.std.specs.Prelude.{All, Option, Some, None, if◌then◌else◌, nat_lt}
 use Rattle.std.proofs.lemmas.Bool.{false≢true, cases_lt}
 use Rattle.std.proofs.lemmas.Bool.Decides.{nat_tests}
@@ -32,19 +32,19 @@ use Rattle.machine_pipeline.proofs.ReadsKept.{stations_kept}
 use Rattle.blk_front.specs.Submit.{is_ready}
 
 -- one word more of the next request's frames
-frames_filled : (submitted requests : List Request) (pushed waiting : ℕ) (old : List ℕ) (s s' : FrontStage) (r : Request) (n : ℕ)
-    → IsNext submitted requests pushed waiting r → length old ≡ 1114112 → n < span r
+frames_filled : {series : List Request} (submitted requests : List Request) (pushed waiting : ℕ) (old : List ℕ) (s s' : FrontStage) (r : Request) (n : ℕ)
+    → IsNext submitted series requests pushed waiting r → length old ≡ 1114112 → n < span r
     → ((m : ℕ) → is_own r m ≡ true → m < filled s' (frames_for r.count) → m ≢ n → m < filled s (frames_for r.count))
-    → All (IsFilled pushed old s) requests
-    → All (IsFilled pushed (with_word old (frame_at r (n / 1024)) (n % 1024) (own_value r n)) s') requests
+    → All (IsFilled series pushed old s) requests
+    → All (IsFilled series pushed (with_word old (frame_at r (n / 1024)) (n % 1024) (own_value r n)) s') requests
 frames_filled submitted requests pushed waiting old s s' r n next sized within more h k d lt =
     let was = h k d lt in
     let apart = next.apart k d lt in
-    let only = next.only k d lt in
+    let only = next.only (get_or requests k d) in
     let place = place_among r n next.shape within in
     record {
       whole = λ le m l own. data_apart old (frame_at r (n / 1024)) (n % 1024) (own_value r n) _ (omega arith) (next.shaped k d lt)
-          (λ a in_it. apart (λ same. omega arith) a (n / 1024) in_it place) m l ∙ was.whole le m l own;
+          (λ a in_it. apart (next.late (get_or requests k d) le) a (n / 1024) in_it place) m l ∙ was.whole le m l own;
       begun = λ e m f l own.
           rw (only e) (by_place (subst (λ (q : Request). (j : ℕ) → j < filled s (frames_for q.count) → j < span q → is_own q j ≡ true → data_word old q j ≡ own_value q j) (only e) (was.begun e))
           m (subst (λ (q : Request). m < span q) (only e) l) (subst (λ (q : Request). m < filled s' (frames_for q.count)) (only e) f) (subst (λ (q : Request). is_own q m ≡ true) (only e) own));
@@ -77,7 +77,7 @@ pub filled_on : (config : Options) (w : World) (g : Flow) (d d' : Pipeline) (s s
     → (FrontSends s g.pushed g.fetched → ⊥)
     → Holds config (with_front w s' w.front.entry (with_word w.under.pages (frame_at r (n / 1024)) (n % 1024) (own_value r n))) g d' s' w.back.stage
 filled_on config w g d d' s s' r n i i' h stations e begun within more unentered unnamed ungranted at unsent =
-    let next : IsNext g.submitted w.front.requests g.pushed w.front.waiting r = next_is w.front g.submitted w.front.sectors w.front.last g.pushed _ r h.queue h.submitted h.pool e in
+    let next : IsNext g.submitted g.series w.front.requests g.pushed w.front.waiting r = next_is w.front g.submitted w.front.sectors w.front.last g.pushed _ r h.queue h.submitted h.pool e in
     let frame : ℕ = frame_at r (n / 1024) in
     let word : ℕ = n % 1024 in
     let value : ℕ = own_value r n in
@@ -88,7 +88,7 @@ filled_on config w g d d' s s' r n i i' h stations e begun within more unentered
     let new : List ℕ = with_word w.under.pages frame word value in
     let elsewhere : (f : ℕ) → f ≢ frame → SameFrame w.under.pages new f = λ f other. other_frame w.under.pages frame word value f (omega arith) other in
     let none : ending_at s' w.front.ending ≡ None = let stage = issuing s' i' in stage.ending w.front.ending in
-    let others = fetched_apart g.submitted w.front.requests g.pushed w.front.waiting d'.requests r next h.queue (subst (AreOpen d'.requests w.front.requests) none stations.opened) (stations.waiting.issued begun) in
+    let others = fetched_apart g.submitted w.front.requests g.pushed w.front.waiting d'.requests r next h.queue (subst (AreOpen d'.requests w.front.requests) none stations.opened) (stations.waiting.issued begun r next.at) in
     issue_moved config w g d d' s s' w.front.entry new i i' h
     (stations_kept config g d' (is_ready s') (is_issuing s') (is_fetching w.back.stage) (ending_at s' w.front.ending) (telling_at s') (reply_at w.back.stage) w.front.requests w.back.jobs.works w.under.pages new
     (λ j x q known here low high. let is = h.submitted.each j x known in data_apart w.under.pages frame word value x (omega arith) is.shaped
@@ -96,7 +96,7 @@ filled_on config w g d d' s s' r n i i' h stations e begun within more unentered
     (length-set w.under.pages (frame * 1024 + word) value ∙ h.memory)
     (λ x lt. elsewhere 2 (omega arith) x (omega arith))
     (λ page lt. same_entry w.under.pages _ (8 + page) (omega arith) (elsewhere 0 (omega arith)) (elsewhere 1 (omega arith)))
-    (slots_turned g.shape g.start g.fetched g.pushed g.taken g.replied g.submitted g.replies w.under.pages _ s s' w.back.stage h.shaped.narrow (λ f x from to in_it behind. elsewhere f (omega arith) x in_it) unentered h.slots)
+    (slots_turned g.shape g.start g.fetched g.pushed g.taken g.replied g.series g.replies w.under.pages _ s s' w.back.stage h.shaped.narrow (λ f x from to in_it behind. elsewhere f (omega arith) x in_it) unentered h.slots)
     (frames_filled g.submitted w.front.requests g.pushed w.front.waiting w.under.pages s s' r n next h.memory within more h.frames)
     (entries_turned g.pushed w.under.pages _ w.under.grants.live s s' w.front.ending w.front.requests i' (omega arith) (omega arith)
     (entries_elsewhere config w g d s w.back.stage h _ (λ gref lt. same_entry w.under.pages _ gref lt (elsewhere 0 (omega arith)) (elsewhere 1 (omega arith)))) h.entries)
@@ -134,7 +134,7 @@ data_goes config w g d n safe h = subst (λ (next : Option Request). WriteGoes c
     r = h.front_at.0
 
     shaped : IsShaped r
-    shaped = let next : IsNext g.submitted w.front.requests g.pushed w.front.waiting r = next_is w.front g.submitted w.front.sectors w.front.last g.pushed _ r h.queue h.submitted h.pool h.front_at.1 in next.shape
+    shaped = let next : IsNext g.submitted g.series w.front.requests g.pushed w.front.waiting r = next_is w.front g.submitted w.front.sectors w.front.last g.pushed _ r h.queue h.submitted h.pool h.front_at.1 in next.shape
 
     on : (s' : FrontStage) → may_front_sleep s' ≡ true → is_issuing s' ≡ true → is_ready s' ≡ true → ending_at s' w.front.ending ≡ None → telling_at s' ≡ None
         → ((m : ℕ) → is_own r m ≡ true → m < filled s' (frames_for r.count) → m ≢ n → m < n)
@@ -182,7 +182,7 @@ pages_goes config w g d n safe h = subst (λ (next : Option Request). WriteGoes 
     r = h.front_at.0
 
     shaped : IsShaped r
-    shaped = let next : IsNext g.submitted w.front.requests g.pushed w.front.waiting r = next_is w.front g.submitted w.front.sectors w.front.last g.pushed _ r h.queue h.submitted h.pool h.front_at.1 in next.shape
+    shaped = let next : IsNext g.submitted g.series w.front.requests g.pushed w.front.waiting r = next_is w.front g.submitted w.front.sectors w.front.last g.pushed _ r h.queue h.submitted h.pool h.front_at.1 in next.shape
 
     on : (s' : FrontStage) → may_front_sleep s' ≡ true → is_issuing s' ≡ true → is_ready s' ≡ true → ending_at s' w.front.ending ≡ None → telling_at s' ≡ None
         → ((m : ℕ) → is_own r m ≡ true → m < filled s' (frames_for r.count) → m ≢ 1024 * frames_for r.count + n → m < 1024 * frames_for r.count + n)

@@ -20,6 +20,7 @@ use Rattle.blk_back.specs.declared.stage.Reply.{Reply}
 use Rattle.blk_back.specs.Ask.{response_word}
 use Rattle.split_model.specs.World.{World}
 use Rattle.machine_pipeline.proofs.Flow.{Flow, ending_at}
+use Rattle.machine_pipeline.proofs.Series.{among_apart, among_more}
 use Rattle.machine_pipeline.proofs.Holds.{Holds, IsReply}
 use Rattle.machine_pipeline.proofs.Lists.{place_of_any}
 use Rattle.machine_pipeline.proofs.Removals.{taken_was, taken_has, found_somewhere}
@@ -68,7 +69,7 @@ pub record IsFound (w : World) (g : Flow) (id : ℕ) : Type 0 where
 pub finds : (config : Options) (w : World) (g : Flow) (d : Pipeline) (s : FrontStage) (rep : Reply)
     → Holds config w g d s w.back.stage
     → ending_at s w.front.ending ≡ None
-    → IsReply g.fetched rep
+    → IsReply g.series g.fetched rep
     → StandsAt d.requests (rep.id - 1) (Replied rep.status)
     → IsFound w g rep.id
 finds config w g d s rep h none is was = by_place (h.stations.opened.held (rep.id - 1) was.q was.at (ap is_finished was.there))
@@ -86,9 +87,10 @@ finds config w g d s rep h none is was = by_place (h.stations.opened.held (rep.i
             let within = slice_get_within w.front.requests i r e in
             let queue = h.queue in
             let indices = h.indices in
+            let order = indices.fetched_pushed in
             let reached = is.reached in
-            let number = queue.next (i - (length w.front.requests - w.front.waiting)) r (omega arith) (ap (slice_get w.front.requests) (omega arith) ∙ e) in
-            absurd (omega arith)
+            let at = queue.next (i - (length w.front.requests - w.front.waiting)) r (omega arith) (ap (slice_get w.front.requests) (omega arith) ∙ e) in
+            absurd (among_apart g.submitted g.series g.pushed (g.pushed + (i - (length w.front.requests - w.front.waiting))) reached.r r queue.ordered (among_more g.fetched g.pushed reached.r order reached.among) at (omega arith) (reached.same ∙ sym same))
 
     by_place : (list_any (λ (r : Request). r.number == rep.id - 1 + 1) w.front.requests ≡ true) ⊎ ((e : Ending) × (ending_at s w.front.ending ≡ Some e) × (e.request.number ≡ rep.id - 1 + 1)) → IsFound w g rep.id
     by_place (inl any) =

@@ -1,4 +1,4 @@
--- What passes through the ring, by whole indices in place of its wrapped words: whole indices, each request that was ever submitted, and the responses on their way.
+-- What passes through the ring, by whole indices in place of its wrapped words: whole indices, each request that was ever submitted, those of this epoch, and the responses on their way.
 use Rattle.std.specs.Prelude.{ℕ, ◌+◌, ◌-◌, ◌*◌, ◌/◌, ◌%◌, ◌^◌, ◌==◌, ◌&&◌, Bool, true, false, List, [], length, map, max, count_by, Option, Some, None, if◌then◌else◌, nat_lt}
 use Rattle.std.specs.List.{range_with_len}
 use Rattle.blk_base.specs.declared.config.Job.{Job}
@@ -20,7 +20,7 @@ use Rattle.blk_back.specs.declared.stage.Stage.{Stage as BackStage}
 use Rattle.blk_back.specs.declared.stage.Stage.TheVariants as back
 use Rattle.pipeline_laws.specs.Station.{Station, Working, Failed, Ended}
 
--- the ring's shape and its first index; how many requests were pushed, how many of them fetched, how many of these replied to, and how many of the responses taken; how many responses and requests the front and the back saw in the producers; the requests, number 1 first; the responses that the front hasn't taken, oldest first; and whether the front began to close
+-- the ring's shape and its first index; how many requests were pushed, how many of them fetched, how many of these replied to, and how many of the responses taken; how many responses and requests the front and the back saw in the producers; the requests, number 1 first; those of this epoch, in the order in which they are pushed; the responses that the front hasn't taken, oldest first; and whether the front began to close
 pub record Flow : Type 0 where
   pub shape : Shape
   pub start : ℕ
@@ -31,11 +31,17 @@ pub record Flow : Type 0 where
   pub front_seen : ℕ
   pub back_seen : ℕ
   pub submitted : List Request
+  pub series : List Request
   pub replies : List Reply
   pub closing : Bool
 
+-- at the start of an epoch, of which these are the requests
+abbrev pub epoch_flow : Shape → ℕ → (submitted series : List Request) → (closing : Bool) → Flow
+epoch_flow shape start submitted series closing = record { shape = shape; start = start; pushed = 0; fetched = 0; replied = 0; taken = 0; front_seen = 0; back_seen = 0; submitted = submitted; series = series; replies = []; closing = closing }
+
+-- of the first one
 abbrev pub start_flow : Shape → ℕ → Flow
-start_flow shape start = record { shape = shape; start = start; pushed = 0; fetched = 0; replied = 0; taken = 0; front_seen = 0; back_seen = 0; submitted = []; replies = []; closing = false }
+start_flow shape start = epoch_flow shape start [] [] false
 
 -- a whole index as the ring's words have it
 abbrev pub wrapped : ℕ → ℕ → ℕ
@@ -43,11 +49,13 @@ wrapped start n = (start + n) % 2 ^ 32
 
 -- the ring's words are all written
 abbrev pub has_ring : FrontStage → Bool
+has_ring (front.LeftData n) = false
 has_ring (front.RingWord k) = false
 has_ring s = true
 
 -- how many frames of the ring stand in their grant entries, and how many are granted, of a ring of so many pages
 abbrev pub named_pages : FrontStage → (pages : ℕ) → ℕ
+named_pages (front.LeftData n) pages = 0
 named_pages (front.RingWord k) pages = 0
 named_pages (front.RingFrame page) pages = page
 named_pages (front.RingFence page) pages = page + 1
@@ -55,6 +63,7 @@ named_pages (front.RingFlags page) pages = page + 1
 named_pages s pages = pages
 
 abbrev pub granted_pages : FrontStage → (pages : ℕ) → ℕ
+granted_pages (front.LeftData n) pages = 0
 granted_pages (front.RingWord k) pages = 0
 granted_pages (front.RingFrame page) pages = page
 granted_pages (front.RingFence page) pages = page
@@ -109,6 +118,7 @@ abbrev pub ending_at : FrontStage → Option Ending → Option Ending
 ending_at (front.GrantRead place) ending = ending
 ending_at (front.GrantEnd place before) ending = ending
 ending_at (front.ReadData n) ending = ending
+ending_at (front.LeftData n) ending = ending
 ending_at s ending = None
 
 -- the request whose grants are being ended
@@ -126,6 +136,7 @@ revoked s = 0
 -- the sector that is told next, of an answered read
 abbrev pub telling_at : FrontStage → Option ℕ
 telling_at (front.ReadData n) = Some (n / 128)
+telling_at (front.LeftData n) = Some (n / 128)
 telling_at s = None
 
 abbrev pub count_of : Option Ending → ℕ

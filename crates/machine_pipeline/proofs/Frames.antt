@@ -37,14 +37,15 @@ pub ending_is : (shape : Shape) (start pushed taken front_seen : ℕ) (submitted
 ending_is shape start pushed taken front_seen submitted replies next entry ending (front.GrantRead place) e h same = subst (IsEnding submitted replies) (same_Some h.0 e (sym h.1 ∙ same)) h.2
 ending_is shape start pushed taken front_seen submitted replies next entry ending (front.GrantEnd place before) e h same = subst (IsEnding submitted replies) (same_Some h.0 e (sym h.1 ∙ same)) h.2
 ending_is shape start pushed taken front_seen submitted replies next entry ending (front.ReadData n) e h same = subst (IsEnding submitted replies) (same_Some h.0 e (sym h.1 ∙ same)) h.2
+ending_is shape start pushed taken front_seen submitted replies next entry ending (front.LeftData n) e h same = absurd h
 ending_is shape start pushed taken front_seen submitted replies next entry ending s e h same = absurd (none-some e same)
 
 -- the response that is being written
-pub reply_is : (shape : Shape) (start fetched back_seen replied : ℕ) (submitted : List Request) (works : List Work) (entry : List ℕ) (b : BackStage) (rep : Reply) → BackAt shape start fetched back_seen replied submitted works entry b → reply_at b ≡ Some rep → IsReplying fetched works rep
-reply_is shape start fetched back_seen replied submitted works entry (back.ReplyHigh r) rep h same = subst (IsReplying fetched works) (same_Some r rep same) h
-reply_is shape start fetched back_seen replied submitted works entry (back.ReplyLast r) rep h same = subst (IsReplying fetched works) (same_Some r rep same) h
-reply_is shape start fetched back_seen replied submitted works entry (back.Producer r) rep h same = subst (IsReplying fetched works) (same_Some r rep same) h
-reply_is shape start fetched back_seen replied submitted works entry b rep h same = absurd (none-some rep same)
+pub reply_is : (shape : Shape) (start fetched back_seen replied : ℕ) (series : List Request) (works : List Work) (entry : List ℕ) (b : BackStage) (rep : Reply) → BackAt shape start fetched back_seen replied series works entry b → reply_at b ≡ Some rep → IsReplying series fetched works rep
+reply_is shape start fetched back_seen replied series works entry (back.ReplyHigh r) rep h same = subst (IsReplying series fetched works) (same_Some r rep same) h
+reply_is shape start fetched back_seen replied series works entry (back.ReplyLast r) rep h same = subst (IsReplying series fetched works) (same_Some r rep same) h
+reply_is shape start fetched back_seen replied series works entry (back.Producer r) rep h same = subst (IsReplying series fetched works) (same_Some r rep same) h
+reply_is shape start fetched back_seen replied series works entry b rep h same = absurd (none-some rep same)
 
 -- how far the words of the ring, of data and of an entry that are being written go
 pub few_words : (shape : Shape) (start pushed taken front_seen : ℕ) (submitted : List Request) (replies : List Reply) (next : Option Request) (entry : List ℕ) (ending : Option Ending) (s : FrontStage) → FrontAt shape start pushed taken front_seen submitted replies next entry ending s → (k : ℕ) → s ≡ front.RingWord k → k ≤ 16
@@ -58,6 +59,7 @@ named_at shape start pushed taken front_seen submitted replies next entry ending
 named_at shape start pushed taken front_seen submitted replies next entry ending (front.RingFrame page) narrow h = let few = few_pages shape.order narrow in omega (arith, h)
 named_at shape start pushed taken front_seen submitted replies next entry ending (front.RingFence page) narrow h = let few = few_pages shape.order narrow in omega (arith, h)
 named_at shape start pushed taken front_seen submitted replies next entry ending (front.RingFlags page) narrow h = let few = few_pages shape.order narrow in omega (arith, h)
+named_at shape start pushed taken front_seen submitted replies next entry ending (front.LeftData n) narrow h = absurd h
 named_at shape start pushed taken front_seen submitted replies next entry ending s narrow h = few_pages shape.order narrow
 
 -- the data of the ending request that are told have so many words
@@ -71,9 +73,9 @@ pub is_submitted : (config : Options) (w : World) (g : Flow) (d : Pipeline) (s :
 is_submitted config w g d s b h i r e = h.submitted.each (r.number - 1) r (all_at (λ (x : Request). slice_get g.submitted (x.number - 1) ≡ Some x) w.front.requests i r h.queue.known e)
 
 -- the request of a job is one of the front's
-pub work_queued : (config : Options) (w : World) (g : Flow) (d : Pipeline) (s : FrontStage) (b : BackStage) → Holds config w g d s b → (i : ℕ) (t : Work) → slice_get w.back.jobs.works i ≡ Some t → (is : IsWork g.submitted g.fetched t) → IsQueued w.front.requests is.r
+pub work_queued : (config : Options) (w : World) (g : Flow) (d : Pipeline) (s : FrontStage) (b : BackStage) → Holds config w g d s b → (i : ℕ) (t : Work) → slice_get w.back.jobs.works i ≡ Some t → (is : IsWork g.submitted g.series g.fetched t) → IsQueued w.front.requests is.r
 work_queued config w g d s b h i t here is =
-    queued g.submitted w.front.requests g.pushed w.front.waiting (t.number - 1) is.r d.requests (ending_at s w.front.ending) (telling_at s) (worked t.stage t.moved) h.queue h.stations.opened h.stations.taking
+    queued g.submitted w.front.requests g.pushed w.front.waiting (t.id - 1) is.r d.requests (ending_at s w.front.ending) (telling_at s) (worked t.stage t.moved) h.queue h.stations.opened h.stations.taking
     (omega (arith, worked_kind t.stage t.moved)) is.known (h.stations.works i t here)
 
 -- no hand has a mapping of a request's frame where none of the jobs that have one has its number
@@ -81,13 +83,13 @@ pub none_in_hands : (config : Options) (w : World) (g : Flow) (d : Pipeline) (s 
     → (j : ℕ) (r : Request) → slice_get w.front.requests j ≡ Some r
     → (a : ℕ) → a < frames_of r
     → (works : List Work)
-    → ((i : ℕ) (t : Work) (m : Mapping) → slice_get works i ≡ Some t → mapping_at t.stage ≡ Some m → (k : ℕ) × (slice_get w.back.jobs.works k ≡ Some t) × (t.number ≢ r.number))
+    → ((i : ℕ) (t : Work) (m : Mapping) → slice_get works i ≡ Some t → mapping_at t.stage ≡ Some m → (k : ℕ) × (slice_get w.back.jobs.works k ≡ Some t) × (t.id ≢ r.number))
     → (test : Mapping → Bool) → ((m : Mapping) → m.gref ≢ frame_at r a + 6 → test m ≡ false)
     → count_by test (hands_at b (record w.back { jobs = record w.back.jobs { works = works } })) ≡ 0
 none_in_hands config w g d s b h j r here a in_r works others test apart =
     let is = is_submitted config w g d s b h j r here in
     let in_pool = pooled_at r is.frames a in
-    let given : given_up b ≡ [] = nothing_given_up g.shape b g.start g.fetched g.back_seen g.replied g.submitted w.back.jobs.works w.back.entry h.back_at in
+    let given : given_up b ≡ [] = nothing_given_up g.shape b g.start g.fetched g.back_seen g.replied g.series w.back.jobs.works w.back.entry h.back_at in
     let jobs : count_by test (hands_in works) ≡ 0 = hands_none test works one in
     let pages : count_by test w.back.pages ≡ 0 = pages_none test w.back.pages (λ page lt. apart (slice_index_or w.back.pages page no_page) (
     let gref = h.paged.gref page lt in
@@ -100,12 +102,12 @@ none_in_hands config w g d s b h j r here a in_r works others test apart =
     one : (i : ℕ) (t : Work) (m : Mapping) → slice_get works i ≡ Some t → mapping_at t.stage ≡ Some m → test m ≡ false
     one i t m e f =
         let other = others i t m e f in
-        let work = all_at (IsWork g.submitted g.fetched) w.back.jobs.works other.0 t h.works.each other.1 in
+        let work = all_at (IsWork g.submitted g.series g.fetched) w.back.jobs.works other.0 t h.works.each other.1 in
         let its = work_queued config w g d s b h other.0 t other.1 work in
-        let number = h.submitted.each (t.number - 1) work.r work.known in
+        let number = h.submitted.each (t.id - 1) work.r work.known in
         let hand = work_hand g.submitted g.fetched t m work number.shaped f in
         let differs = other.2 in
-        let places : its.place ≢ j = λ same. differs (numbers work.r.number t.number r.number number.number work.positive (ap (λ (x : Request). x.number) (same_Some work.r r (sym its.at ∙ (ap (slice_get w.front.requests) same ∙ here))))) in
+        let places : its.place ≢ j = λ same. differs (numbers work.r.number t.id r.number number.number work.positive (ap (λ (x : Request). x.number) (same_Some work.r r (sym its.at ∙ (ap (slice_get w.front.requests) same ∙ here))))) in
         let frames = frames_apart w.front.pool w.front.requests (ending_at s w.front.ending) its.place j work.r r h.pool places its.at here hand.place a hand.here in_r (pooled_at work.r number.frames hand.place) in
         apart m (λ same. frames (let gref = hand.hand.gref in omega arith))
       where
@@ -116,7 +118,7 @@ none_in_hands config w g d s b h j r here a in_r works others test apart =
 pub unmapped : (config : Options) (w : World) (g : Flow) (d : Pipeline) (s : FrontStage) (b : BackStage) → Holds config w g d s b
     → (j : ℕ) (r : Request) → slice_get w.front.requests j ≡ Some r
     → (a : ℕ) → a < frames_of r
-    → ((i : ℕ) (t : Work) → slice_get w.back.jobs.works i ≡ Some t → t.number ≡ r.number → mapping_at t.stage ≡ None)
+    → ((i : ℕ) (t : Work) → slice_get w.back.jobs.works i ≡ Some t → t.id ≡ r.number → mapping_at t.stage ≡ None)
     → (test : Mapping → Bool) → ((m : Mapping) → m.gref ≢ frame_at r a + 6 → test m ≡ false)
     → count_by (λ (x : Held). test x.mapping) w.under.grants.live ≡ 0
 unmapped config w g d s b h j r here a in_r none test apart =

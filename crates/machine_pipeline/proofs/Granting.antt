@@ -25,6 +25,7 @@ use Rattle.blk_front.specs.Step.{at, granted}
 use Rattle.split_model.specs.World.{World}
 use Rattle.split_model.specs.Safe.{IsSafe}
 use Rattle.machine_pipeline.proofs.Flow.{Flow, frames_of, filled, named_frames, granted_frames, entered, may_front_sleep, is_issuing, is_fetching, ending_at, telling_at, reply_at}
+use Rattle.machine_pipeline.proofs.Series.{IsAmong}
 use Rattle.machine_pipeline.proofs.Holds.{IsPooled, FrontAt, IsFilled, IsGranted, AreEntries, FrontSends, Holds}
 use Rattle.machine_pipeline.proofs.Kept.{SameFrame, SameEntry, SameGrants, written, other_word, other_frame, other_entry}
 use Rattle.machine_pipeline.proofs.Data.{SameData, pooled_at}
@@ -64,24 +65,24 @@ abbrev pub with_flags : List ℕ → (frame value : ℕ) → List ℕ
 with_flags pages frame value = with_word pages ((frame + 6) / 512) (2 * ((frame + 6) % 512)) value
 
 -- the other requests' entries are as they were, the next one's as it is now
-entries_with : (submitted requests : List Request) (pushed waiting : ℕ) (old new : List ℕ) (live : List Held) (s s' : FrontStage) (ending : Option Ending)
+entries_with : {series : List Request} (submitted requests : List Request) (pushed waiting : ℕ) (old new : List ℕ) (live : List Held) (s s' : FrontStage) (ending : Option Ending)
     (r : Request) (place : ℕ)
     → may_front_sleep s' ≡ true
-    → IsNext submitted requests pushed waiting r
+    → IsNext submitted series requests pushed waiting r
     → place < frames_of r
     → SameOthers old new (frame_at r place + 6)
     → AreNamed new r (named_frames s')
     → AreGranted new r (granted_frames s')
-    → AreEntries pushed old live s ending requests
-    → AreEntries pushed new live s' ending requests
-entries_with submitted requests pushed waiting old new live s s' ending r place i' next within others named granted h = record {
+    → AreEntries series pushed old live s ending requests
+    → AreEntries series pushed new live s' ending requests
+entries_with {series} submitted requests pushed waiting old new live s s' ending r place i' next within others named granted h = record {
   each = λ k d lt.
       let was = h.each k d lt in
       let apart = next.apart k d lt in
-      let only = next.only k d lt in
-      let elsewhere : (let q = get_or requests k d in q.number ≤ pushed → SameGrants old new q) = λ le a in_it.
+      let only = next.only (get_or requests k d) in
+      let elsewhere : IsAmong series pushed (get_or requests k d) → SameGrants old new (get_or requests k d) = λ le a in_it.
       let pooled = pooled_at (get_or requests k d) (next.pooled k d lt) a in
-      let differs = apart (λ e. omega arith) a place in_it within in
+      let differs = apart (next.late (get_or requests k d) le) a place in_it within in
       others (frame_at (get_or requests k d) a + 6) (omega (arith, pooled.1)) (λ same. differs (omega arith)) in
       record {
         named = λ le a in_it. let here = elsewhere le a in_it in here.frame ∙ was.named le a in_it;
@@ -97,11 +98,11 @@ pub entry_moved : (config : Options) (w : World) (g : Flow) (d d' : Pipeline) (s
     → may_front_sleep s ≡ true → may_front_sleep s' ≡ true
     → Holds config w g d s w.back.stage
     → AreStations config g d' (is_ready s') (is_issuing s') (is_fetching w.back.stage) (ending_at s' w.front.ending) (telling_at s') (reply_at w.back.stage) w.front.requests w.back.jobs.works w.under.pages
-    → IsNext g.submitted w.front.requests g.pushed w.front.waiting r
+    → IsNext g.submitted g.series w.front.requests g.pushed w.front.waiting r
     → place < frames_of r
     → word < 1024
     → SameOthers w.under.pages (with_word w.under.pages ((frame_at r place + 6) / 512) word value) (frame_at r place + 6)
-    → ((new : List ℕ) → All (SameData w.under.pages new) w.front.requests → All (IsFilled g.pushed new s') w.front.requests)
+    → ((new : List ℕ) → All (SameData w.under.pages new) w.front.requests → All (IsFilled g.series g.pushed new s') w.front.requests)
     → entered s' ≡ 0
     → FrontAt g.shape g.start g.pushed g.taken g.front_seen g.submitted g.replies (next_request w.front) entry w.front.ending s'
     → AreNamed (with_word w.under.pages ((frame_at r place + 6) / 512) word value) r (named_frames s')
@@ -119,7 +120,7 @@ entry_moved config w g d d' s s' r place entry word value i i' h stations next i
     (length-set w.under.pages (gref / 512 * 1024 + word) value ∙ h.memory)
     (λ x lt. elsewhere 2 (omega arith) x (omega arith))
     (λ page lt. others (8 + page) (omega arith) (omega arith))
-    (slots_turned g.shape g.start g.fetched g.pushed g.taken g.replied g.submitted g.replies w.under.pages _ s s' w.back.stage h.shaped.narrow (λ f x from to in_it behind. elsewhere f (omega arith) x in_it) none h.slots)
+    (slots_turned g.shape g.start g.fetched g.pushed g.taken g.replied g.series g.replies w.under.pages _ s s' w.back.stage h.shaped.narrow (λ f x from to in_it behind. elsewhere f (omega arith) x in_it) none h.slots)
     (filled_so _ (frames_elsewhere config w g d s w.back.stage h _ (λ f from. elsewhere f (omega arith))))
     (entries_with g.submitted w.front.requests g.pushed w.front.waiting w.under.pages _ w.under.grants.live s s' w.front.ending r place i' next in_it others
     named granted h.entries)
@@ -129,7 +130,7 @@ entry_moved config w g d d' s s' r place entry word value i i' h stations next i
 entry_on : (config : Options) (w : World) (g : Flow) (d : Pipeline) (s s' : FrontStage) (r : Request) (place : ℕ) (entry : List ℕ) (word value : ℕ)
     → may_front_sleep s ≡ true → may_front_sleep s' ≡ true → is_issuing s' ≡ is_issuing s
     → Holds config w g d s w.back.stage
-    → IsNext g.submitted w.front.requests g.pushed w.front.waiting r
+    → IsNext g.submitted g.series w.front.requests g.pushed w.front.waiting r
     → place < frames_of r
     → word < 1024
     → SameOthers w.under.pages (with_word w.under.pages ((frame_at r place + 6) / 512) word value) (frame_at r place + 6)
@@ -228,9 +229,9 @@ NameGoes config w d place next = Goes config (entry_says w (front_act w.under (n
 pub frame_goes : (config : Options) (w : World) (g : Flow) (d : Pipeline) (place : ℕ) → IsSafe w → Holds config w g d (front.GrantFrame place) w.back.stage → FrontGoes config w d (front.GrantFrame place)
 frame_goes config w g d place safe h = subst (λ (q : Option Request). NameGoes config w d place q) (sym h.front_at.1) (
     let r : Request = h.front_at.0 in
-    let next : IsNext g.submitted w.front.requests g.pushed w.front.waiting r = next_is w.front g.submitted w.front.sectors w.front.last g.pushed _ r h.queue h.submitted h.pool h.front_at.1 in
+    let next : IsNext g.submitted g.series w.front.requests g.pushed w.front.waiting r = next_is w.front g.submitted w.front.sectors w.front.last g.pushed _ r h.queue h.submitted h.pool h.front_at.1 in
     let pooled = pooled_at r next.frames place in
-    let was : IsGranted g.pushed w.under.pages w.under.grants.live (front.GrantFrame place) r = all_at (IsGranted g.pushed w.under.pages w.under.grants.live (front.GrantFrame place)) w.front.requests (length w.front.requests - w.front.waiting) r h.entries.each next.place in
+    let was : IsGranted g.series g.pushed w.under.pages w.under.grants.live (front.GrantFrame place) r = all_at (IsGranted g.series g.pushed w.under.pages w.under.grants.live (front.GrantFrame place)) w.front.requests (length w.front.requests - w.front.waiting) r h.entries.each next.place in
     record {
       flow = g;
       steps = [];
@@ -238,8 +239,8 @@ frame_goes config w g d place safe h = subst (λ (q : Option Request). NameGoes 
       holds = entry_on config w g d (front.GrantFrame place) (front.GrantFence place) r place w.front.entry (2 * ((frame_at r place + 6) % 512) + 1) (frame_at r place) refl refl refl h next h.front_at.2 (omega arith)
           (λ other lt apart. other_named w.under.pages (frame_at r place + 6) other (frame_at r place) (omega (arith, pooled.1)) lt apart)
           (λ frames. omega arith) refl h.front_at
-          (named_now w.under.pages r place h.memory next.frames next.own h.front_at.2 (was.named_next next.number))
-          (flags_still w.under.pages r place (frame_at r place) next.frames next.own h.front_at.2 (was.flags_next next.number))
+          (named_now w.under.pages r place h.memory next.frames next.own h.front_at.2 (was.named_next next.at))
+          (flags_still w.under.pages r place (frame_at r place) next.frames next.own h.front_at.2 (was.flags_next next.at))
           (λ sends. sends);
     })
 
@@ -249,7 +250,7 @@ fence_goes config w g d place safe h = record {
   steps = [];
   does = said_nothing d _ w.front.told safe.front_told;
   holds = issue_kept config w g d (front.GrantFence place) (front.GrantFlags place) w.front.entry w.under.pages refl refl refl h h.front_at h.memory (λ f low high x lt. refl) (λ x lt. refl) (λ page lt. record { flags = refl; frame = refl })
-      (slots_turned g.shape g.start g.fetched g.pushed g.taken g.replied g.submitted g.replies w.under.pages w.under.pages (front.GrantFence place) (front.GrantFlags place) w.back.stage h.shaped.narrow (λ f x from to in_it behind. refl) refl h.slots)
+      (slots_turned g.shape g.start g.fetched g.pushed g.taken g.replied g.series g.replies w.under.pages w.under.pages (front.GrantFence place) (front.GrantFlags place) w.back.stage h.shaped.narrow (λ f x from to in_it behind. refl) refl h.slots)
       (frames_turned g.pushed w.under.pages w.under.pages (front.GrantFence place) (front.GrantFlags place) w.front.requests (λ frames. omega arith) (λ n x lt i l. refl) h.frames)
       (entries_turned g.pushed w.under.pages w.under.pages w.under.grants.live (front.GrantFence place) (front.GrantFlags place) w.front.ending w.front.requests refl (omega arith) (omega arith) (λ n x lt a in_it. record { flags = refl; frame = refl }) h.entries)
       (λ t sends. sends);
@@ -274,18 +275,18 @@ flags_goes config w g d place safe h = subst (λ (q : Option Request). GrantGoes
     r : Request
     r = h.front_at.0
 
-    next : IsNext g.submitted w.front.requests g.pushed w.front.waiting r
+    next : IsNext g.submitted g.series w.front.requests g.pushed w.front.waiting r
     next = next_is w.front g.submitted w.front.sectors w.front.last g.pushed _ r h.queue h.submitted h.pool h.front_at.1
 
-    was : IsGranted g.pushed w.under.pages w.under.grants.live (front.GrantFlags place) r
-    was = all_at (IsGranted g.pushed w.under.pages w.under.grants.live (front.GrantFlags place)) w.front.requests (length w.front.requests - w.front.waiting) r h.entries.each next.place
+    was : IsGranted g.series g.pushed w.under.pages w.under.grants.live (front.GrantFlags place) r
+    was = all_at (IsGranted g.series g.pushed w.under.pages w.under.grants.live (front.GrantFlags place)) w.front.requests (length w.front.requests - w.front.waiting) r h.entries.each next.place
 
     new : List ℕ
     new = with_flags w.under.pages (frame_at r place) (flags_at r place)
 
     now : (a : ℕ) → a < place + 1 → a < frames_of r → (entry_word1 new (frame_at r a + 6) ≡ frame_at r a)
         × (entry_word0 new (frame_at r a + 6) ≡ flags_at r a)
-    now = granted_now w.under.pages r place h.memory next.frames next.own h.front_at.2 (was.named_next next.number) (was.flags_next next.number)
+    now = granted_now w.under.pages r place h.memory next.frames next.own h.front_at.2 (was.named_next next.at) (was.flags_next next.at)
 
     on : (s' : FrontStage) (entry : List ℕ) → may_front_sleep s' ≡ true → is_issuing s' ≡ true → ((frames : ℕ) → filled s' frames ≤ 1024 * frames + 1920) → entered s' ≡ 0
         → FrontAt g.shape g.start g.pushed g.taken g.front_seen g.submitted g.replies (next_request w.front) entry w.front.ending s'

@@ -1,9 +1,9 @@
 -- What one request more makes of the front's queue and pool, and of what the pipeline knows.
-use Rattle.std.proofs.Common.{◌≡◌, ◌≢◌, ℕ, zero, suc, ◌+◌, ◌-◌, ◌<◌, ◌≤◌, ◌==◌, ◌⊎◌, ◌||◌, ◌&&◌, Bool, true, false, true≢false, not, cond, List, [], ◌∷◌, ◌++◌, length, get_or, refl, ap, sym, ◌∙◌, subst, inl, inr, arith, length-append, length-set, get_or-set_other}
+use Rattle.std.proofs.Common.{◌≡◌, ◌≢◌, ℕ, zero, suc, ◌+◌, ◌-◌, ◌<◌, ◌≤◌, ◌==◌, ◌⊎◌, ◌||◌, ◌&&◌, Bool, true, false, true≢false, not, cond, List, [], ◌∷◌, ◌++◌, length, get_or, take, refl, ap, sym, ◌∙◌, subst, inl, inr, arith, length-append, length-set, get_or-set_other}
 use Rattle.std.specs.Prelude.{All, Option, Some, None, option_and_then, option_map, position, slice_get, slice_index_or, count_by, sum_by}
 use Rattle.std.specs.List.{list_any}
 use Rattle.std.proofs.lemmas.Bool.Decides.{nat_tests}
-use Rattle.std.proofs.lemmas.Option.{none-some, same_Some, slice_get_within, get_or_from_slice_get}
+use Rattle.std.proofs.lemmas.Option.{none-some, same_Some, slice_get_within, get_or_from_slice_get, slice_get-get_or}
 use Rattle.std.proofs.lemmas.Grind.{get_or-set_at}
 use Rattle.std.proofs.lemmas.List.{take-append-le}
 use Rattle.std.proofs.lemmas.List.Elements.{All-push}
@@ -17,6 +17,7 @@ use Rattle.blk_front.specs.Request.{is_write, is_moving, is_indirect, frames_for
 use Rattle.blk_front.specs.declared.stage.Ending.{Ending}
 use Rattle.blk_front.specs.Pool.{with_taken, taking}
 use Rattle.machine_pipeline.proofs.Flow.{frames_of, uses, ending_frames, ending_uses, job_of}
+use Rattle.machine_pipeline.proofs.Series.{IsSeries, among_grown}
 use Rattle.machine_pipeline.proofs.Holds.{IsPooled, AreNumbers, AreQueued, IsSubmitted, AreSubmitted, ArePooled, IsOfTheDisk}
 use Rattle.machine_pipeline.proofs.Stations.{AreKnown, AreOpen}
 use Rattle.machine_pipeline.proofs.Lists.{found_at, get_append, get_last, get_within, count_set}
@@ -73,26 +74,51 @@ disk_more config sectors read_only submitted x may serves short h = record {
     not_both true c e t = e
     not_both false c e t = absurd (true≢false (sym t))
 
-pub queue_more : (submitted : List Request) (pushed sectors last : ℕ) (requests : List Request) (waiting : ℕ) (x : Request)
-    → x.number ≡ last + 1 → last ≡ pushed + waiting → waiting ≤ length requests
+-- so are the requests of the epoch
+series_more : (submitted series : List Request) (sectors last : ℕ) (x : Request) → x.number ≡ last + 1 → AreSubmitted submitted sectors last → IsSeries submitted series → IsSeries (submitted ++ x ∷ []) (series ++ x ∷ [])
+series_more submitted series sectors last x number are h = record {
+  known = λ i r e. elim (push_was series x i r e) [
+    | inl was ↦ get_append submitted (x ∷ []) (r.number - 1) r (h.known i r was)
+    | inr new ↦ subst (λ (y : Request). slice_get (submitted ++ x ∷ []) (y.number - 1) ≡ Some y) (sym new.1) (ap (slice_get (submitted ++ x ∷ [])) here ∙ get_last submitted x)
+  ];
+  positive = λ i r e. elim (push_was series x i r e) [
+    | inl was ↦ h.positive i r was
+    | inr new ↦ (let same : r.number ≡ x.number = ap (λ (y : Request). y.number) new.1 in omega arith)
+  ];
+  ascending = all_pairs_push (λ (r s : Request). r.number < s.number) series x h.ascending (λ k d lt.
+      let q : Request = get_or series k d in
+      let stands : slice_get series k ≡ Some q = slice_get-get_or series k d lt in
+      let within = slice_get_within submitted (q.number - 1) q (h.known k q stands) in
+      let counted = are.counted in
+      omega arith);
+}
+  where
+    here : x.number - 1 ≡ length submitted
+    here = let counted = are.counted in omega arith
+
+pub queue_more : (submitted series : List Request) (pushed sectors last : ℕ) (requests : List Request) (waiting : ℕ) (x : Request)
+    → x.number ≡ last + 1 → length series ≡ pushed + waiting → waiting ≤ length requests
     → AreSubmitted submitted sectors last
-    → AreQueued submitted pushed requests waiting
-    → AreQueued (submitted ++ x ∷ []) pushed (requests ++ x ∷ []) (waiting + 1)
-queue_more submitted pushed sectors last requests waiting x number all few are h =
+    → AreQueued submitted series pushed requests waiting
+    → AreQueued (submitted ++ x ∷ []) (series ++ x ∷ []) pushed (requests ++ x ∷ []) (waiting + 1)
+queue_more submitted series pushed sectors last requests waiting x number all few are h =
     let long = longer requests x in
     let counted = are.counted in
     let fewer : length (requests ++ x ∷ []) - (waiting + 1) ≡ length requests - waiting = omega arith in
     let here : x.number - 1 ≡ length submitted = omega arith in
     record {
+      ordered = series_more submitted series sectors last x number are h.ordered;
       known = All-push (λ (r : Request). slice_get (submitted ++ x ∷ []) (r.number - 1) ≡ Some r) requests x
           (λ k d lt. get_append submitted (x ∷ []) _ (get_or requests k d) (h.known k d lt))
           (ap (slice_get (submitted ++ x ∷ [])) here ∙ get_last submitted x);
       ascending = all_pairs_push (λ (r s : Request). r.number < s.number) requests x h.ascending
           (λ k d lt. let within = slice_get_within submitted _ (get_or requests k d) (h.known k d lt) in omega arith);
-      issued = rw (fewer, take-append-le (length requests - waiting) requests (x ∷ []) (omega arith)) h.issued;
+      issued = rw (fewer, take-append-le (length requests - waiting) requests (x ∷ []) (omega arith)) (λ k d lt. among_grown pushed (get_or (take (length requests - waiting) requests) k d) x (h.issued k d lt));
       next = λ j r lt e. elim (push_was requests x (length requests - waiting + j) r (ap (λ (n : ℕ). slice_get (requests ++ x ∷ []) (n + j)) (sym fewer) ∙ e)) [
-        | inl was ↦ (let within = slice_get_within requests (length requests - waiting + j) r was in h.next j r (omega arith) was)
-        | inr new ↦ (let at = new.0 in ap (λ (q : Request). q.number) new.1 ∙ (omega arith))
+        | inl was ↦ (let within = slice_get_within requests (length requests - waiting + j) r was in get_append series (x ∷ []) (pushed + j) r (h.next j r (omega arith) was))
+        | inr new ↦
+            let at : pushed + j ≡ length series = (let last = new.0 in omega arith) in
+            ap (slice_get (series ++ x ∷ [])) at ∙ (get_last series x ∙ ap Some (sym new.1))
       ];
     }
 

@@ -30,7 +30,7 @@ pub record IsQueued (requests : List Request) (r : Request) : Type 0 where
   pub place : ℕ
   pub at : slice_get requests place ≡ Some r
 
-same_request : (submitted requests : List Request) (pushed waiting k : ℕ) (r : Request) → AreQueued submitted pushed requests waiting → slice_get submitted k ≡ Some r → list_any (λ (x : Request). x.number == k + 1) requests ≡ true → IsQueued requests r
+same_request : {series : List Request} (submitted requests : List Request) (pushed waiting k : ℕ) (r : Request) → AreQueued submitted series pushed requests waiting → slice_get submitted k ≡ Some r → list_any (λ (x : Request). x.number == k + 1) requests ≡ true → IsQueued requests r
 same_request submitted requests pushed waiting k r queue known any =
     let found = place_of_any (λ (x : Request). x.number == k + 1) requests any in
     let place = all_at (λ (x : Request). slice_get submitted (x.number - 1) ≡ Some x) requests found.0 found.1 queue.known found.2 in
@@ -39,8 +39,8 @@ same_request submitted requests pushed waiting k r queue known any =
     record { place = found.0; at = found.2 ∙ ap Some same }
 
 -- a request on its way, whose grant isn't being ended, is one of the front's
-pub queued : (submitted requests : List Request) (pushed waiting k : ℕ) (r : Request) (asked : List Asked) (ending : Option Ending) (telling : Option ℕ) (station : Station)
-    → AreQueued submitted pushed requests waiting
+pub queued : {series : List Request} (submitted requests : List Request) (pushed waiting k : ℕ) (r : Request) (asked : List Asked) (ending : Option Ending) (telling : Option ℕ) (station : Station)
+    → AreQueued submitted series pushed requests waiting
     → AreOpen asked requests ending
     → IsTaking ending telling asked
     → kind_of station < 7
@@ -161,7 +161,7 @@ hand_at r t job.Flush m shaped h e = absurd (none-some m e)
 hand_at r t (job.Trim count) m shaped h e = absurd (none-some m e)
 hand_at r t (job.Done status) m shaped h e = absurd (none-some m e)
 
-pub work_hand : (submitted : List Request) (fetched : ℕ) (t : Work) (m : Mapping) → (h : IsWork submitted fetched t) → IsShaped h.r → mapping_at t.stage ≡ Some m → IsHandOf m h.r
+pub work_hand : {series : List Request} (submitted : List Request) (fetched : ℕ) (t : Work) (m : Mapping) → (h : IsWork submitted series fetched t) → IsShaped h.r → mapping_at t.stage ≡ Some m → IsHandOf m h.r
 work_hand submitted fetched t m h shaped e = hand_at h.r t t.stage m shaped h.at e
 
 pub hands_none : (test : Mapping → Bool) (works : List Work) → ((i : ℕ) (t : Work) (m : Mapping) → slice_get works i ≡ Some t → mapping_at t.stage ≡ Some m → test m ≡ false) → count_by test (hands_in works) ≡ 0
@@ -182,9 +182,9 @@ hands_none test (t ∷ works) none =
         one m t zero x e = rw (sym (same_Some m x e)) t
         one m t (suc i) x e = absurd (none-some x e)
 
-pub nothing_given_up : (shape : Shape) (b : BackStage) (start fetched back_seen replied : ℕ) (submitted : List Request) (works : List Work) (entry : List ℕ) → BackAt shape start fetched back_seen replied submitted works entry b → given_up b ≡ []
-nothing_given_up shape (back.GiveUp m) start fetched back_seen replied submitted works entry h = absurd h
-nothing_given_up shape b start fetched back_seen replied submitted works entry h = refl
+pub nothing_given_up : (shape : Shape) (b : BackStage) (start fetched back_seen replied : ℕ) (series : List Request) (works : List Work) (entry : List ℕ) → BackAt shape start fetched back_seen replied series works entry b → given_up b ≡ []
+nothing_given_up shape (back.GiveUp m) start fetched back_seen replied series works entry h = absurd h
+nothing_given_up shape b start fetched back_seen replied series works entry h = refl
 
 -- no more pages are mapped than the ring has
 pub mapped_few : (b : BackStage) (order count : ℕ) → PagesAt b order count → count ≤ 2 ^ order

@@ -38,9 +38,10 @@ use Rattle.blk_base.specs.Options.{Options}
 use Rattle.split_model.specs.World.{World}
 use Rattle.split_model.specs.Safe.{IsSafe}
 use Rattle.machine_pipeline.proofs.Flow.{Flow, wrapped, has_ring, named_pages, granted_pages, filled, named_frames, granted_frames, entered, ending_at, revoking_at, revoked, telling_at, frames_of, uses, ending_frames, ending_uses, is_front_arming, may_front_sleep, reply_at, reply_count, responded, is_back_arming, may_back_sleep, has_terms, is_bound_back, own_segments, data_word, span, is_own, own_value, is_issuing, is_fetching}
+use Rattle.machine_pipeline.proofs.Series.{IsSeries, IsAmong, HasNumber}
 use Rattle.machine_pipeline.proofs.Stations.{AreStations}
 
--- the indices of both ends are whole ones, wrapped, in the order of a request's way; `held` requests are unfinished, `waiting` of them not issued, and `ending` more have their grant ended
+-- the indices of both ends are whole ones, wrapped, in the order of a request's way; the requests of the series were pushed, or wait (`waiting`); `unfinished` of them are left, and `ending` more have their grant ended
 pub record AreIndices (g : Flow) (front_ring back_ring : Ring) (front_seen back_seen number last waiting unfinished ending : ℕ) : Type 0 where
   pub front_entries : front_ring.entries ≡ entries_of g.shape.order
   pub pushed : front_ring.prod ≡ wrapped g.start g.pushed
@@ -57,17 +58,19 @@ pub record AreIndices (g : Flow) (front_ring back_ring : Ring) (front_seen back_
   pub front_to : g.front_seen ≤ g.replied
   pub back_from : g.fetched ≤ g.back_seen
   pub back_to : g.back_seen ≤ g.pushed
-  pub all : last ≡ g.pushed + waiting
+  pub all : length g.series ≡ g.pushed + waiting
+  pub given : length g.series ≤ last
   pub few : last < 2 ^ 32
-  pub held : unfinished + g.taken ≡ last
+  pub held : unfinished + g.taken ≡ length g.series
   pub room : unfinished + ending ≤ entries_of g.shape.order
 
--- the front's requests are submitted ones, in order of number; those that wait are the next ones to be pushed
-pub record AreQueued (submitted : List Request) (pushed : ℕ) (requests : List Request) (waiting : ℕ) : Type 0 where
+-- the front's requests are submitted ones, in order of number; those that were issued are of the series, and those that wait are the rest of it
+pub record AreQueued (submitted series : List Request) (pushed : ℕ) (requests : List Request) (waiting : ℕ) : Type 0 where
+  pub ordered : IsSeries submitted series
   pub known : All (λ (r : Request). slice_get submitted (r.number - 1) ≡ Some r) requests
   pub ascending : AllPairs (λ (r s : Request). r.number < s.number) requests
-  pub issued : All (λ (r : Request). r.number ≤ pushed) (take (length requests - waiting) requests)
-  pub next : (j : ℕ) (r : Request) → j < waiting → slice_get requests (length requests - waiting + j) ≡ Some r → r.number ≡ pushed + 1 + j
+  pub issued : All (IsAmong series pushed) (take (length requests - waiting) requests)
+  pub next : (j : ℕ) (r : Request) → j < waiting → slice_get requests (length requests - waiting + j) ≡ Some r → slice_get series (pushed + j) ≡ Some r
 
 -- a frame of the pool
 abbrev pub IsPooled : ℕ → Type 0
@@ -184,30 +187,31 @@ AtWork r t (job.Done status) = Unit {0}
 abbrev pub IsUnhindered : (before t : Work) → Type 0
 IsUnhindered before t = is_done t ≡ false → is_fresh_at t.stage t.moved ≡ false → is_held t (holds_barriers before) (holds_all before) ≡ false
 
--- the job of a fetched request, as far as its stage says
-pub record IsWork (submitted : List Request) (fetched : ℕ) (t : Work) : Type 0 where
+-- the job of a fetched request, as far as its stage says: its number counts the entries of this epoch, and its id is the request's number
+pub record IsWork (submitted series : List Request) (fetched : ℕ) (t : Work) : Type 0 where
   pub r : Request
-  pub known : slice_get submitted (t.number - 1) ≡ Some r
-  pub positive : 1 ≤ t.number
+  pub known : slice_get submitted (t.id - 1) ≡ Some r
+  pub positive : 1 ≤ t.id
+  pub issued : slice_get series (t.number - 1) ≡ Some r
+  pub counted : 1 ≤ t.number
   pub reached : t.number ≤ fetched
-  pub id : t.id ≡ t.number
   pub op : t.op ≡ operation_of r.transfer
   pub at : AtWork r t t.stage
 
-pub record AreWorks (submitted : List Request) (fetched : ℕ) (works : List Work) : Type 0 where
-  pub each : All (IsWork submitted fetched) works
-  pub ascending : AllPairs (λ (t u : Work). t.number < u.number) works
+pub record AreWorks (submitted series : List Request) (fetched : ℕ) (works : List Work) : Type 0 where
+  pub each : All (IsWork submitted series fetched) works
+  pub ascending : AllPairs (λ (t u : Work). t.id < u.id) works
   pub clear : AllPairs IsUnhindered works
 
 -- a response that the front hasn't taken
-pub record IsReply (fetched : ℕ) (rep : Reply) : Type 0 where
+pub record IsReply (series : List Request) (fetched : ℕ) (rep : Reply) : Type 0 where
   pub positive : 1 ≤ rep.id
-  pub reached : rep.id ≤ fetched
+  pub reached : HasNumber series fetched rep.id
   pub op : rep.op < 2 ^ 8
 
-pub record AreReplies (fetched taken replied : ℕ) (replies : List Reply) : Type 0 where
+pub record AreReplies (series : List Request) (fetched taken replied : ℕ) (replies : List Reply) : Type 0 where
   pub counted : length replies + taken ≡ replied
-  pub each : All (IsReply fetched) replies
+  pub each : All (IsReply series fetched) replies
   pub distinct : AllPairs (λ (a b : Reply). a.id ≢ b.id) replies
 
 -- the request whose grants are being ended is a submitted one, and no response that is left names it
@@ -249,6 +253,7 @@ FrontAt shape start pushed taken front_seen submitted replies next entry ending 
 FrontAt shape start pushed taken front_seen submitted replies next entry ending (front.GrantRead place) = IsEndingAt submitted replies ending (λ e. place < frames_of e.request)
 FrontAt shape start pushed taken front_seen submitted replies next entry ending (front.GrantEnd place before) = IsEndingAt submitted replies ending (λ e. (place < frames_of e.request) × (before ≡ flags_at e.request place))
 FrontAt shape start pushed taken front_seen submitted replies next entry ending (front.ReadData n) = IsEndingAt submitted replies ending (λ e. (n < words_in e.request) × (e.request.transfer ≡ transfer.Read) × (e.status ≡ Okay))
+FrontAt shape start pushed taken front_seen submitted replies next entry ending (front.LeftData n) = ⊥
 FrontAt shape start pushed taken front_seen submitted replies next entry ending (front.RingRead page) = ⊥
 FrontAt shape start pushed taken front_seen submitted replies next entry ending (front.RingEnd page before) = ⊥
 FrontAt shape start pushed taken front_seen submitted replies next entry ending front.ClosePort = ⊥
@@ -264,34 +269,34 @@ pub record AreOffered (fixed : Bool) (limit : ℕ) (offers : Offers) : Type 0 wh
   pub discard : offers.discard ≡ not fixed
   pub indirect : offers.indirect ≡ limit
 
--- before it is connected nothing was submitted; from then on the front knows what its back serves
-abbrev pub IsOffered : Bool → (fixed : Bool) → (limit : ℕ) → Offers → (pushed last : ℕ) → Type 0
-IsOffered false fixed limit offers pushed last = (pushed ≡ 0) × (last ≡ 0)
-IsOffered true fixed limit offers pushed last = AreOffered fixed limit offers
+-- before it is connected nothing was pushed, though requests may wait; from then on the front knows what its back serves
+abbrev pub IsOffered : Bool → (fixed : Bool) → (limit : ℕ) → Offers → (pushed : ℕ) → Type 0
+IsOffered false fixed limit offers pushed = pushed ≡ 0
+IsOffered true fixed limit offers pushed = AreOffered fixed limit offers
 
 -- a job's result was taken, and its response is being written
-pub record IsReplying (fetched : ℕ) (works : List Work) (rep : Reply) : Type 0 where
+pub record IsReplying (series : List Request) (fetched : ℕ) (works : List Work) (rep : Reply) : Type 0 where
   pub positive : 1 ≤ rep.id
-  pub reached : rep.id ≤ fetched
+  pub reached : HasNumber series fetched rep.id
   pub op : rep.op < 2 ^ 8
-  pub alone : All (λ (t : Work). t.number ≢ rep.id) works
+  pub alone : All (λ (t : Work). t.id ≢ rep.id) works
 
 abbrev pub BackAt : Shape → (start fetched back_seen replied : ℕ) → List Request → List Work → List ℕ → BackStage → Type 0
-BackAt shape start fetched back_seen replied submitted works entry back.InitWait = fetched ≡ 0
-BackAt shape start fetched back_seen replied submitted works entry back.MapRing = fetched ≡ 0
-BackAt shape start fetched back_seen replied submitted works entry back.Bind = fetched ≡ 0
-BackAt shape start fetched back_seen replied submitted works entry (back.Fetch k) = (1 ≤ k) × (k < entry_words_of shape.abi) × (fetched < back_seen) × ((r : Request) × (slice_get submitted fetched ≡ Some r) × (entry ≡ take k (entry_of shape.abi r)))
-BackAt shape start fetched back_seen replied submitted works entry (back.ReplyHigh rep) = IsReplying fetched works rep
-BackAt shape start fetched back_seen replied submitted works entry (back.ReplyLast rep) = IsReplying fetched works rep
-BackAt shape start fetched back_seen replied submitted works entry (back.Producer rep) = IsReplying fetched works rep
-BackAt shape start fetched back_seen replied submitted works entry (back.ProducerFence old) = (1 ≤ replied) × (old ≡ wrapped start (replied - 1))
-BackAt shape start fetched back_seen replied submitted works entry (back.ResponseEvent old) = (1 ≤ replied) × (old ≡ wrapped start (replied - 1))
-BackAt shape start fetched back_seen replied submitted works entry (back.GiveUp m) = ⊥
-BackAt shape start fetched back_seen replied submitted works entry back.UnmapRing = ⊥
-BackAt shape start fetched back_seen replied submitted works entry back.ClosePort = ⊥
-BackAt shape start fetched back_seen replied submitted works entry back.UnmapUnbound = ⊥
-BackAt shape start fetched back_seen replied submitted works entry back.Halted = ⊥
-BackAt shape start fetched back_seen replied submitted works entry s = Unit {0}
+BackAt shape start fetched back_seen replied series works entry back.InitWait = fetched ≡ 0
+BackAt shape start fetched back_seen replied series works entry back.MapRing = fetched ≡ 0
+BackAt shape start fetched back_seen replied series works entry back.Bind = fetched ≡ 0
+BackAt shape start fetched back_seen replied series works entry (back.Fetch k) = (1 ≤ k) × (k < entry_words_of shape.abi) × (fetched < back_seen) × ((r : Request) × (slice_get series fetched ≡ Some r) × (entry ≡ take k (entry_of shape.abi r)))
+BackAt shape start fetched back_seen replied series works entry (back.ReplyHigh rep) = IsReplying series fetched works rep
+BackAt shape start fetched back_seen replied series works entry (back.ReplyLast rep) = IsReplying series fetched works rep
+BackAt shape start fetched back_seen replied series works entry (back.Producer rep) = IsReplying series fetched works rep
+BackAt shape start fetched back_seen replied series works entry (back.ProducerFence old) = (1 ≤ replied) × (old ≡ wrapped start (replied - 1))
+BackAt shape start fetched back_seen replied series works entry (back.ResponseEvent old) = (1 ≤ replied) × (old ≡ wrapped start (replied - 1))
+BackAt shape start fetched back_seen replied series works entry (back.GiveUp m) = ⊥
+BackAt shape start fetched back_seen replied series works entry back.UnmapRing = ⊥
+BackAt shape start fetched back_seen replied series works entry back.ClosePort = ⊥
+BackAt shape start fetched back_seen replied series works entry back.UnmapUnbound = ⊥
+BackAt shape start fetched back_seen replied series works entry back.Halted = ⊥
+BackAt shape start fetched back_seen replied series works entry s = Unit {0}
 
 -- the ring's producers hold what was pushed and replied; before that, its words are being written; the grant of each of its frames is as far as the front came, until the back maps it
 abbrev pub RingBegun : ℕ → List ℕ → FrontStage → Type 0
@@ -310,16 +315,16 @@ abbrev pub slot_of : List ℕ → Shape → ℕ → ℕ → ℕ
 slot_of pages shape k i = word_of pages (slot_frame shape k i) (slot_word shape k i)
 
 -- the entries that were pushed and not fetched, the one that is being written, the responses that weren't taken, and the one that is being written
-pub record AreSlots (shape : Shape) (start fetched pushed taken replied : ℕ) (submitted : List Request) (replies : List Reply) (pages : List ℕ) (front_stage : FrontStage) (back_stage : BackStage) : Type 0 where
-  pub entries : (k : ℕ) (r : Request) → fetched ≤ k → k < pushed → slice_get submitted k ≡ Some r → (i : ℕ) → i < entry_words_of shape.abi → slot_of pages shape (wrapped start k) i ≡ slice_index (entry_of shape.abi r) i
-  pub entry : (r : Request) → slice_get submitted pushed ≡ Some r → (i : ℕ) → i < entry_words_of shape.abi → i < entered front_stage → slot_of pages shape (wrapped start pushed) i ≡ slice_index (entry_of shape.abi r) i
+pub record AreSlots (shape : Shape) (start fetched pushed taken replied : ℕ) (series : List Request) (replies : List Reply) (pages : List ℕ) (front_stage : FrontStage) (back_stage : BackStage) : Type 0 where
+  pub entries : (k : ℕ) (r : Request) → fetched ≤ k → k < pushed → slice_get series k ≡ Some r → (i : ℕ) → i < entry_words_of shape.abi → slot_of pages shape (wrapped start k) i ≡ slice_index (entry_of shape.abi r) i
+  pub entry : (r : Request) → slice_get series pushed ≡ Some r → (i : ℕ) → i < entry_words_of shape.abi → i < entered front_stage → slot_of pages shape (wrapped start pushed) i ≡ slice_index (entry_of shape.abi r) i
   pub responses : (k : ℕ) (rep : Reply) → slice_get replies k ≡ Some rep → (i : ℕ) → i < 3 → slot_of pages shape (wrapped start (taken + k)) i ≡ response_word rep i
   pub response : (rep : Reply) → reply_at back_stage ≡ Some rep → (i : ℕ) → i < responded back_stage → slot_of pages shape (wrapped start replied) i ≡ response_word rep i
 
 -- the words of a write's data and of indirect pages, once the request is pushed, and as far as it is being issued
-pub record IsFilled (pushed : ℕ) (pages : List ℕ) (stage : FrontStage) (r : Request) : Type 0 where
-  pub whole : r.number ≤ pushed → (n : ℕ) → n < span r → is_own r n ≡ true → data_word pages r n ≡ own_value r n
-  pub begun : r.number ≡ pushed + 1 → (n : ℕ) → n < filled stage (frames_for r.count) → n < span r → is_own r n ≡ true → data_word pages r n ≡ own_value r n
+pub record IsFilled (series : List Request) (pushed : ℕ) (pages : List ℕ) (stage : FrontStage) (r : Request) : Type 0 where
+  pub whole : IsAmong series pushed r → (n : ℕ) → n < span r → is_own r n ≡ true → data_word pages r n ≡ own_value r n
+  pub begun : slice_get series pushed ≡ Some r → (n : ℕ) → n < filled stage (frames_for r.count) → n < span r → is_own r n ≡ true → data_word pages r n ≡ own_value r n
 
 -- the flags of a mapped frame's entry: with GTF_reading (8), and GTF_writing (16) too where it isn't only read
 abbrev pub mapped_at : Request → ℕ → ℕ
@@ -330,18 +335,18 @@ abbrev pub flags_with : Request → (place mappings : ℕ) → ℕ
 flags_with r place mappings = if mappings == 0 then flags_at r place else mapped_at r place
 
 -- the grant entries of a request's frames, once it is pushed, and as far as it is being issued
-pub record IsGranted (pushed : ℕ) (pages : List ℕ) (live : List Held) (stage : FrontStage) (r : Request) : Type 0 where
-  pub named : r.number ≤ pushed → (place : ℕ) → place < frames_of r → entry_word1 pages (frame_at r place + 6) ≡ frame_at r place
-  pub named_next : r.number ≡ pushed + 1 → (place : ℕ) → place < named_frames stage → place < frames_of r → entry_word1 pages (frame_at r place + 6) ≡ frame_at r place
-  pub flags : r.number ≤ pushed → (place : ℕ) → place < frames_of r → entry_word0 pages (frame_at r place + 6) ≡ flags_with r place (mappings_of (frame_at r place + 6) live)
-  pub flags_next : r.number ≡ pushed + 1 → (place : ℕ) → place < granted_frames stage → place < frames_of r → entry_word0 pages (frame_at r place + 6) ≡ flags_at r place
+pub record IsGranted (series : List Request) (pushed : ℕ) (pages : List ℕ) (live : List Held) (stage : FrontStage) (r : Request) : Type 0 where
+  pub named : IsAmong series pushed r → (place : ℕ) → place < frames_of r → entry_word1 pages (frame_at r place + 6) ≡ frame_at r place
+  pub named_next : slice_get series pushed ≡ Some r → (place : ℕ) → place < named_frames stage → place < frames_of r → entry_word1 pages (frame_at r place + 6) ≡ frame_at r place
+  pub flags : IsAmong series pushed r → (place : ℕ) → place < frames_of r → entry_word0 pages (frame_at r place + 6) ≡ flags_with r place (mappings_of (frame_at r place + 6) live)
+  pub flags_next : slice_get series pushed ≡ Some r → (place : ℕ) → place < granted_frames stage → place < frames_of r → entry_word0 pages (frame_at r place + 6) ≡ flags_at r place
 
 -- the grants of the ending request that weren't ended yet have no mapping
 abbrev pub AreRevoked : List ℕ → FrontStage → Option Ending → Type 0
 AreRevoked pages stage ending = (e : Ending) → revoking_at stage ending ≡ Some e → (place : ℕ) → revoked stage ≤ place → place < frames_of e.request → entry_word0 pages (frame_at e.request place + 6) ≡ flags_at e.request place
 
-pub record AreEntries (pushed : ℕ) (pages : List ℕ) (live : List Held) (stage : FrontStage) (last : Option Ending) (requests : List Request) : Type 0 where
-  pub each : All (IsGranted pushed pages live stage) requests
+pub record AreEntries (series : List Request) (pushed : ℕ) (pages : List ℕ) (live : List Held) (stage : FrontStage) (last : Option Ending) (requests : List Request) : Type 0 where
+  pub each : All (IsGranted series pushed pages live stage) requests
   pub ending : AreRevoked pages stage last
 
 -- the live mappings are those in the hands of the back and its jobs, whichever test counts them; frame f has the reference f + 6
@@ -432,24 +437,24 @@ pub record Holds (config : Options) (w : World) (g : Flow) (d : Pipeline) (s : F
   pub shaped : IsOfShape config g.shape w.front.shape
   pub sized : IsOfTheDisk config w.front.sectors w.front.read_only g.submitted
   pub indices : AreIndices g w.front.ring w.back.ring w.front.seen w.back.seen w.back.fetched w.front.last w.front.waiting (length w.front.requests) (ending_of s)
-  pub queue : AreQueued g.submitted g.pushed w.front.requests w.front.waiting
+  pub queue : AreQueued g.submitted g.series g.pushed w.front.requests w.front.waiting
   pub submitted : AreSubmitted g.submitted w.front.sectors w.front.last
   pub pool : ArePooled w.front.pool w.front.requests (ending_at s w.front.ending)
   pub stations : AreStations config g d (is_ready s) (is_issuing s) (is_fetching b) (ending_at s w.front.ending) (telling_at s) (reply_at b) w.front.requests w.back.jobs.works w.under.pages
-  pub works : AreWorks g.submitted g.fetched w.back.jobs.works
+  pub works : AreWorks g.submitted g.series g.fetched w.back.jobs.works
   pub counted : length w.back.jobs.works + reply_count (reply_at b) + g.replied ≡ g.fetched
   pub info : w.back.jobs.info ≡ info_of config
-  pub replies : AreReplies g.fetched g.taken g.replied g.replies
+  pub replies : AreReplies g.series g.fetched g.taken g.replied g.replies
   pub front_at : FrontAt g.shape g.start g.pushed g.taken g.front_seen g.submitted g.replies (next_request w.front) w.front.entry w.front.ending s
-  pub offered : IsOffered (is_ready s) config.read_only config.indirect w.front.offers g.pushed w.front.last
-  pub back_at : BackAt g.shape g.start g.fetched g.back_seen g.replied g.submitted w.back.jobs.works w.back.entry b
+  pub offered : IsOffered (is_ready s) config.read_only config.indirect w.front.offers g.pushed
+  pub back_at : BackAt g.shape g.start g.fetched g.back_seen g.replied g.series w.back.jobs.works w.back.entry b
   pub unhalted : w.back.halted ≡ None
   pub memory : length w.under.pages ≡ 1114112
   pub ring : AreRingWords g.shape.order g.start g.pushed g.replied w.under.pages s (length w.back.pages)
-  pub slots : AreSlots g.shape g.start g.fetched g.pushed g.taken g.replied g.submitted g.replies w.under.pages s b
-  pub frames : All (IsFilled g.pushed w.under.pages s) w.front.requests
+  pub slots : AreSlots g.shape g.start g.fetched g.pushed g.taken g.replied g.series g.replies w.under.pages s b
+  pub frames : All (IsFilled g.series g.pushed w.under.pages s) w.front.requests
   pub telling : AreDataWords w.under.pages w.front.words w.front.ending s
-  pub entries : AreEntries g.pushed w.under.pages w.under.grants.live s w.front.ending w.front.requests
+  pub entries : AreEntries g.series g.pushed w.under.pages w.under.grants.live s w.front.ending w.front.requests
   pub mapped : AreMapped w.under.grants.live (hands_at b w.back)
   pub paged : ArePaged g.shape w.back.shape w.back.ring.entries w.back.grefs w.back.port w.back.pages b
   pub front_sleep : IsFrontSleep g.start g.taken g.replied w.under.pages w.front.asleep w.under.channels.front_pending s b

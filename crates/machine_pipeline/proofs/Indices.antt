@@ -1,11 +1,11 @@
 -- The indices of both ends where little of them changes.
-use Rattle.std.proofs.Common.{◌≡◌, ℕ, ◌+◌, ◌^◌, ◌<◌, ◌≤◌, refl, arith}
+use Rattle.std.proofs.Common.{◌≡◌, ℕ, ◌+◌, ◌^◌, ◌<◌, ◌≤◌, Bool, List, length, refl, ◌∙◌, arith}
 use Rattle.blk_base.specs.Options.{Options}
 use Rattle.ring_words.specs.Ring.{Ring}
 use Rattle.ring_words.specs.Shape.{entries_of}
-use Rattle.split_model.specs.World.{World, start_of}
+use Rattle.blk_front.specs.declared.request.Request.{Request}
 use Rattle.machine_pipeline.specs.Plain.{IsPlain}
-use Rattle.machine_pipeline.proofs.Flow.{Flow, start_flow, wrapped}
+use Rattle.machine_pipeline.proofs.Flow.{Flow, epoch_flow, wrapped}
 use Rattle.machine_pipeline.proofs.Holds.{AreIndices}
 
 -- the front saw so many responses, and so many requests' grants are being ended
@@ -30,6 +30,7 @@ indices_seen g whole front_ring back_ring front_seen seen back_seen number last 
   back_from = h.back_from;
   back_to = h.back_to;
   all = h.all;
+  given = h.given;
   few = h.few;
   held = h.held;
   room = room;
@@ -46,16 +47,29 @@ indices_room g front_ring back_ring front_seen back_seen number last waiting unf
 at_first : (start : ℕ) → start < 2 ^ 32 → start ≡ wrapped start 0
 at_first start few = omega arith
 
--- at the start
-pub indices_first : (config : Options) → IsPlain config → (let w : World = start_of config in AreIndices (start_flow (record { abi = config.abi; order = config.order }) config.start) w.front.ring w.back.ring w.front.seen w.back.seen w.back.fetched 0 0 0 0)
-indices_first config plain = record {
-  front_entries = refl;
-  pushed = begins;
-  taken = begins;
-  replied = begins;
-  fetched = begins;
-  front_saw = begins;
-  back_saw = begins;
+-- the indices of both ends at the start of an epoch
+pub record AreFirst (config : Options) (front_ring back_ring : Ring) (front_seen back_seen : ℕ) : Type 0 where
+  pub entries : front_ring.entries ≡ entries_of config.order
+  pub front_prod : front_ring.prod ≡ config.start
+  pub front_cons : front_ring.cons ≡ config.start
+  pub back_prod : back_ring.prod ≡ config.start
+  pub back_cons : back_ring.cons ≡ config.start
+  pub front_saw : front_seen ≡ config.start
+  pub back_saw : back_seen ≡ config.start
+
+-- all requests of the epoch wait
+pub indices_epoch : (config : Options) (front_ring back_ring : Ring) (front_seen back_seen last : ℕ) (submitted series : List Request) (closing : Bool) → IsPlain config
+    → AreFirst config front_ring back_ring front_seen back_seen
+    → length series ≤ last → last < 2 ^ 32 → length series ≤ entries_of config.order
+    → AreIndices (epoch_flow (record { abi = config.abi; order = config.order }) config.start submitted series closing) front_ring back_ring front_seen back_seen 0 last (length series) (length series) 0
+indices_epoch config front_ring back_ring front_seen back_seen last submitted series closing plain h given few room = record {
+  front_entries = h.entries;
+  pushed = h.front_prod ∙ begins;
+  taken = h.front_cons ∙ begins;
+  replied = h.back_prod ∙ begins;
+  fetched = h.back_cons ∙ begins;
+  front_saw = h.front_saw ∙ begins;
+  back_saw = h.back_saw ∙ begins;
   count = refl;
   taken_replied = omega arith;
   replied_fetched = omega arith;
@@ -64,9 +78,10 @@ indices_first config plain = record {
   front_to = omega arith;
   back_from = omega arith;
   back_to = omega arith;
-  all = refl;
-  few = omega arith;
-  held = refl;
+  all = omega arith;
+  given = given;
+  few = few;
+  held = omega arith;
   room = omega arith;
 }
   where

@@ -55,6 +55,7 @@ issuing (front.ResponseLast low high) t = absurd (cc)
 issuing (front.GrantRead place) t = absurd (cc)
 issuing (front.GrantEnd place before) t = absurd (cc)
 issuing (front.ReadData n) t = absurd (cc)
+issuing (front.LeftData n) t = absurd (cc)
 issuing front.StoreEvent t = absurd (cc)
 issuing front.EventFence t = absurd (cc)
 issuing front.LookAgain t = absurd (cc)
@@ -87,14 +88,14 @@ ring_turned order start pushed replied old new s s' mapped narrow m m' same entr
 }
 
 -- entries and responses, where no more of an entry was written
-pub slots_turned : (shape : Shape) (start fetched pushed taken replied : ℕ) (submitted : List Request) (replies : List Reply) (old new : List ℕ) (s s' : FrontStage) (b : BackStage)
+pub slots_turned : (shape : Shape) (start fetched pushed taken replied : ℕ) (series : List Request) (replies : List Reply) (old new : List ℕ) (s s' : FrontStage) (b : BackStage)
     → shape.order ≤ 4
     → SameSlots old new
     → entered s' ≡ 0
-    → AreSlots shape start fetched pushed taken replied submitted replies old s b
-    → AreSlots shape start fetched pushed taken replied submitted replies new s' b
-slots_turned shape start fetched pushed taken replied submitted replies old new s s' b narrow same none h =
-    let kept : AreSlots shape start fetched pushed taken replied submitted replies new s b = slots_kept shape start fetched pushed taken replied submitted replies old new s b narrow same h in
+    → AreSlots shape start fetched pushed taken replied series replies old s b
+    → AreSlots shape start fetched pushed taken replied series replies new s' b
+slots_turned shape start fetched pushed taken replied series replies old new s s' b narrow same none h =
+    let kept : AreSlots shape start fetched pushed taken replied series replies new s b = slots_kept shape start fetched pushed taken replied series replies old new s b narrow same h in
     record {
       entries = kept.entries;
       entry = λ r e i lt few. absurd (omega arith);
@@ -103,11 +104,11 @@ slots_turned shape start fetched pushed taken replied submitted replies old new 
     }
 
 -- the requests' data, where no more of one was written
-pub frames_turned : (pushed : ℕ) (old new : List ℕ) (s s' : FrontStage) (requests : List Request)
+pub frames_turned : {series : List Request} (pushed : ℕ) (old new : List ℕ) (s s' : FrontStage) (requests : List Request)
     → ((frames : ℕ) → filled s' frames ≤ filled s frames)
     → All (SameData old new) requests
-    → All (IsFilled pushed old s) requests
-    → All (IsFilled pushed new s') requests
+    → All (IsFilled series pushed old s) requests
+    → All (IsFilled series pushed new s') requests
 frames_turned pushed old new s s' requests less same h k d lt =
     let here = same k d lt in
     let was = h k d lt in
@@ -117,13 +118,13 @@ frames_turned pushed old new s s' requests less same h k d lt =
     }
 
 -- their grant entries, where none was written
-pub entries_turned : (pushed : ℕ) (old new : List ℕ) (live : List Held) (s s' : FrontStage) (ending : Option Ending) (requests : List Request)
+pub entries_turned : {series : List Request} (pushed : ℕ) (old new : List ℕ) (live : List Held) (s s' : FrontStage) (ending : Option Ending) (requests : List Request)
     → may_front_sleep s' ≡ true
     → named_frames s' ≤ named_frames s
     → granted_frames s' ≤ granted_frames s
     → All (SameGrants old new) requests
-    → AreEntries pushed old live s ending requests
-    → AreEntries pushed new live s' ending requests
+    → AreEntries series pushed old live s ending requests
+    → AreEntries series pushed new live s' ending requests
 entries_turned pushed old new live s s' ending requests m' named granted same h = let i' = issuing s' m' in record {
   each = λ k d lt. let here = same k d lt in let was = h.each k d lt in record {
     named = λ le place in_it. let entry = here place in_it in entry.frame ∙ was.named le place in_it;
@@ -190,9 +191,9 @@ pub issue_moved : (config : Options) (w : World) (g : Flow) (d d' : Pipeline) (s
     → length pages ≡ 1114112
     → ((x : ℕ) → x < 16 → word_of pages 2 x ≡ word_of w.under.pages 2 x)
     → SameRing w.under.pages pages
-    → AreSlots g.shape g.start g.fetched g.pushed g.taken g.replied g.submitted g.replies pages s' w.back.stage
-    → All (IsFilled g.pushed pages s') w.front.requests
-    → AreEntries g.pushed pages w.under.grants.live s' w.front.ending w.front.requests
+    → AreSlots g.shape g.start g.fetched g.pushed g.taken g.replied g.series g.replies pages s' w.back.stage
+    → All (IsFilled g.series g.pushed pages s') w.front.requests
+    → AreEntries g.series g.pushed pages w.under.grants.live s' w.front.ending w.front.requests
     → (w.back.asleep ≡ true → FrontSends s g.pushed g.fetched → FrontSends s' g.pushed g.fetched)
     → Holds config (with_front w s' entry pages) g d' s' w.back.stage
 issue_moved config w g d d' s s' entry pages m m' h stations at sized words named slots frames entries sends =
@@ -241,9 +242,9 @@ pub issue_kept : (config : Options) (w : World) (g : Flow) (d : Pipeline) (s s' 
     → ((f : ℕ) → 18 ≤ f → f < 1018 → SameFrame w.under.pages pages f)
     → ((x : ℕ) → x < 16 → word_of pages 2 x ≡ word_of w.under.pages 2 x)
     → SameRing w.under.pages pages
-    → AreSlots g.shape g.start g.fetched g.pushed g.taken g.replied g.submitted g.replies pages s' w.back.stage
-    → All (IsFilled g.pushed pages s') w.front.requests
-    → AreEntries g.pushed pages w.under.grants.live s' w.front.ending w.front.requests
+    → AreSlots g.shape g.start g.fetched g.pushed g.taken g.replied g.series g.replies pages s' w.back.stage
+    → All (IsFilled g.series g.pushed pages s') w.front.requests
+    → AreEntries g.series g.pushed pages w.under.grants.live s' w.front.ending w.front.requests
     → (w.back.asleep ≡ true → FrontSends s g.pushed g.fetched → FrontSends s' g.pushed g.fetched)
     → Holds config (with_front w s' entry pages) g d s' w.back.stage
 issue_kept config w g d s s' entry pages m m' same h at sized elsewhere =

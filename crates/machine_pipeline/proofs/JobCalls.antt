@@ -48,13 +48,13 @@ one_place (transfer.Discard sectors) sector count bare = refl
 one_place way sector count bare = absurd (false≢true (sym bare))
 
 -- jobs of which one was changed, of the same request
-ordered_with : (g : Flow) (works : List Work) (p : ℕ) (t t' : Work) (r : Request) → t'.number ≡ t.number → AreOrdered g works p t r → AreOrdered g (slice_set works p t') p t' r
+ordered_with : (g : Flow) (works : List Work) (p : ℕ) (t t' : Work) (r : Request) → t'.id ≡ t.id → AreOrdered g works p t r → AreOrdered g (slice_set works p t') p t' r
 ordered_with g works p t t' r number are = record {
   here = get_set_here works p t t' are.here;
   known = ap (λ (n : ℕ). slice_get g.submitted (n - 1)) number ∙ are.known;
   ascending = ascending_after works p t t' are.here number are.ascending;
   positive = λ i u at. elim (set_was works p i t t' u are.here at) [
-    | inl it ↦ let first = are.positive p t are.here in let same : u.number ≡ t.number = ap (λ (v : Work). v.number) it.1 ∙ number in omega arith
+    | inl it ↦ let first = are.positive p t are.here in let same : u.id ≡ t.id = ap (λ (v : Work). v.id) it.1 ∙ number in omega arith
     | inr other ↦ are.positive i u other.1
   ];
 }
@@ -63,10 +63,10 @@ ordered_with g works p t t' r number are = record {
 ends : (config : Options) (w : World) (g : Flow) (d d' : Pipeline) (p : ℕ) (t mid : Work) (r : Request) (status : Status)
     → Holds config w g d w.front.stage w.back.stage
     → IsAt w g d p t r
-    → mid.number ≡ t.number
+    → mid.id ≡ t.id
     → StationsWith config w g d' (slice_set w.back.jobs.works p mid) w.under.pages
-    → ((q : Asked) → q.job ≡ job_of r.transfer r.sector r.count → (station_before q.job (Ends status) ≡ worked mid.stage mid.moved) × May d' (mid.number - 1) q (Ends status))
-    → (is_okay status ≡ true → (q : Asked) → slice_get d'.requests (mid.number - 1) ≡ Some q → is_write r.transfer ≡ false → IsReadBack w.under.pages r r.count q.words)
+    → ((q : Asked) → q.job ≡ job_of r.transfer r.sector r.count → (station_before q.job (Ends status) ≡ worked mid.stage mid.moved) × May d' (mid.id - 1) q (Ends status))
+    → (is_okay status ≡ true → (q : Asked) → slice_get d'.requests (mid.id - 1) ≡ Some q → is_write r.transfer ≡ false → IsReadBack w.under.pages r r.count q.words)
     → Stepped None IsSame d' [] (λ x. StationsWith config w g x (slice_set w.back.jobs.works p (record t { stage = job.Done status })) w.under.pages)
 ends config w g d d' p t mid r status h is number stations before back =
     subst (λ (works : List Work). Stepped None IsSame d' [] (λ x. StationsWith config w g x works w.under.pages)) (set_again w.back.jobs.works p mid then)
@@ -122,7 +122,7 @@ does_well call config w g d p t r j shown line h is bare works unread hands s =
     stations = s.now
 
     none : r.count ≡ 0
-    none = let its = h.submitted.each (t.number - 1) r is.known in its.shaped.counted.none bare
+    none = let its = h.submitted.each (t.id - 1) r is.known in its.shaped.counted.none bare
 
 -- the disk failed: between both steps the job is as one that gives a frame up
 fails_so : (call : (before after : List (List ℕ)) → Type 0) (config : Options) (w : World) (g : Flow) (d : Pipeline) (p : ℕ) (t : Work) (r : Request) (shown : Shown)

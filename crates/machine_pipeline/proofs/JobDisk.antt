@@ -44,7 +44,7 @@ took_goes config w g d number p t r m h is e at = record {
 }
   where
     shaped : IsShaped r
-    shaped = let its = h.submitted.each (t.number - 1) r is.known in its.shaped
+    shaped = let its = h.submitted.each (t.id - 1) r is.known in its.shaped
 
     left : (t.moved + 1 ≤ r.count) × (t.within ≤ 7) × (r.count ≤ 7680)
     left = sectors_left t r 1 shaped at.0
@@ -137,7 +137,7 @@ gave_goes config w g d number p t r m words h is e at sized = record {
 
     given : IsReturning then r
     given =
-        let its = h.submitted.each (t.number - 1) r is.known in
+        let its = h.submitted.each (t.id - 1) r is.known in
         let left = sectors_left t r 1 its.shaped at.0 in
         let one_more : (t.moved + 1) % 2 ^ 32 ≡ t.moved + 1 = omega (arith, left.0, left.2) in
         let was = at.0 in

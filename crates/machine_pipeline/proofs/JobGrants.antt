@@ -14,6 +14,7 @@ use Rattle.back_jobs.specs.Task.{mode_of}
 use Rattle.blk_front.specs.declared.stage.Ending.{Ending}
 use Rattle.blk_front.specs.declared.stage.Stage.{Stage as FrontStage}
 use Rattle.machine_pipeline.proofs.Flow.{frames_of, revoking_at}
+use Rattle.machine_pipeline.proofs.Series.{IsAmong}
 use Rattle.machine_pipeline.proofs.Holds.{IsGranted, AreEntries, is_only_read, mapped_at, flags_with}
 use Rattle.machine_pipeline.proofs.Lists.{all_at, all_from}
 use Rattle.machine_pipeline.proofs.Kept.{SameEntry, written, other_word, other_entry}
@@ -63,11 +64,12 @@ cleared_flags r place = by_mode (is_only_read r place) ∙ sym (granting_at r pl
     by_mode false = refl
 
 -- the grant entries once the flags of one frame of a request were made those of its mappings
-pub entries_marked : (pushed : ℕ) (pages : List ℕ) (live live' : List Held) (s : FrontStage) (ending : Option Ending) (requests : List Request) (i : ℕ)
+pub entries_marked : {series : List Request} (pushed : ℕ) (pages : List ℕ) (live live' : List Held) (s : FrontStage) (ending : Option Ending) (requests : List Request) (i : ℕ)
     (r : Request) (place flags : ℕ)
     → length pages ≡ 1114112
     → slice_get requests i ≡ Some r
-    → r.number ≤ pushed
+    → IsAmong series pushed r
+    → (slice_get series pushed ≡ Some r → ⊥)
     → frame_at r place < 1018
     → flags ≡ flags_with r place (mappings_of (frame_at r place + 6) live')
     → ((f : ℕ) → f ≢ frame_at r place → mappings_of (f + 6) live' ≡ mappings_of (f + 6) live)
@@ -76,10 +78,10 @@ pub entries_marked : (pushed : ℕ) (pages : List ℕ) (live live' : List Held) 
     → ((j : ℕ) (x : Request) → j ≢ i → slice_get requests j ≡ Some x → (a : ℕ) → a < frames_of x → frame_at x a ≢ frame_at r place)
     → ((e : Ending) → revoking_at s ending ≡ Some e → (a : ℕ) → a < frames_of e.request
     → (frame_at e.request a < 1018) × (frame_at e.request a ≢ frame_at r place))
-    → AreEntries pushed pages live s ending requests
-    → AreEntries pushed (with_entry_word0 pages (frame_at r place + 6) flags) live' s ending requests
-entries_marked pushed pages live live' s ending requests i r place flags sized here reached high marked others bound own apart last h = record {
-  each = all_from (IsGranted pushed new live' s) requests (λ j x e. by_place j x e (j == i) refl);
+    → AreEntries series pushed pages live s ending requests
+    → AreEntries series pushed (with_entry_word0 pages (frame_at r place + 6) flags) live' s ending requests
+entries_marked {series} pushed pages live live' s ending requests i r place flags sized here reached fresh high marked others bound own apart last h = record {
+  each = all_from (IsGranted series pushed new live' s) requests (λ j x e. by_place j x e (j == i) refl);
   ending = λ e same a from lt.
       let its = last e same a lt in
       let entry = beside (frame_at e.request a) its.0 its.1 in
@@ -92,8 +94,8 @@ entries_marked pushed pages live live' s ending requests i r place flags sized h
     beside : (f : ℕ) → f < 1018 → f ≢ frame_at r place → SameEntry pages new (f + 6)
     beside f few other = other_entry pages (frame_at r place + 6) (f + 6) flags (omega arith) (omega arith) (λ t. other (omega arith))
 
-    it : IsGranted pushed pages live s r
-    it = all_at (IsGranted pushed pages live s) requests i r h.each here
+    it : IsGranted series pushed pages live s r
+    it = all_at (IsGranted series pushed pages live s) requests i r h.each here
 
     named : (a : ℕ) → a < frames_of r → entry_word1 new (frame_at r a + 6) ≡ entry_word1 pages (frame_at r a + 6)
     named a lt = by_frame (a == place) refl
@@ -108,7 +110,7 @@ entries_marked pushed pages live live' s ending requests i r place flags sized h
             let entry = beside (frame_at r a) (bound i r here a) (own a off lt) in
             entry.frame
 
-    now : r.number ≤ pushed → (a : ℕ) → a < frames_of r → entry_word0 new (frame_at r a + 6) ≡ flags_with r a (mappings_of (frame_at r a + 6) live')
+    now : IsAmong series pushed r → (a : ℕ) → a < frames_of r → entry_word0 new (frame_at r a + 6) ≡ flags_with r a (mappings_of (frame_at r a + 6) live')
     now le a lt = by_frame (a == place) refl
       where
         by_frame : (b : Bool) → (a == place) ≡ b → entry_word0 new (frame_at r a + 6) ≡ flags_with r a (mappings_of (frame_at r a + 6) live')
@@ -122,19 +124,19 @@ entries_marked pushed pages live live' s ending requests i r place flags sized h
             let entry = beside (frame_at r a) (bound i r here a) frames in
             entry.flags ∙ (it.flags le a lt ∙ ap (λ (n : ℕ). flags_with r a n) (sym (others (frame_at r a) frames)))
 
-    by_place : (j : ℕ) (x : Request) → slice_get requests j ≡ Some x → (b : Bool) → (j == i) ≡ b → IsGranted pushed new live' s x
+    by_place : (j : ℕ) (x : Request) → slice_get requests j ≡ Some x → (b : Bool) → (j == i) ≡ b → IsGranted series pushed new live' s x
     by_place j x e true t =
         let at : j ≡ i = grind (arith, nat_tests) in
         let same : r ≡ x = same_Some r x (sym here ∙ (ap (slice_get requests) (sym at) ∙ e)) in
-        subst (IsGranted pushed new live' s) same (record {
+        subst (IsGranted series pushed new live' s) same (record {
           named = λ le a lt. named a lt ∙ it.named le a lt;
           named_next = λ n a t lt. named a lt ∙ it.named_next n a t lt;
           flags = now;
-          flags_next = λ n a t lt. absurd (omega arith);
+          flags_next = λ n a t lt. absurd (fresh n);
         })
     by_place j x e false t =
         let off : j ≢ i = grind (arith, nat_tests) in
-        let was = all_at (IsGranted pushed pages live s) requests j x h.each e in
+        let was = all_at (IsGranted series pushed pages live s) requests j x h.each e in
         record {
           named = λ le a lt. let entry = beside (frame_at x a) (bound j x e a) (apart j x off e a lt) in entry.frame ∙ was.named le a lt;
           named_next = λ n a t lt. let entry = beside (frame_at x a) (bound j x e a) (apart j x off e a lt) in entry.frame ∙ was.named_next n a t lt;

@@ -55,10 +55,10 @@ marked : (config : Options) (w : World) (g : Flow) (d : Pipeline) (t : Work) (r 
     → a < frames_of r
     → flags ≡ flags_with r a (mappings_of (frame_at r a + 6) live')
     → ((f : ℕ) → f ≢ frame_at r a → mappings_of (f + 6) live' ≡ mappings_of (f + 6) w.under.grants.live)
-    → AreEntries g.pushed (with_entry_word0 w.under.pages (frame_at r a + 6) flags) live' w.front.stage w.front.ending w.front.requests
+    → AreEntries g.series g.pushed (with_entry_word0 w.under.pages (frame_at r a + 6) flags) live' w.front.stage w.front.ending w.front.requests
 marked config w g d t r a live' flags h own in_r same others =
     let pooled = pooled_at r own.frames a in
-    entries_marked g.pushed w.under.pages w.under.grants.live live' w.front.stage w.front.ending w.front.requests own.place r a flags h.memory own.at own.reached pooled.1 same others
+    entries_marked g.pushed w.under.pages w.under.grants.live live' w.front.stage w.front.ending w.front.requests own.place r a flags h.memory own.at own.reached own.begun pooled.1 same others
     (λ j x e b. let is = is_submitted config w g d w.front.stage w.back.stage h j x e in let its = pooled_at x is.frames b in its.1)
     (λ b off in_b. own_apart w.front.pool w.front.requests (ending_at w.front.stage w.front.ending) own.place r h.pool own.at b a off in_b in_r
     (pooled_at r own.frames b))
@@ -131,7 +131,7 @@ no_mapping : (config : Options) (w : World) (g : Flow) (d : Pipeline) (p : ℕ) 
 no_mapping config w g d p t r place h x =
     unmapped config w g d w.front.stage w.back.stage h x.own.place r x.own.at place x.here alone (λ (y : Mapping). y.gref == frame_at r place + 6) (λ y apart. grind (arith, nat_tests))
   where
-    alone : (i : ℕ) (u : Work) → slice_get w.back.jobs.works i ≡ Some u → u.number ≡ r.number → mapping_at u.stage ≡ None
+    alone : (i : ℕ) (u : Work) → slice_get w.back.jobs.works i ≡ Some u → u.id ≡ r.number → mapping_at u.stage ≡ None
     alone i u f same = by_place (i == p) refl
       where
         by_place : (b : Bool) → (i == p) ≡ b → mapping_at u.stage ≡ None
@@ -162,8 +162,8 @@ acted_so config w g d number p t r place o h x =
     pooled : IsPooled frame
     pooled = pooled_at r x.own.frames place
 
-    granted : IsGranted g.pushed w.under.pages w.under.grants.live w.front.stage r
-    granted = all_at (IsGranted g.pushed w.under.pages w.under.grants.live w.front.stage) w.front.requests x.own.place r h.entries.each x.own.at
+    granted : IsGranted g.series g.pushed w.under.pages w.under.grants.live w.front.stage r
+    granted = all_at (IsGranted g.series g.pushed w.under.pages w.under.grants.live w.front.stage) w.front.requests x.own.place r h.entries.each x.own.at
 
     flags : entry_word0 w.under.pages (frame + 6) ≡ flags_at r place
     flags = granted.flags x.own.reached place x.here ∙ ap (λ (n : ℕ). flags_with r place n) (no_mapping config w g d p t r place h x)
@@ -178,9 +178,9 @@ acted_so config w g d number p t r place o h x =
 mapped_holds : (config : Options) (w : World) (g : Flow) (d : Pipeline) (p : ℕ) (t : Work) (r : Request) (place : ℕ) (later : Work)
     → Holds config w g d w.front.stage w.back.stage
     → IsMapping w g d p t r place
-    → later.number ≡ t.number
+    → later.id ≡ t.id
     → StationsWith config w g d (slice_set w.back.jobs.works p later) w.under.pages
-    → IsWork g.submitted g.fetched later
+    → IsWork g.submitted g.series g.fetched later
     → HasOneMore (made_of w r place) (hands_of w.back) (hands_at w.back.stage (record w.back { jobs = record w.back.jobs { works = slice_set w.back.jobs.works p later } }))
     → (let v : World = record { front = w.front; back = record w.back { jobs = record w.back.jobs { works = slice_set w.back.jobs.works p later }; told = None }; under = under_with w r place } in Holds config v g d v.front.stage v.back.stage)
 mapped_holds config w g d p t r place later h x number stations now more =
@@ -377,7 +377,7 @@ hand_counted : (config : Options) (w : World) (g : Flow) (d : Pipeline) (p : ℕ
 hand_counted config w g d p t t' r h is own a in_r none test apart =
     none_in_hands config w g d w.front.stage w.back.stage h own.place r own.at a in_r (slice_set w.back.jobs.works p t') (λ i u m e f. by_place i u m f (set_was w.back.jobs.works p i t t' u is.place e)) test apart
   where
-    by_place : (i : ℕ) (u : Work) (m : Mapping) → mapping_at u.stage ≡ Some m → ((i ≡ p) × (u ≡ t')) ⊎ ((i ≢ p) × (slice_get w.back.jobs.works i ≡ Some u)) → (k : ℕ) × (slice_get w.back.jobs.works k ≡ Some u) × (u.number ≢ r.number)
+    by_place : (i : ℕ) (u : Work) (m : Mapping) → mapping_at u.stage ≡ Some m → ((i ≡ p) × (u ≡ t')) ⊎ ((i ≢ p) × (slice_get w.back.jobs.works i ≡ Some u)) → (k : ℕ) × (slice_get w.back.jobs.works k ≡ Some u) × (u.id ≢ r.number)
     by_place i u m f (inl at) = absurd (none-some m (sym none ∙ (ap (λ (x : Work). mapping_at x.stage) (sym at.1) ∙ f)))
     by_place i u m f (inr other) =
         let differs = other_number w.back.jobs.works p i t u h.works.ascending other.0 is.place other.1 in
@@ -389,13 +389,13 @@ pub unmap_holds : (config : Options) (w : World) (g : Flow) (d d' : Pipeline) (p
     → Holds config w g d w.front.stage w.back.stage
     → AreHeld w.under.grants (hands_of w.back)
     → IsAt w g d p t r
-    → IsWork g.submitted g.fetched t
+    → IsWork g.submitted g.series g.fetched t
     → mapping_at t.stage ≡ Some m
     → (a : ℕ) → a < frames_of r → IsHand m r a
     → mapping_at t'.stage ≡ None
-    → t'.number ≡ t.number
+    → t'.id ≡ t.id
     → StationsWith config w g d' (slice_set w.back.jobs.works p t') w.under.pages
-    → IsWork g.submitted g.fetched t'
+    → IsWork g.submitted g.series g.fetched t'
     → HasOneMore m (hands_at w.back.stage (record w.back { jobs = record w.back.jobs { works = slice_set w.back.jobs.works p t' } })) (hands_of w.back)
     → (let v : World = record { front = w.front; back = record w.back { jobs = record w.back.jobs { works = slice_set w.back.jobs.works p t' }; told = None }; under = record w.under { pages = unmap_pages w.under.grants w.under.pages m; grants = unmap_table w.under.grants m } } in Holds config v g d' v.front.stage v.back.stage)
 unmap_holds config w g d d' p t t' r m h held is work has a in_r hand none number stations now more =
@@ -459,8 +459,8 @@ unmap_holds config w g d d' p t t' r m h held is work has a in_r hand none numbe
         let all = counts f in
         omega arith
 
-    granted : IsGranted g.pushed w.under.pages w.under.grants.live w.front.stage r
-    granted = all_at (IsGranted g.pushed w.under.pages w.under.grants.live w.front.stage) w.front.requests own.place r h.entries.each own.at
+    granted : IsGranted g.series g.pushed w.under.pages w.under.grants.live w.front.stage r
+    granted = all_at (IsGranted g.series g.pushed w.under.pages w.under.grants.live w.front.stage) w.front.requests own.place r h.entries.each own.at
 
     flags : entry_word0 w.under.pages (frame + 6) ≡ mapped_at r a
     flags = granted.flags own.reached a in_r ∙ ap (λ (n : ℕ). flags_with r a n) one_mapping

@@ -38,6 +38,7 @@ use Rattle.blk_layout.specs.declared.segment.Segment.{Segment}
 use Rattle.machine_pipeline.proofs.Data.{own_among, data_value}
 use Rattle.machine_pipeline.proofs.Segments.{own_here, within_last, word_place, data_place}
 use Rattle.machine_pipeline.proofs.ReadBack.{ReadAt}
+use Rattle.machine_pipeline.proofs.Series.{IsAmong, among_apart}
 use Rattle.machine_pipeline.proofs.Holds.{Holds, IsWork, IsPooled, IsHand, IsInSegment, IsMoving, IsReturning, IsCopying, AtWork, IsFilled, AreMapped, last_in, sector_word}
 use Rattle.machine_pipeline.proofs.Turns.{GoesBy, nothing, no_move}
 use Rattle.machine_pipeline.proofs.Lists.{all_at, all_same}
@@ -69,19 +70,21 @@ stays call config w g d same h = record { flow = g; steps = []; does = no_move c
 pub record IsAt (w : World) (g : Flow) (d : Pipeline) (p : ℕ) (t : Work) (r : Request) : Type 0 where
   pub place : slice_get w.back.jobs.works p ≡ Some t
   pub free : MayMove w.back.jobs.works p t
-  pub known : slice_get g.submitted (t.number - 1) ≡ Some r
-  pub positive : 1 ≤ t.number
+  pub known : slice_get g.submitted (t.id - 1) ≡ Some r
+  pub positive : 1 ≤ t.id
+  pub issued : slice_get g.series (t.number - 1) ≡ Some r
+  pub counted : 1 ≤ t.number
   pub reached : t.number ≤ g.fetched
-  pub id : t.id ≡ t.number
   pub op : t.op ≡ operation_of r.transfer
 
-pub work_of : (w : World) (g : Flow) (d d' : Pipeline) (p : ℕ) (t t' : Work) (r : Request) → IsAt w g d p t r → t'.number ≡ t.number → t'.id ≡ t.id → t'.op ≡ t.op → AtWork r t' t'.stage → IsWork g.submitted g.fetched t'
+pub work_of : (w : World) (g : Flow) (d d' : Pipeline) (p : ℕ) (t t' : Work) (r : Request) → IsAt w g d p t r → t'.number ≡ t.number → t'.id ≡ t.id → t'.op ≡ t.op → AtWork r t' t'.stage → IsWork g.submitted g.series g.fetched t'
 work_of w g d d' p t t' r is number id op at = record {
   r = r;
-  known = ap (λ (n : ℕ). slice_get g.submitted (n - 1)) number ∙ is.known;
+  known = ap (λ (n : ℕ). slice_get g.submitted (n - 1)) id ∙ is.known;
   positive = let was = is.positive in omega arith;
+  issued = ap (λ (n : ℕ). slice_get g.series (n - 1)) number ∙ is.issued;
+  counted = let was = is.counted in omega arith;
   reached = let was = is.reached in omega arith;
-  id = id ∙ (is.id ∙ sym number);
   op = op ∙ is.op;
   at = at;
 }
@@ -99,44 +102,47 @@ hands_step w p t j x place e =
     subst (λ (s : JobStage). IsAnswer (ask_at s t) x → HandsAfter (ask_at s t) x (hands_of w.back) (hands_at w.back.stage (record w.back { jobs = record w.back.jobs { works = slice_set w.back.jobs.works p (step_at s t x) } }))) e
     (λ own. between (ask_at t.stage t) x (given_up w.back.stage) w.back.pages (hands_in w.back.jobs.works) (hands_in (slice_set w.back.jobs.works p (step_at t.stage t x))) (told_hands w.back.jobs.works (Some p) false (Some t) x place own))
 
-pub at_work : (w : World) (g : Flow) (d : Pipeline) (p : ℕ) (t : Work) (r : Request) {j : JobStage} → IsAt w g d p t r → t.stage ≡ j → AtWork r t j → IsWork g.submitted g.fetched t
+pub at_work : (w : World) (g : Flow) (d : Pipeline) (p : ℕ) (t : Work) (r : Request) {j : JobStage} → IsAt w g d p t r → t.stage ≡ j → AtWork r t j → IsWork g.submitted g.series g.fetched t
 at_work w g d p t r is e at = work_of w g d d p t t r is refl refl refl (subst (AtWork r t) (sym e) at)
 
 -- what a read's job has in hand, and its frames hold
-pub read_was : (config : Options) (w : World) (g : Flow) (d : Pipeline) (p : ℕ) (t : Work) (r : Request) {j : JobStage} → Holds config w g d w.front.stage w.back.stage → IsAt w g d p t r → t.stage ≡ j → (q : Asked) → slice_get d.requests (t.number - 1) ≡ Some q → is_write r.transfer ≡ false → ReadAt w.under.pages r t.moved t.words q.words j
+pub read_was : (config : Options) (w : World) (g : Flow) (d : Pipeline) (p : ℕ) (t : Work) (r : Request) {j : JobStage} → Holds config w g d w.front.stage w.back.stage → IsAt w g d p t r → t.stage ≡ j → (q : Asked) → slice_get d.requests (t.id - 1) ≡ Some q → is_write r.transfer ≡ false → ReadAt w.under.pages r t.moved t.words q.words j
 read_was config w g d p t r h is e q was reads = subst (ReadAt w.under.pages r t.moved t.words q.words) e (h.stations.reads.working p t r q is.place is.known was reads)
 
 -- the job's request among the front's
 pub record IsOwn (w : World) (g : Flow) (t : Work) (r : Request) : Type 0 where
   pub place : ℕ
   pub at : slice_get w.front.requests place ≡ Some r
-  pub number : r.number ≡ t.number
-  pub reached : r.number ≤ g.pushed
+  pub number : r.number ≡ t.id
+  pub reached : IsAmong g.series g.pushed r
+  pub begun : slice_get g.series g.pushed ≡ Some r → ⊥
   pub shaped : IsShaped r
   pub frames : All IsPooled r.frames.items
 
-pub own_at : (config : Options) (w : World) (g : Flow) (d : Pipeline) (p : ℕ) (t : Work) (r : Request) → Holds config w g d w.front.stage w.back.stage → IsAt w g d p t r → IsWork g.submitted g.fetched t → IsOwn w g t r
+pub own_at : (config : Options) (w : World) (g : Flow) (d : Pipeline) (p : ℕ) (t : Work) (r : Request) → Holds config w g d w.front.stage w.back.stage → IsAt w g d p t r → IsWork g.submitted g.series g.fetched t → IsOwn w g t r
 own_at config w g d p t r h is work =
     let same : work.r ≡ r = same_Some work.r r (sym work.known ∙ is.known) in
     let its = work_queued config w g d w.front.stage w.back.stage h p t is.place work in
-    let number = h.submitted.each (t.number - 1) r is.known in
+    let number = h.submitted.each (t.id - 1) r is.known in
     let numbered = number.number in
     let positive = is.positive in
+    let counted = is.counted in
     let reached = is.reached in
     let indices = h.indices in
     let pushed = indices.fetched_pushed in
-    record { place = its.place; at = its.at ∙ ap Some same; number = omega arith; reached = omega arith; shaped = number.shaped; frames = number.frames }
+    let among : IsAmong g.series g.pushed r = record { index = t.number - 1; early = omega arith; at = is.issued } in
+    record { place = its.place; at = its.at ∙ ap Some same; number = omega arith; reached = among; begun = λ at. among_apart g.submitted g.series g.pushed g.pushed r r (let queue = h.queue in queue.ordered) among at (omega arith) refl; shaped = number.shaped; frames = number.frames }
 
 -- the words of a write lie in its frames
 filled_at : (config : Options) (w : World) (g : Flow) (d : Pipeline) (p : ℕ) (t : Work) (r : Request)
     → Holds config w g d w.front.stage w.back.stage
     → IsAt w g d p t r
-    → IsWork g.submitted g.fetched t
+    → IsWork g.submitted g.series g.fetched t
     → is_write r.transfer ≡ true
     → (n : ℕ) → n < words_in r → data_word w.under.pages r n ≡ filling_at r.transfer n
 filled_at config w g d p t r h is work writes =
     let own = own_at config w g d p t r h is work in
-    let filled = all_at (IsFilled g.pushed w.under.pages w.front.stage) w.front.requests own.place r h.frames own.at in
+    let filled = all_at (IsFilled g.series g.pushed w.under.pages w.front.stage) w.front.requests own.place r h.frames own.at in
     λ n lt.
     let shaped = own.shaped in
     let in_data : nat_lt n (1024 * frames_for r.count) ≡ true = grind (arith, nat_tests) in

@@ -65,8 +65,8 @@ word_read config w g d p t r m k h is own x framed few =
     word : at % 1024 ≡ page_word t k
     word = omega arith
 
-    filled : IsFilled g.pushed w.under.pages w.front.stage r
-    filled = all_at (IsFilled g.pushed w.under.pages w.front.stage) w.front.requests own.place r h.frames own.at
+    filled : IsFilled g.series g.pushed w.under.pages w.front.stage r
+    filled = all_at (IsFilled g.series g.pushed w.under.pages w.front.stage) w.front.requests own.place r h.frames own.at
 
     it : is_own r at ≡ true
     it =
@@ -260,15 +260,15 @@ unmap_page_goes config w g d number p t r m o h held is e at = subst (λ (x : Wo
   flow = g;
   steps = [];
   does = nothing (CallOf (ask_at (job.UnmapPage m) t) o) _ d (λ a b call. same_Some b a call.1);
-  holds = unmap_holds config w g d d p t later r m h held is (at_work w g d p t r is e at) (rw e refl) (frames_for r.count + at.page) in_it at.hand (bare whole) (numbered whole)
-      (stations_stay config w g d p t later r w.under.pages h.stations is.place is.known (numbered whole) (station whole)
+  holds = unmap_holds config w g d d p t later r m h held is (at_work w g d p t r is e at) (rw e refl) (frames_for r.count + at.page) in_it at.hand (bare whole) (named_id whole)
+      (stations_stay config w g d p t later r w.under.pages h.stations is.place is.known (named_id whole) (station whole)
       (λ q was reads. back whole q.words (read_was config w g d p t r h is e q was reads)))
       (work_of w g d d p t later r is (numbered whole) (named_id whole) (named_op whole) (now whole refl))
       (subst (λ (x : Work). HasOneMore m (hands_at w.back.stage (record w.back { jobs = record w.back.jobs { works = slice_set w.back.jobs.works p x } })) (hands_of w.back)) stepped (hands_step w p t (job.UnmapPage m) answer.Done is.place e tt));
 })
   where
     shaped : IsShaped r
-    shaped = let its = h.submitted.each (t.number - 1) r is.known in its.shaped
+    shaped = let its = h.submitted.each (t.id - 1) r is.known in its.shaped
 
     copies : IsCopying t r at.page
     copies = at.copies

@@ -1,7 +1,7 @@
 -- The steps of the pipeline that a job makes: its next sector is filled or read, or the disk fails at it, and the job ends.
 use Rattle.std.proofs.Common.{◌≡◌, ℕ, ◌+◌, ◌-◌, ◌%◌, ◌^◌, ◌<◌, ◌≤◌, ◌==◌, ◌&&◌, ◌||◌, inl, inr, not, Bool, true, false, List, [], ◌∷◌, length, refl, ap, sym, ◌∙◌, subst, arith, None}
 use Rattle.std.specs.Prelude.{AllPairs, Some, slice_get, slice_set, replicate}
-use Rattle.std.proofs.lemmas.Option.{same_Some}
+use Rattle.std.proofs.lemmas.Option.{same_Some, slice_get_within}
 use Rattle.std.proofs.lemmas.Bool.{false≢true, true≢false, cases_eq, cases_lt}
 use Rattle.blk_base.specs.Options.{Options}
 use Rattle.blk_base.specs.declared.config.Job.{Job}
@@ -26,7 +26,7 @@ use Rattle.blk_front.specs.Submit.{is_ready}
 use Rattle.split_model.specs.World.{World}
 use Rattle.pipeline_laws.specs.Station.{Station, Working, Failed, Request as Asked}
 use Rattle.pipeline_laws.specs.Move.{Move, Fills, Reads, Fails, Ends, station_before, station_after, words_after, move_lines}
-use Rattle.pipeline_laws.specs.Ring.{ring_after}
+use Rattle.pipeline_laws.specs.Ring.{Ring, ring_after}
 use Rattle.pipeline_laws.specs.Pipeline.{Pipeline, Moves}
 use Rattle.pipeline_laws.specs.Allowed.{May, IsClear, is_working, is_in_way}
 use Rattle.pipeline_laws.specs.Disk.{DiskDoes}
@@ -34,7 +34,8 @@ use Rattle.machine_pipeline.proofs.Flow.{Flow, worked, ending_at, reply_at, is_i
 use Rattle.machine_pipeline.proofs.ReadBack.{IsReadBack, ReadAt, has_data_at}
 use Rattle.machine_pipeline.proofs.Holds.{Holds, IsWork, IsMoving, AtWork}
 use Rattle.machine_pipeline.proofs.Segments.{moves_sectors}
-use Rattle.machine_pipeline.proofs.Lists.{all_at, pair_at}
+use Rattle.machine_pipeline.proofs.Series.{lower}
+use Rattle.machine_pipeline.proofs.Lists.{all_at, pair_at, get_within}
 use Rattle.machine_pipeline.proofs.Stations.{StandsAt, kind_of}
 use Rattle.machine_pipeline.proofs.StationsBack.{job_steps}
 use Rattle.machine_pipeline.proofs.Turns.{Stepped}
@@ -114,35 +115,35 @@ pub record IsJobMove (call : (before after : List (List ℕ)) → Type 0) (d : P
 
 -- what a read has once its job made the move
 abbrev pub HasRead : World → Pipeline → Work → Work → Request → Move → Type 0
-HasRead w d t t' r move = (q : Asked) → slice_get d.requests (t.number - 1) ≡ Some q → is_write r.transfer ≡ false → ReadAt w.under.pages r t'.moved t'.words (words_after move q.words) t'.stage × (has_data_at (worked t'.stage t'.moved) ≡ true → IsReadBack w.under.pages r r.count (words_after move q.words))
+HasRead w d t t' r move = (q : Asked) → slice_get d.requests (t.id - 1) ≡ Some q → is_write r.transfer ≡ false → ReadAt w.under.pages r t'.moved t'.words (words_after move q.words) t'.stage × (has_data_at (worked t'.stage t'.moved) ≡ true → IsReadBack w.under.pages r r.count (words_after move q.words))
 
 -- jobs that stand in order, one of them at this place
 pub record AreOrdered (g : Flow) (works : List Work) (p : ℕ) (t : Work) (r : Request) : Type 0 where
   pub here : slice_get works p ≡ Some t
-  pub known : slice_get g.submitted (t.number - 1) ≡ Some r
-  pub ascending : AllPairs (λ (x y : Work). x.number < y.number) works
-  pub positive : (i : ℕ) (u : Work) → slice_get works i ≡ Some u → 1 ≤ u.number
+  pub known : slice_get g.submitted (t.id - 1) ≡ Some r
+  pub ascending : AllPairs (λ (x y : Work). x.id < y.id) works
+  pub positive : (i : ℕ) (u : Work) → slice_get works i ≡ Some u → 1 ≤ u.id
 
 pub jobs_ordered : (config : Options) (w : World) (g : Flow) (d : Pipeline) (p : ℕ) (t : Work) (r : Request) → Holds config w g d w.front.stage w.back.stage → IsAt w g d p t r → AreOrdered g w.back.jobs.works p t r
 jobs_ordered config w g d p t r h is = record {
   here = is.place;
   known = is.known;
   ascending = h.works.ascending;
-  positive = λ i u at. let work = all_at (IsWork g.submitted g.fetched) w.back.jobs.works i u h.works.each at in work.positive;
+  positive = λ i u at. let work = all_at (IsWork g.submitted g.series g.fetched) w.back.jobs.works i u h.works.each at in work.positive;
 }
 
 -- the job at this place makes it
 pub job_moves : (call : (before after : List (List ℕ)) → Type 0) (config : Options) (w : World) (g : Flow) (d : Pipeline) (works : List Work) (p : ℕ) (t t' : Work) (r : Request) (move : Move) (said : List Line)
     → StationsWith config w g d works w.under.pages
     → AreOrdered g works p t r
-    → t'.number ≡ t.number
-    → ring_after d.ring (t.number - 1) move ≡ d.ring
-    → move_lines (t.number - 1) move ≡ said
+    → t'.id ≡ t.id
+    → ring_after d.ring (t.id - 1) move ≡ d.ring
+    → move_lines (t.id - 1) move ≡ said
     → HasRead w d t t' r move
-    → ((q : Asked) → q.job ≡ job_of r.transfer r.sector r.count → IsJobMove call d (t.number - 1) q (worked t.stage t.moved) (worked t'.stage t'.moved) move)
+    → ((q : Asked) → q.job ≡ job_of r.transfer r.sector r.count → IsJobMove call d (t.id - 1) q (worked t.stage t.moved) (worked t'.stage t'.moved) move)
     → Stepped None call d said (λ x. StationsWith config w g x (slice_set works p t') w.under.pages)
 job_moves call config w g d works p t t' r move said stations are number still shows now makes = record {
-  step = Moves (t.number - 1) x.q move;
+  step = Moves (t.id - 1) x.q move;
   allowed = (record { here = x.at; there = x.there ∙ sym it.before }, it.may);
   shows = shows;
   asks = refl;
@@ -150,13 +151,13 @@ job_moves call config w g d works p t t' r move said stations are number still s
   now = job_steps config g d (is_ready w.front.stage) (is_issuing w.front.stage) (is_fetching w.back.stage) (ending_at w.front.stage w.front.ending) (telling_at w.front.stage) (reply_at w.back.stage) w.front.requests works w.under.pages p t t' x move are.here are.ascending are.positive number it.after still has stations;
 }
   where
-    x : StandsAt d.requests (t.number - 1) (worked t.stage t.moved)
+    x : StandsAt d.requests (t.id - 1) (worked t.stage t.moved)
     x = stations.works p t are.here
 
-    it : IsJobMove call d (t.number - 1) x.q (worked t.stage t.moved) (worked t'.stage t'.moved) move
-    it = makes x.q (stations.known.each (t.number - 1) r x.q are.known x.at)
+    it : IsJobMove call d (t.id - 1) x.q (worked t.stage t.moved) (worked t'.stage t'.moved) move
+    it = makes x.q (stations.known.each (t.id - 1) r x.q are.known x.at)
 
-    has : (y : Request) → slice_get g.submitted (t.number - 1) ≡ Some y → is_write y.transfer ≡ false → (let q : Asked = x.q in ReadAt w.under.pages y t'.moved t'.words (words_after move q.words) t'.stage × (has_data_at (worked t'.stage t'.moved) ≡ true → IsReadBack w.under.pages y y.count (words_after move q.words)))
+    has : (y : Request) → slice_get g.submitted (t.id - 1) ≡ Some y → is_write y.transfer ≡ false → (let q : Asked = x.q in ReadAt w.under.pages y t'.moved t'.words (words_after move q.words) t'.stage × (has_data_at (worked t'.stage t'.moved) ≡ true → IsReadBack w.under.pages y y.count (words_after move q.words)))
     has y its reads =
         let one : y ≡ r = same_Some y r (sym its ∙ are.known) in
         subst (λ (z : Request). let q : Asked = x.q in ReadAt w.under.pages z t'.moved t'.words (words_after move q.words) t'.stage × (has_data_at (worked t'.stage t'.moved) ≡ true → IsReadBack w.under.pages z z.count (words_after move q.words))) (sym one)
@@ -165,25 +166,25 @@ job_moves call config w g d works p t t' r move said stations are number still s
 pub job_stepped : (call : (before after : List (List ℕ)) → Type 0) (config : Options) (w : World) (g : Flow) (d : Pipeline) (p : ℕ) (t t' : Work) (r : Request) (move : Move) (said : List Line)
     → Holds config w g d w.front.stage w.back.stage
     → IsAt w g d p t r
-    → t'.number ≡ t.number
-    → ring_after d.ring (t.number - 1) move ≡ d.ring
-    → move_lines (t.number - 1) move ≡ said
+    → t'.id ≡ t.id
+    → ring_after d.ring (t.id - 1) move ≡ d.ring
+    → move_lines (t.id - 1) move ≡ said
     → HasRead w d t t' r move
-    → ((q : Asked) → q.job ≡ job_of r.transfer r.sector r.count → IsJobMove call d (t.number - 1) q (worked t.stage t.moved) (worked t'.stage t'.moved) move)
+    → ((q : Asked) → q.job ≡ job_of r.transfer r.sector r.count → IsJobMove call d (t.id - 1) q (worked t.stage t.moved) (worked t'.stage t'.moved) move)
     → Stepped None call d said (λ x. StationsWith config w g x (slice_set w.back.jobs.works p t') w.under.pages)
 job_stepped call config w g d p t t' r move said h is number still shows now makes =
     job_moves call config w g d w.back.jobs.works p t t' r move said h.stations (jobs_ordered config w g d p t r h is) number still shows now makes
 
--- of jobs whose numbers ascend one of a lower number stands before another
-stands_before : (works : List Work) (p i : ℕ) (t u : Work) → AllPairs (λ (x y : Work). x.number < y.number) works → slice_get works p ≡ Some t → slice_get works i ≡ Some u → u.number < t.number → i < p
+-- of jobs whose ids ascend one of a lower id stands before another
+stands_before : (works : List Work) (p i : ℕ) (t u : Work) → AllPairs (λ (x y : Work). x.id < y.id) works → slice_get works p ≡ Some t → slice_get works i ≡ Some u → u.id < t.id → i < p
 stands_before works p i t u up here at lower = elim (cases_lt i p) [
   | inl before ↦ before
   | inr behind ↦ elim (cases_eq i p) [
     | inl same ↦
         let one : u ≡ t = same_Some u t (sym at ∙ (ap (slice_get works) same ∙ here)) in
-        let number : u.number ≡ t.number = ap (λ (x : Work). x.number) one in
+        let number : u.id ≡ t.id = ap (λ (x : Work). x.id) one in
         absurd (omega (arith, number, lower))
-    | inr apart ↦ (let above = pair_at (λ (x y : Work). x.number < y.number) works p i t u up (omega arith) here at in absurd (omega (arith, above, lower)))
+    | inr apart ↦ (let above = pair_at (λ (x y : Work). x.id < y.id) works p i t u up (omega arith) here at in absurd (omega (arith, above, lower)))
   ]
 ]
 
@@ -193,7 +194,7 @@ clears : (config : Options) (w : World) (g : Flow) (d : Pipeline) (p : ℕ) (t :
     → IsAt w g d p t r
     → q.job ≡ job_of r.transfer r.sector r.count
     → is_ordered q.job ≡ true
-    → (i : ℕ) (y : Asked) → i < t.number - 1 → slice_get d.requests i ≡ Some y → is_in_way (is_barrier q.job) y ≡ false
+    → (j : ℕ) (y : Asked) → j < t.id - 1 → slice_get d.requests j ≡ Some y → is_in_way (is_barrier q.job) y ≡ false
 clears config w g d p t r q h is asked ordered i y before here = by_working (is_working y.job y.station) refl
   where
     idle : (b c : Bool) → (b && c && false) ≡ false
@@ -206,8 +207,8 @@ clears config w g d p t r q h is asked ordered i y before here = by_working (is_
     by_working true working =
         let its = h.stations.held i y here (working_kind y.job y.station working) in
         let u : Work = its.1 in
-        let work = all_at (IsWork g.submitted g.fetched) w.back.jobs.works its.0 u h.works.each its.2 in
-        let place : u.number - 1 ≡ i = omega (arith, its.3) in
+        let work = all_at (IsWork g.submitted g.series g.fetched) w.back.jobs.works its.0 u h.works.each its.2 in
+        let place : u.id - 1 ≡ i = omega (arith, its.3) in
         let x = h.stations.works its.0 u its.2 in
         let one : x.q ≡ y = same_Some x.q y (sym x.at ∙ (ap (slice_get d.requests) place ∙ here)) in
         let stands : y.station ≡ worked u.stage u.moved = ap (λ (z : Asked). z.station) (sym one) ∙ x.there in
@@ -222,18 +223,26 @@ pub clear : (config : Options) (w : World) (g : Flow) (d : Pipeline) (p : ℕ) (
     → IsAt w g d p t r
     → q.job ≡ job_of r.transfer r.sector r.count
     → is_ordered q.job ≡ true
-    → IsClear d (t.number - 1) q
+    → IsClear d (t.id - 1) q
 clear config w g d p t r q h is asked ordered = record {
   index = t.number - 1;
-  entry = h.stations.ring.entries (t.number - 1) (omega (arith, is.positive, is.reached, h.indices.fetched_pushed));
-  clear = λ i j y before at here.
-      let same : i ≡ j = same_Some i j (sym (h.stations.ring.entries i (omega (arith, before, is.reached, h.indices.fetched_pushed))) ∙ at) in
-      clears config w g d p t r q h is asked ordered i y before (ap (slice_get d.requests) same ∙ here);
+  entry = h.stations.ring.entries (t.number - 1) r (omega (arith, is.counted, is.reached, h.indices.fetched_pushed)) is.issued ∙ ap (λ (n : ℕ). Some (n - 1)) named;
+  clear = λ i j y before at here. by_index i j y before at here (get_within g.series i (let within = slice_get_within g.series (t.number - 1) r is.issued in omega (arith, before)));
 }
+  where
+    named : r.number ≡ t.id
+    named = let number = h.submitted.each (t.id - 1) r is.known in omega (arith, number.number, is.positive)
+
+    by_index : (i j : ℕ) (y : Asked) → i < t.number - 1 → slice_get (let ring : Ring = d.ring in ring.pushed) i ≡ Some j → slice_get d.requests j ≡ Some y → (x : Request) × (slice_get g.series i ≡ Some x) → is_in_way (is_barrier q.job) y ≡ false
+    by_index i j y before at here x =
+        let place : (let z : Request = x.0 in z.number - 1) ≡ j = same_Some _ j (sym (h.stations.ring.entries i x.0 (omega (arith, before, is.reached, h.indices.fetched_pushed)) x.1) ∙ at) in
+        let less = lower g.series i (t.number - 1) x.0 r h.queue.ordered.ascending x.1 is.issued before in
+        let positive = h.queue.ordered.positive i x.0 x.1 in
+        clears config w g d p t r q h is asked ordered j y (omega (arith, place, less, named, positive)) here
 
 -- the lines of a move at its next sector
-pub lines_of : (w : World) (g : Flow) (d : Pipeline) (p : ℕ) (t : Work) (r : Request) (line : ℕ → ℕ → Line) → IsAt w g d p t r → line (t.number - 1 + 1) t.moved ∷ [] ≡ line t.id t.moved ∷ []
-lines_of w g d p t r line is = ap (λ (n : ℕ). line n t.moved ∷ []) (omega (arith, is.id, is.positive))
+pub lines_of : (w : World) (g : Flow) (d : Pipeline) (p : ℕ) (t : Work) (r : Request) (line : ℕ → ℕ → Line) → IsAt w g d p t r → line (t.id - 1 + 1) t.moved ∷ [] ≡ line t.id t.moved ∷ []
+lines_of w g d p t r line is = ap (λ (n : ℕ). line n t.moved ∷ []) (omega (arith, is.positive))
 
 -- a write reads nothing
 reads_none : (w : World) (d : Pipeline) (t t' : Work) (r : Request) (move : Move) → is_write r.transfer ≡ true → HasRead w d t t' r move
@@ -246,7 +255,7 @@ sector_left : (config : Options) (w : World) (g : Flow) (d : Pipeline) (p : ℕ)
     → IsMoving t r
     → (t.moved < r.count) × (r.count ≤ 7680)
 sector_left config w g d p t r h is moving =
-    let its = h.submitted.each (t.number - 1) r is.known in
+    let its = h.submitted.each (t.id - 1) r is.known in
     let left = sectors_left t r 1 its.shaped moving in
     (omega (arith, left.0), left.2)
 
@@ -255,7 +264,7 @@ moves_at : (config : Options) (w : World) (g : Flow) (d : Pipeline) (p : ℕ) (t
     → IsAt w g d p t r
     → IsMoving t r
     → is_moving r.transfer ≡ true
-moves_at config w g d p t r h is moving = let its = h.submitted.each (t.number - 1) r is.known in moves_sectors r moving.place its.shaped moving.here
+moves_at config w g d p t r h is moving = let its = h.submitted.each (t.id - 1) r is.known in moves_sectors r moving.place its.shaped moving.here
 
 -- the disk takes the sector
 pub fills : (config : Options) (w : World) (g : Flow) (d : Pipeline) (p : ℕ) (t t' : Work) (r : Request) (m : Mapping)
@@ -263,7 +272,7 @@ pub fills : (config : Options) (w : World) (g : Flow) (d : Pipeline) (p : ℕ) (
     → IsAt w g d p t r
     → t.stage ≡ job.DiskWrite m
     → AtWork r t (job.DiskWrite m)
-    → t'.number ≡ t.number
+    → t'.id ≡ t.id
     → worked t'.stage t'.moved ≡ Working (t.moved + 1)
     → Stepped None (CallOf (ask_at (job.DiskWrite m) t) Took) d (lines.Effect t.id t.moved ∷ []) (λ x. StationsWith config w g x (slice_set w.back.jobs.works p t') w.under.pages)
 fills config w g d p t t' r m h is e at number next =
@@ -284,7 +293,7 @@ pub fails : (config : Options) (w : World) (g : Flow) (d : Pipeline) (p : ℕ) (
     → IsAt w g d p t r
     → t.stage ≡ job.DiskWrite m
     → AtWork r t (job.DiskWrite m)
-    → t'.number ≡ t.number
+    → t'.id ≡ t.id
     → worked t'.stage t'.moved ≡ Failed
     → Stepped None (CallOf (ask_at (job.DiskWrite m) t) DiskFailed) d (lines.Fault t.id t.moved ∷ []) (λ x. StationsWith config w g x (slice_set w.back.jobs.works p t') w.under.pages)
 fails config w g d p t t' r m h is e at number next =

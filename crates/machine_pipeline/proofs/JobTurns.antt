@@ -66,7 +66,7 @@ unmap_ends config w g d number p t r m o h held is e at over = subst (λ (x : Wo
     later = record t { rest = []; stage = job.Done Okay }
 
     shaped : IsShaped r
-    shaped = let its = h.submitted.each (t.number - 1) r is.known in its.shaped
+    shaped = let its = h.submitted.each (t.id - 1) r is.known in its.shaped
 
     rest : rest_of t.rest ≡ []
     rest = ap rest_of (at.0.rest ∙ own_here r at.0.place shaped at.0.here) ∙ own_end r (at.0.place + 1) over
@@ -101,7 +101,7 @@ unmap_next config w g d number p t r m o h held is e at more = subst (λ (x : Wo
     place = at.0.place + 1
 
     shaped : IsShaped r
-    shaped = let its = h.submitted.each (t.number - 1) r is.known in its.shaped
+    shaped = let its = h.submitted.each (t.id - 1) r is.known in its.shaped
 
     later : Work
     later = record t { rest = frame_segment r place ∷ drop (place + 1) (own_segments r); within = 0; stage = job.Map }
@@ -157,7 +157,7 @@ give_up_goes config w g d number p t r m o h held is e at = record {
 }
   where
     shaped : IsShaped r
-    shaped = let its = h.submitted.each (t.number - 1) r is.known in its.shaped
+    shaped = let its = h.submitted.each (t.id - 1) r is.known in its.shaped
 
     later : Work
     later = record t { stage = job.Done Error }
@@ -215,7 +215,7 @@ waits_goes config w g d number o h asked =
     subst (λ (a : BackAsk). GoesBy None (CallOf a o) config (job_shows w number (back_act w.under (back_mover.Job number) a o)) (job_after w number (back_act w.under (back_mover.Job number) a o)) d) (sym asked) (stays (CallOf ask.Wait o) config w g d (λ a b call. same_Some b a call.1) h)
 
 -- one that asks something waits for none: neither at its beginning, nor once it has begun
-may_move : (submitted : List Request) (fetched : ℕ) (works : List Work) (p : ℕ) (t : Work) → AreWorks submitted fetched works → slice_get works p ≡ Some t
+may_move : {series : List Request} (submitted : List Request) (fetched : ℕ) (works : List Work) (p : ℕ) (t : Work) → AreWorks submitted series fetched works → slice_get works p ≡ Some t
     → (is_fresh_at t.stage t.moved && is_held_by (take p works) t) ≡ false
     → is_done t ≡ false
     → MayMove works p t
@@ -243,10 +243,10 @@ job_kept config w g d number o h held given = by_place (place_of w.back.jobs.wor
     by_wait : (p : ℕ) (t : Work) → place_of w.back.jobs.works number ≡ Some p → slice_get w.back.jobs.works p ≡ Some t → (b : Bool) → (is_fresh_at t.stage t.moved && is_held_by (take p w.back.jobs.works) t) ≡ b → JobGoes config w d number o
     by_wait p t e here true waits = waits_goes config w g d number o h (rw (h.unhalted, e, here, waits) refl)
     by_wait p t e here false free =
-        let work = all_at (IsWork g.submitted g.fetched) w.back.jobs.works p t h.works.each here in
+        let work = all_at (IsWork g.submitted g.series g.fetched) w.back.jobs.works p t h.works.each here in
         at_place config w d number p t o h.unhalted e here free
         (by_stage config w g d number p t work.r o t.stage h held
-        (λ undone. record { place = here; free = may_move g.submitted g.fetched w.back.jobs.works p t h.works here free undone; known = work.known; positive = work.positive; reached = work.reached; id = work.id; op = work.op }) refl work.at given)
+        (λ undone. record { place = here; free = may_move g.submitted g.fetched w.back.jobs.works p t h.works here free undone; known = work.known; positive = work.positive; issued = work.issued; counted = work.counted; reached = work.reached; op = work.op }) refl work.at given)
 
     by_place : (place : Option ℕ) → place_of w.back.jobs.works number ≡ place → JobGoes config w d number o
     by_place None e = waits_goes config w g d number o h (rw (h.unhalted, e) refl)

@@ -140,21 +140,21 @@ returned config w g d p t r m j h x = record {
   working = λ i u y q here its was reads. elim (cases_eq i p) [
     | inl same ↦
         let it : t ≡ u = same_Some t u (sym is.place ∙ (ap (slice_get w.back.jobs.works) (sym same) ∙ here)) in
-        let one : r ≡ y = same_Some r y (sym is.known ∙ (ap (λ (v : Work). slice_get g.submitted (v.number - 1)) it ∙ its)) in
-        let old = read_was config w g d p t r h is x.stage q (ap (λ (v : Work). slice_get d.requests (v.number - 1)) it ∙ was) x.at.3 in
+        let one : r ≡ y = same_Some r y (sym is.known ∙ (ap (λ (v : Work). slice_get g.submitted (v.id - 1)) it ∙ its)) in
+        let old = read_was config w g d p t r h is x.stage q (ap (λ (v : Work). slice_get d.requests (v.id - 1)) it ∙ was) x.at.3 in
         subst (λ (v : Work). ReadAt new y v.moved v.words q.words v.stage) it
         (subst (λ (z : Request). ReadAt new z t.moved t.words q.words t.stage) one
         (subst (λ (s : JobStage). ReadAt new r t.moved t.words q.words s) (sym x.stage) (still q.words old)))
     | inr other ↦
         let number = other_number w.back.jobs.works p i t u h.works.ascending other is.place here in
-        let work = all_at (IsWork g.submitted g.fetched) w.back.jobs.works i u h.works.each here in
-        let at : StandsAt d.requests (u.number - 1) (worked u.stage u.moved) = h.stations.works i u here in
+        let work = all_at (IsWork g.submitted g.series g.fetched) w.back.jobs.works i u h.works.each here in
+        let at : StandsAt d.requests (u.id - 1) (worked u.stage u.moved) = h.stations.works i u here in
         let one : at.q ≡ q = same_Some at.q q (sym at.at ∙ was) in
-        read_at_kept w.under.pages new y u.moved u.words q.words u.stage (apart (u.number - 1) y q its was (ap (λ (z : Asked). is_finished z.station) (sym one) ∙ (ap is_finished at.there ∙ worked_open u.stage u.moved)) (omega (arith, work.positive, is.positive))) (h.stations.reads.working i u y q here its was reads)
+        read_at_kept w.under.pages new y u.moved u.words q.words u.stage (apart (u.id - 1) y q its was (ap (λ (z : Asked). is_finished z.station) (sym one) ∙ (ap is_finished at.there ∙ worked_open u.stage u.moved)) (omega (arith, work.positive, is.positive))) (h.stations.reads.working i u y q here its was reads)
   ];
-  after = λ k y q its was reads there. elim (cases_eq k (t.number - 1)) [
+  after = λ k y q its was reads there. elim (cases_eq k (t.id - 1)) [
     | inl same ↦
-        let at : StandsAt d.requests (t.number - 1) (worked t.stage t.moved) = h.stations.works p t is.place in
+        let at : StandsAt d.requests (t.id - 1) (worked t.stage t.moved) = h.stations.works p t is.place in
         let one : at.q ≡ q = same_Some at.q q (sym at.at ∙ (ap (slice_get d.requests) (sym same) ∙ was)) in
         absurd (false≢true (sym (ap (λ (s : JobStage). has_data_at (worked s t.moved)) x.stage) ∙ (sym (ap has_data_at at.there) ∙ (ap (λ (z : Asked). has_data_at z.station) one ∙ there))))
     | inr other ↦ back_kept w.under.pages new y y.count q.words (apart k y q its was (open_with_data q.station there) other) (h.stations.reads.after k y q its was reads there)
@@ -184,7 +184,7 @@ returned config w g d p t r m j h x = record {
           so_far = λ k lt sized. other_data config w g d p t r m j h x (128 * length old.earlier + k) (omega arith) (omega arith) ∙ old.so_far k lt sized;
         }
 
-    apart : (k : ℕ) (y : Request) (q : Asked) → slice_get g.submitted k ≡ Some y → slice_get d.requests k ≡ Some q → is_finished q.station ≡ false → k ≢ t.number - 1 → SameData w.under.pages new y
+    apart : (k : ℕ) (y : Request) (q : Asked) → slice_get g.submitted k ≡ Some y → slice_get d.requests k ≡ Some q → is_finished q.station ≡ false → k ≢ t.id - 1 → SameData w.under.pages new y
     apart k y q its was going other =
         let sub = h.submitted.each k y its in
         data_apart w.under.pages (frame_at r (word_now t j / 1024)) (word_now t j % 1024) (slice_index t.words j) y (omega arith) sub.shaped
@@ -196,7 +196,7 @@ then_read : (config : Options) (w : World) (g : Flow) (d : Pipeline) (p : ℕ) (
     → Holds config w g d w.front.stage w.back.stage
     → IsWriting w g d p t r m j
     → (j == 127) ≡ wrote
-    → (q : Asked) → slice_get d.requests (t.number - 1) ≡ Some q → is_write r.transfer ≡ false
+    → (q : Asked) → slice_get d.requests (t.id - 1) ≡ Some q → is_write r.transfer ≡ false
     → ReadAt (with_data w t r j) r t.moved t.words q.words (stage_after r m j wrote last)
 then_read config w g d p t r m j wrote last h x tested q was reads = by_test wrote last tested
   where
@@ -265,6 +265,7 @@ stations_returned config w g d p t r m j wrote last h x tested =
       pushed = h.stations.pushed;
       works = h.stations.works;
       held = h.stations.held;
+      going = h.stations.going;
       replying = h.stations.replying;
       replied = h.stations.replied;
       taking = h.stations.taking;
@@ -277,13 +278,13 @@ stations_returned config w g d p t r m j wrote last h x tested =
     same_station false = refl
 
 -- no word of a write changes
-frames_returned : (config : Options) (w : World) (g : Flow) (d : Pipeline) (p : ℕ) (t : Work) (r : Request) (m : Mapping) (j : ℕ) → Holds config w g d w.front.stage w.back.stage → IsWriting w g d p t r m j → All (IsFilled g.pushed (with_data w t r j) w.front.stage) w.front.requests
-frames_returned config w g d p t r m j h x = all_from (IsFilled g.pushed (with_data w t r j) w.front.stage) w.front.requests (λ i y at. elim (cases_eq i x.own.place) [
+frames_returned : (config : Options) (w : World) (g : Flow) (d : Pipeline) (p : ℕ) (t : Work) (r : Request) (m : Mapping) (j : ℕ) → Holds config w g d w.front.stage w.back.stage → IsWriting w g d p t r m j → All (IsFilled g.series g.pushed (with_data w t r j) w.front.stage) w.front.requests
+frames_returned config w g d p t r m j h x = all_from (IsFilled g.series g.pushed (with_data w t r j) w.front.stage) w.front.requests (λ i y at. elim (cases_eq i x.own.place) [
   | inl same ↦
       let one : r ≡ y = same_Some r y (sym x.own.at ∙ (ap (slice_get w.front.requests) (sym same) ∙ at)) in
-      let was = all_at (IsFilled g.pushed w.under.pages w.front.stage) w.front.requests x.own.place r h.frames x.own.at in
+      let was = all_at (IsFilled g.series g.pushed w.under.pages w.front.stage) w.front.requests x.own.place r h.frames x.own.at in
       let kept : (n : ℕ) → n < span r → is_own r n ≡ true → data_word (with_data w t r j) r n ≡ data_word w.under.pages r n = λ n lt own. other_data config w g d p t r m j h x n lt (pages_alone n own) in
-      subst (IsFilled g.pushed (with_data w t r j) w.front.stage) one (record {
+      subst (IsFilled g.series g.pushed (with_data w t r j) w.front.stage) one (record {
         whole = λ le n lt own. kept n lt own ∙ was.whole le n lt own;
         begun = λ number n f lt own. kept n lt own ∙ was.begun number n f lt own;
       })
@@ -293,7 +294,7 @@ frames_returned config w g d p t r m j h x = all_from (IsFilled g.pushed (with_d
       (slice_index t.words j) y (omega arith) is.shaped
       (λ a lt. frames_apart w.front.pool w.front.requests (ending_at w.front.stage w.front.ending) i x.own.place y r h.pool other at x.own.at a
       (word_now t j / 1024) lt (place_in r (word_now t j) x.own.shaped (now_in w g d p t r m j x)) (pooled_at y is.frames a)) in
-      let was = all_at (IsFilled g.pushed w.under.pages w.front.stage) w.front.requests i y h.frames at in
+      let was = all_at (IsFilled g.series g.pushed w.under.pages w.front.stage) w.front.requests i y h.frames at in
       record {
         whole = λ le k lt own. kept k lt ∙ was.whole le k lt own;
         begun = λ number k f lt own. kept k lt ∙ was.begun number k f lt own;
@@ -328,7 +329,7 @@ frame_returned w g d p t r m j x f low =
     other_frame w.under.pages (frame_at r (word_now t j / 1024)) (word_now t j % 1024) (slice_index t.words j) f (omega arith) (omega (arith, pooled.0))
 
 -- the entries are as they were
-entries_returned : (config : Options) (w : World) (g : Flow) (d : Pipeline) (p : ℕ) (t : Work) (r : Request) (m : Mapping) (j : ℕ) → Holds config w g d w.front.stage w.back.stage → IsWriting w g d p t r m j → AreEntries g.pushed (with_data w t r j) w.under.grants.live w.front.stage w.front.ending w.front.requests
+entries_returned : (config : Options) (w : World) (g : Flow) (d : Pipeline) (p : ℕ) (t : Work) (r : Request) (m : Mapping) (j : ℕ) → Holds config w g d w.front.stage w.back.stage → IsWriting w g d p t r m j → AreEntries g.series g.pushed (with_data w t r j) w.under.grants.live w.front.stage w.front.ending w.front.requests
 entries_returned config w g d p t r m j h x =
     entries_kept g.pushed w.under.pages (with_data w t r j) w.under.grants.live w.front.stage w.front.ending w.front.requests
     (all_from (SameGrants w.under.pages (with_data w t r j)) w.front.requests

@@ -31,30 +31,30 @@ use Rattle.machine_pipeline.proofs.ReadBack.{ReadAt}
 use Rattle.machine_pipeline.proofs.ReadsKept.{stations_elsewhere}
 use Rattle.machine_pipeline.proofs.BackStill.{frames_elsewhere, told_elsewhere}
 
--- the numbers of jobs stay in order
-number_was : (works : List Work) (p i : ℕ) (t t' x : Work) → slice_get works p ≡ Some t → t'.number ≡ t.number → slice_get (slice_set works p t') i ≡ Some x → (y : Work) × (slice_get works i ≡ Some y) × (x.number ≡ y.number)
-number_was works p i t t' x here same e = by_place (set_was works p i t t' x here e)
+-- the ids of jobs stay in order
+id_was : (works : List Work) (p i : ℕ) (t t' x : Work) → slice_get works p ≡ Some t → t'.id ≡ t.id → slice_get (slice_set works p t') i ≡ Some x → (y : Work) × (slice_get works i ≡ Some y) × (x.id ≡ y.id)
+id_was works p i t t' x here same e = by_place (set_was works p i t t' x here e)
   where
-    by_place : ((i ≡ p) × (x ≡ t')) ⊎ ((i ≢ p) × (slice_get works i ≡ Some x)) → (y : Work) × (slice_get works i ≡ Some y) × (x.number ≡ y.number)
-    by_place (inl at) = (t, ap (slice_get works) at.0 ∙ here, ap (λ (z : Work). z.number) at.1 ∙ same)
+    by_place : ((i ≡ p) × (x ≡ t')) ⊎ ((i ≢ p) × (slice_get works i ≡ Some x)) → (y : Work) × (slice_get works i ≡ Some y) × (x.id ≡ y.id)
+    by_place (inl at) = (t, ap (slice_get works) at.0 ∙ here, ap (λ (z : Work). z.id) at.1 ∙ same)
     by_place (inr other) = (x, other.1, refl)
 
-pub ascending_after : (works : List Work) (p : ℕ) (t t' : Work) → slice_get works p ≡ Some t → t'.number ≡ t.number → AllPairs (λ (x y : Work). x.number < y.number) works → AllPairs (λ (x y : Work). x.number < y.number) (slice_set works p t')
-ascending_after works p t t' here same pairs = pairs_from (λ (x y : Work). x.number < y.number) (slice_set works p t') (λ i j x y lt first second.
-    let one = number_was works p i t t' x here same first in
-    let two = number_was works p j t t' y here same second in
-    let up = pair_at (λ (a b : Work). a.number < b.number) works i j one.0 two.0 pairs lt one.1 two.1 in
+pub ascending_after : (works : List Work) (p : ℕ) (t t' : Work) → slice_get works p ≡ Some t → t'.id ≡ t.id → AllPairs (λ (x y : Work). x.id < y.id) works → AllPairs (λ (x y : Work). x.id < y.id) (slice_set works p t')
+ascending_after works p t t' here same pairs = pairs_from (λ (x y : Work). x.id < y.id) (slice_set works p t') (λ i j x y lt first second.
+    let one = id_was works p i t t' x here same first in
+    let two = id_was works p j t t' y here same second in
+    let up = pair_at (λ (a b : Work). a.id < b.id) works i j one.0 two.0 pairs lt one.1 two.1 in
     let first_number = one.2 in
     let second_number = two.2 in
     omega arith)
 
--- another job has another number
-pub other_number : (works : List Work) (p i : ℕ) (t u : Work) → AllPairs (λ (x y : Work). x.number < y.number) works → i ≢ p → slice_get works p ≡ Some t → slice_get works i ≡ Some u → u.number ≢ t.number
+-- another job has another id
+pub other_number : (works : List Work) (p i : ℕ) (t u : Work) → AllPairs (λ (x y : Work). x.id < y.id) works → i ≢ p → slice_get works p ≡ Some t → slice_get works i ≡ Some u → u.id ≢ t.id
 other_number works p i t u pairs apart here there = by_order (nat_lt i p) refl
   where
-    by_order : (b : Bool) → nat_lt i p ≡ b → u.number ≢ t.number
-    by_order true e = let lt : i < p = grind (arith, nat_tests) in let up = pair_at (λ (a b : Work). a.number < b.number) works i p u t pairs lt there here in omega arith
-    by_order false e = let lt : p < i = grind (arith, nat_tests) in let up = pair_at (λ (a b : Work). a.number < b.number) works p i t u pairs lt here there in omega arith
+    by_order : (b : Bool) → nat_lt i p ≡ b → u.id ≢ t.id
+    by_order true e = let lt : i < p = grind (arith, nat_tests) in let up = pair_at (λ (a b : Work). a.id < b.id) works i p u t pairs lt there here in omega arith
+    by_order false e = let lt : p < i = grind (arith, nat_tests) in let up = pair_at (λ (a b : Work). a.id < b.id) works p i t u pairs lt here there in omega arith
 
 -- the job at a place isn't done, and waits for none before it
 pub record MayMove (works : List Work) (p : ℕ) (t : Work) : Type 0 where
@@ -100,41 +100,41 @@ clear_after works p t t' free same pairs = pairs_from IsUnhindered (slice_set wo
         ap (λ (n : ℕ). (n == 2 && holds_barriers x) || ((n == 1 || n == 2 || n == 5) && holds_all x)) op ∙ clear
     by_places i j x y lt undone begun (inr one) (inr two) = pair_at IsUnhindered works i j x y pairs lt one.1 two.1 undone begun
 
-works_after : (submitted : List Request) (fetched : ℕ) (works : List Work) (p : ℕ) (t t' : Work)
+works_after : {series : List Request} (submitted : List Request) (fetched : ℕ) (works : List Work) (p : ℕ) (t t' : Work)
     → MayMove works p t
-    → t'.number ≡ t.number
-    → IsWork submitted fetched t'
-    → AreWorks submitted fetched works
-    → AreWorks submitted fetched (slice_set works p t')
-works_after submitted fetched works p t t' free same now h = record {
-  each = all_from (IsWork submitted fetched) (slice_set works p t') (λ i x e. elim (set_was works p i t t' x free.here e) [
-    | inl at ↦ subst (IsWork submitted fetched) (sym at.1) now
-    | inr other ↦ all_at (IsWork submitted fetched) works i x h.each other.1
+    → t'.id ≡ t.id
+    → IsWork submitted series fetched t'
+    → AreWorks submitted series fetched works
+    → AreWorks submitted series fetched (slice_set works p t')
+works_after {series} submitted fetched works p t t' free same now h = record {
+  each = all_from (IsWork submitted series fetched) (slice_set works p t') (λ i x e. elim (set_was works p i t t' x free.here e) [
+    | inl at ↦ subst (IsWork submitted series fetched) (sym at.1) now
+    | inr other ↦ all_at (IsWork submitted series fetched) works i x h.each other.1
   ]);
   ascending = ascending_after works p t t' free.here same h.ascending;
   clear = clear_after works p t t' free (now.op ∙ (ap (λ (r : Request). operation_of r.transfer) one ∙ sym was.op)) h.clear;
 }
   where
-    was : IsWork submitted fetched t
-    was = all_at (IsWork submitted fetched) works p t h.each free.here
+    was : IsWork submitted series fetched t
+    was = all_at (IsWork submitted series fetched) works p t h.each free.here
 
     one : now.r ≡ was.r
     one = same_Some now.r was.r (sym now.known ∙ (ap (λ (n : ℕ). slice_get submitted (n - 1)) same ∙ was.known))
 
 -- the response that is being written is no job's
-back_works : (shape : Shape) (start fetched back_seen replied : ℕ) (submitted : List Request) (works works' : List Work) (entry : List ℕ) (b : BackStage)
-    → ((rep : Reply) → All (λ (x : Work). x.number ≢ rep.id) works → All (λ (x : Work). x.number ≢ rep.id) works')
-    → BackAt shape start fetched back_seen replied submitted works entry b
-    → BackAt shape start fetched back_seen replied submitted works' entry b
-back_works shape start fetched back_seen replied submitted works works' entry (back.ReplyHigh rep) alone h = record { positive = h.positive; reached = h.reached; op = h.op; alone = alone rep h.alone }
-back_works shape start fetched back_seen replied submitted works works' entry (back.ReplyLast rep) alone h = record { positive = h.positive; reached = h.reached; op = h.op; alone = alone rep h.alone }
-back_works shape start fetched back_seen replied submitted works works' entry (back.Producer rep) alone h = record { positive = h.positive; reached = h.reached; op = h.op; alone = alone rep h.alone }
-back_works shape start fetched back_seen replied submitted works works' entry b alone h = h
+back_works : (shape : Shape) (start fetched back_seen replied : ℕ) (series : List Request) (works works' : List Work) (entry : List ℕ) (b : BackStage)
+    → ((rep : Reply) → All (λ (x : Work). x.id ≢ rep.id) works → All (λ (x : Work). x.id ≢ rep.id) works')
+    → BackAt shape start fetched back_seen replied series works entry b
+    → BackAt shape start fetched back_seen replied series works' entry b
+back_works shape start fetched back_seen replied series works works' entry (back.ReplyHigh rep) alone h = record { positive = h.positive; reached = h.reached; op = h.op; alone = alone rep h.alone }
+back_works shape start fetched back_seen replied series works works' entry (back.ReplyLast rep) alone h = record { positive = h.positive; reached = h.reached; op = h.op; alone = alone rep h.alone }
+back_works shape start fetched back_seen replied series works works' entry (back.Producer rep) alone h = record { positive = h.positive; reached = h.reached; op = h.op; alone = alone rep h.alone }
+back_works shape start fetched back_seen replied series works works' entry b alone h = h
 
-alone_after : (works : List Work) (p : ℕ) (t t' : Work) (id : ℕ) → slice_get works p ≡ Some t → t'.number ≡ t.number → All (λ (x : Work). x.number ≢ id) works → All (λ (x : Work). x.number ≢ id) (slice_set works p t')
-alone_after works p t t' id here same alone = all_from (λ (x : Work). x.number ≢ id) (slice_set works p t') (λ i x e.
-    let was = number_was works p i t t' x here same e in
-    let apart = all_at (λ (y : Work). y.number ≢ id) works i was.0 alone was.1 in
+alone_after : (works : List Work) (p : ℕ) (t t' : Work) (id : ℕ) → slice_get works p ≡ Some t → t'.id ≡ t.id → All (λ (x : Work). x.id ≢ id) works → All (λ (x : Work). x.id ≢ id) (slice_set works p t')
+alone_after works p t t' id here same alone = all_from (λ (x : Work). x.id ≢ id) (slice_set works p t') (λ i x e.
+    let was = id_was works p i t t' x here same e in
+    let apart = all_at (λ (y : Work). y.id ≢ id) works i was.0 alone was.1 in
     λ it. apart (sym was.2 ∙ it))
 
 -- the stations with these jobs
@@ -145,16 +145,16 @@ StationsWith config w g d works pages = AreStations config g d (is_ready w.front
 pub stations_stay : (config : Options) (w : World) (g : Flow) (d : Pipeline) (p : ℕ) (t t' : Work) (r : Request) (pages : List ℕ)
     → StationsWith config w g d w.back.jobs.works pages
     → slice_get w.back.jobs.works p ≡ Some t
-    → slice_get g.submitted (t.number - 1) ≡ Some r
-    → t'.number ≡ t.number
+    → slice_get g.submitted (t.id - 1) ≡ Some r
+    → t'.id ≡ t.id
     → worked t'.stage t'.moved ≡ worked t.stage t.moved
-    → ((q : Asked) → slice_get d.requests (t.number - 1) ≡ Some q → is_write r.transfer ≡ false → ReadAt pages r t'.moved t'.words q.words t'.stage)
+    → ((q : Asked) → slice_get d.requests (t.id - 1) ≡ Some q → is_write r.transfer ≡ false → ReadAt pages r t'.moved t'.words q.words t'.stage)
     → StationsWith config w g d (slice_set w.back.jobs.works p t') pages
 stations_stay config w g d p t t' r pages h here known number same now =
     job_stays config g d (is_ready w.front.stage) (is_issuing w.front.stage) (is_fetching w.back.stage) (ending_at w.front.stage w.front.ending) (telling_at w.front.stage) (reply_at w.back.stage) w.front.requests w.back.jobs.works pages p t t' here number same
     (λ x q its at reads.
     let one : r ≡ x = same_Some r x (sym known ∙ (ap (λ (n : ℕ). slice_get g.submitted (n - 1)) (sym number) ∙ its)) in
-    let was : slice_get d.requests (t.number - 1) ≡ Some q = ap (λ (n : ℕ). slice_get d.requests (n - 1)) (sym number) ∙ at in
+    let was : slice_get d.requests (t.id - 1) ≡ Some q = ap (λ (n : ℕ). slice_get d.requests (n - 1)) (sym number) ∙ at in
     subst (λ (y : Request). is_write y.transfer ≡ false → ReadAt pages y t'.moved t'.words q.words t'.stage) one (now q was) reads)
     h
 
@@ -162,15 +162,15 @@ stations_stay config w g d p t t' r pages h here known number same now =
 pub job_makes : (config : Options) (w : World) (g : Flow) (d d' : Pipeline) (p : ℕ) (t t' : Work) (pages' : List ℕ) (grants' : GrantTable)
     → Holds config w g d w.front.stage w.back.stage
     → MayMove w.back.jobs.works p t
-    → t'.number ≡ t.number
+    → t'.id ≡ t.id
     → StationsWith config w g d' (slice_set w.back.jobs.works p t') pages'
-    → IsWork g.submitted g.fetched t'
+    → IsWork g.submitted g.series g.fetched t'
     → length pages' ≡ 1114112
     → ((f : ℕ) → 2 ≤ f → f < 18 → SameFrame w.under.pages pages' f)
     → ((page : ℕ) → page < 16 → SameEntry w.under.pages pages' (8 + page))
-    → All (IsFilled g.pushed pages' w.front.stage) w.front.requests
+    → All (IsFilled g.series g.pushed pages' w.front.stage) w.front.requests
     → AreDataWords pages' w.front.words w.front.ending w.front.stage
-    → AreEntries g.pushed pages' grants'.live w.front.stage w.front.ending w.front.requests
+    → AreEntries g.series g.pushed pages' grants'.live w.front.stage w.front.ending w.front.requests
     → AreMapped grants'.live (hands_at w.back.stage (record w.back { jobs = record w.back.jobs { works = slice_set w.back.jobs.works p t' } }))
     → (let v : World = record { front = w.front; back = record w.back { jobs = record w.back.jobs { works = slice_set w.back.jobs.works p t' }; told = None }; under = record w.under { pages = pages'; grants = grants' } } in Holds config v g d' v.front.stage v.back.stage)
 job_makes config w g d d' p t t' pages' grants' h free number stations now sized ring entry frames told entries mapped = record {
@@ -188,11 +188,11 @@ job_makes config w g d d' p t t' pages' grants' h free number stations now sized
   replies = h.replies;
   front_at = h.front_at;
   offered = h.offered;
-  back_at = back_works g.shape g.start g.fetched g.back_seen g.replied g.submitted w.back.jobs.works (slice_set w.back.jobs.works p t') w.back.entry w.back.stage (λ rep alone. alone_after w.back.jobs.works p t t' rep.id free.here number alone) h.back_at;
+  back_at = back_works g.shape g.start g.fetched g.back_seen g.replied g.series w.back.jobs.works (slice_set w.back.jobs.works p t') w.back.entry w.back.stage (λ rep alone. alone_after w.back.jobs.works p t t' rep.id free.here number alone) h.back_at;
   unhalted = h.unhalted;
   memory = sized;
   ring = ring_kept g.shape.order g.start g.pushed g.replied w.under.pages pages' w.front.stage (length w.back.pages) (λ v lt. ring 2 (omega arith) (omega arith) v (omega arith)) (few_words g.shape _ _ _ _ _ _ _ _ _ w.front.stage h.front_at) (λ page lt. entry page (let few = named_at g.shape _ _ _ _ _ _ _ _ _ w.front.stage h.shaped.narrow h.front_at in omega arith)) h.ring;
-  slots = slots_kept g.shape g.start g.fetched g.pushed g.taken g.replied g.submitted g.replies w.under.pages pages' w.front.stage w.back.stage h.shaped.narrow (same_slots w.under.pages pages' (λ f v from to within. ring f from to v within)) h.slots;
+  slots = slots_kept g.shape g.start g.fetched g.pushed g.taken g.replied g.series g.replies w.under.pages pages' w.front.stage w.back.stage h.shaped.narrow (same_slots w.under.pages pages' (λ f v from to within. ring f from to v within)) h.slots;
   frames = frames;
   telling = told;
   entries = entries;
@@ -207,14 +207,14 @@ job_makes config w g d d' p t t' pages' grants' h free number stations now sized
 pub job_holds : (config : Options) (w : World) (g : Flow) (d d' : Pipeline) (p : ℕ) (t t' : Work) (pages' : List ℕ) (grants' : GrantTable)
     → Holds config w g d w.front.stage w.back.stage
     → MayMove w.back.jobs.works p t
-    → t'.number ≡ t.number
+    → t'.id ≡ t.id
     → StationsWith config w g d' (slice_set w.back.jobs.works p t') w.under.pages
-    → IsWork g.submitted g.fetched t'
+    → IsWork g.submitted g.series g.fetched t'
     → length pages' ≡ 1114112
     → ((f : ℕ) → 2 ≤ f → f < 18 → SameFrame w.under.pages pages' f)
     → ((page : ℕ) → page < 16 → SameEntry w.under.pages pages' (8 + page))
     → ((f : ℕ) → 18 ≤ f → f < 1018 → SameFrame w.under.pages pages' f)
-    → AreEntries g.pushed pages' grants'.live w.front.stage w.front.ending w.front.requests
+    → AreEntries g.series g.pushed pages' grants'.live w.front.stage w.front.ending w.front.requests
     → AreMapped grants'.live (hands_at w.back.stage (record w.back { jobs = record w.back.jobs { works = slice_set w.back.jobs.works p t' } }))
     → (let v : World = record { front = w.front; back = record w.back { jobs = record w.back.jobs { works = slice_set w.back.jobs.works p t' }; told = None }; under = record w.under { pages = pages'; grants = grants' } } in Holds config v g d' v.front.stage v.back.stage)
 job_holds config w g d d' p t t' pages' grants' h free number stations now sized ring entry frames entries mapped =

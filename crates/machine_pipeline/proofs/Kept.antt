@@ -27,6 +27,7 @@ ready_connected (front.RingFrame page) t = absurd (true≢false (sym t))
 ready_connected (front.RingFence page) t = absurd (true≢false (sym t))
 ready_connected (front.RingFlags page) t = absurd (true≢false (sym t))
 ready_connected front.NewPort t = absurd (true≢false (sym t))
+ready_connected (front.LeftData n) t = absurd (true≢false (sym t))
 ready_connected s t = refl
 
 -- so two stages at which it is are as far
@@ -113,12 +114,12 @@ responded_few (back.ReplyLast r) = omega arith
 responded_few (back.Producer r) = omega arith
 responded_few b = omega arith
 
-pub slots_kept : (shape : Shape) (start fetched pushed taken replied : ℕ) (submitted : List Request) (replies : List Reply) (old new : List ℕ) (s : FrontStage) (b : BackStage)
+pub slots_kept : (shape : Shape) (start fetched pushed taken replied : ℕ) (series : List Request) (replies : List Reply) (old new : List ℕ) (s : FrontStage) (b : BackStage)
     → shape.order ≤ 4
     → SameSlots old new
-    → AreSlots shape start fetched pushed taken replied submitted replies old s b
-    → AreSlots shape start fetched pushed taken replied submitted replies new s b
-slots_kept shape start fetched pushed taken replied submitted replies old new s b narrow same h = record {
+    → AreSlots shape start fetched pushed taken replied series replies old s b
+    → AreSlots shape start fetched pushed taken replied series replies new s b
+slots_kept shape start fetched pushed taken replied series replies old new s b narrow same h = record {
   entries = λ k r from to e i lt. here (wrapped start k) i lt ∙ h.entries k r from to e i lt;
   entry = λ r e i lt few. here (wrapped start pushed) i lt ∙ h.entry r e i lt few;
   responses = λ k rep e i lt. here (wrapped start (taken + k)) i (response_fits shape.abi i lt) ∙ h.responses k rep e i lt;
@@ -128,10 +129,10 @@ slots_kept shape start fetched pushed taken replied submitted replies old new s 
     here : (index i : ℕ) → i < entry_words_of shape.abi → slot_of new shape index i ≡ slot_of old shape index i
     here index i lt = slot_kept shape index i old new narrow lt same
 
-pub frames_kept : (pushed : ℕ) (old new : List ℕ) (s : FrontStage) (requests : List Request)
+pub frames_kept : {series : List Request} (pushed : ℕ) (old new : List ℕ) (s : FrontStage) (requests : List Request)
     → All (SameData old new) requests
-    → All (IsFilled pushed old s) requests
-    → All (IsFilled pushed new s) requests
+    → All (IsFilled series pushed old s) requests
+    → All (IsFilled series pushed new s) requests
 frames_kept pushed old new s requests same h k d lt =
     let here = same k d lt in
     let was = h k d lt in
@@ -156,11 +157,11 @@ data_kept old new words ending s same within h = record { size = h.size; so_far 
 abbrev pub SameGrants : (old new : List ℕ) → Request → Type 0
 SameGrants old new r = (place : ℕ) → place < frames_of r → SameEntry old new (frame_at r place + 6)
 
-pub entries_kept : (pushed : ℕ) (old new : List ℕ) (live : List Held) (s : FrontStage) (ending : Option Ending) (requests : List Request)
+pub entries_kept : {series : List Request} (pushed : ℕ) (old new : List ℕ) (live : List Held) (s : FrontStage) (ending : Option Ending) (requests : List Request)
     → All (SameGrants old new) requests
     → ((e : Ending) → revoking_at s ending ≡ Some e → SameGrants old new e.request)
-    → AreEntries pushed old live s ending requests
-    → AreEntries pushed new live s ending requests
+    → AreEntries series pushed old live s ending requests
+    → AreEntries series pushed new live s ending requests
 entries_kept pushed old new live s ending requests same last h = record {
   each = λ k d lt. let here = same k d lt in let was = h.each k d lt in record {
     named = λ le place in_it. let entry = here place in_it in entry.frame ∙ was.named le place in_it;

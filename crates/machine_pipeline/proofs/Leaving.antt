@@ -51,6 +51,7 @@ none_ends : (s : FrontStage) (ending : Option Ending) → is_free s ≡ true →
 none_ends (front.GrantRead place) ending free = absurd (true≢false (sym free))
 none_ends (front.GrantEnd place before) ending free = absurd (true≢false (sym free))
 none_ends (front.ReadData n) ending free = absurd (true≢false (sym free))
+none_ends (front.LeftData n) ending free = absurd (true≢false (sym free))
 none_ends s ending free = refl
 
 -- the front made one port, at the end of all that it makes
@@ -89,7 +90,7 @@ own_pages config w g d s b h = record {
 -- they alone are mapped
 left_mapped : (config : Options) (w : World) (g : Flow) (d : Pipeline) (s : FrontStage) (b : BackStage) → Holds config w g d s b → w.back.jobs.works ≡ [] → AreMapped w.under.grants.live w.back.pages
 left_mapped config w g d s b h no_job =
-    let given : given_up b ≡ [] = nothing_given_up g.shape b g.start g.fetched g.back_seen g.replied g.submitted w.back.jobs.works w.back.entry h.back_at in
+    let given : given_up b ≡ [] = nothing_given_up g.shape b g.start g.fetched g.back_seen g.replied g.series w.back.jobs.works w.back.entry h.back_at in
     subst (λ (works : List Work). AreMapped w.under.grants.live (hands_in works ++ w.back.pages)) no_job
     (subst (λ (ms : List Mapping). AreMapped w.under.grants.live (ms ++ (hands_in w.back.jobs.works ++ w.back.pages))) given h.mapped)
 
@@ -102,6 +103,7 @@ leaving_at config w g d s b b' free h = absurd (true≢false (sym free))
 
 ring_left : (config : Options) (w : World) (g : Flow) (d : Pipeline) (s : FrontStage) (b : BackStage) → Holds config w g d s b → length w.front.requests ≡ 0 → w.under.channels.made ≡ 1 → IsDrained w.under.pages w.front.ring.cons w.back.ring.cons
 ring_left config w g d (front.RingWord k) b h none made = let unmade = h.ports.0 in absurd (omega arith)
+ring_left config w g d (front.LeftData n) b h none made = absurd h.front_at
 ring_left config w g d s b h none made = drained_at config w g d s b h refl none
 
 -- the machine with that back

@@ -2,7 +2,7 @@
 use Rattle.std.proofs.Common.{◌≡◌, ◌≢◌, ℕ, ◌+◌, ◌-◌, ◌<◌, ◌≤◌, ◌==◌, ◌⊎◌, inl, inr, Bool, true, false, List, length, get_or, refl, ap, sym, ◌∙◌, subst, arith}
 use Rattle.std.specs.Prelude.{All, Option, Some, None, slice_get, if◌then◌else◌}
 use Rattle.std.proofs.lemmas.Bool.Decides.{nat_tests}
-use Rattle.std.proofs.lemmas.Option.{none-some, same_Some, slice_get_within, slice_get-get_or, get_or_from_slice_get}
+use Rattle.std.proofs.lemmas.Option.{none-some, same_Some, slice_get-get_or}
 use Rattle.std.specs.List.{list_any}
 use Rattle.pipeline_laws.specs.Station.{Issuing, Request as Asked}
 use Rattle.blk_front.specs.declared.request.Request.{Request}
@@ -11,6 +11,7 @@ use Rattle.blk_front.specs.Request.{frame_at, IsShaped}
 use Rattle.blk_front.specs.View.{View, next_request}
 use Rattle.ring_words.specs.Ring.{Ring}
 use Rattle.machine_pipeline.proofs.Flow.{Flow, frames_of}
+use Rattle.machine_pipeline.proofs.Series.{IsAmong, among_apart}
 use Rattle.machine_pipeline.proofs.Holds.{IsPooled, AreIndices, AreQueued, IsSubmitted, AreSubmitted, ArePooled}
 use Rattle.machine_pipeline.proofs.Hands.{frames_apart, own_apart}
 use Rattle.machine_pipeline.proofs.Data.{pooled_at}
@@ -35,36 +36,35 @@ FramesApart q r = (a b : ℕ) → a < frames_of q → b < frames_of r → frame_
 abbrev pub FramesDiffer : Request → Type 0
 FramesDiffer r = (a b : ℕ) → a ≢ b → a < frames_of r → b < frames_of r → frame_at r a ≢ frame_at r b
 
-pub record IsNext (submitted requests : List Request) (pushed waiting : ℕ) (r : Request) : Type 0 where
+pub record IsNext (submitted series requests : List Request) (pushed waiting : ℕ) (r : Request) : Type 0 where
   pub waits : 1 ≤ waiting
   pub place : slice_get requests (length requests - waiting) ≡ Some r
-  pub number : r.number ≡ pushed + 1
-  pub known : slice_get submitted pushed ≡ Some r
+  pub at : slice_get series pushed ≡ Some r
+  pub known : slice_get submitted (r.number - 1) ≡ Some r
   pub shaped : All IsShaped requests
   pub pooled : All (λ (q : Request). All IsPooled q.frames.items) requests
   pub shape : IsShaped r
   pub frames : All IsPooled r.frames.items
-  pub apart : All (λ (q : Request). q.number ≢ pushed + 1 → FramesApart q r) requests
+  pub apart : All (λ (q : Request). q.number ≢ r.number → FramesApart q r) requests
   pub own : FramesDiffer r
-  pub only : All (λ (q : Request). q.number ≡ pushed + 1 → q ≡ r) requests
+  pub late : (q : Request) → IsAmong series pushed q → q.number ≢ r.number
+  pub only : (q : Request) → slice_get series pushed ≡ Some q → q ≡ r
 
-pub next_is : (v : View) (submitted : List Request) (sectors last pushed : ℕ) (ending : Option Ending) (r : Request)
-    → AreQueued submitted pushed v.requests v.waiting → AreSubmitted submitted sectors last → ArePooled v.pool v.requests ending → next_request v ≡ Some r
-    → IsNext submitted v.requests pushed v.waiting r
-next_is v submitted sectors last pushed ending r queue all pooled e = by_test (v.waiting == 0) refl e
+pub next_is : {series : List Request} (v : View) (submitted : List Request) (sectors last pushed : ℕ) (ending : Option Ending) (r : Request)
+    → AreQueued submitted series pushed v.requests v.waiting → AreSubmitted submitted sectors last → ArePooled v.pool v.requests ending → next_request v ≡ Some r
+    → IsNext submitted series v.requests pushed v.waiting r
+next_is {series} v submitted sectors last pushed ending r queue all pooled e = by_test (v.waiting == 0) refl e
   where
-    found : 1 ≤ v.waiting → slice_get v.requests (length v.requests - v.waiting) ≡ Some r → IsNext submitted v.requests pushed v.waiting r
+    found : 1 ≤ v.waiting → slice_get v.requests (length v.requests - v.waiting) ≡ Some r → IsNext submitted series v.requests pushed v.waiting r
     found waits place =
-        let number : r.number ≡ pushed + 1 + 0 = queue.next 0 r (omega arith) (ap (λ (i : ℕ). slice_get v.requests i) (zeroth (length v.requests - v.waiting)) ∙ place) in
-        let here : get_or v.requests (length v.requests - v.waiting) r ≡ r = get_or_from_slice_get v.requests (length v.requests - v.waiting) r r place in
-        let lt = slice_get_within v.requests (length v.requests - v.waiting) r place in
-        let known : slice_get submitted (r.number - 1) ≡ Some r = subst (λ (q : Request). slice_get submitted (q.number - 1) ≡ Some q) here (queue.known (length v.requests - v.waiting) r lt) in
+        let at : slice_get series pushed ≡ Some r = ap (slice_get series) (sym (zeroth pushed)) ∙ queue.next 0 r (omega arith) (ap (λ (i : ℕ). slice_get v.requests i) (zeroth (length v.requests - v.waiting)) ∙ place) in
+        let known : slice_get submitted (r.number - 1) ≡ Some r = queue.ordered.known pushed r at in
         let is : IsSubmitted sectors (r.number - 1) r = all.each (r.number - 1) r known in
         record {
           waits = waits;
           place = place;
-          number = omega arith;
-          known = ap (λ (i : ℕ). slice_get submitted i) (one_less r.number pushed number) ∙ known;
+          at = at;
+          known = known;
           shaped = λ k d within. let its = submitted_at k d within in its.shaped;
           pooled = λ k d within. let its = submitted_at k d within in its.frames;
           shape = is.shaped;
@@ -74,15 +74,11 @@ next_is v submitted sectors last pushed ending r queue all pooled e = by_test (v
           apart = λ k d within other a b first second same.
               let q : Request = get_or v.requests k d in
               let stands : slice_get v.requests k ≡ Some q = slice_get-get_or v.requests k d within in
-              let places : length v.requests - v.waiting ≢ k = λ here. other (ap (λ (x : Request). x.number) (same_Some q r (sym stands ∙ (ap (slice_get v.requests) (sym here) ∙ place))) ∙ (omega arith)) in
+              let places : length v.requests - v.waiting ≢ k = λ here. other (ap (λ (x : Request). x.number) (same_Some q r (sym stands ∙ (ap (slice_get v.requests) (sym here) ∙ place)))) in
               frames_apart v.pool v.requests ending (length v.requests - v.waiting) k r q pooled places place stands b a second first (pooled_at r is.frames b)
               (sym same);
-          only = λ k d within same.
-              let q : Request = get_or v.requests k d in
-              let stands : slice_get submitted (q.number - 1) ≡ Some q = queue.known k d within in
-              let here : slice_get submitted (q.number - 1) ≡ slice_get submitted (r.number - 1) = ap (λ (i : ℕ). slice_get submitted i) (both_less q.number r.number pushed same number) in
-              let equal : Some q ≡ Some r = sym stands ∙ (here ∙ known) in
-              same_Some q r equal;
+          late = λ q before. among_apart submitted series pushed pushed q r queue.ordered before at (omega arith);
+          only = λ q here. same_Some q r (sym here ∙ at);
         }
       where
         submitted_at : (k : ℕ) (d : Request) → k < length v.requests
@@ -92,13 +88,7 @@ next_is v submitted sectors last pushed ending r queue all pooled e = by_test (v
         zeroth : (n : ℕ) → n + 0 ≡ n
         zeroth n = omega arith
 
-        both_less : (n m p : ℕ) → n ≡ p + 1 → m ≡ p + 1 + 0 → n - 1 ≡ m - 1
-        both_less n m p e f = omega arith
-
-        one_less : (n p : ℕ) → n ≡ p + 1 + 0 → p ≡ n - 1
-        one_less n p e = omega arith
-
-    by_test : (b : Bool) → (v.waiting == 0) ≡ b → (if b then None else slice_get v.requests (length v.requests - v.waiting)) ≡ Some r → IsNext submitted v.requests pushed v.waiting r
+    by_test : (b : Bool) → (v.waiting == 0) ≡ b → (if b then None else slice_get v.requests (length v.requests - v.waiting)) ≡ Some r → IsNext submitted series v.requests pushed v.waiting r
     by_test true t e = absurd (none-some r e)
     by_test false t e = found (some_wait v.waiting t) e
       where
@@ -106,23 +96,23 @@ next_is v submitted sectors last pushed ending r queue all pooled e = by_test (v
         some_wait n t = grind (arith, nat_tests)
 
 -- a request that was fetched and isn't finished has other frames than the one that is being issued
-pub fetched_apart : (submitted requests : List Request) (pushed waiting : ℕ) (asked : List Asked) (r : Request)
-    → IsNext submitted requests pushed waiting r
-    → AreQueued submitted pushed requests waiting
+pub fetched_apart : {series : List Request} (submitted requests : List Request) (pushed waiting : ℕ) (asked : List Asked) (r : Request)
+    → IsNext submitted series requests pushed waiting r
+    → AreQueued submitted series pushed requests waiting
     → AreOpen asked requests None
-    → StandsAt asked pushed Issuing
+    → StandsAt asked (r.number - 1) Issuing
     → (k : ℕ) (x : Request) (q : Asked) → slice_get submitted k ≡ Some x → slice_get asked k ≡ Some q → 4 ≤ kind_of q.station → kind_of q.station ≤ 7
     → FramesApart x r
 fetched_apart submitted requests pushed waiting asked r next queue opened issuing k x q known at low high = by_place (opened.held k q at (early_open q.station (omega arith)))
   where
-    other : k ≢ pushed
-    other = apart asked k pushed q.station Issuing (record { q = q; at = at; there = refl }) issuing (λ same. omega arith)
+    other : k ≢ r.number - 1
+    other = apart asked k (r.number - 1) q.station Issuing (record { q = q; at = at; there = refl }) issuing (λ same. omega arith)
 
     by_place : (list_any (λ (y : Request). y.number == k + 1) requests ≡ true) ⊎ ((e : Ending) × (None ≡ Some e) × (e.request.number ≡ k + 1)) → FramesApart x r
     by_place (inl any) =
         let found = place_of_any (λ (y : Request). y.number == k + 1) requests any in
         let its = all_at (λ (y : Request). slice_get submitted (y.number - 1) ≡ Some y) requests found.0 found.1 queue.known found.2 in
-        let far = all_at (λ (y : Request). y.number ≢ pushed + 1 → FramesApart y r) requests found.0 found.1 next.apart found.2 in
+        let far = all_at (λ (y : Request). y.number ≢ r.number → FramesApart y r) requests found.0 found.1 next.apart found.2 in
         let number : (let y : Request = found.1 in y.number) ≡ k + 1 = grind (arith, nat_tests, found.3) in
         let less : (let y : Request = found.1 in y.number - 1) ≡ k = omega (arith, number) in
         let same : found.1 ≡ x = same_Some found.1 x (sym its ∙ (ap (slice_get submitted) less ∙ known)) in

@@ -1,5 +1,5 @@
 -- Whatever else happens once the back has halted: submissions are refused, and the front is closed once it left.
-use Rattle.std.proofs.Common.{◌≡◌, ℕ, ◌==◌, inr, not, if◌then◌else◌, Bool, true, false, List, [], ◌∷◌, length, map, refl, ap, sym, ◌∙◌, subst, arith, true≢false}
+use Rattle.std.proofs.Common.{◌≡◌, ℕ, ◌==◌, ◌&&◌, inr, not, if◌then◌else◌, Bool, true, false, List, [], ◌∷◌, length, map, refl, ap, sym, ◌∙◌, subst, arith, true≢false}
 use Rattle.std.specs.Prelude.{Some, None, Result, Err, nat_le}
 use Rattle.blk_base.specs.declared.parts.Mapping.{Mapping}
 use Rattle.ring_words.specs.Shape.{Shape}
@@ -152,7 +152,7 @@ enters_ends config w d state may o = enters_cases (λ v shown. HasGone None IsSa
     (record { steps = []; does = no_move IsSame d (λ a b same. same); kept = inr o })
   where
     entered : (s : FrontState) → MayEnter w s → may_enter s w.front ≡ true → HasGone None IsSame config (state_lines s) (record { front = in_state s w.front; back = w.back; under = w.under }) d
-    entered (states.Agreed order) may can = agrees_late config w d order may (both_true (is_unmade w.front.stage) (nat_le order w.front.shape.order) can).0 o
+    entered (states.Agreed order) may can = agrees_late config w d order may (both_true (is_unmade w.front.stage) (nat_le order w.front.shape.order) (both_true (is_unmade w.front.stage && nat_le order w.front.shape.order) _ can).0).0 o
     entered (states.Connected offers) may can = connects_late config w d offers (subst (λ (s : FrontStage). Over config w d s w.back.stage) (initialised_is w.front.stage can) o)
     entered states.Closing may can = absurd (true≢false (sym o.closes ∙ yet_open w.front.closing (is_open w.front.stage) can))
     entered states.Leaving may can = leaves_ring config w d w.front.stage (both_true (is_through w.front) (is_made w.front.stage) can).1 may o

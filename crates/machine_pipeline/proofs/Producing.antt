@@ -1,5 +1,5 @@
 -- What holds goes on holding when the front writes its producer.
-use Rattle.std.proofs.Common.{◌≡◌, ◌≢◌, ℕ, ◌+◌, ◌-◌, ◌*◌, ◌<◌, ◌≤◌, ◌==◌, List, length, ap, ◌∙◌, inl, inr, arith, length-set, [], ◌∷◌, true, refl, false}
+use Rattle.std.proofs.Common.{◌≡◌, ◌≢◌, ℕ, ◌+◌, ◌-◌, ◌*◌, ◌<◌, ◌==◌, List, length, ap, ◌∙◌, inl, inr, arith, length-set, [], ◌∷◌, true, refl, false}
 use Rattle.std.specs.Prelude.{Some, None, slice_get}
 use Rattle.std.proofs.lemmas.Bool.Decides.{nat_tests}
 use Rattle.blk_base.specs.Options.{Options}
@@ -16,6 +16,7 @@ use Rattle.split_model.specs.World.{World}
 use Rattle.split_model.specs.Safe.{IsSafe}
 use Rattle.machine_pipeline.proofs.Flow.{Flow, wrapped, is_fetching, reply_at}
 use Rattle.machine_pipeline.proofs.Wrapped.{next_wrapped}
+use Rattle.machine_pipeline.proofs.Series.{among_apart}
 use Rattle.machine_pipeline.proofs.Holds.{IsWork, Holds, BackAt}
 use Rattle.machine_pipeline.proofs.Kept.{SameFrame, SameEntry, written, other_word, other_frame, same_entry}
 use Rattle.machine_pipeline.proofs.Issuing.{frames_elsewhere, entries_elsewhere}
@@ -69,7 +70,7 @@ producer_goes config w g d safe h =
           named = λ page lt unmapped. let few = few_pages g.shape.order h.shaped.narrow in let entry = entry_same (8 + page) (omega arith) in entry.frame ∙ y.named page lt unmapped;
           granted = λ page lt unmapped. let few = few_pages g.shape.order h.shaped.narrow in let entry = entry_same (8 + page) (omega arith) in entry.flags ∙ y.granted page lt unmapped;
         };
-        slots = slots_pushed g.shape g.start g.fetched g.pushed g.taken g.replied w.front.ring.prod g.submitted g.replies w.under.pages new w.back.stage h.shaped.narrow (index_written w.under.pages 0 (next_of w.front.ring.prod) (omega arith)) h.slots;
+        slots = slots_pushed g.shape g.start g.fetched g.pushed g.taken g.replied w.front.ring.prod g.series g.replies w.under.pages new w.back.stage h.shaped.narrow (index_written w.under.pages 0 (next_of w.front.ring.prod) (omega arith)) h.slots;
         frames = frames_pushed g.pushed w.front.ring.prod w.under.pages new w.front.requests next.shaped
             (frames_elsewhere config w g d front.Producer w.back.stage h new (λ f from. elsewhere f (omega arith))) h.frames;
         telling = record { size = h.telling.size; so_far = tt };
@@ -101,25 +102,26 @@ producer_goes config w g d safe h =
     r : Request
     r = h.front_at.0
 
-    next : IsNext g.submitted w.front.requests g.pushed w.front.waiting r
+    next : IsNext g.submitted g.series w.front.requests g.pushed w.front.waiting r
     next = next_is w.front g.submitted w.front.sectors w.front.last g.pushed None r h.queue h.submitted h.pool h.front_at.1
 
     -- while an entry is being copied it was pushed
-    fetching_more : (b : BackStage) → BackAt g.shape g.start g.fetched g.back_seen g.replied g.submitted w.back.jobs.works w.back.entry b → is_fetching b ≡ true → g.fetched < g.pushed
+    fetching_more : (b : BackStage) → BackAt g.shape g.start g.fetched g.back_seen g.replied g.series w.back.jobs.works w.back.entry b → is_fetching b ≡ true → g.fetched < g.pushed
     fetching_more (back.Fetch k) at t = let x = h.indices in omega (arith, at.2, x.back_to)
     fetching_more b at t = absurd (false≢true t)
 
     s : Stepped None IsSame d [] (λ p. AreStations config (pushed_flow g) p true false (is_fetching w.back.stage) None None (reply_at w.back.stage) w.front.requests w.back.jobs.works w.under.pages)
-    s = pushes config g d true (is_fetching w.back.stage) None None (reply_at w.back.stage) w.front.requests w.back.jobs.works w.under.pages (let x = h.indices in x.fetched_pushed) h.stations (fetching_more w.back.stage h.back_at)
+    s = pushes config g d true (is_fetching w.back.stage) None None (reply_at w.back.stage) w.front.requests w.back.jobs.works w.under.pages r (let queue = h.queue in queue.ordered) next.at (let x = h.indices in x.fetched_pushed) h.stations (fetching_more w.back.stage h.back_at)
 
     -- its job isn't begun
-    none_begun : (i : ℕ) (t : Work) → slice_get w.back.jobs.works i ≡ Some t → t.number ≡ r.number → mapping_at t.stage ≡ None
+    none_begun : (i : ℕ) (t : Work) → slice_get w.back.jobs.works i ≡ Some t → t.id ≡ r.number → mapping_at t.stage ≡ None
     none_begun i t e same =
-        let work = all_at (IsWork g.submitted g.fetched) w.back.jobs.works i t h.works.each e in
-        absurd (too_far t.number r.number work.reached (let x = h.indices in x.fetched_pushed) next.number same)
-      where
-        too_far : {fetched pushed : ℕ} (n m : ℕ) → n ≤ fetched → fetched ≤ pushed → m ≡ pushed + 1 → n ≡ m → ⊥
-        too_far n m le order e same = omega arith
+        let work = all_at (IsWork g.submitted g.series g.fetched) w.back.jobs.works i t h.works.each e in
+        let queue = h.queue in
+        let number = h.submitted.each (t.id - 1) work.r work.known in
+        let x = h.indices in
+        absurd (among_apart g.submitted g.series g.pushed g.pushed work.r r queue.ordered (record { index = t.number - 1; early = omega (arith, work.reached, work.counted, x.fetched_pushed); at = work.issued }) next.at (omega arith)
+        (omega (arith, number.number, work.positive, same)))
 
     new : List ℕ
     new = with_word w.under.pages 2 0 (next_of w.front.ring.prod)

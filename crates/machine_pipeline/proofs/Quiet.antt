@@ -93,6 +93,7 @@ front_sleeps shape start pushed taken seen submitted replies entry v (front.Gran
     absurd (true≢false (sym waits ∙ ap (λ (x : Option Ending). front_submit.is_wait (front_ask.end_ask x place before)) at.1))
 front_sleeps shape start pushed taken seen submitted replies entry v (front.ReadData n) ready waits at =
     absurd (true≢false (sym waits ∙ ap (λ (x : Option Ending). front_submit.is_wait (front_ask.read_ask x n)) at.1))
+front_sleeps shape start pushed taken seen submitted replies entry v (front.LeftData n) ready waits at = absurd at
 front_sleeps shape start pushed taken seen submitted replies entry v front.Closed ready waits at = absurd at
 front_sleeps shape start pushed taken seen submitted replies entry v (front.Broken word) ready waits at = absurd at
 front_sleeps shape start pushed taken seen submitted replies entry v front.Initialised ready waits at = absurd (true≢false (sym ready))
@@ -109,22 +110,22 @@ back_acts : (b : Bool) (x y : BackAsk) → back_ask.is_wait x ≡ false → back
 back_acts true x y e f t = true≢false (sym t ∙ e)
 back_acts false x y e f t = true≢false (sym t ∙ f)
 
-back_sleeps : (shape : Shape) (start fetched seen replied : ℕ) (submitted : List Request) (works : List Work) (entry : List ℕ) (v : back_view.View) (s : BackStage)
+back_sleeps : (shape : Shape) (start fetched seen replied : ℕ) (series : List Request) (works : List Work) (entry : List ℕ) (v : back_view.View) (s : BackStage)
     → not (back_ask.is_led s) ≡ true
     → back_ask.is_wait (back_ask.ask_at s v) ≡ true
-    → BackAt shape start fetched seen replied submitted works entry s
+    → BackAt shape start fetched seen replied series works entry s
     → BackSleeps s v.asleep
-back_sleeps shape start fetched seen replied submitted works entry v back.Loop free waits at = in_loop (back_ask.next_reply v) v.asleep waits
+back_sleeps shape start fetched seen replied series works entry v back.Loop free waits at = in_loop (back_ask.next_reply v) v.asleep waits
   where
     in_loop : (next : Option Reply) (asleep : Bool) → back_ask.is_wait (back_ask.loop_ask (record v { asleep = asleep }) next) ≡ true → BackSleeps back.Loop asleep
     in_loop (Some r) asleep t = absurd (true≢false (sym t))
     in_loop None true t = record { sleeps = refl; no_reply = refl; sends_none = λ p f x. x }
     in_loop None false t = absurd (back_acts (requests_of v.ring v.seen == 0) _ _ refl refl t)
-back_sleeps shape start fetched seen replied submitted works entry v back.InitWait free waits at = absurd (true≢false (sym free))
-back_sleeps shape start fetched seen replied submitted works entry v back.UnmapRing free waits at = absurd at
-back_sleeps shape start fetched seen replied submitted works entry v back.UnmapUnbound free waits at = absurd at
-back_sleeps shape start fetched seen replied submitted works entry v back.Halted free waits at = absurd at
-back_sleeps shape start fetched seen replied submitted works entry v s free waits at = absurd (true≢false (sym waits))
+back_sleeps shape start fetched seen replied series works entry v back.InitWait free waits at = absurd (true≢false (sym free))
+back_sleeps shape start fetched seen replied series works entry v back.UnmapRing free waits at = absurd at
+back_sleeps shape start fetched seen replied series works entry v back.UnmapUnbound free waits at = absurd at
+back_sleeps shape start fetched seen replied series works entry v back.Halted free waits at = absurd at
+back_sleeps shape start fetched seen replied series works entry v s free waits at = absurd (true≢false (sym waits))
 
 -- what quiet says of each part
 pub record AreQuiet (front_waits back_idle front_pending back_pending : Bool) : Type 0 where
@@ -189,7 +190,7 @@ caught_up_at config w g d quiet stands = record {
     idle = both_true _ _ none_held.0
 
     back_side : BackSleeps w.back.stage w.back.asleep
-    back_side = back_sleeps g.shape g.start g.fetched g.back_seen g.replied g.submitted w.back.jobs.works w.back.entry w.back w.back.stage idle.0 idle.1 h.back_at
+    back_side = back_sleeps g.shape g.start g.fetched g.back_seen g.replied g.series w.back.jobs.works w.back.entry w.back w.back.stage idle.0 idle.1 h.back_at
 
     replies_taken : w.front.asleep ≡ true → g.replied ≡ g.taken
     replies_taken sleeps =

@@ -55,5 +55,5 @@ has_data_at station = false
 
 -- the frames of all reads: those that jobs serve, and those that went well
 pub record AreReadBack (submitted : List Request) (asked : List Asked) (works : List Work) (pages : List ℕ) : Type 0 where
-  pub working : (i : ℕ) (t : Work) (r : Request) (q : Asked) → slice_get works i ≡ Some t → slice_get submitted (t.number - 1) ≡ Some r → slice_get asked (t.number - 1) ≡ Some q → is_write r.transfer ≡ false → ReadAt pages r t.moved t.words q.words t.stage
+  pub working : (i : ℕ) (t : Work) (r : Request) (q : Asked) → slice_get works i ≡ Some t → slice_get submitted (t.id - 1) ≡ Some r → slice_get asked (t.id - 1) ≡ Some q → is_write r.transfer ≡ false → ReadAt pages r t.moved t.words q.words t.stage
   pub after : (k : ℕ) (r : Request) (q : Asked) → slice_get submitted k ≡ Some r → slice_get asked k ≡ Some q → is_write r.transfer ≡ false → has_data_at q.station ≡ true → IsReadBack pages r r.count q.words

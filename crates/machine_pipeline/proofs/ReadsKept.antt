@@ -43,7 +43,7 @@ pub reads_moved : (submitted : List Request) (asked moved : List Asked) (works :
     → AreReadBack submitted moved works pages
 reads_moved submitted asked moved works pages k from to m words has h = record {
   working = λ i t r q here its at reads.
-      let was = was_asked asked moved k from to m words has (t.number - 1) q at in
+      let was = was_asked asked moved k from to m words has (t.id - 1) q at in
       subst (λ (ws : List (List ℕ)). ReadAt pages r t.moved t.words ws t.stage) was.2 (h.working i t r was.0 here its was.1 reads);
   after = λ j r q its at reads there.
       let was = was_asked asked moved k from to m words has j q at in
@@ -63,38 +63,38 @@ reads_fewer submitted asked works fewer pages were h = record {
 -- a job is another, of the same request
 pub reads_set : (submitted : List Request) (asked : List Asked) (works : List Work) (pages : List ℕ) (place : ℕ) (t t' : Work)
     → slice_get works place ≡ Some t
-    → ((r : Request) (q : Asked) → slice_get submitted (t'.number - 1) ≡ Some r → slice_get asked (t'.number - 1) ≡ Some q → is_write r.transfer ≡ false → ReadAt pages r t'.moved t'.words q.words t'.stage)
+    → ((r : Request) (q : Asked) → slice_get submitted (t'.id - 1) ≡ Some r → slice_get asked (t'.id - 1) ≡ Some q → is_write r.transfer ≡ false → ReadAt pages r t'.moved t'.words q.words t'.stage)
     → AreReadBack submitted asked works pages
     → AreReadBack submitted asked (slice_set works place t') pages
 reads_set submitted asked works pages place t t' here now h = record {
   working = λ i u r q at its was reads. elim (set_was works place i t t' u here at) [
     | inl it ↦
         subst (λ (v : Work). ReadAt pages r v.moved v.words q.words v.stage) (sym it.1)
-        (now r q (subst (λ (v : Work). slice_get submitted (v.number - 1) ≡ Some r) it.1 its) (subst (λ (v : Work). slice_get asked (v.number - 1) ≡ Some q) it.1 was) reads)
+        (now r q (subst (λ (v : Work). slice_get submitted (v.id - 1) ≡ Some r) it.1 its) (subst (λ (v : Work). slice_get asked (v.id - 1) ≡ Some q) it.1 was) reads)
     | inr other ↦ h.working i u r q other.1 its was reads
   ];
   after = h.after;
 }
 
 -- a job moves its request on
-pub reads_step : (submitted : List Request) (asked moved : List Asked) (works : List Work) (pages : List ℕ) (place : ℕ) (t t' : Work) (from to : Station) (m : IsMoved asked moved (t.number - 1) from to)
+pub reads_step : (submitted : List Request) (asked moved : List Asked) (works : List Work) (pages : List ℕ) (place : ℕ) (t t' : Work) (from to : Station) (m : IsMoved asked moved (t.id - 1) from to)
     → slice_get works place ≡ Some t
-    → t'.number ≡ t.number
-    → ((i : ℕ) (u : Work) → i ≢ place → slice_get works i ≡ Some u → u.number - 1 ≢ t.number - 1)
-    → ((r : Request) → slice_get submitted (t.number - 1) ≡ Some r → is_write r.transfer ≡ false → (let n : Asked = m.now in ReadAt pages r t'.moved t'.words n.words t'.stage × (has_data_at to ≡ true → IsReadBack pages r r.count n.words)))
+    → t'.id ≡ t.id
+    → ((i : ℕ) (u : Work) → i ≢ place → slice_get works i ≡ Some u → u.id - 1 ≢ t.id - 1)
+    → ((r : Request) → slice_get submitted (t.id - 1) ≡ Some r → is_write r.transfer ≡ false → (let n : Asked = m.now in ReadAt pages r t'.moved t'.words n.words t'.stage × (has_data_at to ≡ true → IsReadBack pages r r.count n.words)))
     → AreReadBack submitted asked works pages
     → AreReadBack submitted moved (slice_set works place t') pages
 reads_step submitted asked moved works pages place t t' from to m here number apart now h = record {
   working = λ i u r q at its was reads. elim (set_was works place i t t' u here at) [
     | inl it ↦
-        let k : u.number - 1 ≡ t.number - 1 = ap (λ (v : Work). v.number - 1) it.1 ∙ ap (λ (n : ℕ). n - 1) number in
+        let k : u.id - 1 ≡ t.id - 1 = ap (λ (v : Work). v.id - 1) it.1 ∙ ap (λ (n : ℕ). n - 1) number in
         let one : m.now ≡ q = same_Some m.now q (sym m.here ∙ ap (slice_get moved) (sym k) ∙ was) in
         let it_now = now r (ap (slice_get submitted) (sym k) ∙ its) reads in
         subst (λ (v : Work). ReadAt pages r v.moved v.words q.words v.stage) (sym it.1)
         (subst (λ (x : Asked). ReadAt pages r t'.moved t'.words x.words t'.stage) one it_now.0)
-    | inr other ↦ h.working i u r q other.1 its (sym (m.others (u.number - 1) (apart i u other.0 other.1)) ∙ was) reads
+    | inr other ↦ h.working i u r q other.1 its (sym (m.others (u.id - 1) (apart i u other.0 other.1)) ∙ was) reads
   ];
-  after = λ j r q its at reads there. elim (cases_eq j (t.number - 1)) [
+  after = λ j r q its at reads there. elim (cases_eq j (t.id - 1)) [
     | inl same ↦
         let one : m.now ≡ q = same_Some m.now q (sym m.here ∙ ap (slice_get moved) (sym same) ∙ at) in
         let it_now = now r (ap (slice_get submitted) (sym same) ∙ its) reads in
@@ -106,8 +106,8 @@ reads_step submitted asked moved works pages place t t' from to m here number ap
 
 -- an entry was fetched: the new job has read nothing
 pub reads_fetched : (submitted : List Request) (asked moved : List Asked) (works : List Work) (pages : List ℕ) (k : ℕ) (from to : Station) (m : IsMoved asked moved k from to) (t : Work)
-    → ((i : ℕ) (u : Work) → slice_get works i ≡ Some u → u.number - 1 ≢ k)
-    → t.number - 1 ≡ k
+    → ((i : ℕ) (u : Work) → slice_get works i ≡ Some u → u.id - 1 ≢ k)
+    → t.id - 1 ≡ k
     → (let n : Asked = m.now in n.words) ≡ []
     → has_data_at to ≡ false
     → ((r : Request) → ReadAt pages r t.moved t.words [] t.stage)
@@ -115,9 +115,9 @@ pub reads_fetched : (submitted : List Request) (asked moved : List Asked) (works
     → AreReadBack submitted moved (works ++ t ∷ []) pages
 reads_fetched submitted asked moved works pages k from to m t apart number none empty now h = record {
   working = λ i u r q at its was reads. elim (push_was works t i u at) [
-    | inl old ↦ h.working i u r q old its (sym (m.others (u.number - 1) (apart i u old)) ∙ was) reads
+    | inl old ↦ h.working i u r q old its (sym (m.others (u.id - 1) (apart i u old)) ∙ was) reads
     | inr last ↦
-        let same : u.number - 1 ≡ k = ap (λ (v : Work). v.number - 1) last.1 ∙ number in
+        let same : u.id - 1 ≡ k = ap (λ (v : Work). v.id - 1) last.1 ∙ number in
         let one : m.now ≡ q = same_Some m.now q (sym m.here ∙ ap (slice_get moved) (sym same) ∙ was) in
         subst (λ (v : Work). ReadAt pages r v.moved v.words q.words v.stage) (sym last.1)
         (subst (λ (ws : List (List ℕ)). ReadAt pages r t.moved t.words ws t.stage) (sym none ∙ ap (λ (x : Asked). x.words) one) (now r))
@@ -134,13 +134,13 @@ reads_fetched submitted asked moved works pages k from to m t apart number none 
 pub reads_more : (submitted : List Request) (asked : List Asked) (works : List Work) (pages : List ℕ) (x : Request) (y : Asked)
     → length asked ≡ length submitted
     → has_data_at y.station ≡ false
-    → ((i : ℕ) (t : Work) → slice_get works i ≡ Some t → (q : Asked) × (slice_get asked (t.number - 1) ≡ Some q))
+    → ((i : ℕ) (t : Work) → slice_get works i ≡ Some t → (q : Asked) × (slice_get asked (t.id - 1) ≡ Some q))
     → AreReadBack submitted asked works pages
     → AreReadBack (submitted ++ x ∷ []) (asked ++ y ∷ []) works pages
 reads_more submitted asked works pages x y as_many empty known h = record {
   working = λ i t r q here its at reads.
-      let within = (let was = known i t here in slice_get_within asked (t.number - 1) was.0 was.1) in
-      h.working i t r q here (earlier submitted x (t.number - 1) r (omega (arith, as_many)) its) (earlier asked y (t.number - 1) q within at) reads;
+      let within = (let was = known i t here in slice_get_within asked (t.id - 1) was.0 was.1) in
+      h.working i t r q here (earlier submitted x (t.id - 1) r (omega (arith, as_many)) its) (earlier asked y (t.id - 1) q within at) reads;
   after = λ j r q its at reads there. elim (push_was asked y j q at) [
     | inl was ↦ h.after j r q (earlier submitted x j r (let within = slice_get_within asked j q was in omega (arith, as_many)) its) was reads there
     | inr last ↦ absurd (false≢true (sym empty ∙ (ap (λ (z : Asked). has_data_at z.station) (sym last.1) ∙ there)))
@@ -205,10 +205,10 @@ pub reads_kept : (submitted : List Request) (asked : List Asked) (works : List W
     → AreReadBack submitted asked works new
 reads_kept submitted asked works old new same stands h = record {
   working = λ i t r q here its at reads.
-      let x : StandsAt asked (t.number - 1) (worked t.stage t.moved) = stands i t here in
+      let x : StandsAt asked (t.id - 1) (worked t.stage t.moved) = stands i t here in
       let one : x.q ≡ q = same_Some x.q q (sym x.at ∙ at) in
       let kind : kind_of q.station ≡ 4 = ap (λ (y : Asked). kind_of y.station) (sym one) ∙ (ap kind_of x.there ∙ worked_kind t.stage t.moved) in
-      read_at_kept old new r t.moved t.words q.words t.stage (same (t.number - 1) r q its at (omega (arith, kind)) (omega (arith, kind))) (h.working i t r q here its at reads);
+      read_at_kept old new r t.moved t.words q.words t.stage (same (t.id - 1) r q its at (omega (arith, kind)) (omega (arith, kind))) (h.working i t r q here its at reads);
   after = λ j r q its at reads there.
       let kind = data_kind q.station there in
       back_kept old new r r.count q.words (same j r q its at kind.0 kind.1) (h.after j r q its at reads there);
@@ -230,6 +230,7 @@ stations_kept config g d connected issuing fetching ending telling replying requ
   pushed = h.pushed;
   works = h.works;
   held = h.held;
+  going = h.going;
   replying = h.replying;
   replied = h.replied;
   taking = h.taking;

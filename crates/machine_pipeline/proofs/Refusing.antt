@@ -48,9 +48,9 @@ answer_of (Ok number) = None
 answer_of (Err r) = Some (refusal_word r)
 
 -- what a ready front knows of its back
-pub offered_is : (ready fixed : Bool) (limit : ℕ) (offers : Offers) (pushed last : ℕ) → ready ≡ true → IsOffered ready fixed limit offers pushed last → AreOffered fixed limit offers
-offered_is true fixed limit offers pushed last is h = h
-offered_is false fixed limit offers pushed last is h = absurd (true≢false (sym is))
+pub offered_is : (ready fixed : Bool) (limit : ℕ) (offers : Offers) (pushed : ℕ) → ready ≡ true → IsOffered ready fixed limit offers pushed → AreOffered fixed limit offers
+offered_is true fixed limit offers pushed is h = h
+offered_is false fixed limit offers pushed is h = absurd (true≢false (sym is))
 
 -- as many requests end as the front's stage says
 pub same_ending : (shape : Shape) (start pushed taken front_seen : ℕ) (submitted : List Request) (replies : List Reply) (next : Option Request) (entry : List ℕ)
@@ -59,6 +59,7 @@ pub same_ending : (shape : Shape) (start pushed taken front_seen : ℕ) (submitt
 same_ending shape start pushed taken front_seen submitted replies next entry ending (front.GrantRead place) at = rw at.1 refl
 same_ending shape start pushed taken front_seen submitted replies next entry ending (front.GrantEnd place before) at = rw at.1 refl
 same_ending shape start pushed taken front_seen submitted replies next entry ending (front.ReadData n) at = rw at.1 refl
+same_ending shape start pushed taken front_seen submitted replies next entry ending (front.LeftData n) at = absurd at
 same_ending shape start pushed taken front_seen submitted replies next entry ending s at = refl
 
 -- a frame is free where fewer are in use than there are
@@ -214,7 +215,7 @@ ruled config w g d job plain h one = by_job job one
     order = sym (ap (λ (x : Shape). x.order) (h.shaped.known ∙ h.shaped.whole))
 
     offers : is_ready w.front.stage ≡ true → AreOffered config.read_only config.indirect w.front.offers
-    offers ready = offered_is (is_ready w.front.stage) config.read_only config.indirect w.front.offers g.pushed w.front.last ready h.offered
+    offers ready = offered_is (is_ready w.front.stage) config.read_only config.indirect w.front.offers g.pushed ready h.offered
 
     -- the front's limit is the rule's
     most : is_ready w.front.stage ≡ true → max 11 (min 960 w.front.offers.indirect) ≡ max 11 config.indirect

@@ -77,10 +77,12 @@ pub unending : (s : FrontStage) (ending : Option Ending) → ending_of s ≡ 0 �
 unending (front.GrantRead place) ending zero = absurd (omega arith)
 unending (front.GrantEnd place before) ending zero = absurd (omega arith)
 unending (front.ReadData n) ending zero = absurd (omega arith)
+unending (front.LeftData n) ending zero = absurd (omega arith)
 unending s ending zero = refl
 
 pub untelling : (s : FrontStage) → ending_of s ≡ 0 → telling_at s ≡ None
 untelling (front.ReadData n) zero = absurd (omega arith)
+untelling (front.LeftData n) zero = absurd (omega arith)
 untelling s zero = refl
 
 pub unrevoked : (s : FrontStage) (ending : Option Ending) (e : Ending) → ending_of s ≡ 0 → revoking_at s ending ≡ Some e → ⊥
@@ -109,20 +111,20 @@ ring_rests order start pushed replied pages s s' mapped i i' h = record {
   granted = λ page lt unmapped. h.granted page (subst (λ (n : ℕ). page < n) (i'.granted (2 ^ order) ∙ sym (i.granted (2 ^ order))) lt) unmapped;
 }
 
-pub slots_rest : (shape : Shape) (start fetched pushed taken replied : ℕ) (submitted : List Request) (replies : List Reply) (pages : List ℕ) (s s' : FrontStage) (b : BackStage) → IsResting s' → AreSlots shape start fetched pushed taken replied submitted replies pages s b → AreSlots shape start fetched pushed taken replied submitted replies pages s' b
-slots_rest shape start fetched pushed taken replied submitted replies pages s s' b i' h = record {
+pub slots_rest : (shape : Shape) (start fetched pushed taken replied : ℕ) (series : List Request) (replies : List Reply) (pages : List ℕ) (s s' : FrontStage) (b : BackStage) → IsResting s' → AreSlots shape start fetched pushed taken replied series replies pages s b → AreSlots shape start fetched pushed taken replied series replies pages s' b
+slots_rest shape start fetched pushed taken replied series replies pages s s' b i' h = record {
   entries = h.entries;
   entry = λ r e i lt few. let none = i'.entered_none in absurd (omega arith);
   responses = h.responses;
   response = h.response;
 }
 
-pub frames_rest : (pushed : ℕ) (pages : List ℕ) (s s' : FrontStage) (requests : List Request) → IsResting s' → All (IsFilled pushed pages s) requests → All (IsFilled pushed pages s') requests
+pub frames_rest : {series : List Request} (pushed : ℕ) (pages : List ℕ) (s s' : FrontStage) (requests : List Request) → IsResting s' → All (IsFilled series pushed pages s) requests → All (IsFilled series pushed pages s') requests
 frames_rest pushed pages s s' requests i' h k d lt =
     let was = h k d lt in
     record { whole = was.whole; begun = λ e i l. let none = i'.filled_none (frames_for (let q : Request = get_or requests k d in q.count)) in absurd (omega arith) }
 
-pub granted_rests : (pushed : ℕ) (pages : List ℕ) (live : List Held) (s s' : FrontStage) (r : Request) → IsResting s' → IsGranted pushed pages live s r → IsGranted pushed pages live s' r
+pub granted_rests : {series : List Request} (pushed : ℕ) (pages : List ℕ) (live : List Held) (s s' : FrontStage) (r : Request) → IsResting s' → IsGranted series pushed pages live s r → IsGranted series pushed pages live s' r
 granted_rests pushed pages live s s' r i' h = record {
   named = h.named;
   named_next = λ e place lt within. let none = i'.unnamed in absurd (omega arith);
@@ -130,11 +132,11 @@ granted_rests pushed pages live s s' r i' h = record {
   flags_next = λ e place lt within. let none = i'.ungranted in absurd (omega arith);
 }
 
-pub entries_rest : (pushed : ℕ) (pages : List ℕ) (live : List Held) (s s' : FrontStage) (ending ending' : Option Ending) (requests : List Request)
+pub entries_rest : {series : List Request} (pushed : ℕ) (pages : List ℕ) (live : List Held) (s s' : FrontStage) (ending ending' : Option Ending) (requests : List Request)
     → IsResting s'
     → AreRevoked pages s' ending'
-    → AreEntries pushed pages live s ending requests
-    → AreEntries pushed pages live s' ending' requests
+    → AreEntries series pushed pages live s ending requests
+    → AreEntries series pushed pages live s' ending' requests
 entries_rest pushed pages live s s' ending ending' requests i' revoked h = record {
   each = λ k d lt. granted_rests pushed pages live s s' (slice_index_or requests k d) i' (h.each k d lt);
   ending = revoked;
@@ -175,12 +177,12 @@ rest_kept config w g d s s' seen whole asleep pages channels i i' zero zero' h a
   info = h.info;
   replies = h.replies;
   front_at = at;
-  offered = subst (λ (b : Bool). IsOffered b config.read_only config.indirect w.front.offers g.pushed w.front.last) (i.ready ∙ sym i'.ready) h.offered;
+  offered = subst (λ (b : Bool). IsOffered b config.read_only config.indirect w.front.offers g.pushed) (i.ready ∙ sym i'.ready) h.offered;
   back_at = h.back_at;
   unhalted = h.unhalted;
   memory = sized;
   ring = ring_rests g.shape.order g.start g.pushed g.replied pages s s' (length w.back.pages) i i' (ring_words h.ring);
-  slots = slots_rest g.shape g.start g.fetched g.pushed g.taken g.replied g.submitted g.replies pages s s' w.back.stage i' (slots_kept g.shape g.start g.fetched g.pushed g.taken g.replied g.submitted g.replies w.under.pages pages s w.back.stage h.shaped.narrow (slots_beside w.under.pages pages frames (λ x from to. words x (omega arith) to)) h.slots);
+  slots = slots_rest g.shape g.start g.fetched g.pushed g.taken g.replied g.series g.replies pages s s' w.back.stage i' (slots_kept g.shape g.start g.fetched g.pushed g.taken g.replied g.series g.replies w.under.pages pages s w.back.stage h.shaped.narrow (slots_beside w.under.pages pages frames (λ x from to. words x (omega arith) to)) h.slots);
   frames = frames_rest g.pushed pages s s' w.front.requests i'
       (frames_kept g.pushed w.under.pages pages s w.front.requests (all_from (SameData w.under.pages pages) w.front.requests same_data) h.frames);
   telling = data_rests w.under.pages pages w.front.words w.front.ending w.front.ending s s' (untelling s' zero') h.telling;

@@ -1,22 +1,28 @@
--- The machine at the start, and the pipeline of which nothing was asked.
-use Rattle.std.proofs.Common.{◌≡◌, ℕ, zero, suc, Bool, false, cond, [], refl, ap, sym, arith, true≢false}
-use Rattle.std.specs.Prelude.{None, count_by, replicate, slice_index_or}
+-- A machine at the start of an epoch, all of whose requests wait, and the pipeline; and the machine at the start, and the pipeline of which nothing was asked.
+use Rattle.std.proofs.Common.{◌≡◌, ℕ, zero, suc, ◌-◌, ◌<◌, ◌≤◌, ◌^◌, Bool, false, cond, List, [], length, refl, ap, sym, ◌∙◌, arith, true≢false, length-take}
+use Rattle.std.specs.Prelude.{Some, None, slice_get, count_by, replicate, slice_index_or}
 use Rattle.std.proofs.Math.ListN.{length-replicate}
 use Rattle.std.proofs.lemmas.Option.{none-some}
 use Rattle.std.proofs.lemmas.List.Folds.{sum_by-replicate}
+use Rattle.xen_pages.specs.Pages.{fresh_pages}
 use Rattle.xen_pages.proofs.Words.{length-zero_words}
 use Rattle.blk_base.specs.Options.{Options}
-use Rattle.pipeline_laws.specs.Pipeline.{pipeline_of}
+use Rattle.pipeline_laws.specs.Pipeline.{Pipeline, pipeline_of}
 use Rattle.blk_front.specs.Pool.{empty_pool}
-use Rattle.split_model.specs.World.{start_of}
+use Rattle.blk_front.specs.declared.request.Request.{Request}
+use Rattle.blk_front.specs.declared.stage.Stage.TheVariants as front
+use Rattle.blk_back.specs.declared.stage.Stage.TheVariants as back
+use Rattle.blk_back.specs.View.{info_of}
+use Rattle.split_model.specs.World.{World, start_of}
 use Rattle.split_model.proofs.Safe.{safe_start}
 use Rattle.machine_pipeline.specs.Plain.{IsPlain}
-use Rattle.machine_pipeline.proofs.Flow.{start_flow}
-use Rattle.ring_words.specs.Shape.{Shape}
-use Rattle.machine_pipeline.proofs.Holds.{ArePooled, Stands}
+use Rattle.machine_pipeline.proofs.Flow.{start_flow, epoch_flow}
+use Rattle.ring_words.specs.Shape.{Shape, entries_of}
+use Rattle.machine_pipeline.proofs.Series.{IsSeries, IsAmong, series_few}
+use Rattle.machine_pipeline.proofs.Lists.{all_from}
+use Rattle.machine_pipeline.proofs.Holds.{AreSubmitted, IsOfTheDisk, IsFilled, IsGranted, ArePooled, Holds, Stands}
 use Rattle.machine_pipeline.proofs.Stations.{AreStations}
-use Rattle.machine_pipeline.proofs.Indices.{indices_first}
-use Rattle.xen_pages.specs.Pages.{fresh_pages}
+use Rattle.machine_pipeline.proofs.Indices.{AreFirst, indices_epoch}
 
 -- a frame of a pool in which none is in use
 free_at : (n f : ℕ) → slice_index_or (replicate n false) f false ≡ false
@@ -43,84 +49,162 @@ start_stations : (config : Options) → AreStations config (start_flow (shape_of
 start_stations config = record {
   options = refl;
   front = refl;
-  ring = record { pushed = refl; entries = λ i lt. absurd (omega arith); fetched = refl; replied = refl; responses = λ i rep e. absurd (none-some rep e); taken = refl };
+  ring = record { pushed = refl; entries = λ i r lt. absurd (omega arith); fetched = refl; replied = refl; responses = λ i rep e. absurd (none-some rep e); taken = refl };
   known = record { as_many = refl; each = λ k r q e f. absurd (none-some r e) };
   opened = record { unfinished = refl; held = λ k q e f. absurd (none-some q e) };
-  issued = λ k q lt e. absurd (none-some q e);
-  waiting = record { issued = λ t. absurd (true≢false (sym t)); rest = λ k le lt other. absurd (omega arith) };
-  pushed = record { copied = λ t. absurd (true≢false (sym t)); rest = λ k le lt other. absurd (omega arith) };
+  issued = λ k q e. absurd (none-some q e);
+  waiting = record { issued = λ t. absurd (true≢false (sym t)); rest = λ i r le at. absurd (none-some r at) };
+  pushed = record { copied = λ t. absurd (true≢false (sym t)); rest = λ i r le lt. absurd (omega arith) };
   works = λ i t e. absurd (none-some t e);
   held = λ k q e. absurd (none-some q e);
+  going = λ i r e. absurd (none-some r e);
   replying = λ rep e. absurd (none-some rep e);
   replied = λ i rep e. absurd (none-some rep e);
   taking = λ e same. absurd (none-some e same);
   reads = record { working = λ i t r q at. absurd (none-some t at); after = λ k r q at. absurd (none-some r at) };
 }
 
+-- at the start of an epoch the front makes its ring next; the back waits, and has nothing
+pub record BeginsEpoch (config : Options) (w : World) : Type 0 where
+  pub start : w.front.start ≡ config.start
+  pub shape : w.front.shape ≡ shape_of config
+  pub indices : AreFirst config w.front.ring w.back.ring w.front.seen w.back.seen
+  pub front_awake : w.front.asleep ≡ false
+  pub words : length w.front.words ≡ 128
+  pub fetched : w.back.fetched ≡ 0
+  pub back_awake : w.back.asleep ≡ false
+  pub works : w.back.jobs.works ≡ []
+  pub info : w.back.jobs.info ≡ info_of config
+  pub unmapped : w.back.pages ≡ []
+  pub unhalted : w.back.halted ≡ None
+  pub memory : length w.under.pages ≡ 1114112
+  pub live : w.under.grants.live ≡ []
+  pub made : w.under.channels.made ≡ 0
+  pub ports : w.under.channels.ports ≡ []
+
+-- and its requests wait, in frames of their own
+pub record AreAllWaiting (config : Options) (w : World) (submitted : List Request) (d : Pipeline) : Type 0 where
+  pub sized : IsOfTheDisk config w.front.sectors w.front.read_only submitted
+  pub each : AreSubmitted submitted w.front.sectors w.front.last
+  pub series : IsSeries submitted w.front.requests
+  pub few : w.front.last < 2 ^ 32
+  pub room : length w.front.requests ≤ entries_of config.order
+  pub waiting : w.front.waiting ≡ length w.front.requests
+  pub pool : ArePooled w.front.pool w.front.requests None
+  pub stations : AreStations config (epoch_flow (shape_of config) config.start submitted w.front.requests w.front.closing) d false false false None None None w.front.requests [] w.under.pages
+
+pub epoch_holds : (config : Options) (w : World) (submitted : List Request) (d : Pipeline) → IsPlain config → BeginsEpoch config w → AreAllWaiting config w submitted d
+    → Holds config w (epoch_flow (shape_of config) config.start submitted w.front.requests w.front.closing) d (front.RingWord 0) back.InitWait
+epoch_holds config w submitted d plain b h = record {
+  started = record { whole = refl; known = b.start; closing = refl };
+  shaped = record { whole = refl; narrow = plain.order; known = b.shape };
+  sized = h.sized;
+  indices = rw (b.fetched, h.waiting) (indices_epoch config w.front.ring w.back.ring w.front.seen w.back.seen w.front.last submitted w.front.requests w.front.closing plain b.indices (let all = h.each in let counted = all.counted in let few = series_few submitted w.front.requests h.series in omega arith) h.few h.room);
+  queue = record {
+    ordered = h.series;
+    known = all_from (λ (r : Request). slice_get submitted (r.number - 1) ≡ Some r) w.front.requests h.series.known;
+    ascending = h.series.ascending;
+    issued = λ k x lt. absurd (let none = h.waiting in omega (arith, length-take (length w.front.requests - w.front.waiting) w.front.requests));
+    next = λ j r lt e. ap (slice_get w.front.requests) (let all = h.waiting in omega arith) ∙ e;
+  };
+  submitted = h.each;
+  pool = h.pool;
+  stations = rw b.works h.stations;
+  works = rw b.works (record { each = λ k x lt. absurd (omega arith); ascending = λ i j x lt within. absurd (omega arith); clear = λ i j x lt within. absurd (omega arith) });
+  counted = rw b.works refl;
+  info = b.info;
+  replies = record { counted = refl; each = λ k x lt. absurd (omega arith); distinct = λ i j x lt within. absurd (omega arith) };
+  front_at = omega arith;
+  offered = refl;
+  back_at = refl;
+  unhalted = b.unhalted;
+  memory = b.memory;
+  ring = record {
+    begun = λ j lt. absurd (omega arith);
+    requests = λ t. absurd (true≢false (sym t));
+    responses = λ t. absurd (true≢false (sym t));
+    named = λ page lt unmapped. absurd (omega arith);
+    granted = λ page lt unmapped. absurd (omega arith);
+  };
+  slots = record {
+    entries = λ k r from to. absurd (omega arith);
+    entry = λ r e i lt in_it. absurd (omega arith);
+    responses = λ k rep e. absurd (none-some rep e);
+    response = λ rep e. absurd (none-some rep e);
+  };
+  frames = all_from (IsFilled w.front.requests 0 w.under.pages (front.RingWord 0)) w.front.requests (λ i r e. record { whole = λ one. absurd (none r one); begun = λ at n f. absurd (omega arith) });
+  telling = record { size = b.words; so_far = tt };
+  entries = record {
+    each = all_from (IsGranted w.front.requests 0 w.under.pages w.under.grants.live (front.RingWord 0)) w.front.requests (λ i r e. record {
+      named = λ one. absurd (none r one);
+      named_next = λ at place t. absurd (omega arith);
+      flags = λ one. absurd (none r one);
+      flags_next = λ at place t. absurd (omega arith);
+    });
+    ending = λ e same. absurd (none-some e same);
+  };
+  mapped = record { counted = λ test. rw (b.live, b.works, b.unmapped) refl; framed = rw b.live (λ k x lt. absurd (omega arith)) };
+  paged = rw b.unmapped (record {
+    shaped = λ t. absurd (true≢false (sym t));
+    entries_are = λ t. absurd (true≢false (sym t));
+    grefs_are = λ t. absurd (true≢false (sym t));
+    port_is = λ t. absurd (true≢false (sym t));
+    mapped = refl;
+    gref = λ page lt. absurd (omega arith);
+    mode = λ page lt. absurd (omega arith);
+  });
+  front_sleep = record {
+    arming = λ t. absurd (true≢false (sym t));
+    armed = λ t. absurd (true≢false (sym t ∙ b.front_awake));
+    may = λ t. b.front_awake;
+    woken = λ t. absurd (true≢false (sym t ∙ b.front_awake));
+  };
+  back_sleep = record {
+    arming = λ t. absurd (true≢false (sym t));
+    armed = λ t. absurd (true≢false (sym t ∙ b.back_awake));
+    may = λ t. b.back_awake;
+    woken = λ t. absurd (true≢false (sym t ∙ b.back_awake));
+  };
+  ports = (b.made, b.ports, refl);
+}
+  where
+    none : (r : Request) → IsAmong w.front.requests 0 r → ⊥
+    none r one = let early = one.early in omega arith
+
+-- so it is at the first start, with no request
+start_waiting : (config : Options) → IsPlain config → AreAllWaiting config (start_of config) [] (pipeline_of config)
+start_waiting config plain = record {
+  sized = record { sectors = refl; read_only = refl; writable = λ k r e. absurd (none-some r e); served = λ k r e. absurd (none-some r e); short = λ k r e. absurd (none-some r e) };
+  each = record { counted = refl; each = λ k r e. absurd (none-some r e); sized = plain.sectors };
+  series = record { known = λ i r e. absurd (none-some r e); positive = λ i r e. absurd (none-some r e); ascending = λ i j x lt within. absurd (omega arith) };
+  few = omega arith;
+  room = omega arith;
+  waiting = refl;
+  pool = empty_pooled;
+  stations = start_stations config;
+}
+
+start_begins : (config : Options) → BeginsEpoch config (start_of config)
+start_begins config = record {
+  start = refl;
+  shape = refl;
+  indices = record { entries = refl; front_prod = refl; front_cons = refl; back_prod = refl; back_cons = refl; front_saw = refl; back_saw = refl };
+  front_awake = refl;
+  words = length-replicate {A = ℕ} 128 0;
+  fetched = refl;
+  back_awake = refl;
+  works = refl;
+  info = refl;
+  unmapped = refl;
+  unhalted = refl;
+  memory = length-zero_words 1114112;
+  live = refl;
+  made = refl;
+  ports = refl;
+}
+
 pub start_holds : (config : Options) → IsPlain config → Stands config (start_of config) (start_flow (shape_of config) config.start) (pipeline_of config)
 start_holds config plain = record {
   safe = safe_start config;
-  holds = record {
-    started = record { whole = refl; known = refl; closing = refl };
-    shaped = record { whole = refl; narrow = plain.order; known = refl };
-    sized = record { sectors = refl; read_only = refl; writable = λ k r e. absurd (none-some r e); served = λ k r e. absurd (none-some r e); short = λ k r e. absurd (none-some r e) };
-    indices = indices_first config plain;
-    queue = record {
-      known = λ k d lt. absurd (omega arith);
-      ascending = λ i j d lt within. absurd (omega arith);
-      issued = λ k d lt. absurd (omega arith);
-      next = λ j r lt e. absurd (omega arith);
-    };
-    submitted = record { counted = refl; each = λ k r e. absurd (none-some r e); sized = plain.sectors };
-    pool = empty_pooled;
-    stations = start_stations config;
-    works = record { each = λ k d lt. absurd (omega arith); ascending = λ i j d lt within. absurd (omega arith); clear = λ i j d lt within. absurd (omega arith) };
-    counted = refl;
-    info = refl;
-    replies = record { counted = refl; each = λ k d lt. absurd (omega arith); distinct = λ i j d lt within. absurd (omega arith) };
-    front_at = omega arith;
-    offered = (refl, refl);
-    back_at = refl;
-    unhalted = refl;
-    memory = length-zero_words 1114112;
-    ring = record {
-      begun = λ j lt. absurd (omega arith);
-      requests = λ t. absurd (true≢false (sym t));
-      responses = λ t. absurd (true≢false (sym t));
-      named = λ page lt unmapped. absurd (omega arith);
-      granted = λ page lt unmapped. absurd (omega arith);
-    };
-    slots = record {
-      entries = λ k r from to. absurd (omega arith);
-      entry = λ r e. absurd (none-some r e);
-      responses = λ k rep e. absurd (none-some rep e);
-      response = λ rep e. absurd (none-some rep e);
-    };
-    frames = λ k d lt. absurd (omega arith);
-    telling = record { size = length-replicate {A = ℕ} 128 0; so_far = tt };
-    entries = record { each = λ k d lt. absurd (omega arith); ending = λ e same. absurd (none-some e same) };
-    mapped = record { counted = λ test. refl; framed = λ k d lt. absurd (omega arith) };
-    paged = record {
-      shaped = λ t. absurd (true≢false (sym t));
-      entries_are = λ t. absurd (true≢false (sym t));
-      grefs_are = λ t. absurd (true≢false (sym t));
-      port_is = λ t. absurd (true≢false (sym t));
-      mapped = refl;
-      gref = λ page lt. absurd (omega arith);
-      mode = λ page lt. absurd (omega arith);
-    };
-    front_sleep = record {
-      arming = λ t. absurd (true≢false (sym t));
-      armed = λ t. absurd (true≢false (sym t));
-      may = λ t. refl;
-      woken = λ t. absurd (true≢false (sym t));
-    };
-    back_sleep = record {
-      arming = λ t. absurd (true≢false (sym t));
-      armed = λ t. absurd (true≢false (sym t));
-      may = λ t. refl;
-      woken = λ t. absurd (true≢false (sym t));
-    };
-    ports = (refl, refl, refl);
-  };
+  holds = epoch_holds config (start_of config) [] (pipeline_of config) plain (start_begins config) (start_waiting config plain);
 }

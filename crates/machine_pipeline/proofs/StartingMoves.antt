@@ -26,7 +26,7 @@ use Rattle.std.proofs.lemmas.Bool.{cases_eq}
 use Rattle.ring_words.specs.Shape.{Shape}
 use Rattle.grant_table.specs.Table.{entry_word0, entry_word1}
 use Rattle.machine_pipeline.proofs.Turns.{Goes, FrontGoes, said_nothing}
-use Rattle.machine_pipeline.proofs.Kept.{written, other_word, other_frame, other_entry}
+use Rattle.machine_pipeline.proofs.Kept.{SameFrame, written, other_word, other_frame, other_entry}
 use Rattle.machine_pipeline.proofs.Starting.{IsBare, bare_word, bare_frame, bare_fence, bare_flags, bare_port, bare_initialised, none_yet, unbound_of, starts_on}
 use Rattle.machine_pipeline.proofs.Slots.{SameSlots, index_written, beside_written, few_pages, some_pages}
 use Rattle.machine_pipeline.proofs.Granting.{other_named}
@@ -39,13 +39,14 @@ makes : (config : Options) (w : World) (g : Flow) (d : Pipeline) (s s' : FrontSt
     → FrontAt g.shape g.start g.pushed g.taken g.front_seen g.submitted g.replies (next_request w.front) w.front.entry w.front.ending s'
     → length pages ≡ 1114112
     → SameSlots w.under.pages pages
+    → ((f : ℕ) → 18 ≤ f → f < 1018 → SameFrame w.under.pages pages f)
     → AreRingWords g.shape.order g.start g.pushed g.replied pages s' (length w.back.pages)
     → (let x : View = at s' w.front in Goes config (lines.Move m ∷ front_lines x.told) (record { front = record x { told = None }; back = w.back; under = record w.under { pages = pages } }) d)
-makes config w g d s s' m pages told starting going restless i i' h place sized words ring = record {
+makes config w g d s s' m pages told starting going restless i i' h place sized words elsewhere ring = record {
   flow = g;
   steps = [];
   does = said_nothing d m w.front.told told;
-  holds = starts_on config w g d s s' pages w.under.channels starting restless i i' h place sized words ring
+  holds = starts_on config w g d s s' pages w.under.channels starting restless i i' h place sized words elsewhere ring
       (subst (λ (c : Bool). PortsAt c (is_bound_back w.back.stage) w.under.channels.made w.under.channels.ports) (starting ∙ sym going) h.ports);
 }
 
@@ -81,7 +82,8 @@ word_goes config w g d k plain told h = by_last (k == 15) refl
     goes_to : (s' : FrontStage) → is_connected s' ≡ false → IsBare s' → FrontAt g.shape g.start g.pushed g.taken g.front_seen g.submitted g.replies (next_request w.front) w.front.entry w.front.ending s' → AreRingWords g.shape.order g.start g.pushed g.replied pages s' (length w.back.pages)
         → (let x : View = at s' w.front in Goes config (lines.Move (moves.FrontWrite 2 k (fresh_word w.front.start k)) ∷ front_lines x.told) (record { front = record x { told = None }; back = w.back; under = record w.under { pages = pages } }) d)
     goes_to s' going i' place ring = makes config w g d (front.RingWord k) s' (moves.FrontWrite 2 k (fresh_word w.front.start k)) pages told refl going refl (bare_word k) i' h place sized
-        (index_written w.under.pages k (fresh_word w.front.start k) h.front_at) ring
+        (index_written w.under.pages k (fresh_word w.front.start k) h.front_at)
+        (λ f low high. other_frame w.under.pages 2 k (fresh_word w.front.start k) f (let few : k < 16 = h.front_at in omega arith) (omega arith)) ring
 
     at_start : (n : ℕ) → n ≡ 0 → wrapped g.start n ≡ g.start
     at_start n zero = let started = h.started in let whole = started.whole in let few = plain.start in omega arith
@@ -93,8 +95,8 @@ word_goes config w g d k plain told h = by_last (k == 15) refl
         let indices = h.indices in
         goes_to (front.RingFrame 0) refl (bare_frame 0) (some_pages g.shape.order) (record {
           begun = tt;
-          requests = λ u. fresh 0 (omega arith) ∙ sym (at_start g.pushed none.unpushed);
-          responses = λ u. fresh 2 (omega arith) ∙ sym (at_start g.replied (let zero = none.unpushed in let a = indices.replied_fetched in let b = indices.fetched_pushed in omega arith));
+          requests = λ u. fresh 0 (omega arith) ∙ sym (at_start g.pushed none);
+          responses = λ u. fresh 2 (omega arith) ∙ sym (at_start g.replied (let zero = none in let a = indices.replied_fetched in let b = indices.fetched_pushed in omega arith));
           named = λ page lt unmapped. absurd (omega arith);
           granted = λ page lt unmapped. absurd (omega arith);
         })
@@ -120,6 +122,7 @@ frame_goes config w g d page told h =
     makes config w g d (front.RingFrame page) (front.RingFence page) (moves.FrontWrite (entry_frame (ring_page_frame page)) (entry_word (ring_page_frame page) + 1) (ring_page_frame page)) pages told refl refl refl (bare_frame page) (bare_fence page) h h.front_at
     (length-set w.under.pages _ (2 + page) ∙ h.memory)
     (beside_written w.under.pages ((2 + page + 6) / 512) (2 * ((2 + page + 6) % 512) + 1) (2 + page) (omega (arith, few)) (inl (omega (arith, few))))
+    (λ f low high. other_frame w.under.pages ((2 + page + 6) / 512) (2 * ((2 + page + 6) % 512) + 1) (2 + page) f (omega (arith, few)) (omega (arith, few)))
     (record {
       begun = tt;
       requests = λ t. second 0 (omega arith) ∙ ring.requests refl;
@@ -152,7 +155,7 @@ fence_goes : (config : Options) (w : World) (g : Flow) (d : Pipeline) (page : �
     → FrontGoes config w d (front.RingFence page)
 fence_goes config w g d page told h =
     let ring = h.ring in
-    makes config w g d (front.RingFence page) (front.RingFlags page) (moves.Fence mover.Front) w.under.pages told refl refl refl (bare_fence page) (bare_flags page) h h.front_at h.memory (λ f x from to within behind. refl)
+    makes config w g d (front.RingFence page) (front.RingFlags page) (moves.Fence mover.Front) w.under.pages told refl refl refl (bare_fence page) (bare_flags page) h h.front_at h.memory (λ f x from to within behind. refl) (λ f low high x lt. refl)
     (record {
       begun = tt;
       requests = λ t. ring.requests refl;
@@ -208,7 +211,8 @@ flags_goes config w g d page told h = by_last (nat_lt (page + 1) (2 ^ w.front.sh
         → (let x : View = at s' w.front in Goes config (lines.Move (moves.FrontWrite (entry_frame (ring_page_frame page)) (entry_word (ring_page_frame page)) 1) ∷ front_lines x.told) (record { front = record x { told = None }; back = w.back; under = record w.under { pages = pages } }) d)
     goes_to s' going i' place words = makes config w g d (front.RingFlags page) s' (moves.FrontWrite (entry_frame (ring_page_frame page)) (entry_word (ring_page_frame page)) 1) pages told refl going refl (bare_flags page) i' h place
         (length-set w.under.pages _ 1 ∙ h.memory)
-        (beside_written w.under.pages ((2 + page + 6) / 512) (2 * ((2 + page + 6) % 512)) 1 (omega (arith, few)) (inl (omega (arith, few)))) words
+        (beside_written w.under.pages ((2 + page + 6) / 512) (2 * ((2 + page + 6) % 512)) 1 (omega (arith, few)) (inl (omega (arith, few))))
+        (λ f low high. other_frame w.under.pages ((2 + page + 6) / 512) (2 * ((2 + page + 6) % 512)) 1 f (omega (arith, few)) (omega (arith, few))) words
 
     by_last : (b : Bool) → nat_lt (page + 1) (2 ^ w.front.shape.order) ≡ b → (let x : View = at (if b then front.RingFrame (page + 1) else front.NewPort) w.front in Goes config (lines.Move (moves.FrontWrite (entry_frame (ring_page_frame page)) (entry_word (ring_page_frame page)) 1) ∷ front_lines x.told) (record { front = record x { told = None }; back = w.back; under = record w.under { pages = pages } }) d)
     by_last true t =
@@ -246,7 +250,7 @@ port_goes config w g d told h =
       flow = g;
       steps = [];
       does = said_nothing d (moves.FrontPort (w.under.channels.made + 1)) w.front.told told;
-      holds = starts_on config w g d front.NewPort front.Initialised w.under.pages (with_port w.under.channels) refl refl bare_port bare_initialised h tt h.memory (λ f x from to within behind. refl)
+      holds = starts_on config w g d front.NewPort front.Initialised w.under.pages (with_port w.under.channels) refl refl bare_port bare_initialised h tt h.memory (λ f x from to within behind. refl) (λ f low high x lt. refl)
           (record {
             begun = tt;
             requests = λ t. ring.requests refl;
@@ -269,4 +273,5 @@ start_moves config w g d (front.RingFrame page) plain told starting h = frame_go
 start_moves config w g d (front.RingFence page) plain told starting h = fence_goes config w g d page told h
 start_moves config w g d (front.RingFlags page) plain told starting h = flags_goes config w g d page told h
 start_moves config w g d front.NewPort plain told starting h = port_goes config w g d told h
+start_moves config w g d (front.LeftData n) plain told starting h = absurd h.front_at
 start_moves config w g d s plain told starting h = absurd (true≢false starting)

@@ -3,7 +3,7 @@ use Rattle.std.proofs.Common.{◌≡◌, ◌≢◌, ℕ, ◌+◌, ◌-◌, ◌<�
 use Rattle.std.specs.Prelude.{Option, Some, None, slice_get, slice_set, count_by}
 use Rattle.std.specs.List.{list_any}
 use Rattle.std.proofs.lemmas.Option.{same_Some}
-use Rattle.std.proofs.lemmas.Bool.{cases_eq}
+use Rattle.std.proofs.lemmas.Bool.{cases_eq, true≢false}
 use Rattle.blk_base.specs.Options.{Options}
 use Rattle.blk_base.specs.declared.operation.Status.{Status}
 use Rattle.blk_front.specs.declared.request.Request.{Request}
@@ -17,6 +17,7 @@ use Rattle.pipeline_laws.specs.Ring.{Ring}
 use Rattle.pipeline_laws.specs.Pipeline.{Pipeline, Front}
 use Rattle.pipeline_laws.specs.Allowed.{is_unissued}
 use Rattle.machine_pipeline.proofs.Flow.{Flow, count_of, worked, job_of}
+use Rattle.machine_pipeline.proofs.Series.{IsLeft}
 use Rattle.machine_pipeline.proofs.ReadBack.{AreReadBack}
 use Rattle.machine_pipeline.proofs.Lists.{get_set_here, get_set_other, count_set}
 
@@ -39,27 +40,29 @@ pub record AreOpen (asked : List Asked) (requests : List Request) (ending : Opti
 -- its ring is what passed between the ends: each request in turn, and the responses as they came
 pub record IsRing (g : Flow) (ring : Ring) : Type 0 where
   pub pushed : length ring.pushed ≡ g.pushed
-  pub entries : (i : ℕ) → i < g.pushed → slice_get ring.pushed i ≡ Some i
+  pub entries : (i : ℕ) (r : Request) → i < g.pushed → slice_get g.series i ≡ Some r → slice_get ring.pushed i ≡ Some (r.number - 1)
   pub fetched : ring.fetched ≡ g.fetched
   pub replied : length ring.replied ≡ g.replied
   pub responses : (i : ℕ) (rep : Reply) → slice_get g.replies i ≡ Some rep → slice_get ring.replied (g.taken + i) ≡ Some (rep.id - 1)
   pub taken : ring.taken ≡ g.taken
 
--- what wasn't pushed waits at the front, but the request that is being issued
-pub record AreWaiting (pushed : ℕ) (issuing : Bool) (asked : List Asked) : Type 0 where
-  pub issued : issuing ≡ true → StandsAt asked pushed Issuing
-  pub rest : (k : ℕ) → pushed ≤ k → k < length asked → (issuing ≡ true → k ≢ pushed) → StandsAt asked k Waiting
+-- of the series, what wasn't pushed waits at the front, but the request that is being issued
+pub record AreWaiting (series : List Request) (pushed : ℕ) (issuing : Bool) (asked : List Asked) : Type 0 where
+  pub issued : issuing ≡ true → (r : Request) → slice_get series pushed ≡ Some r → StandsAt asked (r.number - 1) Issuing
+  pub rest : (i : ℕ) (r : Request) → pushed ≤ i → slice_get series i ≡ Some r → (issuing ≡ true → i ≢ pushed) → StandsAt asked (r.number - 1) Waiting
 
 -- what was pushed and not fetched waits on the ring, but the request whose entry is being copied
-pub record ArePushed (fetched pushed : ℕ) (fetching : Bool) (asked : List Asked) : Type 0 where
-  pub copied : fetching ≡ true → StandsAt asked fetched Fetching
-  pub rest : (k : ℕ) → fetched ≤ k → k < pushed → (fetching ≡ true → k ≢ fetched) → StandsAt asked k Pushed
+pub record ArePushed (series : List Request) (fetched pushed : ℕ) (fetching : Bool) (asked : List Asked) : Type 0 where
+  pub copied : fetching ≡ true → (r : Request) → slice_get series fetched ≡ Some r → StandsAt asked (r.number - 1) Fetching
+  pub rest : (i : ℕ) (r : Request) → fetched ≤ i → i < pushed → slice_get series i ≡ Some r → (fetching ≡ true → i ≢ fetched) → StandsAt asked (r.number - 1) Pushed
 
-abbrev pub AreIssued : ℕ → List Asked → Type 0
-AreIssued pushed asked = (k : ℕ) (q : Asked) → k < pushed → slice_get asked k ≡ Some q → is_unissued q.station ≡ false
+-- what isn't issued is in the series, and wasn't pushed
+abbrev pub AreIssued : List Request → ℕ → List Asked → Type 0
+AreIssued series pushed asked = (k : ℕ) (q : Asked) → slice_get asked k ≡ Some q → is_unissued q.station ≡ true → IsLeft series pushed k
 
+-- a job's id is its request's number
 abbrev pub AreWorking : List Work → List Asked → Type 0
-AreWorking works asked = (i : ℕ) (t : Work) → slice_get works i ≡ Some t → StandsAt asked (t.number - 1) (worked t.stage t.moved)
+AreWorking works asked = (i : ℕ) (t : Work) → slice_get works i ≡ Some t → StandsAt asked (t.id - 1) (worked t.stage t.moved)
 
 -- stations of one kind have one number
 abbrev pub kind_of : Station → ℕ
@@ -78,7 +81,17 @@ kind_of (Finished status) = 9
 
 -- and each request at work has its job among these
 abbrev pub HaveJobs : List Work → List Asked → Type 0
-HaveJobs works asked = (k : ℕ) (q : Asked) → slice_get asked k ≡ Some q → kind_of q.station ≡ 4 → (i : ℕ) × (t : Work) × (slice_get works i ≡ Some t) × (t.number ≡ k + 1)
+HaveJobs works asked = (k : ℕ) (q : Asked) → slice_get asked k ≡ Some q → kind_of q.station ≡ 4 → (i : ℕ) × (t : Work) × (slice_get works i ≡ Some t) × (t.id ≡ k + 1)
+
+-- a request on its way, whose response wasn't taken
+pub record IsGoing (asked : List Asked) (k : ℕ) : Type 0 where
+  pub q : Asked
+  pub at : slice_get asked k ≡ Some q
+  pub early : kind_of q.station ≤ 6
+
+-- each of the front's requests is
+abbrev pub AreGoing : List Request → List Asked → Type 0
+AreGoing requests asked = (i : ℕ) (r : Request) → slice_get requests i ≡ Some r → IsGoing asked (r.number - 1)
 
 abbrev pub IsResponding : Option Reply → List Asked → Type 0
 IsResponding replying asked = (rep : Reply) → replying ≡ Some rep → StandsAt asked (rep.id - 1) (Replying rep.status)
@@ -105,11 +118,12 @@ pub record AreStations (config : Options) (g : Flow) (d : Pipeline) (connected i
   pub ring : IsRing g d.ring
   pub known : AreKnown g.submitted d.requests
   pub opened : AreOpen d.requests requests ending
-  pub issued : AreIssued g.pushed d.requests
-  pub waiting : AreWaiting g.pushed issuing d.requests
-  pub pushed : ArePushed g.fetched g.pushed fetching d.requests
+  pub issued : AreIssued g.series g.pushed d.requests
+  pub waiting : AreWaiting g.series g.pushed issuing d.requests
+  pub pushed : ArePushed g.series g.fetched g.pushed fetching d.requests
   pub works : AreWorking jobs d.requests
   pub held : HaveJobs jobs d.requests
+  pub going : AreGoing requests d.requests
   pub replying : IsResponding response d.requests
   pub replied : AreReplied g.replies d.requests
   pub taking : IsTaking ending telling d.requests
@@ -187,28 +201,28 @@ open_moved asked moved k from to requests ending m before after h =
       ];
     }
 
-pub issued_moved : (pushed : ℕ) (asked moved : List Asked) (k : ℕ) (from to : Station) → IsMoved asked moved k from to → (k < pushed → is_unissued to ≡ false) → AreIssued pushed asked → AreIssued pushed moved
-issued_moved pushed asked moved k from to m later h j q lt e = elim (cases_eq j k) [
+pub issued_moved : {series : List Request} (pushed : ℕ) (asked moved : List Asked) (k : ℕ) (from to : Station) → IsMoved asked moved k from to → is_unissued to ≡ false → AreIssued series pushed asked → AreIssued series pushed moved
+issued_moved pushed asked moved k from to m later h j q e left = elim (cases_eq j k) [
   | inl same ↦
       let one : m.now ≡ q = same_Some m.now q (sym m.here ∙ ap (slice_get moved) (sym same) ∙ e) in
-      ap (λ (x : Asked). is_unissued x.station) (sym one) ∙ (ap is_unissued m.there ∙ later (omega arith))
-  | inr other ↦ h j q lt (sym (m.others j other) ∙ e)
+      absurd (true≢false (sym left ∙ (ap (λ (x : Asked). is_unissued x.station) (sym one) ∙ (ap is_unissued m.there ∙ later))))
+  | inr other ↦ h j q (sym (m.others j other) ∙ e) left
 ]
 
-pub waiting_moved : (pushed : ℕ) (issuing : Bool) (asked moved : List Asked) (k : ℕ) (from to : Station) → IsMoved asked moved k from to → 2 ≤ kind_of from → AreWaiting pushed issuing asked → AreWaiting pushed issuing moved
+pub waiting_moved : {series : List Request} (pushed : ℕ) (issuing : Bool) (asked moved : List Asked) (k : ℕ) (from to : Station) → IsMoved asked moved k from to → 2 ≤ kind_of from → AreWaiting series pushed issuing asked → AreWaiting series pushed issuing moved
 waiting_moved pushed issuing asked moved k from to m later h = record {
-  issued = λ t. kind_stays asked moved pushed k Issuing from to m (omega arith) (h.issued t);
-  rest = λ j le lt other. kind_stays asked moved j k Waiting from to m (omega arith) (h.rest j le (omega (arith, m.as_many)) other);
+  issued = λ t r at. kind_stays asked moved (r.number - 1) k Issuing from to m (omega arith) (h.issued t r at);
+  rest = λ j r le at other. kind_stays asked moved (r.number - 1) k Waiting from to m (omega arith) (h.rest j r le at other);
 }
 
-pub pushed_moved : (fetched pushed : ℕ) (fetching : Bool) (asked moved : List Asked) (k : ℕ) (from to : Station) → IsMoved asked moved k from to → (kind_of from ≢ 2) → (kind_of from ≢ 3) → ArePushed fetched pushed fetching asked → ArePushed fetched pushed fetching moved
+pub pushed_moved : {series : List Request} (fetched pushed : ℕ) (fetching : Bool) (asked moved : List Asked) (k : ℕ) (from to : Station) → IsMoved asked moved k from to → (kind_of from ≢ 2) → (kind_of from ≢ 3) → ArePushed series fetched pushed fetching asked → ArePushed series fetched pushed fetching moved
 pushed_moved fetched pushed fetching asked moved k from to m one two h = record {
-  copied = λ t. kind_stays asked moved fetched k Fetching from to m (omega (arith, two)) (h.copied t);
-  rest = λ j le lt other. kind_stays asked moved j k Pushed from to m (omega (arith, one)) (h.rest j le lt other);
+  copied = λ t r at. kind_stays asked moved (r.number - 1) k Fetching from to m (omega (arith, two)) (h.copied t r at);
+  rest = λ j r le lt at other. kind_stays asked moved (r.number - 1) k Pushed from to m (omega (arith, one)) (h.rest j r le lt at other);
 }
 
 pub works_moved : (works : List Work) (asked moved : List Asked) (k : ℕ) (from to : Station) → IsMoved asked moved k from to → kind_of from ≢ 4 → AreWorking works asked → AreWorking works moved
-works_moved works asked moved k from to m other h i t e = kind_stays asked moved (t.number - 1) k (worked t.stage t.moved) from to m (omega (arith, worked_kind t.stage t.moved, other)) (h i t e)
+works_moved works asked moved k from to m other h i t e = kind_stays asked moved (t.id - 1) k (worked t.stage t.moved) from to m (omega (arith, worked_kind t.stage t.moved, other)) (h i t e)
 
 -- a request at work, once another came to a station of another kind
 pub moved_was : (asked moved : List Asked) (j k : ℕ) (from to : Station) (q : Asked) → IsMoved asked moved k from to → kind_of to ≢ 4 → slice_get moved j ≡ Some q → kind_of q.station ≡ 4 → (j ≢ k) × (slice_get asked j ≡ Some q)
@@ -221,6 +235,19 @@ moved_was asked moved j k from to q m other at kind = elim (cases_eq j k) [
 
 pub held_moved : (works : List Work) (asked moved : List Asked) (k : ℕ) (from to : Station) → IsMoved asked moved k from to → kind_of to ≢ 4 → HaveJobs works asked → HaveJobs works moved
 held_moved works asked moved k from to m other h j q at kind = let was = moved_was asked moved j k from to q m other at kind in h j q was.1 kind
+
+pub going_moved : (requests : List Request) (asked moved : List Asked) (k : ℕ) (from to : Station) → IsMoved asked moved k from to → (kind_of from ≤ 6 → kind_of to ≤ 6) → AreGoing requests asked → AreGoing requests moved
+going_moved requests asked moved k from to m later h i r e =
+    let was = h i r e in
+    elim (cases_eq (r.number - 1) k) [
+      | inl same ↦
+          let one : was.q ≡ m.was.q = same_Some was.q m.was.q (sym was.at ∙ (ap (slice_get asked) same ∙ m.was.at)) in
+          let before : kind_of (let x : Asked = was.q in x.station) ≡ kind_of from = ap (λ (x : Asked). kind_of x.station) one ∙ ap kind_of m.was.there in
+          let after : kind_of (let x : Asked = m.now in x.station) ≡ kind_of to = ap kind_of m.there in
+          let le = later (omega (arith, before, was.early)) in
+          record { q = m.now; at = ap (slice_get moved) same ∙ m.here; early = omega (arith, after, le) }
+      | inr other ↦ record { q = was.q; at = m.others (r.number - 1) other ∙ was.at; early = was.early }
+    ]
 
 pub replying_moved : (replying : Option Reply) (asked moved : List Asked) (k : ℕ) (from to : Station) → IsMoved asked moved k from to → kind_of from ≢ 5 → IsResponding replying asked → IsResponding replying moved
 replying_moved replying asked moved k from to m other h rep e = kind_stays asked moved (rep.id - 1) k (Replying rep.status) from to m (omega (arith, other)) (h rep e)
@@ -266,6 +293,7 @@ saw_more config g front_seen back_seen d connected issuing fetching ending telli
   pushed = h.pushed;
   works = h.works;
   held = h.held;
+  going = h.going;
   replying = h.replying;
   replied = h.replied;
   taking = h.taking;

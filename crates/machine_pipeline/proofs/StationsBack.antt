@@ -17,22 +17,25 @@ use Rattle.pipeline_laws.specs.Ring.{Ring, ring_after}
 use Rattle.pipeline_laws.specs.Pipeline.{Pipeline, Moves}
 use Rattle.machine_pipeline.specs.Step.{IsSame}
 use Rattle.machine_pipeline.proofs.Flow.{Flow, worked}
+use Rattle.machine_pipeline.proofs.Series.{IsSeries, other_place}
 use Rattle.machine_pipeline.proofs.ReadBack.{IsReadBack, ReadAt, has_data_at}
 use Rattle.machine_pipeline.proofs.ReadsKept.{reads_moved, reads_fetched, reads_set, reads_step, reads_fewer}
 use Rattle.machine_pipeline.proofs.Lists.{pair_at, set_was, get_set_here, get_set_other, get_append, get_last}
 use Rattle.machine_pipeline.proofs.Growing.{push_was}
 use Rattle.machine_pipeline.proofs.Removals.{removed_was, removed_has}
 use Rattle.machine_pipeline.proofs.Turns.{Stepped}
-use Rattle.machine_pipeline.proofs.Stations.{StandsAt, apart as stands_apart, AreStations, AreWorking, HaveJobs, IsRing, IsMoved, is_moved, stands_now, other_stays, kind_of, worked_kind, worked_open, worked_issued, known_moved, open_moved, issued_moved, waiting_moved, pushed_moved, works_moved, moved_was, held_moved, replying_moved, replied_moved, taking_moved}
+use Rattle.machine_pipeline.proofs.Stations.{StandsAt, apart as stands_apart, AreStations, AreWorking, HaveJobs, IsRing, IsMoved, is_moved, stands_now, other_stays, kind_of, worked_kind, worked_open, worked_issued, known_moved, open_moved, issued_moved, waiting_moved, pushed_moved, works_moved, moved_was, held_moved, going_moved, replying_moved, replied_moved, taking_moved}
 
 -- the next entry is begun to be copied
-pub begins_fetch : (config : Options) (g : Flow) (d : Pipeline) (connected issuing : Bool) (ending : Option Ending) (telling : Option ℕ) (replying : Option Reply) (requests : List Request) (works : List Work) (pages : List ℕ)
+pub begins_fetch : (config : Options) (g : Flow) (d : Pipeline) (connected issuing : Bool) (ending : Option Ending) (telling : Option ℕ) (replying : Option Reply) (requests : List Request) (works : List Work) (pages : List ℕ) (r : Request)
+    → IsSeries g.submitted g.series
+    → slice_get g.series g.fetched ≡ Some r
     → g.fetched < g.pushed
     → AreStations config g d connected issuing false ending telling replying requests works pages
     → Stepped None IsSame d [] (λ p. AreStations config g p connected issuing true ending telling replying requests works pages)
-begins_fetch config g d connected issuing ending telling replying requests works pages more h = record {
-  step = Moves g.fetched x.q BeginsFetch;
-  allowed = (record { here = x.at; there = x.there }, ap (slice_get (let ring : Ring = d.ring in ring.pushed)) h.ring.fetched ∙ h.ring.entries g.fetched more);
+begins_fetch config g d connected issuing ending telling replying requests works pages r series next more h = record {
+  step = Moves k x.q BeginsFetch;
+  allowed = (record { here = x.at; there = x.there }, ap (slice_get (let ring : Ring = d.ring in ring.pushed)) h.ring.fetched ∙ h.ring.entries g.fetched r more next);
   shows = refl;
   asks = refl;
   disk = λ a b e. e;
@@ -40,43 +43,50 @@ begins_fetch config g d connected issuing ending telling replying requests works
     options = h.options;
     front = h.front;
     ring = h.ring;
-    known = known_moved g.submitted d.requests new g.fetched Pushed Fetching m h.known;
-    opened = open_moved d.requests new g.fetched Pushed Fetching requests ending m refl refl h.opened;
-    issued = issued_moved g.pushed d.requests new g.fetched Pushed Fetching m (λ lt. refl) h.issued;
-    waiting = waiting_moved g.pushed issuing d.requests new g.fetched Pushed Fetching m (omega arith) h.waiting;
+    known = known_moved g.submitted d.requests new k Pushed Fetching m h.known;
+    opened = open_moved d.requests new k Pushed Fetching requests ending m refl refl h.opened;
+    issued = issued_moved g.pushed d.requests new k Pushed Fetching m refl h.issued;
+    waiting = waiting_moved g.pushed issuing d.requests new k Pushed Fetching m (omega arith) h.waiting;
     pushed = record {
-      copied = λ t. stands_now d.requests new g.fetched Pushed Fetching m;
-      rest = λ j le lt other. other_stays d.requests new j g.fetched Pushed Pushed Fetching m (other refl) (h.pushed.rest j le lt (λ t. absurd (false≢true t)));
+      copied = λ t y at. subst (λ (z : Request). StandsAt new (z.number - 1) Fetching) (same_Some r y (sym next ∙ at)) (stands_now d.requests new k Pushed Fetching m);
+      rest = λ j y le lt at other. other_stays d.requests new (y.number - 1) k Pushed Pushed Fetching m
+          (other_place g.submitted g.series j g.fetched y r series at next (other refl)) (h.pushed.rest j y le lt at (λ t. absurd (false≢true t)));
     };
-    works = works_moved works d.requests new g.fetched Pushed Fetching m (omega arith) h.works;
-    held = held_moved works d.requests new g.fetched Pushed Fetching m (omega arith) h.held;
-    replying = replying_moved replying d.requests new g.fetched Pushed Fetching m (omega arith) h.replying;
-    replied = replied_moved g.replies d.requests new g.fetched Pushed Fetching m (omega arith) h.replied;
-    taking = taking_moved ending telling d.requests new g.fetched Pushed Fetching m (omega arith) h.taking;
-    reads = reads_moved g.submitted d.requests new works pages g.fetched Pushed Fetching m refl (λ t. absurd (false≢true t)) h.reads;
+    works = works_moved works d.requests new k Pushed Fetching m (omega arith) h.works;
+    held = held_moved works d.requests new k Pushed Fetching m (omega arith) h.held;
+    going = going_moved requests d.requests new k Pushed Fetching m (λ le. omega arith) h.going;
+    replying = replying_moved replying d.requests new k Pushed Fetching m (omega arith) h.replying;
+    replied = replied_moved g.replies d.requests new k Pushed Fetching m (omega arith) h.replied;
+    taking = taking_moved ending telling d.requests new k Pushed Fetching m (omega arith) h.taking;
+    reads = reads_moved g.submitted d.requests new works pages k Pushed Fetching m refl (λ t. absurd (false≢true t)) h.reads;
   };
 }
   where
-    x : StandsAt d.requests g.fetched Pushed
-    x = h.pushed.rest g.fetched (omega arith) more (λ t. absurd (false≢true t))
+    k : ℕ
+    k = r.number - 1
+
+    x : StandsAt d.requests k Pushed
+    x = h.pushed.rest g.fetched r (omega arith) more next (λ t. absurd (false≢true t))
 
     new : List Asked
-    new = slice_set d.requests g.fetched (moved x.q BeginsFetch)
+    new = slice_set d.requests k (moved x.q BeginsFetch)
 
-    m : IsMoved d.requests new g.fetched Pushed Fetching
-    m = is_moved d.requests g.fetched Pushed Fetching x.q (moved x.q BeginsFetch) x.at x.there refl refl
+    m : IsMoved d.requests new k Pushed Fetching
+    m = is_moved d.requests k Pushed Fetching x.q (moved x.q BeginsFetch) x.at x.there refl refl
 
 -- it is copied, and a job made of it
-pub fetches : (config : Options) (g : Flow) (d : Pipeline) (connected issuing : Bool) (ending : Option Ending) (telling : Option ℕ) (replying : Option Reply) (requests : List Request) (works : List Work) (pages : List ℕ) (t : Work)
+pub fetches : (config : Options) (g : Flow) (d : Pipeline) (connected issuing : Bool) (ending : Option Ending) (telling : Option ℕ) (replying : Option Reply) (requests : List Request) (works : List Work) (pages : List ℕ) (t : Work) (r : Request)
+    → IsSeries g.submitted g.series
+    → slice_get g.series g.fetched ≡ Some r
     → g.fetched < g.pushed
-    → t.number ≡ g.fetched + 1
+    → t.id ≡ r.number
     → worked t.stage t.moved ≡ Working 0
     → ((r : Request) → ReadAt pages r t.moved t.words [] t.stage)
     → AreStations config g d connected issuing true ending telling replying requests works pages
     → Stepped None IsSame d [] (λ p. AreStations config (record g { fetched = g.fetched + 1 }) p connected issuing false ending telling replying requests (works ++ t ∷ []) pages)
-fetches config g d connected issuing ending telling replying requests works pages t more number begun unread h = record {
-  step = Moves g.fetched x.q Fetches;
-  allowed = (record { here = x.at; there = x.there }, ap (slice_get (let ring : Ring = d.ring in ring.pushed)) h.ring.fetched ∙ h.ring.entries g.fetched more);
+fetches config g d connected issuing ending telling replying requests works pages t r series next more number begun unread h = record {
+  step = Moves k x.q Fetches;
+  allowed = (record { here = x.at; there = x.there }, ap (slice_get (let ring : Ring = d.ring in ring.pushed)) h.ring.fetched ∙ h.ring.entries g.fetched r more next);
   shows = refl;
   asks = refl;
   disk = λ a b e. e;
@@ -84,73 +94,78 @@ fetches config g d connected issuing ending telling replying requests works page
     options = h.options;
     front = h.front;
     ring = record { pushed = h.ring.pushed; entries = h.ring.entries; fetched = omega (arith, h.ring.fetched); replied = h.ring.replied; responses = h.ring.responses; taken = h.ring.taken };
-    known = known_moved g.submitted d.requests new g.fetched Fetching (Working 0) m h.known;
-    opened = open_moved d.requests new g.fetched Fetching (Working 0) requests ending m refl refl h.opened;
-    issued = issued_moved g.pushed d.requests new g.fetched Fetching (Working 0) m (λ lt. refl) h.issued;
-    waiting = waiting_moved g.pushed issuing d.requests new g.fetched Fetching (Working 0) m (omega arith) h.waiting;
+    known = known_moved g.submitted d.requests new k Fetching (Working 0) m h.known;
+    opened = open_moved d.requests new k Fetching (Working 0) requests ending m refl refl h.opened;
+    issued = issued_moved g.pushed d.requests new k Fetching (Working 0) m refl h.issued;
+    waiting = waiting_moved g.pushed issuing d.requests new k Fetching (Working 0) m (omega arith) h.waiting;
     pushed = record {
       copied = λ t. absurd (false≢true t);
-      rest = λ j le lt other. other_stays d.requests new j g.fetched Pushed Fetching (Working 0) m (omega arith) (h.pushed.rest j (omega arith) lt (λ u. omega arith));
+      rest = λ j y le lt at other. other_stays d.requests new (y.number - 1) k Pushed Fetching (Working 0) m
+          (other_place g.submitted g.series j g.fetched y r series at next (omega arith)) (h.pushed.rest j y (omega arith) lt at (λ u. omega arith));
     };
     works = working;
     held = held;
-    replying = replying_moved replying d.requests new g.fetched Fetching (Working 0) m (omega arith) h.replying;
-    replied = replied_moved g.replies d.requests new g.fetched Fetching (Working 0) m (omega arith) h.replied;
-    taking = taking_moved ending telling d.requests new g.fetched Fetching (Working 0) m (omega arith) h.taking;
-    reads = reads_fetched g.submitted d.requests new works pages g.fetched Fetching (Working 0) m t
-        (λ i u at. stands_apart d.requests (u.number - 1) g.fetched (worked u.stage u.moved) Fetching (h.works i u at) (h.pushed.copied refl) (omega (arith, worked_kind u.stage u.moved)))
+    going = going_moved requests d.requests new k Fetching (Working 0) m (λ le. omega arith) h.going;
+    replying = replying_moved replying d.requests new k Fetching (Working 0) m (omega arith) h.replying;
+    replied = replied_moved g.replies d.requests new k Fetching (Working 0) m (omega arith) h.replied;
+    taking = taking_moved ending telling d.requests new k Fetching (Working 0) m (omega arith) h.taking;
+    reads = reads_fetched g.submitted d.requests new works pages k Fetching (Working 0) m t
+        (λ i u at. stands_apart d.requests (u.id - 1) k (worked u.stage u.moved) Fetching (h.works i u at) x (omega (arith, worked_kind u.stage u.moved)))
         (omega (arith, number)) refl refl unread h.reads;
   };
 }
   where
-    x : StandsAt d.requests g.fetched Fetching
-    x = h.pushed.copied refl
+    k : ℕ
+    k = r.number - 1
+
+    x : StandsAt d.requests k Fetching
+    x = h.pushed.copied refl r next
 
     new : List Asked
-    new = slice_set d.requests g.fetched (moved x.q Fetches)
+    new = slice_set d.requests k (moved x.q Fetches)
 
-    m : IsMoved d.requests new g.fetched Fetching (Working 0)
-    m = is_moved d.requests g.fetched Fetching (Working 0) x.q (moved x.q Fetches) x.at x.there refl refl
+    m : IsMoved d.requests new k Fetching (Working 0)
+    m = is_moved d.requests k Fetching (Working 0) x.q (moved x.q Fetches) x.at x.there refl refl
 
     working : AreWorking (works ++ t ∷ []) new
     working i u e = elim (push_was works t i u e) [
-      | inl was ↦ works_moved works d.requests new g.fetched Fetching (Working 0) m (omega arith) h.works i u was
+      | inl was ↦ works_moved works d.requests new k Fetching (Working 0) m (omega arith) h.works i u was
       | inr last ↦
-          let at : t.number - 1 ≡ g.fetched = omega (arith, number) in
-          subst (λ (v : Work). StandsAt new (v.number - 1) (worked v.stage v.moved)) (sym last.1)
-          (subst (λ (s : Station). StandsAt new (t.number - 1) s) (sym begun) (subst (λ (k : ℕ). StandsAt new k (Working 0)) (sym at) (stands_now d.requests new g.fetched Fetching (Working 0) m)))
+          let at : t.id - 1 ≡ k = omega (arith, number) in
+          subst (λ (v : Work). StandsAt new (v.id - 1) (worked v.stage v.moved)) (sym last.1)
+          (subst (λ (s : Station). StandsAt new (t.id - 1) s) (sym begun) (subst (λ (n : ℕ). StandsAt new n (Working 0)) (sym at) (stands_now d.requests new k Fetching (Working 0) m)))
     ]
 
     held : HaveJobs (works ++ t ∷ []) new
-    held j q at kind = elim (cases_eq j g.fetched) [
-      | inl same ↦ (length works, t, get_last works t, omega (arith, number, same))
+    held j q at kind = elim (cases_eq j k) [
+      | inl same ↦ (length works, t, get_last works t, (let positive = series.positive g.fetched r next in omega (arith, number, same)))
       | inr other ↦
           let was = h.held j q (sym (m.others j other) ∙ at) kind in
           (was.0, was.1, get_append works (t ∷ []) was.0 was.1 was.2, was.3)
     ]
 
 -- a job whose stage is another, of the same station
-pub works_at : (asked : List Asked) (works : List Work) (place : ℕ) (t t' : Work) → slice_get works place ≡ Some t → t'.number ≡ t.number → worked t'.stage t'.moved ≡ worked t.stage t.moved → AreWorking works asked → AreWorking (slice_set works place t') asked
+pub works_at : (asked : List Asked) (works : List Work) (place : ℕ) (t t' : Work) → slice_get works place ≡ Some t → t'.id ≡ t.id → worked t'.stage t'.moved ≡ worked t.stage t.moved → AreWorking works asked → AreWorking (slice_set works place t') asked
 works_at asked works place t t' here number same h i u e = elim (set_was works place i t t' u here e) [
   | inl it ↦
-      subst (λ (v : Work). StandsAt asked (v.number - 1) (worked v.stage v.moved)) (sym it.1)
-      (subst (λ (s : Station). StandsAt asked (t'.number - 1) s) (sym same) (subst (λ (n : ℕ). StandsAt asked (n - 1) (worked t.stage t.moved)) (sym number) (h place t here)))
+      subst (λ (v : Work). StandsAt asked (v.id - 1) (worked v.stage v.moved)) (sym it.1)
+      (subst (λ (s : Station). StandsAt asked (t'.id - 1) s) (sym same) (subst (λ (n : ℕ). StandsAt asked (n - 1) (worked t.stage t.moved)) (sym number) (h place t here)))
   | inr other ↦ h i u other.1
 ]
 
 -- it is among the jobs as before
-set_has : (works : List Work) (place n : ℕ) (t t' : Work) → slice_get works place ≡ Some t → t'.number ≡ t.number → (i : ℕ) × (u : Work) × (slice_get works i ≡ Some u) × (u.number ≡ n)
-    → (i : ℕ) × (u : Work) × (slice_get (slice_set works place t') i ≡ Some u) × (u.number ≡ n)
+set_has : (works : List Work) (place n : ℕ) (t t' : Work) → slice_get works place ≡ Some t → t'.id ≡ t.id → (i : ℕ) × (u : Work) × (slice_get works i ≡ Some u) × (u.id ≡ n)
+    → (i : ℕ) × (u : Work) × (slice_get (slice_set works place t') i ≡ Some u) × (u.id ≡ n)
 set_has works place n t t' here number was = elim (cases_eq was.0 place) [
   | inl same ↦
       let one : was.1 ≡ t = same_Some was.1 t (sym was.2 ∙ (ap (slice_get works) same ∙ here)) in
-      (place, t', get_set_here works place t t' here, number ∙ (ap (λ (v : Work). v.number) (sym one) ∙ was.3))
+      (place, t', get_set_here works place t t' here, number ∙ (ap (λ (v : Work). v.id) (sym one) ∙ was.3))
   | inr other ↦ (was.0, was.1, get_set_other works place was.0 t' (λ e. other (sym e)) ∙ was.2, was.3)
 ]
 
 pub job_stays : (config : Options) (g : Flow) (d : Pipeline) (connected issuing fetching : Bool) (ending : Option Ending) (telling : Option ℕ) (replying : Option Reply) (requests : List Request) (works : List Work) (pages : List ℕ) (place : ℕ) (t t' : Work)
-    → slice_get works place ≡ Some t → t'.number ≡ t.number → worked t'.stage t'.moved ≡ worked t.stage t.moved
-    → ((r : Request) (q : Asked) → slice_get g.submitted (t'.number - 1) ≡ Some r → slice_get d.requests (t'.number - 1) ≡ Some q → is_write r.transfer ≡ false → ReadAt pages r t'.moved t'.words q.words t'.stage)
+    → slice_get works place ≡ Some t → t'.id ≡ t.id → worked t'.stage t'.moved ≡ worked t.stage t.moved
+    → ((r : Request) (q : Asked) → slice_get g.submitted (t'.id - 1) ≡ Some r → slice_get d.requests (t'.id - 1) ≡ Some q → is_write r.transfer ≡ false → ReadAt pages r t'.moved t'.words q.words t'.stage)
     → AreStations config g d connected issuing fetching ending telling replying requests works pages
     → AreStations config g d connected issuing fetching ending telling replying requests (slice_set works place t') pages
 job_stays config g d connected issuing fetching ending telling replying requests works pages place t t' here number same now h = record {
@@ -163,6 +178,7 @@ job_stays config g d connected issuing fetching ending telling replying requests
   waiting = h.waiting;
   pushed = h.pushed;
   works = works_at d.requests works place t t' here number same h.works;
+  going = h.going;
   held = λ k q at kind. set_has works place (k + 1) t t' here number (h.held k q at kind);
   replying = h.replying;
   replied = h.replied;
@@ -171,41 +187,42 @@ job_stays config g d connected issuing fetching ending telling replying requests
 }
 
 -- another job has another request
-pub other_number : (works : List Work) (place i : ℕ) (t u : Work) → AllPairs (λ (a b : Work). a.number < b.number) works → ((j : ℕ) (v : Work) → slice_get works j ≡ Some v → 1 ≤ v.number) → slice_get works place ≡ Some t → i ≢ place → slice_get works i ≡ Some u → u.number - 1 ≢ t.number - 1
+pub other_number : (works : List Work) (place i : ℕ) (t u : Work) → AllPairs (λ (a b : Work). a.id < b.id) works → ((j : ℕ) (v : Work) → slice_get works j ≡ Some v → 1 ≤ v.id) → slice_get works place ≡ Some t → i ≢ place → slice_get works i ≡ Some u → u.id - 1 ≢ t.id - 1
 other_number works place i t u ascending positive here other at same =
     let first = positive place t here in
     let second = positive i u at in
     elim (cases_lt i place) [
-      | inl before ↦ (let up = pair_at (λ (a b : Work). a.number < b.number) works i place u t ascending before at here in omega arith)
-      | inr later ↦ (let up = pair_at (λ (a b : Work). a.number < b.number) works place i t u ascending (omega arith) here at in omega arith)
+      | inl before ↦ (let up = pair_at (λ (a b : Work). a.id < b.id) works i place u t ascending before at here in omega arith)
+      | inr later ↦ (let up = pair_at (λ (a b : Work). a.id < b.id) works place i t u ascending (omega arith) here at in omega arith)
     ]
 
 -- a job makes a move of its request
-pub job_steps : (config : Options) (g : Flow) (d : Pipeline) (connected issuing fetching : Bool) (ending : Option Ending) (telling : Option ℕ) (replying : Option Reply) (requests : List Request) (works : List Work) (pages : List ℕ) (place : ℕ) (t t' : Work) (x : StandsAt d.requests (t.number - 1) (worked t.stage t.moved)) (move : Move)
+pub job_steps : (config : Options) (g : Flow) (d : Pipeline) (connected issuing fetching : Bool) (ending : Option Ending) (telling : Option ℕ) (replying : Option Reply) (requests : List Request) (works : List Work) (pages : List ℕ) (place : ℕ) (t t' : Work) (x : StandsAt d.requests (t.id - 1) (worked t.stage t.moved)) (move : Move)
     → slice_get works place ≡ Some t
-    → AllPairs (λ (a b : Work). a.number < b.number) works
-    → ((i : ℕ) (u : Work) → slice_get works i ≡ Some u → 1 ≤ u.number)
-    → t'.number ≡ t.number
+    → AllPairs (λ (a b : Work). a.id < b.id) works
+    → ((i : ℕ) (u : Work) → slice_get works i ≡ Some u → 1 ≤ u.id)
+    → t'.id ≡ t.id
     → (let q : Asked = x.q in station_after q.job move) ≡ worked t'.stage t'.moved
-    → ring_after d.ring (t.number - 1) move ≡ d.ring
-    → ((r : Request) → slice_get g.submitted (t.number - 1) ≡ Some r → is_write r.transfer ≡ false → (let q : Asked = x.q in ReadAt pages r t'.moved t'.words (words_after move q.words) t'.stage × (has_data_at (worked t'.stage t'.moved) ≡ true → IsReadBack pages r r.count (words_after move q.words))))
+    → ring_after d.ring (t.id - 1) move ≡ d.ring
+    → ((r : Request) → slice_get g.submitted (t.id - 1) ≡ Some r → is_write r.transfer ≡ false → (let q : Asked = x.q in ReadAt pages r t'.moved t'.words (words_after move q.words) t'.stage × (has_data_at (worked t'.stage t'.moved) ≡ true → IsReadBack pages r r.count (words_after move q.words))))
     → AreStations config g d connected issuing fetching ending telling replying requests works pages
-    → AreStations config g (record d { requests = slice_set d.requests (t.number - 1) (moved x.q move); ring = ring_after d.ring (t.number - 1) move }) connected issuing fetching ending telling replying requests (slice_set works place t') pages
+    → AreStations config g (record d { requests = slice_set d.requests (t.id - 1) (moved x.q move); ring = ring_after d.ring (t.id - 1) move }) connected issuing fetching ending telling replying requests (slice_set works place t') pages
 job_steps config g d connected issuing fetching ending telling replying requests works pages place t t' x move here ascending positive number after still now h = record {
   options = h.options;
   front = h.front;
   ring = subst (IsRing g) (sym still) h.ring;
   known = known_moved g.submitted d.requests new k from to m h.known;
   opened = open_moved d.requests new k from to requests ending m (worked_open t.stage t.moved) (worked_open t'.stage t'.moved) h.opened;
-  issued = issued_moved g.pushed d.requests new k from to m (λ lt. worked_issued t'.stage t'.moved) h.issued;
+  issued = issued_moved g.pushed d.requests new k from to m (worked_issued t'.stage t'.moved) h.issued;
   waiting = waiting_moved g.pushed issuing d.requests new k from to m (omega (arith, kind)) h.waiting;
   pushed = pushed_moved g.fetched g.pushed fetching d.requests new k from to m (omega (arith, kind)) (omega (arith, kind)) h.pushed;
   works = λ i u e. elim (set_was works place i t t' u here e) [
     | inl it ↦
-        subst (λ (v : Work). StandsAt new (v.number - 1) (worked v.stage v.moved)) (sym it.1)
+        subst (λ (v : Work). StandsAt new (v.id - 1) (worked v.stage v.moved)) (sym it.1)
         (subst (λ (n : ℕ). StandsAt new (n - 1) to) (sym number) (stands_now d.requests new k from to m))
-    | inr other ↦ other_stays d.requests new (u.number - 1) k (worked u.stage u.moved) from to m (apart i u other.0 other.1) (h.works i u other.1)
+    | inr other ↦ other_stays d.requests new (u.id - 1) k (worked u.stage u.moved) from to m (apart i u other.0 other.1) (h.works i u other.1)
   ];
+  going = going_moved requests d.requests new k from to m (λ le. omega (arith, worked_kind t'.stage t'.moved)) h.going;
   held = λ j q at at_work. elim (cases_eq j k) [
     | inl same ↦ (place, t', get_set_here works place t t' here, let first = positive place t here in omega (arith, number, same))
     | inr other ↦ set_has works place (j + 1) t t' here number (h.held j q (sym (m.others j other) ∙ at) at_work)
@@ -217,7 +234,7 @@ job_steps config g d connected issuing fetching ending telling replying requests
 }
   where
     k : ℕ
-    k = t.number - 1
+    k = t.id - 1
 
     from : Station
     from = worked t.stage t.moved
@@ -234,16 +251,16 @@ job_steps config g d connected issuing fetching ending telling replying requests
     m : IsMoved d.requests new k from to
     m = is_moved d.requests k from to x.q (moved x.q move) x.at x.there after refl
 
-    apart : (i : ℕ) (u : Work) → i ≢ place → slice_get works i ≡ Some u → u.number - 1 ≢ k
+    apart : (i : ℕ) (u : Work) → i ≢ place → slice_get works i ≡ Some u → u.id - 1 ≢ k
     apart i u other at = other_number works place i t u ascending positive here other at
 
 -- the result of a job that is done is taken, and its response begun
 pub begins_response : (config : Options) (g : Flow) (d : Pipeline) (connected issuing fetching : Bool) (ending : Option Ending) (telling : Option ℕ) (requests : List Request) (works : List Work) (pages : List ℕ) (place : ℕ) (t : Work) (rep : Reply)
     → slice_get works place ≡ Some t
     → worked t.stage t.moved ≡ Ended rep.status
-    → rep.id ≡ t.number
-    → AllPairs (λ (a b : Work). a.number < b.number) works
-    → ((i : ℕ) (u : Work) → slice_get works i ≡ Some u → 1 ≤ u.number)
+    → rep.id ≡ t.id
+    → AllPairs (λ (a b : Work). a.id < b.id) works
+    → ((i : ℕ) (u : Work) → slice_get works i ≡ Some u → 1 ≤ u.id)
     → AreStations config g d connected issuing fetching ending telling None requests works pages
     → Stepped None IsSame d [] (λ p. AreStations config g p connected issuing fetching ending telling (Some rep) requests (remove works place) pages)
 begins_response config g d connected issuing fetching ending telling requests works pages place t rep here done number ascending positive h = record {
@@ -258,18 +275,19 @@ begins_response config g d connected issuing fetching ending telling requests wo
     ring = h.ring;
     known = known_moved g.submitted d.requests new k from to m h.known;
     opened = open_moved d.requests new k from to requests ending m refl refl h.opened;
-    issued = issued_moved g.pushed d.requests new k from to m (λ lt. refl) h.issued;
+    issued = issued_moved g.pushed d.requests new k from to m refl h.issued;
     waiting = waiting_moved g.pushed issuing d.requests new k from to m (omega arith) h.waiting;
     pushed = pushed_moved g.fetched g.pushed fetching d.requests new k from to m (omega arith) (omega arith) h.pushed;
     works = λ i u e.
         let was = removed_was works place i u e in
-        other_stays d.requests new (u.number - 1) k (worked u.stage u.moved) from to m (apart was.0 u was.1 was.2) (h.works was.0 u was.2);
+        other_stays d.requests new (u.id - 1) k (worked u.stage u.moved) from to m (apart was.0 u was.1 was.2) (h.works was.0 u was.2);
+    going = going_moved requests d.requests new k from to m (λ le. omega arith) h.going;
     held = λ j q at kind.
         let was = moved_was d.requests new j k from to q m (omega arith) at kind in
         let its = h.held j q was.1 kind in
         let left = removed_has works place its.0 its.1 its.2 (λ same.
         let one : its.1 ≡ t = same_Some its.1 t (sym its.2 ∙ (ap (slice_get works) same ∙ here)) in
-        let numbered : (let u : Work = its.1 in u.number) ≡ t.number = ap (λ (u : Work). u.number) one in
+        let numbered : (let u : Work = its.1 in u.id) ≡ t.id = ap (λ (u : Work). u.id) one in
         was.0 (omega (arith, numbered, its.3))) in
         (left.0, its.1, left.1, its.3);
     replying = λ r same.
@@ -283,7 +301,7 @@ begins_response config g d connected issuing fetching ending telling requests wo
 }
   where
     k : ℕ
-    k = t.number - 1
+    k = t.id - 1
 
     from : Station
     from = Ended rep.status
@@ -300,7 +318,7 @@ begins_response config g d connected issuing fetching ending telling requests wo
     m : IsMoved d.requests new k from to
     m = is_moved d.requests k from to x.q (moved x.q (BeginsResponse rep.status)) x.at x.there refl refl
 
-    apart : (i : ℕ) (u : Work) → i ≢ place → slice_get works i ≡ Some u → u.number - 1 ≢ k
+    apart : (i : ℕ) (u : Work) → i ≢ place → slice_get works i ≡ Some u → u.id - 1 ≢ k
     apart i u other at = other_number works place i t u ascending positive here other at
 
 -- the response is pushed
@@ -336,11 +354,12 @@ replies config g d connected issuing fetching ending telling requests works page
     ring = ring_replied g d.ring rep counted h.ring;
     known = known_moved g.submitted d.requests new k from to m h.known;
     opened = open_moved d.requests new k from to requests ending m refl refl h.opened;
-    issued = issued_moved g.pushed d.requests new k from to m (λ lt. refl) h.issued;
+    issued = issued_moved g.pushed d.requests new k from to m refl h.issued;
     waiting = waiting_moved g.pushed issuing d.requests new k from to m (omega arith) h.waiting;
     pushed = pushed_moved g.fetched g.pushed fetching d.requests new k from to m (omega arith) (omega arith) h.pushed;
     works = works_moved works d.requests new k from to m (omega arith) h.works;
     held = held_moved works d.requests new k from to m (omega arith) h.held;
+    going = going_moved requests d.requests new k from to m (λ le. omega arith) h.going;
     replying = λ r none. absurd (none-some r none);
     replied = λ i other e. elim (push_was g.replies rep i other e) [
       | inl was ↦ replied_moved g.replies d.requests new k from to m (omega arith) h.replied i other was

@@ -27,11 +27,13 @@ use Rattle.machine_pipeline.proofs.Flow.{Flow, worked, job_of, data_word}
 use Rattle.machine_pipeline.proofs.ReadBack.{IsReadBack, has_data_at}
 use Rattle.machine_pipeline.proofs.ReadsKept.{reads_moved, reads_more}
 use Rattle.machine_pipeline.proofs.Lists.{same_words, all_at, pair_at, get_append, get_last, get_within}
+use Rattle.machine_pipeline.proofs.Series.{IsSeries, IsLeft, before as index_before, other_place, grown_before}
 use Rattle.machine_pipeline.proofs.Holds.{AreReplies, IsReply}
 use Rattle.machine_pipeline.proofs.Taking.{dropped, opened_without}
-use Rattle.machine_pipeline.proofs.Growing.{longer, push_was, known_more, opened_more}
+use Rattle.machine_pipeline.proofs.Growing.{push_was, known_more, opened_more}
+use Rattle.machine_pipeline.proofs.Removals.{removed_was}
 use Rattle.machine_pipeline.proofs.Turns.{Stepped}
-use Rattle.machine_pipeline.proofs.Stations.{StandsAt, AreStations, finishing, kind_of, AreOpen, AreIssued, AreReplied, IsRing, IsMoved, is_moved, stands_now, other_stays, known_moved, open_moved, issued_moved, waiting_moved, pushed_moved, works_moved, held_moved, replying_moved, replied_moved, taking_moved}
+use Rattle.machine_pipeline.proofs.Stations.{StandsAt, AreStations, finishing, kind_of, AreOpen, AreIssued, AreReplied, IsRing, IsMoved, is_moved, stands_now, other_stays, known_moved, open_moved, issued_moved, waiting_moved, pushed_moved, works_moved, held_moved, going_moved, IsGoing, replying_moved, replied_moved, taking_moved}
 
 -- the front begins to close
 pub starts_to_close : (config : Options) (g : Flow) (d : Pipeline) (connected issuing fetching : Bool) (ending : Option Ending) (telling : Option ℕ) (replying : Option Reply) (requests : List Request) (works : List Work) (pages : List ℕ)
@@ -55,6 +57,7 @@ starts_to_close config g d connected issuing fetching ending telling replying re
     pushed = h.pushed;
     works = h.works;
     held = h.held;
+    going = h.going;
     replying = h.replying;
     replied = h.replied;
     taking = h.taking;
@@ -83,6 +86,7 @@ connects config g d issuing fetching ending telling replying requests works page
     pushed = h.pushed;
     works = h.works;
     held = h.held;
+    going = h.going;
     replying = h.replying;
     replied = h.replied;
     taking = h.taking;
@@ -91,12 +95,13 @@ connects config g d issuing fetching ending telling replying requests works page
 }
 
 -- the next request's entry is begun
-pub begins_entry : (config : Options) (g : Flow) (d : Pipeline) (connected fetching : Bool) (ending : Option Ending) (telling : Option ℕ) (replying : Option Reply) (requests : List Request) (works : List Work) (pages : List ℕ)
-    → g.pushed < length d.requests
+pub begins_entry : (config : Options) (g : Flow) (d : Pipeline) (connected fetching : Bool) (ending : Option Ending) (telling : Option ℕ) (replying : Option Reply) (requests : List Request) (works : List Work) (pages : List ℕ) (r : Request)
+    → IsSeries g.submitted g.series
+    → slice_get g.series g.pushed ≡ Some r
     → AreStations config g d connected false fetching ending telling replying requests works pages
     → Stepped None IsSame d [] (λ p. AreStations config g p connected true fetching ending telling replying requests works pages)
-begins_entry config g d connected fetching ending telling replying requests works pages within h = record {
-  step = Moves g.pushed x.q BeginsEntry;
+begins_entry config g d connected fetching ending telling replying requests works pages r series next h = record {
+  step = Moves (r.number - 1) x.q BeginsEntry;
   allowed = (record { here = x.at; there = x.there }, tt);
   shows = refl;
   asks = refl;
@@ -105,39 +110,51 @@ begins_entry config g d connected fetching ending telling replying requests work
     options = h.options;
     front = h.front;
     ring = h.ring;
-    known = known_moved g.submitted d.requests new g.pushed Waiting Issuing m h.known;
-    opened = open_moved d.requests new g.pushed Waiting Issuing requests ending m refl refl h.opened;
-    issued = issued_moved g.pushed d.requests new g.pushed Waiting Issuing m (λ lt. absurd (omega arith)) h.issued;
+    known = known_moved g.submitted d.requests new (r.number - 1) Waiting Issuing m h.known;
+    opened = open_moved d.requests new (r.number - 1) Waiting Issuing requests ending m refl refl h.opened;
+    issued = left;
     waiting = record {
-      issued = λ t. stands_now d.requests new g.pushed Waiting Issuing m;
-      rest = λ j le lt other. other_stays d.requests new j g.pushed Waiting Waiting Issuing m (other refl) (h.waiting.rest j le (omega (arith, m.as_many)) (λ t. absurd (false≢true t)));
+      issued = λ t y at. subst (λ (z : Request). StandsAt new (z.number - 1) Issuing) (same_Some r y (sym next ∙ at)) (stands_now d.requests new (r.number - 1) Waiting Issuing m);
+      rest = λ j y le at other. other_stays d.requests new (y.number - 1) (r.number - 1) Waiting Waiting Issuing m
+          (other_place g.submitted g.series j g.pushed y r series at next (other refl)) (h.waiting.rest j y le at (λ t. absurd (false≢true t)));
     };
-    pushed = pushed_moved g.fetched g.pushed fetching d.requests new g.pushed Waiting Issuing m (omega arith) (omega arith) h.pushed;
-    works = works_moved works d.requests new g.pushed Waiting Issuing m (omega arith) h.works;
-    held = held_moved works d.requests new g.pushed Waiting Issuing m (omega arith) h.held;
-    replying = replying_moved replying d.requests new g.pushed Waiting Issuing m (omega arith) h.replying;
-    replied = replied_moved g.replies d.requests new g.pushed Waiting Issuing m (omega arith) h.replied;
-    taking = taking_moved ending telling d.requests new g.pushed Waiting Issuing m (omega arith) h.taking;
-    reads = reads_moved g.submitted d.requests new works pages g.pushed Waiting Issuing m refl (λ t. absurd (false≢true t)) h.reads;
+    pushed = pushed_moved g.fetched g.pushed fetching d.requests new (r.number - 1) Waiting Issuing m (omega arith) (omega arith) h.pushed;
+    works = works_moved works d.requests new (r.number - 1) Waiting Issuing m (omega arith) h.works;
+    held = held_moved works d.requests new (r.number - 1) Waiting Issuing m (omega arith) h.held;
+    going = going_moved requests d.requests new (r.number - 1) Waiting Issuing m (λ le. omega arith) h.going;
+    replying = replying_moved replying d.requests new (r.number - 1) Waiting Issuing m (omega arith) h.replying;
+    replied = replied_moved g.replies d.requests new (r.number - 1) Waiting Issuing m (omega arith) h.replied;
+    taking = taking_moved ending telling d.requests new (r.number - 1) Waiting Issuing m (omega arith) h.taking;
+    reads = reads_moved g.submitted d.requests new works pages (r.number - 1) Waiting Issuing m refl (λ t. absurd (false≢true t)) h.reads;
   };
 }
   where
-    x : StandsAt d.requests g.pushed Waiting
-    x = h.waiting.rest g.pushed (omega arith) within (λ t. absurd (false≢true t))
+    x : StandsAt d.requests (r.number - 1) Waiting
+    x = h.waiting.rest g.pushed r (omega arith) next (λ t. absurd (false≢true t))
 
     new : List Asked
-    new = slice_set d.requests g.pushed (moved x.q BeginsEntry)
+    new = slice_set d.requests (r.number - 1) (moved x.q BeginsEntry)
 
-    m : IsMoved d.requests new g.pushed Waiting Issuing
-    m = is_moved d.requests g.pushed Waiting Issuing x.q (moved x.q BeginsEntry) x.at x.there refl refl
+    m : IsMoved d.requests new (r.number - 1) Waiting Issuing
+    m = is_moved d.requests (r.number - 1) Waiting Issuing x.q (moved x.q BeginsEntry) x.at x.there refl refl
+
+    left : AreIssued g.series g.pushed new
+    left j q e some = elim (cases_eq j (r.number - 1)) [
+      | inl same ↦ record { index = g.pushed; late = omega arith; r = r; at = next; number = (let positive = series.positive g.pushed r next in omega arith) }
+      | inr apart ↦ h.issued j q (sym (m.others j apart) ∙ e) some
+    ]
 
 -- one entry more on the ring
-ring_pushed : (g : Flow) (ring : Ring) → IsRing g ring → IsRing (record g { pushed = g.pushed + 1 }) (record ring { pushed = ring.pushed ++ g.pushed ∷ [] })
-ring_pushed g ring h = record {
-  pushed = omega (arith, length-append ring.pushed (g.pushed ∷ []), h.pushed);
-  entries = λ i lt. elim (cases_lt i g.pushed) [
-    | inl before ↦ get_append ring.pushed (g.pushed ∷ []) i i (h.entries i before)
-    | inr after ↦ (let at : length ring.pushed ≡ i = omega (arith, h.pushed) in let same : g.pushed ≡ i = omega (arith, h.pushed) in ap (slice_get (ring.pushed ++ g.pushed ∷ [])) (sym at) ∙ (get_last ring.pushed g.pushed ∙ ap Some same))
+ring_pushed : (g : Flow) (ring : Ring) (r : Request) → slice_get g.series g.pushed ≡ Some r → IsRing g ring → IsRing (record g { pushed = g.pushed + 1 }) (record ring { pushed = ring.pushed ++ (r.number - 1) ∷ [] })
+ring_pushed g ring r next h = record {
+  pushed = omega (arith, length-append ring.pushed ((r.number - 1) ∷ []), h.pushed);
+  entries = λ i y lt at. elim (cases_lt i g.pushed) [
+    | inl before ↦ get_append ring.pushed ((r.number - 1) ∷ []) i (y.number - 1) (h.entries i y before at)
+    | inr after ↦
+        let here : length ring.pushed ≡ i = omega (arith, h.pushed) in
+        let same : g.pushed ≡ i = omega (arith, h.pushed) in
+        let one : r ≡ y = same_Some r y (sym next ∙ (ap (slice_get g.series) same ∙ at)) in
+        ap (slice_get (ring.pushed ++ (r.number - 1) ∷ [])) (sym here) ∙ (get_last ring.pushed (r.number - 1) ∙ ap (λ (z : Request). Some (z.number - 1)) one)
   ];
   fetched = h.fetched;
   replied = h.replied;
@@ -146,59 +163,98 @@ ring_pushed g ring h = record {
 }
 
 -- the entry is pushed
-pub pushes : (config : Options) (g : Flow) (d : Pipeline) (connected fetching : Bool) (ending : Option Ending) (telling : Option ℕ) (replying : Option Reply) (requests : List Request) (works : List Work) (pages : List ℕ)
+pub pushes : (config : Options) (g : Flow) (d : Pipeline) (connected fetching : Bool) (ending : Option Ending) (telling : Option ℕ) (replying : Option Reply) (requests : List Request) (works : List Work) (pages : List ℕ) (r : Request)
+    → IsSeries g.submitted g.series
+    → slice_get g.series g.pushed ≡ Some r
     → g.fetched ≤ g.pushed
     → AreStations config g d connected true fetching ending telling replying requests works pages
     → (fetching ≡ true → g.fetched < g.pushed)
     → Stepped None IsSame d [] (λ p. AreStations config (record g { pushed = g.pushed + 1 }) p connected false fetching ending telling replying requests works pages)
-pushes config g d connected fetching ending telling replying requests works pages order h before = record {
-  step = Moves g.pushed x.q Pushes;
-  allowed = (record { here = x.at; there = x.there }, record { none = λ j y lt e. h.issued j y lt e });
+pushes config g d connected fetching ending telling replying requests works pages r series next order h before = record {
+  step = Moves k x.q Pushes;
+  allowed = (record { here = x.at; there = x.there }, record { none = first });
   shows = refl;
   asks = refl;
   disk = λ a b e. e;
   now = record {
     options = h.options;
     front = h.front;
-    ring = ring_pushed g d.ring h.ring;
-    known = known_moved g.submitted d.requests new g.pushed Issuing Pushed m h.known;
-    opened = open_moved d.requests new g.pushed Issuing Pushed requests ending m refl refl h.opened;
+    ring = ring_pushed g d.ring r next h.ring;
+    known = known_moved g.submitted d.requests new k Issuing Pushed m h.known;
+    opened = open_moved d.requests new k Issuing Pushed requests ending m refl refl h.opened;
     issued = issued_more;
     waiting = record {
       issued = λ t. absurd (false≢true t);
-      rest = λ j le lt other. other_stays d.requests new j g.pushed Waiting Issuing Pushed m (omega arith) (h.waiting.rest j (omega arith) (omega (arith, m.as_many)) (λ t. omega arith));
+      rest = λ j y le at other. other_stays d.requests new (y.number - 1) k Waiting Issuing Pushed m
+          (other_place g.submitted g.series j g.pushed y r series at next (omega arith)) (h.waiting.rest j y (omega arith) at (λ t. omega arith));
     };
     pushed = record {
-      copied = λ t. other_stays d.requests new g.fetched g.pushed Fetching Issuing Pushed m (let lt = before t in omega arith) (h.pushed.copied t);
-      rest = λ j le lt other. elim (cases_eq j g.pushed) [
-        | inl same ↦ subst (λ (k : ℕ). StandsAt new k Pushed) (sym same) (stands_now d.requests new g.pushed Issuing Pushed m)
-        | inr apart ↦ other_stays d.requests new j g.pushed Pushed Issuing Pushed m apart (h.pushed.rest j le (omega arith) other)
+      copied = λ t y at. other_stays d.requests new (y.number - 1) k Fetching Issuing Pushed m
+          (other_place g.submitted g.series g.fetched g.pushed y r series at next (let lt = before t in omega arith)) (h.pushed.copied t y at);
+      rest = λ j y le lt at other. elim (cases_eq j g.pushed) [
+        | inl same ↦
+            let one : r ≡ y = same_Some r y (sym next ∙ (ap (slice_get g.series) (sym same) ∙ at)) in
+            subst (λ (z : Request). StandsAt new (z.number - 1) Pushed) one (stands_now d.requests new k Issuing Pushed m)
+        | inr apart ↦ other_stays d.requests new (y.number - 1) k Pushed Issuing Pushed m (other_place g.submitted g.series j g.pushed y r series at next apart) (h.pushed.rest j y le (omega arith) at other)
       ];
     };
-    works = works_moved works d.requests new g.pushed Issuing Pushed m (omega arith) h.works;
-    held = held_moved works d.requests new g.pushed Issuing Pushed m (omega arith) h.held;
-    replying = replying_moved replying d.requests new g.pushed Issuing Pushed m (omega arith) h.replying;
-    replied = replied_moved g.replies d.requests new g.pushed Issuing Pushed m (omega arith) h.replied;
-    taking = taking_moved ending telling d.requests new g.pushed Issuing Pushed m (omega arith) h.taking;
-    reads = reads_moved g.submitted d.requests new works pages g.pushed Issuing Pushed m refl (λ t. absurd (false≢true t)) h.reads;
+    works = works_moved works d.requests new k Issuing Pushed m (omega arith) h.works;
+    held = held_moved works d.requests new k Issuing Pushed m (omega arith) h.held;
+    going = going_moved requests d.requests new k Issuing Pushed m (λ le. omega arith) h.going;
+    replying = replying_moved replying d.requests new k Issuing Pushed m (omega arith) h.replying;
+    replied = replied_moved g.replies d.requests new k Issuing Pushed m (omega arith) h.replied;
+    taking = taking_moved ending telling d.requests new k Issuing Pushed m (omega arith) h.taking;
+    reads = reads_moved g.submitted d.requests new works pages k Issuing Pushed m refl (λ t. absurd (false≢true t)) h.reads;
   };
 }
   where
-    x : StandsAt d.requests g.pushed Issuing
-    x = h.waiting.issued refl
+    k : ℕ
+    k = r.number - 1
+
+    x : StandsAt d.requests k Issuing
+    x = h.waiting.issued refl r next
 
     new : List Asked
-    new = slice_set d.requests g.pushed (moved x.q Pushes)
+    new = slice_set d.requests k (moved x.q Pushes)
 
-    m : IsMoved d.requests new g.pushed Issuing Pushed
-    m = is_moved d.requests g.pushed Issuing Pushed x.q (moved x.q Pushes) x.at x.there refl refl
+    m : IsMoved d.requests new k Issuing Pushed
+    m = is_moved d.requests k Issuing Pushed x.q (moved x.q Pushes) x.at x.there refl refl
 
-    issued_more : AreIssued (g.pushed + 1) new
-    issued_more j q lt e = elim (cases_eq j g.pushed) [
+    -- one before it was issued, as the series ascends
+    first : (j : ℕ) (y : Asked) → j < k → slice_get d.requests j ≡ Some y → is_unissued y.station ≡ false
+    first j y lt e = by_test (is_unissued y.station) refl
+      where
+        by_test : (b : Bool) → is_unissued y.station ≡ b → b ≡ false
+        by_test false t = refl
+        by_test true t =
+            let left = h.issued j y e t in
+            let one : Request = left.r in
+            let lower : one.number < r.number = omega (arith, left.number, lt) in
+            let index = index_before g.series left.index g.pushed one r series.ascending left.at next lower in
+            absurd (omega (arith, left.late, index))
+
+    -- another one that is left comes after this
+    one_left : (j : ℕ) → j ≢ k → IsLeft g.series g.pushed j → IsLeft g.series (g.pushed + 1) j
+    one_left j apart left = record {
+      index = left.index;
+      late = elim (cases_eq left.index g.pushed) [
+        | inl here ↦
+            let one : left.r ≡ r = same_Some left.r r (sym left.at ∙ (ap (slice_get g.series) here ∙ next)) in
+            let numbers : (let y : Request = left.r in y.number) ≡ r.number = ap (λ (z : Request). z.number) one in
+            absurd (apart (omega (arith, numbers, left.number)))
+        | inr other ↦ omega (arith, left.late)
+      ];
+      r = left.r;
+      at = left.at;
+      number = left.number;
+    }
+
+    issued_more : AreIssued g.series (g.pushed + 1) new
+    issued_more j q e some = elim (cases_eq j k) [
       | inl same ↦
           let one : m.now ≡ q = same_Some m.now q (sym m.here ∙ ap (slice_get new) (sym same) ∙ e) in
-          ap (λ (y : Asked). is_unissued y.station) (sym one) ∙ ap is_unissued m.there
-      | inr apart ↦ h.issued j q (omega arith) (sym (m.others j apart) ∙ e)
+          absurd (true≢false (sym some ∙ (ap (λ (y : Asked). is_unissued y.station) (sym one) ∙ ap is_unissued m.there)))
+      | inr apart ↦ one_left j apart (h.issued j q (sym (m.others j apart) ∙ e) some)
     ]
 
 -- the oldest response is taken
@@ -217,10 +273,11 @@ pub takes : (config : Options) (g : Flow) (d : Pipeline) (connected issuing fetc
     → slice_get requests place ≡ Some r
     → rep.id ≡ r.number
     → e ≡ record { request = r; status = rep.status }
-    → AreReplies g.fetched g.taken g.replied g.replies
+    → ((i : ℕ) (y : Request) → i ≢ place → slice_get requests i ≡ Some y → y.number - 1 ≢ rep.id - 1)
+    → AreReplies g.series g.fetched g.taken g.replied g.replies
     → AreStations config g d connected issuing fetching None None replying requests works pages
     → Stepped None IsSame d [] (λ p. AreStations config (record g { taken = g.taken + 1; replies = drop 1 g.replies }) p connected issuing fetching (Some e) None replying (remove requests place) works pages)
-takes config g d connected issuing fetching replying requests works pages place r rep e oldest found number made replies h = record {
+takes config g d connected issuing fetching replying requests works pages place r rep e oldest found number made apart replies h = record {
   step = Moves k x.q (Takes rep.status);
   allowed = (record { here = x.at; there = x.there }, ap (slice_get (let ring : Ring = d.ring in ring.replied)) (omega (arith, h.ring.taken)) ∙ h.ring.responses 0 rep oldest);
   shows = refl;
@@ -232,11 +289,12 @@ takes config g d connected issuing fetching replying requests works pages place 
     ring = ring_taken g d.ring h.ring;
     known = known_moved g.submitted d.requests new k (Replied rep.status) (Taking rep.status) m h.known;
     opened = opened_without new requests place r e found (ap (λ (y : Ending). y.request.number) made) (open_moved d.requests new k (Replied rep.status) (Taking rep.status) requests None m refl refl h.opened);
-    issued = issued_moved g.pushed d.requests new k (Replied rep.status) (Taking rep.status) m (λ lt. refl) h.issued;
+    issued = issued_moved g.pushed d.requests new k (Replied rep.status) (Taking rep.status) m refl h.issued;
     waiting = waiting_moved g.pushed issuing d.requests new k (Replied rep.status) (Taking rep.status) m (omega arith) h.waiting;
     pushed = pushed_moved g.fetched g.pushed fetching d.requests new k (Replied rep.status) (Taking rep.status) m (omega arith) (omega arith) h.pushed;
     works = works_moved works d.requests new k (Replied rep.status) (Taking rep.status) m (omega arith) h.works;
     held = held_moved works d.requests new k (Replied rep.status) (Taking rep.status) m (omega arith) h.held;
+    going = λ i y at. let was = removed_was requests place i y at in let stood = h.going was.0 y was.2 in record { q = stood.q; at = m.others (y.number - 1) (apart was.0 y was.1 was.2) ∙ stood.at; early = stood.early };
     replying = replying_moved replying d.requests new k (Replied rep.status) (Taking rep.status) m (omega arith) h.replying;
     replied = others_replied;
     taking = λ f same.
@@ -261,8 +319,8 @@ takes config g d connected issuing fetching replying requests works pages place 
     others_replied : AreReplied (drop 1 g.replies) new
     others_replied i other at =
         let before = sym (dropped g.replies i) ∙ at in
-        let first = all_at (IsReply g.fetched) g.replies 0 rep replies.each oldest in
-        let second = all_at (IsReply g.fetched) g.replies (suc i) other replies.each before in
+        let first = all_at (IsReply g.series g.fetched) g.replies 0 rep replies.each oldest in
+        let second = all_at (IsReply g.series g.fetched) g.replies (suc i) other replies.each before in
         let differ = pair_at (λ (a b : Reply). a.id ≢ b.id) g.replies 0 (suc i) rep other replies.distinct (omega arith) oldest before in
         other_stays d.requests new (other.id - 1) k (Replied other.status) (Replied rep.status) (Taking rep.status) m (λ same. differ (omega (arith, first.positive, second.positive))) (h.replied (suc i) other before)
 
@@ -315,11 +373,12 @@ answers config g d connected issuing fetching replying requests works pages e as
     ring = h.ring;
     known = known_moved g.submitted d.requests new k (Taking e.status) (Finished e.status) m h.known;
     opened = opened_finished d.requests new k (Taking e.status) e.status requests e m refl (omega arith) h.opened;
-    issued = issued_moved g.pushed d.requests new k (Taking e.status) (Finished e.status) m (λ lt. refl) h.issued;
+    issued = issued_moved g.pushed d.requests new k (Taking e.status) (Finished e.status) m refl h.issued;
     waiting = waiting_moved g.pushed issuing d.requests new k (Taking e.status) (Finished e.status) m (omega arith) h.waiting;
     pushed = pushed_moved g.fetched g.pushed fetching d.requests new k (Taking e.status) (Finished e.status) m (omega arith) (omega arith) h.pushed;
     works = works_moved works d.requests new k (Taking e.status) (Finished e.status) m (omega arith) h.works;
     held = held_moved works d.requests new k (Taking e.status) (Finished e.status) m (omega arith) h.held;
+    going = going_moved requests d.requests new k (Taking e.status) (Finished e.status) m (λ le. absurd (omega arith)) h.going;
     replying = replying_moved replying d.requests new k (Taking e.status) (Finished e.status) m (omega arith) h.replying;
     replied = replied_moved g.replies d.requests new k (Taking e.status) (Finished e.status) m (omega arith) h.replied;
     taking = λ f same. absurd (none-some f same);
@@ -365,11 +424,12 @@ answers_read config g d connected issuing fetching replying requests works pages
     ring = h.ring;
     known = known_moved g.submitted d.requests new k (Taking e.status) (Telling 0) m h.known;
     opened = open_moved d.requests new k (Taking e.status) (Telling 0) requests (Some e) m refl refl h.opened;
-    issued = issued_moved g.pushed d.requests new k (Taking e.status) (Telling 0) m (λ lt. refl) h.issued;
+    issued = issued_moved g.pushed d.requests new k (Taking e.status) (Telling 0) m refl h.issued;
     waiting = waiting_moved g.pushed issuing d.requests new k (Taking e.status) (Telling 0) m (omega arith) h.waiting;
     pushed = pushed_moved g.fetched g.pushed fetching d.requests new k (Taking e.status) (Telling 0) m (omega arith) (omega arith) h.pushed;
     works = works_moved works d.requests new k (Taking e.status) (Telling 0) m (omega arith) h.works;
     held = held_moved works d.requests new k (Taking e.status) (Telling 0) m (omega arith) h.held;
+    going = going_moved requests d.requests new k (Taking e.status) (Telling 0) m (λ le. absurd (omega arith)) h.going;
     replying = replying_moved replying d.requests new k (Taking e.status) (Telling 0) m (omega arith) h.replying;
     replied = replied_moved g.replies d.requests new k (Taking e.status) (Telling 0) m (omega arith) h.replied;
     taking = λ f same. subst (λ (y : Ending). StandsAt new (y.request.number - 1) (Telling 0)) (same_Some e f same) (stands_now d.requests new k (Taking e.status) (Telling 0) m);
@@ -446,11 +506,12 @@ tells config g d connected issuing fetching replying requests works pages words 
     ring = h.ring;
     known = known_moved g.submitted d.requests new k (Telling i) (Telling (i + 1)) m h.known;
     opened = open_moved d.requests new k (Telling i) (Telling (i + 1)) requests (Some e) m refl refl h.opened;
-    issued = issued_moved g.pushed d.requests new k (Telling i) (Telling (i + 1)) m (λ lt. refl) h.issued;
+    issued = issued_moved g.pushed d.requests new k (Telling i) (Telling (i + 1)) m refl h.issued;
     waiting = waiting_moved g.pushed issuing d.requests new k (Telling i) (Telling (i + 1)) m (omega arith) h.waiting;
     pushed = pushed_moved g.fetched g.pushed fetching d.requests new k (Telling i) (Telling (i + 1)) m (omega arith) (omega arith) h.pushed;
     works = works_moved works d.requests new k (Telling i) (Telling (i + 1)) m (omega arith) h.works;
     held = held_moved works d.requests new k (Telling i) (Telling (i + 1)) m (omega arith) h.held;
+    going = going_moved requests d.requests new k (Telling i) (Telling (i + 1)) m (λ le. absurd (omega arith)) h.going;
     replying = replying_moved replying d.requests new k (Telling i) (Telling (i + 1)) m (omega arith) h.replying;
     replied = replied_moved g.replies d.requests new k (Telling i) (Telling (i + 1)) m (omega arith) h.replied;
     taking = λ f it. subst (λ (y : Ending). StandsAt new (y.request.number - 1) (Telling (i + 1))) (same_Some e f it)
@@ -500,11 +561,12 @@ tells_last config g d connected issuing fetching replying requests works pages w
     ring = h.ring;
     known = known_moved g.submitted d.requests new k (Telling i) (Finished Okay) m h.known;
     opened = opened_finished d.requests new k (Telling i) Okay requests e m refl (omega arith) h.opened;
-    issued = issued_moved g.pushed d.requests new k (Telling i) (Finished Okay) m (λ lt. refl) h.issued;
+    issued = issued_moved g.pushed d.requests new k (Telling i) (Finished Okay) m refl h.issued;
     waiting = waiting_moved g.pushed issuing d.requests new k (Telling i) (Finished Okay) m (omega arith) h.waiting;
     pushed = pushed_moved g.fetched g.pushed fetching d.requests new k (Telling i) (Finished Okay) m (omega arith) (omega arith) h.pushed;
     works = works_moved works d.requests new k (Telling i) (Finished Okay) m (omega arith) h.works;
     held = held_moved works d.requests new k (Telling i) (Finished Okay) m (omega arith) h.held;
+    going = going_moved requests d.requests new k (Telling i) (Finished Okay) m (λ le. absurd (omega arith)) h.going;
     replying = replying_moved replying d.requests new k (Telling i) (Finished Okay) m (omega arith) h.replying;
     replied = replied_moved g.replies d.requests new k (Telling i) (Finished Okay) m (omega arith) h.replied;
     taking = λ f it. absurd (none-some f it);
@@ -537,11 +599,14 @@ stands_more asked q k station x = record { q = x.q; at = get_append asked (q ∷
 
 pub submits : (config : Options) (g : Flow) (d : Pipeline) (connected issuing fetching : Bool) (ending : Option Ending) (telling : Option ℕ) (replying : Option Reply) (requests : List Request) (works : List Work) (pages : List ℕ) (x : Request)
     → x.number ≡ length d.requests + 1
-    → g.pushed ≤ length d.requests
+    → g.pushed ≤ length g.series
+    → g.fetched ≤ g.pushed
+    → (issuing ≡ true → g.pushed < length g.series)
+    → (fetching ≡ true → g.fetched < g.pushed)
     → refusal_now d (job_of x.transfer x.sector x.count) ≡ None
     → AreStations config g d connected issuing fetching ending telling replying requests works pages
-    → Stepped (Some (job_of x.transfer x.sector x.count)) IsSame d (lines.Submit x.number (job_of x.transfer x.sector x.count) ∷ []) (λ p. AreStations config (record g { submitted = g.submitted ++ x ∷ [] }) p connected issuing fetching ending telling replying (requests ++ x ∷ []) works pages)
-submits config g d connected issuing fetching ending telling replying requests works pages x number few accepted h = record {
+    → Stepped (Some (job_of x.transfer x.sector x.count)) IsSame d (lines.Submit x.number (job_of x.transfer x.sector x.count) ∷ []) (λ p. AreStations config (record g { submitted = g.submitted ++ x ∷ []; series = g.series ++ x ∷ [] }) p connected issuing fetching ending telling replying (requests ++ x ∷ []) works pages)
+submits config g d connected issuing fetching ending telling replying requests works pages x number few order some_issued some_fetched accepted h = record {
   step = Submits job;
   allowed = accepted;
   shows = ap (λ (n : ℕ). lines.Submit n job ∷ []) (sym number);
@@ -550,25 +615,29 @@ submits config g d connected issuing fetching ending telling replying requests w
   now = record {
     options = h.options;
     front = h.front;
-    ring = record { pushed = h.ring.pushed; entries = h.ring.entries; fetched = h.ring.fetched; replied = h.ring.replied; responses = h.ring.responses; taken = h.ring.taken };
+    ring = record { pushed = h.ring.pushed; entries = λ i r lt at. h.ring.entries i r lt (sym (grown_before g.series x i (omega arith)) ∙ at); fetched = h.ring.fetched; replied = h.ring.replied; responses = h.ring.responses; taken = h.ring.taken };
     known = known_more g.submitted d.requests x (submitted job) refl h.known;
     opened = opened_more d.requests requests ending x (submitted job) refl number h.opened;
-    issued = λ j q lt e. elim (push_was d.requests (submitted job) j q e) [ inl was ↦ h.issued j q lt was | inr new ↦ absurd (let at = new.0 in omega arith) ];
+    issued = λ j q e some. elim (push_was d.requests (submitted job) j q e) [
+      | inl was ↦ (let left = h.issued j q was some in record { index = left.index; late = left.late; r = left.r; at = get_append g.series (x ∷ []) left.index left.r left.at; number = left.number })
+      | inr new ↦ record { index = length g.series; late = few; r = x; at = get_last g.series x; number = omega (arith, number, new.0) }
+    ];
     waiting = record {
-      issued = λ t. stands_more d.requests (submitted job) g.pushed Issuing (h.waiting.issued t);
-      rest = λ j le lt other. elim (cases_lt j (length d.requests)) [
-        | inl before ↦ stands_more d.requests (submitted job) j Waiting (h.waiting.rest j le before other)
-        | inr last ↦
-            let long = longer d.requests (submitted job) in
-            let at : length d.requests ≡ j = omega arith in
-            record { q = submitted job; at = ap (slice_get (d.requests ++ submitted job ∷ [])) (sym at) ∙ get_last d.requests (submitted job); there = refl }
+      issued = λ t r at. stands_more d.requests (submitted job) (r.number - 1) Issuing (h.waiting.issued t r (sym (grown_before g.series x g.pushed (some_issued t)) ∙ at));
+      rest = λ j r le at other. elim (push_was g.series x j r at) [
+        | inl was ↦ stands_more d.requests (submitted job) (r.number - 1) Waiting (h.waiting.rest j r le was other)
+        | inr last ↦ subst (λ (y : Request). StandsAt (d.requests ++ submitted job ∷ []) (y.number - 1) Waiting) (sym last.1) stands_last
       ];
     };
     pushed = record {
-      copied = λ t. stands_more d.requests (submitted job) g.fetched Fetching (h.pushed.copied t);
-      rest = λ j le lt other. stands_more d.requests (submitted job) j Pushed (h.pushed.rest j le lt other);
+      copied = λ t r at. stands_more d.requests (submitted job) (r.number - 1) Fetching (h.pushed.copied t r (sym (grown_before g.series x g.fetched (let lt = some_fetched t in omega arith)) ∙ at));
+      rest = λ j r le lt at other. stands_more d.requests (submitted job) (r.number - 1) Pushed (h.pushed.rest j r le lt (sym (grown_before g.series x j (omega arith)) ∙ at) other);
     };
-    works = λ i t e. stands_more d.requests (submitted job) (t.number - 1) (worked t.stage t.moved) (h.works i t e);
+    works = λ i t e. stands_more d.requests (submitted job) (t.id - 1) (worked t.stage t.moved) (h.works i t e);
+    going = λ i y at. elim (push_was requests x i y at) [
+      | inl was ↦ (let stood = h.going i y was in record { q = stood.q; at = get_append d.requests (submitted job ∷ []) (y.number - 1) stood.q stood.at; early = stood.early })
+      | inr last ↦ subst (λ (z : Request). IsGoing (d.requests ++ submitted job ∷ []) (z.number - 1)) (sym last.1) (record { q = stands_last.q; at = stands_last.at; early = (let there = ap kind_of stands_last.there in omega (arith, there)) })
+    ];
     held = λ j q at kind. elim (push_was d.requests (submitted job) j q at) [ inl was ↦ h.held j q was kind | inr new ↦ absurd (let none = ap (λ (y : Asked). kind_of y.station) new.1 in omega (arith, none, kind)) ];
     replying = λ rep e. stands_more d.requests (submitted job) (rep.id - 1) (Replying rep.status) (h.replying rep e);
     replied = λ i rep e. stands_more d.requests (submitted job) (rep.id - 1) (Replied rep.status) (h.replied i rep e);
@@ -579,3 +648,8 @@ submits config g d connected issuing fetching ending telling replying requests w
   where
     job : Job
     job = job_of x.transfer x.sector x.count
+
+    stands_last : StandsAt (d.requests ++ submitted job ∷ []) (x.number - 1) Waiting
+    stands_last =
+        let at : length d.requests ≡ x.number - 1 = omega (arith, number) in
+        record { q = submitted job; at = ap (slice_get (d.requests ++ submitted job ∷ [])) (sym at) ∙ get_last d.requests (submitted job); there = refl }

@@ -1,6 +1,7 @@
 -- A submission is refused, and changes nothing, or accepted, and then the pipeline has its request.
-use Rattle.std.proofs.Common.{◌≡◌, ◌≢◌, ℕ, ◌+◌, ◌-◌, ◌<◌, ◌≤◌, ◌==◌, ◌&&◌, Bool, true, false, true≢false, not, List, [], ◌∷◌, ◌++◌, length, refl, ap, sym, ◌∙◌, subst, arith}
+use Rattle.std.proofs.Common.{◌≡◌, ◌≢◌, ℕ, ◌+◌, ◌-◌, ◌<◌, ◌≤◌, ◌==◌, ◌&&◌, Bool, true, false, true≢false, not, List, [], ◌∷◌, ◌++◌, length, refl, ap, sym, ◌∙◌, subst, inl, inr, arith}
 use Rattle.std.specs.Prelude.{All, Option, Some, None, Result, Err, slice_get, nat_lt, nat_le, min, max, if◌then◌else◌}
+use Rattle.std.proofs.lemmas.Bool.{cases_lt}
 use Rattle.std.proofs.lemmas.Bool.Decides.{nat_tests}
 use Rattle.blk_base.specs.Options.{Options}
 use Rattle.blk_base.specs.declared.config.Job.{Job}
@@ -22,11 +23,14 @@ use Rattle.split_model.specs.World.{World}
 use Rattle.split_model.specs.Happening.{Submits, submit_line, lines_at, happens}
 use Rattle.machine_pipeline.specs.Allowed.{IsServable}
 use Rattle.machine_pipeline.proofs.Flow.{Flow, job_of, ending_at, telling_at, is_issuing, is_fetching, reply_at}
-use Rattle.machine_pipeline.proofs.Holds.{AreOffered, IsPooled, AreNumbers, ArePooled, Holds}
+use Rattle.machine_pipeline.proofs.Holds.{AreOffered, BackAt, IsPooled, AreNumbers, ArePooled, Holds}
 use Rattle.machine_pipeline.proofs.Turns.{Stepped, does_alone, GoesBy}
 use Rattle.machine_pipeline.proofs.Next.{waiting_few}
+use Rattle.back_jobs.specs.Task.{Work}
+use Rattle.blk_back.specs.declared.stage.Stage.{Stage as BackStage}
+use Rattle.blk_back.specs.declared.stage.Stage.TheVariants as back
 use Rattle.machine_pipeline.proofs.Growing.{longer, submitted_more, disk_more, queue_more, pooled_more}
-use Rattle.machine_pipeline.proofs.Submitting.{submitted_flow, indices_more, next_more, front_at_more, IsIdle, idle_at, slots_more, frames_more, entries_more, works_more, front_at_grown, back_at_grown, offered_more}
+use Rattle.machine_pipeline.proofs.Submitting.{submitted_flow, indices_more, next_more, front_at_more, IsIdle, idle_at, slots_more, frames_more, entries_more, absent, works_more, replies_grown, front_at_grown, back_at_grown}
 use Rattle.machine_pipeline.proofs.Refusing.{answer_of, offered_is, refused_rightly}
 use Rattle.machine_pipeline.proofs.Stations.{AreStations}
 use Rattle.machine_pipeline.proofs.StationsFront.{submits}
@@ -39,6 +43,32 @@ use Rattle.pipeline_laws.specs.Allowed.{refusal_now}
 -- the machine with one request more
 abbrev accepting : World → Wish → (List ℕ × List Bool) → World
 accepting w wish taken = record { front = accepted w.front wish taken; back = w.back; under = w.under }
+
+-- where none waits nothing of a request is begun
+idle_now : (config : Options) (w : World) (g : Flow) (d : Pipeline) → Holds config w g d w.front.stage w.back.stage → g.pushed ≡ length g.series → IsIdle w.front.stage
+idle_now config w g d h same = idle_at g.shape g.start g.pushed g.taken g.front_seen g.submitted g.replies (next_request w.front) w.front.entry w.front.ending w.front.stage (none_waits w.front.waiting w.front.requests (let i = h.indices in none_left i.all same)) h.front_at
+  where
+    none_left : {last pushed waiting : ℕ} → last ≡ pushed + waiting → pushed ≡ last → waiting ≡ 0
+    none_left a b = omega arith
+
+    none_waits : (waiting : ℕ) (requests : List Request) → waiting ≡ 0 → (if waiting == 0 then None else slice_get requests (length requests - waiting)) ≡ None
+    none_waits waiting requests e = rw e refl
+
+-- so one that is being issued waits
+issuing_waits : (config : Options) (w : World) (g : Flow) (d : Pipeline) → Holds config w g d w.front.stage w.back.stage → is_issuing w.front.stage ≡ true → g.pushed < length g.series
+issuing_waits config w g d h issues = elim (cases_lt g.pushed (length g.series)) [
+  | inl lt ↦ lt
+  | inr le ↦
+      let i = h.indices in
+      let all = i.all in
+      let rest = idle_now config w g d h (omega arith) in
+      absurd (true≢false (sym issues ∙ rest.unissued))
+]
+
+-- and one whose entry is being copied was pushed
+fetching_pushed : (shape : Shape) (start fetched back_seen replied pushed : ℕ) (series : List Request) (works : List Work) (entry : List ℕ) (b : BackStage) → back_seen ≤ pushed → BackAt shape start fetched back_seen replied series works entry b → is_fetching b ≡ true → fetched < pushed
+fetching_pushed shape start fetched back_seen replied pushed series works entry (back.Fetch k) upto at t = omega (arith, at.2)
+fetching_pushed shape start fetched back_seen replied pushed series works entry b upto at t = absurd (true≢false (sym t))
 
 accepted_on : (config : Options) (w : World) (g : Flow) (d d' : Pipeline) (wish : Wish) (taken : List ℕ × List Bool)
     → Holds config w g d w.front.stage w.back.stage
@@ -54,7 +84,7 @@ accepted_on config w g d d' wish taken h ready unspent free may serves limit on_
       shaped = h.shaped;
       sized = disk_more config w.front.sectors w.front.read_only g.submitted x may serves limit h.sized;
       indices = indices_more g x w.front.ring w.back.ring w.front.seen w.back.seen w.back.fetched w.front.last w.front.waiting (length w.front.requests) _ _ (longer w.front.requests x) unspent free h.indices;
-      queue = queue_more g.submitted g.pushed w.front.sectors w.front.last w.front.requests w.front.waiting x refl (let i = h.indices in i.all) (waiting_few h.indices) h.submitted h.queue;
+      queue = queue_more g.submitted g.series g.pushed w.front.sectors w.front.last w.front.requests w.front.waiting x refl (let i = h.indices in i.all) (waiting_few h.indices) h.submitted h.queue;
       submitted = submitted_more g.submitted w.front.sectors w.front.last x refl on_disk numbers (record { counted = counted; frames = pooled.2 }) pooled.1
           h.submitted;
       pool = pooled.0;
@@ -62,18 +92,18 @@ accepted_on config w g d d' wish taken h ready unspent free may serves limit on_
       works = works_more g.submitted g.fetched w.back.jobs.works x h.works;
       counted = h.counted;
       info = h.info;
-      replies = h.replies;
+      replies = replies_grown g.fetched g.taken g.replied g.replies x h.replies;
       front_at = front_at_more g.shape g.start g.pushed g.taken g.front_seen (g.submitted ++ x ∷ []) g.replies (next_request w.front) (next_request (accepted w.front wish taken)) w.front.entry w.front.ending w.front.stage (λ r e. next_more w.front.requests w.front.waiting x r e)
           (front_at_grown g.shape g.start g.pushed g.taken g.front_seen g.submitted g.replies (next_request w.front) w.front.entry w.front.ending x w.front.stage h.front_at);
-      offered = offered_more (is_ready w.front.stage) config.read_only config.indirect w.front.offers g.pushed w.front.last (w.front.last + 1) ready h.offered;
-      back_at = back_at_grown g.shape g.start g.fetched g.back_seen g.replied g.submitted w.back.jobs.works w.back.entry x w.back.stage h.back_at;
+      offered = h.offered;
+      back_at = back_at_grown g.shape g.start g.fetched g.back_seen g.replied g.series w.back.jobs.works w.back.entry x w.back.stage h.back_at;
       unhalted = h.unhalted;
       memory = h.memory;
       ring = h.ring;
-      slots = slots_more g.shape g.start g.fetched g.pushed g.taken g.replied g.submitted g.replies w.under.pages w.front.stage w.back.stage x (let all = h.submitted in let counted = all.counted in omega arith) (λ same. idle (same ∙ (let all = h.submitted in all.counted))) h.slots;
-      frames = frames_more g.pushed w.front.last w.under.pages w.front.stage w.front.requests x refl pushed_few idle h.frames;
+      slots = slots_more g.shape g.start g.fetched g.pushed g.taken g.replied g.series g.replies w.under.pages w.front.stage w.back.stage x pushed_few idle h.slots;
+      frames = frames_more g.pushed w.under.pages w.front.stage w.front.requests x new pushed_few idle h.frames;
       telling = h.telling;
-      entries = entries_more g.pushed w.front.last w.under.pages w.under.grants.live w.front.stage w.front.ending w.front.requests x refl pushed_few idle h.entries;
+      entries = entries_more g.pushed w.under.pages w.under.grants.live w.front.stage w.front.ending w.front.requests x new pushed_few idle h.entries;
       mapped = h.mapped;
       paged = h.paged;
       front_sleep = h.front_sleep;
@@ -88,17 +118,14 @@ accepted_on config w g d d' wish taken h ready unspent free may serves limit on_
         × (length x.frames.items ≡ frames_taken wish.count)
     pooled = pooled_more w.front.pool taken.1 w.front.requests (ending_at w.front.stage w.front.ending) (frames_taken wish.count) x frames h.pool
 
-    pushed_few : g.pushed ≤ w.front.last
+    new : (i : ℕ) → slice_get g.series i ≡ Some x → ⊥
+    new = absent g.submitted g.series w.front.sectors w.front.last x refl h.submitted (let queue = h.queue in queue.ordered)
+
+    pushed_few : g.pushed ≤ length g.series
     pushed_few = let i = h.indices in let all = i.all in omega arith
 
-    idle : g.pushed ≡ w.front.last → IsIdle w.front.stage
-    idle same = idle_at g.shape g.start g.pushed g.taken g.front_seen g.submitted g.replies (next_request w.front) w.front.entry w.front.ending w.front.stage (none_waits w.front.waiting w.front.requests (let i = h.indices in none_left i.all same)) h.front_at
-      where
-        none_left : {last pushed waiting : ℕ} → last ≡ pushed + waiting → pushed ≡ last → waiting ≡ 0
-        none_left a b = omega arith
-
-        none_waits : (waiting : ℕ) (requests : List Request) → waiting ≡ 0 → (if waiting == 0 then None else slice_get requests (length requests - waiting)) ≡ None
-        none_waits waiting requests e = rw e refl
+    idle : g.pushed ≡ length g.series → IsIdle w.front.stage
+    idle = idle_now config w g d h
 
 -- where a request goes through indirect pages the back takes as many segments
 short_enough : (offers : Offers) (way : Transfer) (count limit : ℕ) → nat_lt (most_segments offers way) (frames_for count) ≡ false → offers.indirect ≡ limit → is_indirect count ≡ true → frames_for count ≤ limit
@@ -146,7 +173,7 @@ submit_wish config w g d wish offered asks serves counted numbers h =
     stepped : (taken : List ℕ × List Bool) → refusal_now d job ≡ None → Stepped (Some job) IsSame d (lines.Submit (w.front.last + 1) job ∷ []) (λ p. AreStations config (submitted_flow g (request_with w.front wish taken.0)) p (is_ready w.front.stage) (is_issuing w.front.stage) (is_fetching w.back.stage) (ending_at w.front.stage w.front.ending) (telling_at w.front.stage) (reply_at w.back.stage) (w.front.requests ++ request_with w.front wish taken.0 ∷ []) w.back.jobs.works w.under.pages)
     stepped taken same =
         let known : length d.requests ≡ w.front.last = h.stations.known.as_many ∙ h.submitted.counted in
-        submits config g d (is_ready w.front.stage) (is_issuing w.front.stage) (is_fetching w.back.stage) (ending_at w.front.stage w.front.ending) (telling_at w.front.stage) (reply_at w.back.stage) w.front.requests w.back.jobs.works w.under.pages (request_with w.front wish taken.0) (ap (λ (n : ℕ). n + 1) (sym known)) (omega (arith, h.indices.all)) same h.stations
+        submits config g d (is_ready w.front.stage) (is_issuing w.front.stage) (is_fetching w.back.stage) (ending_at w.front.stage w.front.ending) (telling_at w.front.stage) (reply_at w.back.stage) w.front.requests w.back.jobs.works w.under.pages (request_with w.front wish taken.0) (ap (λ (n : ℕ). n + 1) (sym known)) (omega (arith, h.indices.all)) h.indices.fetched_pushed (issuing_waits config w g d h) (fetching_pushed g.shape g.start g.fetched g.back_seen g.replied g.pushed g.series w.back.jobs.works w.back.entry w.back.stage h.indices.back_to h.back_at) same h.stations
 
     is_true : (b : Bool) → not b ≡ false → b ≡ true
     is_true true e = refl
@@ -174,7 +201,7 @@ submit_wish config w g d wish offered asks serves counted numbers h =
           does = does_alone s;
           holds = accepted_on config w g d (next d s.step) wish taken h ready (differs w.front.last unspent)
               (subst (λ (x : Shape). unfinished w.front < entries_of x.order) h.shaped.known (below (entries_of w.front.shape.order) (unfinished w.front) free))
-              may serves (short_enough w.front.offers wish.transfer wish.count config.indirect short (offered_is (is_ready w.front.stage) config.read_only config.indirect w.front.offers g.pushed w.front.last ready h.offered).indirect) (above w.front.sectors (wish.sector + named_of wish.transfer wish.count) on_disk) numbers (counted short) some_taken s.now;
+              may serves (short_enough w.front.offers wish.transfer wish.count config.indirect short (offered_is (is_ready w.front.stage) config.read_only config.indirect w.front.offers g.pushed ready h.offered).indirect) (above w.front.sectors (wish.sector + named_of wish.transfer wish.count) on_disk) numbers (counted short) some_taken s.now;
         }
 
     by_offer : (b : Bool) → (b ≡ true → is_moving wish.transfer ≡ false → config.read_only ≡ false) → is_ready w.front.stage ≡ true → (w.front.last == 4294967295) ≡ false → SubmitGoes config w d job (submit_one w.front (wished b wish))
@@ -214,7 +241,7 @@ pub submit_kept : (config : Options) (w : World) (g : Flow) (d : Pipeline) (job 
 submit_kept config w g d job plain h one = by_job job one (refused_rightly config w g d job plain h one)
   where
     offers : is_ready w.front.stage ≡ true → AreOffered config.read_only config.indirect w.front.offers
-    offers ready = offered_is (is_ready w.front.stage) config.read_only config.indirect w.front.offers g.pushed w.front.last ready h.offered
+    offers ready = offered_is (is_ready w.front.stage) config.read_only config.indirect w.front.offers g.pushed ready h.offered
 
     by_job : (x : Job) → IsServable x → SubmitGoes config w d x (submit_of w.front x)
     by_job (Write sector count tag) some = submit_wish config w g d (record { sector = sector; count = count; transfer = transfer.Write tag }) true refl (λ ready t still. absurd (true≢false still)) (moves_some w.front.offers (transfer.Write tag) count refl some.0) some.1 h

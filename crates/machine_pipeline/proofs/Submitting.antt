@@ -1,22 +1,22 @@
 -- An accepted submission: the front has one request more, and so has the pipeline.
-use Rattle.std.proofs.Common.{◌≡◌, ◌≢◌, ℕ, ◌+◌, ◌-◌, ◌<◌, ◌≤◌, ◌==◌, Bool, true, false, true≢false, List, [], ◌∷◌, ◌++◌, length, refl, sym, ◌∙◌, inl, inr, arith}
+use Rattle.std.proofs.Common.{◌≡◌, ◌≢◌, ℕ, ◌+◌, ◌-◌, ◌<◌, ◌≤◌, ◌==◌, Bool, true, false, List, [], ◌∷◌, ◌++◌, length, get_or, refl, sym, ◌∙◌, inl, inr, arith}
 use Rattle.std.specs.Prelude.{All, Option, Some, None, slice_get, if◌then◌else◌}
 use Rattle.std.proofs.lemmas.Bool.Decides.{nat_tests}
-use Rattle.std.proofs.lemmas.Option.{none-some}
+use Rattle.std.proofs.lemmas.Option.{none-some, slice_get_within}
 use Rattle.std.proofs.lemmas.List.Elements.{All-push}
 use Rattle.ring_words.specs.Ring.{Ring}
 use Rattle.grant_table.specs.declared.held.Held.{Held}
 use Rattle.blk_front.specs.declared.request.Request.{Request}
-use Rattle.blk_front.specs.declared.state.Offers.{Offers}
 use Rattle.blk_front.specs.Request.{frames_for}
 use Rattle.blk_front.specs.declared.stage.Stage.{Stage as FrontStage}
 use Rattle.blk_front.specs.declared.stage.Stage.TheVariants as front
 use Rattle.blk_back.specs.declared.stage.Reply.{Reply}
 use Rattle.blk_back.specs.declared.stage.Stage.{Stage as BackStage}
 use Rattle.blk_back.specs.declared.stage.Stage.TheVariants as back
-use Rattle.machine_pipeline.proofs.Flow.{Flow, filled, named_frames, granted_frames, entered}
-use Rattle.machine_pipeline.proofs.Holds.{AreIndices, FrontAt, AreSlots, IsFilled, IsGranted, AreEntries, AreWorks, IsEnding, IsOffered, BackAt}
+use Rattle.machine_pipeline.proofs.Flow.{Flow, is_issuing, filled, named_frames, granted_frames, entered}
+use Rattle.machine_pipeline.proofs.Holds.{AreSubmitted, AreIndices, FrontAt, AreSlots, IsFilled, IsGranted, AreEntries, AreWorks, AreReplies, IsReplying, IsEnding, BackAt}
 use Rattle.ring_words.specs.Shape.{entries_of, Shape}
+use Rattle.machine_pipeline.proofs.Series.{IsSeries, IsAmong, among_was, numbered_grown}
 use Rattle.machine_pipeline.proofs.Lists.{get_append}
 use Rattle.machine_pipeline.proofs.Growing.{longer, push_was}
 use Rattle.back_jobs.specs.Task.{Work}
@@ -24,7 +24,7 @@ use Rattle.blk_front.specs.declared.stage.Ending.{Ending}
 
 -- one more was submitted
 abbrev pub submitted_flow : Flow → Request → Flow
-submitted_flow g x = record g { submitted = g.submitted ++ x ∷ [] }
+submitted_flow g x = record g { submitted = g.submitted ++ x ∷ []; series = g.series ++ x ∷ [] }
 
 pub indices_more : (g : Flow) (x : Request) (front_ring back_ring : Ring) (front_seen back_seen number last waiting unfinished unfinished' ending : ℕ)
     → unfinished' ≡ unfinished + 1 → last ≢ 4294967295 → unfinished + ending < entries_of g.shape.order
@@ -32,8 +32,10 @@ pub indices_more : (g : Flow) (x : Request) (front_ring back_ring : Ring) (front
     → AreIndices (submitted_flow g x) front_ring back_ring front_seen back_seen number (last + 1) (waiting + 1) unfinished' ending
 indices_more g x front_ring back_ring front_seen back_seen number last waiting unfinished unfinished' ending more unspent free h =
     let all = h.all in
+    let given = h.given in
     let few = h.few in
     let held = h.held in
+    let long = longer g.series x in
     record {
       front_entries = h.front_entries;
       pushed = h.pushed;
@@ -51,6 +53,7 @@ indices_more g x front_ring back_ring front_seen back_seen number last waiting u
       back_from = h.back_from;
       back_to = h.back_to;
       all = omega arith;
+      given = omega arith;
       few = omega arith;
       held = omega arith;
       room = omega arith;
@@ -89,6 +92,7 @@ pub record IsIdle (s : FrontStage) : Type 0 where
   pub unnamed : named_frames s ≡ 0
   pub ungranted : granted_frames s ≡ 0
   pub unentered : entered s ≡ 0
+  pub unissued : is_issuing s ≡ false
 
 -- so it is where none waits
 pub idle_at : (shape : Shape) (start pushed taken front_seen : ℕ) (submitted : List Request) (replies : List Reply) (next : Option Request) (entry : List ℕ) (ending : Option Ending) (s : FrontStage)
@@ -101,18 +105,18 @@ idle_at shape start pushed taken front_seen submitted replies next entry ending 
 idle_at shape start pushed taken front_seen submitted replies next entry ending (front.Slot k) none h = absurd (none-some h.1.0 (sym none ∙ h.1.1))
 idle_at shape start pushed taken front_seen submitted replies next entry ending front.Producer none h = absurd (none-some h.0 (sym none ∙ h.1))
 idle_at shape start pushed taken front_seen submitted replies next entry ending s none h =
-    record { unfilled = λ frames. refl; unnamed = refl; ungranted = refl; unentered = refl }
+    record { unfilled = λ frames. refl; unnamed = refl; ungranted = refl; unentered = refl; unissued = refl }
 
-pub slots_more : (shape : Shape) (start fetched pushed taken replied : ℕ) (submitted : List Request) (replies : List Reply) (pages : List ℕ) (s : FrontStage) (b : BackStage) (x : Request)
-    → pushed ≤ length submitted → (pushed ≡ length submitted → IsIdle s)
-    → AreSlots shape start fetched pushed taken replied submitted replies pages s b
-    → AreSlots shape start fetched pushed taken replied (submitted ++ x ∷ []) replies pages s b
-slots_more shape start fetched pushed taken replied submitted replies pages s b x few idle h = record {
-  entries = λ k r from to e i lt. elim (push_was submitted x k r e) [
+pub slots_more : (shape : Shape) (start fetched pushed taken replied : ℕ) (series : List Request) (replies : List Reply) (pages : List ℕ) (s : FrontStage) (b : BackStage) (x : Request)
+    → pushed ≤ length series → (pushed ≡ length series → IsIdle s)
+    → AreSlots shape start fetched pushed taken replied series replies pages s b
+    → AreSlots shape start fetched pushed taken replied (series ++ x ∷ []) replies pages s b
+slots_more shape start fetched pushed taken replied series replies pages s b x few idle h = record {
+  entries = λ k r from to e i lt. elim (push_was series x k r e) [
     | inl was ↦ h.entries k r from to was i lt
     | inr new ↦ absurd (let at = new.0 in omega arith)
   ];
-  entry = λ r e i lt in_it. elim (push_was submitted x pushed r e) [
+  entry = λ r e i lt in_it. elim (push_was series x pushed r e) [
     | inl was ↦ h.entry r was i lt in_it
     | inr new ↦ absurd (let rest = idle new.0 in let none = rest.unentered in omega arith)
   ];
@@ -120,40 +124,84 @@ slots_more shape start fetched pushed taken replied submitted replies pages s b 
   response = h.response;
 }
 
-pub frames_more : (pushed last : ℕ) (pages : List ℕ) (s : FrontStage) (requests : List Request) (x : Request)
-    → x.number ≡ last + 1 → pushed ≤ last → (pushed ≡ last → IsIdle s)
-    → All (IsFilled pushed pages s) requests
-    → All (IsFilled pushed pages s) (requests ++ x ∷ [])
-frames_more pushed last pages s requests x number few idle h = All-push (IsFilled pushed pages s) requests x h (record {
-  whole = λ le i l. absurd (omega arith);
-  begun = λ e n l. absurd (let rest = idle (omega arith) in let none = rest.unfilled (frames_for x.count) in omega arith);
-})
+-- a new request is none of those that were there
+pub absent : (submitted series : List Request) (sectors last : ℕ) (x : Request) → x.number ≡ last + 1 → AreSubmitted submitted sectors last → IsSeries submitted series → (i : ℕ) → slice_get series i ≡ Some x → ⊥
+absent submitted series sectors last x number all h i at =
+    let within = slice_get_within submitted (x.number - 1) x (h.known i x at) in
+    let counted = all.counted in
+    omega arith
 
-pub entries_more : (pushed last : ℕ) (pages : List ℕ) (live : List Held) (s : FrontStage) (ending : Option Ending) (requests : List Request) (x : Request)
-    → x.number ≡ last + 1 → pushed ≤ last → (pushed ≡ last → IsIdle s)
-    → AreEntries pushed pages live s ending requests
-    → AreEntries pushed pages live s ending (requests ++ x ∷ [])
-entries_more pushed last pages live s ending requests x number few idle h = record {
-  each = All-push (IsGranted pushed pages live s) requests x h.each (record {
-    named = λ le. absurd (omega arith);
-    named_next = λ e place t. absurd (let rest : IsIdle s = idle (omega arith) in let none = rest.unnamed in omega arith);
-    flags = λ le. absurd (omega arith);
-    flags_next = λ e place t. absurd (let rest : IsIdle s = idle (omega arith) in let none = rest.ungranted in omega arith);
+pub frames_more : {series : List Request} (pushed : ℕ) (pages : List ℕ) (s : FrontStage) (requests : List Request) (x : Request)
+    → ((i : ℕ) → slice_get series i ≡ Some x → ⊥) → pushed ≤ length series → (pushed ≡ length series → IsIdle s)
+    → All (IsFilled series pushed pages s) requests
+    → All (IsFilled (series ++ x ∷ []) pushed pages s) (requests ++ x ∷ [])
+frames_more {series} pushed pages s requests x new few idle h = All-push (IsFilled (series ++ x ∷ []) pushed pages s) requests x (λ k d lt. grown (get_or requests k d) (h k d lt)) (record {
+  whole = λ one i l. absurd (none one);
+  begun = λ e n l. absurd (let rest : IsIdle s = idle (last x e (new pushed)) in let none = rest.unfilled (frames_for x.count) in omega arith);
+})
+  where
+    none : IsAmong (series ++ x ∷ []) pushed x → ⊥
+    none one = let was = among_was pushed x x few one in new was.index was.at
+
+    last : (q : Request) → slice_get (series ++ x ∷ []) pushed ≡ Some q → (slice_get series pushed ≡ Some q → ⊥) → pushed ≡ length series
+    last q e other = elim (push_was series x pushed q e) [ inl was ↦ absurd (other was) | inr at ↦ at.0 ]
+
+    grown : (q : Request) → IsFilled series pushed pages s q → IsFilled (series ++ x ∷ []) pushed pages s q
+    grown q was = record {
+      whole = λ one. was.whole (among_was pushed q x few one);
+      begun = λ e n f l own. elim (push_was series x pushed q e) [
+        | inl there ↦ was.begun there n f l own
+        | inr at ↦ absurd (let rest : IsIdle s = idle at.0 in let none = rest.unfilled (frames_for q.count) in omega arith)
+      ];
+    }
+
+pub entries_more : {series : List Request} (pushed : ℕ) (pages : List ℕ) (live : List Held) (s : FrontStage) (ending : Option Ending) (requests : List Request) (x : Request)
+    → ((i : ℕ) → slice_get series i ≡ Some x → ⊥) → pushed ≤ length series → (pushed ≡ length series → IsIdle s)
+    → AreEntries series pushed pages live s ending requests
+    → AreEntries (series ++ x ∷ []) pushed pages live s ending (requests ++ x ∷ [])
+entries_more {series} pushed pages live s ending requests x new few idle h = record {
+  each = All-push (IsGranted (series ++ x ∷ []) pushed pages live s) requests x (λ k d lt. grown (get_or requests k d) (h.each k d lt)) (record {
+    named = λ one. absurd (none one);
+    named_next = λ e place t. absurd (let rest : IsIdle s = idle (last x e (new pushed)) in let none = rest.unnamed in omega arith);
+    flags = λ one. absurd (none one);
+    flags_next = λ e place t. absurd (let rest : IsIdle s = idle (last x e (new pushed)) in let none = rest.ungranted in omega arith);
   });
   ending = h.ending;
 }
+  where
+    none : IsAmong (series ++ x ∷ []) pushed x → ⊥
+    none one = let was = among_was pushed x x few one in new was.index was.at
 
--- what the back serves is as it was
-pub offered_more : (ready fixed : Bool) (limit : ℕ) (offers : Offers) (pushed last last' : ℕ) → ready ≡ true → IsOffered ready fixed limit offers pushed last → IsOffered ready fixed limit offers pushed last'
-offered_more true fixed limit offers pushed last last' is h = h
-offered_more false fixed limit offers pushed last last' is h = absurd (true≢false (sym is))
+    last : (q : Request) → slice_get (series ++ x ∷ []) pushed ≡ Some q → (slice_get series pushed ≡ Some q → ⊥) → pushed ≡ length series
+    last q e other = elim (push_was series x pushed q e) [ inl was ↦ absurd (other was) | inr at ↦ at.0 ]
+
+    grown : (q : Request) → IsGranted series pushed pages live s q → IsGranted (series ++ x ∷ []) pushed pages live s q
+    grown q was = record {
+      named = λ one. was.named (among_was pushed q x few one);
+      named_next = λ e place t in_it. elim (push_was series x pushed q e) [
+        | inl there ↦ was.named_next there place t in_it
+        | inr at ↦ absurd (let rest : IsIdle s = idle at.0 in let none = rest.unnamed in omega arith)
+      ];
+      flags = λ one. was.flags (among_was pushed q x few one);
+      flags_next = λ e place t in_it. elim (push_was series x pushed q e) [
+        | inl there ↦ was.flags_next there place t in_it
+        | inr at ↦ absurd (let rest : IsIdle s = idle at.0 in let none = rest.ungranted in omega arith)
+      ];
+    }
 
 -- what is known of the requests that were there stays known
-pub works_more : (submitted : List Request) (fetched : ℕ) (works : List Work) (x : Request) → AreWorks submitted fetched works → AreWorks (submitted ++ x ∷ []) fetched works
-works_more submitted fetched works x h = record {
-  each = λ k d lt. let was = h.each k d lt in record { r = was.r; known = get_append submitted (x ∷ []) _ was.r was.known; positive = was.positive; reached = was.reached; id = was.id; op = was.op; at = was.at };
+pub works_more : {series : List Request} (submitted : List Request) (fetched : ℕ) (works : List Work) (x : Request) → AreWorks submitted series fetched works → AreWorks (submitted ++ x ∷ []) (series ++ x ∷ []) fetched works
+works_more {series} submitted fetched works x h = record {
+  each = λ k d lt. let was = h.each k d lt in record { r = was.r; known = get_append submitted (x ∷ []) _ was.r was.known; positive = was.positive; issued = get_append series (x ∷ []) _ was.r was.issued; counted = was.counted; reached = was.reached; op = was.op; at = was.at };
   ascending = h.ascending;
   clear = h.clear;
+}
+
+pub replies_grown : {series : List Request} (fetched taken replied : ℕ) (replies : List Reply) (x : Request) → AreReplies series fetched taken replied replies → AreReplies (series ++ x ∷ []) fetched taken replied replies
+replies_grown fetched taken replied replies x h = record {
+  counted = h.counted;
+  each = λ k d lt. let was = h.each k d lt in record { positive = was.positive; reached = numbered_grown fetched _ x was.reached; op = was.op };
+  distinct = h.distinct;
 }
 
 ending_more : (submitted : List Request) (replies : List Reply) (x : Request) (e : Ending) → IsEnding submitted replies e → IsEnding (submitted ++ x ∷ []) replies e
@@ -168,10 +216,17 @@ front_at_grown shape start pushed taken front_seen submitted replies next entry 
     (h.0, h.1, ending_more submitted replies x h.0 h.2, h.3)
 front_at_grown shape start pushed taken front_seen submitted replies next entry ending x (front.ReadData n) h =
     (h.0, h.1, ending_more submitted replies x h.0 h.2, h.3)
+front_at_grown shape start pushed taken front_seen submitted replies next entry ending x (front.LeftData n) h = absurd h
 front_at_grown shape start pushed taken front_seen submitted replies next entry ending x s h = h
 
-pub back_at_grown : (shape : Shape) (start fetched back_seen replied : ℕ) (submitted : List Request) (works : List Work) (entry : List ℕ) (x : Request) (b : BackStage)
-    → BackAt shape start fetched back_seen replied submitted works entry b
-    → BackAt shape start fetched back_seen replied (submitted ++ x ∷ []) works entry b
-back_at_grown shape start fetched back_seen replied submitted works entry x (back.Fetch k) h = (h.0, h.1, h.2, (h.3.0, get_append submitted (x ∷ []) fetched h.3.0 h.3.1, h.3.2))
-back_at_grown shape start fetched back_seen replied submitted works entry x b h = h
+replying_grown : {series : List Request} (fetched : ℕ) (works : List Work) (rep : Reply) (x : Request) → IsReplying series fetched works rep → IsReplying (series ++ x ∷ []) fetched works rep
+replying_grown fetched works rep x h = record { positive = h.positive; reached = numbered_grown fetched rep.id x h.reached; op = h.op; alone = h.alone }
+
+pub back_at_grown : (shape : Shape) (start fetched back_seen replied : ℕ) (series : List Request) (works : List Work) (entry : List ℕ) (x : Request) (b : BackStage)
+    → BackAt shape start fetched back_seen replied series works entry b
+    → BackAt shape start fetched back_seen replied (series ++ x ∷ []) works entry b
+back_at_grown shape start fetched back_seen replied series works entry x (back.Fetch k) h = (h.0, h.1, h.2, (h.3.0, get_append series (x ∷ []) fetched h.3.0 h.3.1, h.3.2))
+back_at_grown shape start fetched back_seen replied series works entry x (back.ReplyHigh rep) h = replying_grown fetched works rep x h
+back_at_grown shape start fetched back_seen replied series works entry x (back.ReplyLast rep) h = replying_grown fetched works rep x h
+back_at_grown shape start fetched back_seen replied series works entry x (back.Producer rep) h = replying_grown fetched works rep x h
+back_at_grown shape start fetched back_seen replied series works entry x b h = h

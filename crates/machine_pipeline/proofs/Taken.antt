@@ -1,8 +1,9 @@
 -- The front takes a response: what all that holds becomes.
-use Rattle.std.proofs.Common.{◌≡◌, ◌≢◌, ℕ, suc, ◌+◌, ◌-◌, ◌*◌, ◌^◌, ◌<◌, ◌≤◌, ◌==◌, ◌⊎◌, inl, inr, if◌then◌else◌, Bool, List, [], ◌∷◌, length, drop, refl, ap, sym, ◌∙◌, subst, arith, true≢false, true, false}
+use Rattle.std.proofs.Common.{◌≡◌, ◌≢◌, ℕ, suc, ◌+◌, ◌-◌, ◌*◌, ◌^◌, ◌<◌, ◌≤◌, ◌==◌, ◌⊎◌, inl, inr, if◌then◌else◌, Bool, List, [], ◌∷◌, length, take, drop, refl, ap, sym, ◌∙◌, subst, arith, true≢false, true, false}
 use Rattle.std.specs.Prelude.{All, Option, Some, None, slice_get, remove, Result, Ok}
 use Rattle.std.proofs.lemmas.Option.{none-some, same_Some, slice_get_within}
 use Rattle.std.proofs.lemmas.List.Edits.{length-remove}
+use Rattle.std.proofs.lemmas.Bool.{cases_lt}
 use Rattle.std.proofs.lemmas.Bool.Decides.{nat_tests}
 use Rattle.blk_base.specs.Options.{Options}
 use Rattle.blk_base.specs.declared.ask.FrontAnswer.TheVariants as answer
@@ -39,9 +40,10 @@ use Rattle.machine_pipeline.proofs.Ending.{pooled_free}
 use Rattle.pipeline_laws.specs.Station.{Replied}
 use Rattle.machine_pipeline.proofs.Turns.{Goes, FrontGoes, Stepped, does_step, does_after}
 use Rattle.machine_pipeline.proofs.Lists.{all_at, all_from, pair_at}
-use Rattle.machine_pipeline.proofs.Removals.{removed_was}
+use Rattle.machine_pipeline.proofs.Removals.{removed_was, taken_has}
+use Rattle.machine_pipeline.proofs.Series.{IsAmong}
 use Rattle.machine_pipeline.proofs.Wrapped.{next_wrapped}
-use Rattle.machine_pipeline.proofs.Frames.{unmapped}
+use Rattle.machine_pipeline.proofs.Frames.{is_submitted, unmapped}
 use Rattle.machine_pipeline.proofs.Resting.{IsResting, at_loop, at_read, at_last, ring_rests, frames_rest, granted_rests, data_rests}
 use Rattle.machine_pipeline.proofs.Resuming.{response_read}
 use Rattle.machine_pipeline.proofs.Finding.{IsFound, finds, read_back, first_two, response_for}
@@ -85,7 +87,7 @@ freed_holds config w g d d' low high rep s ending i untold unarmed few h oldest 
   info = h.info;
   replies = replies_without g.fetched g.taken g.replied g.replies rep oldest h.replies;
   front_at = at;
-  offered = subst (λ (b : Bool). IsOffered b config.read_only config.indirect w.front.offers g.pushed w.front.last) (sym i.ready) h.offered;
+  offered = subst (λ (b : Bool). IsOffered b config.read_only config.indirect w.front.offers g.pushed) (sym i.ready) h.offered;
   back_at = h.back_at;
   unhalted = h.unhalted;
   memory = h.memory;
@@ -96,15 +98,15 @@ freed_holds config w g d d' low high rep s ending i untold unarmed few h oldest 
     responses = λ k x at i lt. ap (λ (n : ℕ). slot_of w.under.pages g.shape (wrapped g.start n) i) (omega arith) ∙ was.responses (suc k) x (sym (dropped g.replies k) ∙ at) i lt;
     response = was.response;
   });
-  frames = frames_rest g.pushed w.under.pages (front.ResponseLast low high) s (remove w.front.requests f.place) i (all_from (IsFilled g.pushed w.under.pages (front.ResponseLast low high)) (remove w.front.requests f.place) (λ j x at.
+  frames = frames_rest g.pushed w.under.pages (front.ResponseLast low high) s (remove w.front.requests f.place) i (all_from (IsFilled g.series g.pushed w.under.pages (front.ResponseLast low high)) (remove w.front.requests f.place) (λ j x at.
       let was = removed_was w.front.requests f.place j x at in
-      all_at (IsFilled g.pushed w.under.pages (front.ResponseLast low high)) w.front.requests was.0 x h.frames was.2));
+      all_at (IsFilled g.series g.pushed w.under.pages (front.ResponseLast low high)) w.front.requests was.0 x h.frames was.2));
   telling = data_rests w.under.pages w.under.pages w.front.words w.front.ending ending (front.ResponseLast low high) s untold h.telling;
   entries = record {
-    each = all_from (IsGranted g.pushed w.under.pages w.under.grants.live s) (remove w.front.requests f.place) (λ j x at.
+    each = all_from (IsGranted g.series g.pushed w.under.pages w.under.grants.live s) (remove w.front.requests f.place) (λ j x at.
         let was = removed_was w.front.requests f.place j x at in
         let entries = h.entries in
-        granted_rests g.pushed w.under.pages w.under.grants.live (front.ResponseLast low high) s x i (all_at (IsGranted g.pushed w.under.pages w.under.grants.live (front.ResponseLast low high)) w.front.requests was.0 x entries.each was.2));
+        granted_rests g.pushed w.under.pages w.under.grants.live (front.ResponseLast low high) s x i (all_at (IsGranted g.series g.pushed w.under.pages w.under.grants.live (front.ResponseLast low high)) w.front.requests was.0 x entries.each was.2));
     ending = revoked;
   };
   mapped = h.mapped;
@@ -143,6 +145,7 @@ freed_holds config w g d d' low high rep s ending i untold unarmed few h oldest 
       back_from = was.back_from;
       back_to = was.back_to;
       all = was.all;
+      given = was.given;
       few = was.few;
       held = omega arith;
       room = omega arith;
@@ -159,14 +162,14 @@ ending_taken config w g d s rep h oldest f = record {
       λ same. apart (sym (same ∙ f.number)));
 }
   where
-    queue : AreQueued g.submitted g.pushed w.front.requests w.front.waiting
+    queue : AreQueued g.submitted g.series g.pushed w.front.requests w.front.waiting
     queue = h.queue
 
-    replies : AreReplies g.fetched g.taken g.replied g.replies
+    replies : AreReplies g.series g.fetched g.taken g.replied g.replies
     replies = h.replies
 
-    is : IsReply g.fetched rep
-    is = all_at (IsReply g.fetched) g.replies 0 rep replies.each oldest
+    is : IsReply g.series g.fetched rep
+    is = all_at (IsReply g.series g.fetched) g.replies 0 rep replies.each oldest
 
 -- and none of its frames is mapped any more
 flags_left : (config : Options) (w : World) (g : Flow) (d : Pipeline) (s : FrontStage) (rep : Reply) → Holds config w g d s w.back.stage → slice_get g.replies 0 ≡ Some rep → (f : IsFound w g rep.id)
@@ -176,20 +179,19 @@ flags_left config w g d s rep h oldest f place lt =
     (λ (m : Mapping). m.gref == frame_at f.r place + 6) (λ m apart. grind (arith, nat_tests)) in
     granted.flags reached place lt ∙ ap (flags_with f.r place) none
   where
-    granted : IsGranted g.pushed w.under.pages w.under.grants.live s f.r
-    granted = let entries = h.entries in all_at (IsGranted g.pushed w.under.pages w.under.grants.live s) w.front.requests f.place f.r entries.each f.here
+    granted : IsGranted g.series g.pushed w.under.pages w.under.grants.live s f.r
+    granted = let entries = h.entries in all_at (IsGranted g.series g.pushed w.under.pages w.under.grants.live s) w.front.requests f.place f.r entries.each f.here
 
-    no_job : (i : ℕ) (t : Work) → slice_get w.back.jobs.works i ≡ Some t → t.number ≡ f.r.number → mapping_at t.stage ≡ None
+    no_job : (i : ℕ) (t : Work) → slice_get w.back.jobs.works i ≡ Some t → t.id ≡ f.r.number → mapping_at t.stage ≡ None
     no_job i t at same =
         let works = h.works in
-        let work = all_at (IsWork g.submitted g.fetched) w.back.jobs.works i t works.each at in
-        absurd (apart d.requests (t.number - 1) (rep.id - 1) (worked t.stage t.moved) (Replied rep.status) (h.stations.works i t at) (h.stations.replied 0 rep oldest) (omega (arith, worked_kind t.stage t.moved)) (omega (arith, f.number, same, work.positive)))
+        let work = all_at (IsWork g.submitted g.series g.fetched) w.back.jobs.works i t works.each at in
+        absurd (apart d.requests (t.id - 1) (rep.id - 1) (worked t.stage t.moved) (Replied rep.status) (h.stations.works i t at) (h.stations.replied 0 rep oldest) (omega (arith, worked_kind t.stage t.moved)) (omega (arith, f.number, same, work.positive)))
 
-    reached : f.r.number ≤ g.pushed
+    reached : IsAmong g.series g.pushed f.r
     reached =
-        let replies = h.replies in
-        let is : IsReply g.fetched rep = all_at (IsReply g.fetched) g.replies 0 rep replies.each oldest in
-        let number = f.number in let fetched = is.reached in let indices = h.indices in omega arith
+        let queue = h.queue in
+        all_at (IsAmong g.series g.pushed) (take (length w.front.requests - w.front.waiting) w.front.requests) f.place f.r queue.issued (taken_has (length w.front.requests - w.front.waiting) w.front.requests f.place f.r f.here f.early)
 
 -- a request without frames moves no sector
 still_of : (r : Request) → IsShaped r → frames_of r ≡ 0 → is_moving r.transfer ≡ false
@@ -240,8 +242,8 @@ last_goes config w g d low high told h =
     Becomes : View → Type 0
     Becomes x = Goes config (lines.Move shown ∷ front_lines x.told) (record { front = record x { told = None }; back = w.back; under = w.under }) d
 
-    is : IsReply g.fetched rep
-    is = let replies = h.replies in all_at (IsReply g.fetched) g.replies 0 rep replies.each place.0.oldest
+    is : IsReply g.series g.fetched rep
+    is = let replies = h.replies in all_at (IsReply g.series g.fetched) g.replies 0 rep replies.each place.0.oldest
 
     found : IsFound w g rep.id
     found = finds config w g d (front.ResponseLast low high) rep h refl is (h.stations.replied 0 rep place.0.oldest)
@@ -249,8 +251,18 @@ last_goes config w g d low high told h =
     e : Ending
     e = record { request = found.r; status = rep.status }
 
+    -- no other one of the front's requests has its number
+    others_apart : (i : ℕ) (y : Request) → i ≢ found.place → slice_get w.front.requests i ≡ Some y → y.number - 1 ≢ rep.id - 1
+    others_apart i y other at same =
+        let queue = h.queue in
+        let its = is_submitted config w g d (front.ResponseLast low high) w.back.stage h i y at in
+        elim (cases_lt i found.place) [
+          | inl before ↦ (let up = pair_at (λ (a b : Request). a.number < b.number) w.front.requests i found.place y found.r queue.ascending before at found.here in omega (arith, up, found.number, its.number, is.positive))
+          | inr behind ↦ (let up = pair_at (λ (a b : Request). a.number < b.number) w.front.requests found.place i found.r y queue.ascending (omega arith) found.here at in omega (arith, up, found.number, its.number, is.positive))
+        ]
+
     s : Stepped None IsSame d [] (λ p. AreStations config (taken_flow g) p true false (is_fetching w.back.stage) (Some e) None (reply_at w.back.stage) (remove w.front.requests found.place) w.back.jobs.works w.under.pages)
-    s = takes config g d true false (is_fetching w.back.stage) (reply_at w.back.stage) w.front.requests w.back.jobs.works w.under.pages found.place found.r rep e place.0.oldest found.here (sym found.number) refl h.replies h.stations
+    s = takes config g d true false (is_fetching w.back.stage) (reply_at w.back.stage) w.front.requests w.back.jobs.works w.under.pages found.place found.r rep e place.0.oldest found.here (sym found.number) refl others_apart h.replies h.stations
 
     read : response_of (low ∷ high ∷ last ∷ []) ≡ Ok (response_for rep)
     read = read_back rep low high last is.op place.1 place.2 (response_read config w g d (front.ResponseLast low high) rep 2 h place.0.oldest (omega arith))

@@ -14,6 +14,7 @@ use Rattle.blk_front.specs.declared.stage.Ending.{Ending}
 use Rattle.blk_front.specs.Step.{taken}
 use Rattle.blk_back.specs.declared.stage.Reply.{Reply}
 use Rattle.machine_pipeline.proofs.Flow.{uses, frames_of}
+use Rattle.machine_pipeline.proofs.Series.{IsAmong}
 use Rattle.machine_pipeline.proofs.Holds.{AreQueued, ArePooled, AreReplies, IsReply}
 use Rattle.machine_pipeline.proofs.Stations.{AreOpen}
 use Rattle.machine_pipeline.proofs.Lists.{all_at, all_from, pair_at, pairs_from, place_of_any}
@@ -29,23 +30,24 @@ dropped_long [] x e = absurd (none-some x e)
 dropped_long (y ∷ xs) x e = omega arith
 
 -- the front's requests without the one that was answered
-pub queued_without : (submitted requests : List Request) (pushed waiting place : ℕ) (r : Request)
+pub queued_without : {series : List Request} (submitted requests : List Request) (pushed waiting place : ℕ) (r : Request)
     → slice_get requests place ≡ Some r
     → place < length requests - waiting
-    → AreQueued submitted pushed requests waiting
-    → AreQueued submitted pushed (remove requests place) waiting
-queued_without submitted requests pushed waiting place r here early h = record {
+    → AreQueued submitted series pushed requests waiting
+    → AreQueued submitted series pushed (remove requests place) waiting
+queued_without {series} submitted requests pushed waiting place r here early h = record {
+  ordered = h.ordered;
   known = all_from (λ (x : Request). slice_get submitted (x.number - 1) ≡ Some x) (remove requests place) (λ i x e.
       let was = removed_was requests place i x e in
       all_at (λ (y : Request). slice_get submitted (y.number - 1) ≡ Some y) requests was.0 x h.known was.2);
   ascending = all_pairs_remove (λ (x y : Request). x.number < y.number) requests place (slice_get_within requests place r here) h.ascending;
-  issued = all_from (λ (x : Request). x.number ≤ pushed) (take (length (remove requests place) - waiting) (remove requests place)) (λ i x e.
+  issued = all_from (IsAmong series pushed) (take (length (remove requests place) - waiting) (remove requests place)) (λ i x e.
       let first = taken_was (length (remove requests place) - waiting) (remove requests place) i x e in
       let was = removed_was requests place i x first.1 in
       let within = slice_get_within requests place r here in
       let less = length-remove requests place within in
       let at = taken_has (length requests - waiting) requests was.0 x was.2 (before i was.0 was.3 (omega (arith, first.0))) in
-      all_at (λ (y : Request). y.number ≤ pushed) (take (length requests - waiting) requests) was.0 x h.issued at);
+      all_at (IsAmong series pushed) (take (length requests - waiting) requests) was.0 x h.issued at);
   next = λ j x lt e.
       let within = slice_get_within requests place r here in
       let less = length-remove requests place within in
@@ -111,9 +113,9 @@ opened_without asked requests place r e here number h = record {
             let within = slice_get_within (remove requests place) left.0 x left.1 in
             inl (list_any_at (λ (y : Request). y.number == k + 1) (remove requests place) left.0 x within (ap (λ (y : Request). y.number == k + 1) (get_or_from_slice_get (remove requests place) left.0 x x left.1) ∙ passes))
 
-pub replies_without : (fetched taken replied : ℕ) (replies : List Reply) (rep : Reply) → slice_get replies 0 ≡ Some rep → AreReplies fetched taken replied replies → AreReplies fetched (taken + 1) replied (drop 1 replies)
-replies_without fetched taken replied replies rep oldest h = record {
+pub replies_without : {series : List Request} (fetched taken replied : ℕ) (replies : List Reply) (rep : Reply) → slice_get replies 0 ≡ Some rep → AreReplies series fetched taken replied replies → AreReplies series fetched (taken + 1) replied (drop 1 replies)
+replies_without {series} fetched taken replied replies rep oldest h = record {
   counted = (let counted = h.counted in let less = dropped_long replies rep oldest in omega arith);
-  each = all_from (IsReply fetched) (drop 1 replies) (λ i x e. all_at (IsReply fetched) replies (suc i) x h.each (sym (dropped replies i) ∙ e));
+  each = all_from (IsReply series fetched) (drop 1 replies) (λ i x e. all_at (IsReply series fetched) replies (suc i) x h.each (sym (dropped replies i) ∙ e));
   distinct = pairs_from (λ (a b : Reply). a.id ≢ b.id) (drop 1 replies) (λ i j x y lt e f. pair_at (λ (a b : Reply). a.id ≢ b.id) replies (suc i) (suc j) x y h.distinct (omega arith) (sym (dropped replies i) ∙ e) (sym (dropped replies j) ∙ f));
 }

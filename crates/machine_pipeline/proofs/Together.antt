@@ -8,7 +8,7 @@ use Rattle.blk_front.specs.declared.stage.Stage.TheVariants as front
 use Rattle.blk_front.specs.View.{next_request}
 use Rattle.split_model.specs.World.{World, start_of}
 use Rattle.split_model.specs.Safe.{IsSafe}
-use Rattle.split_model.specs.Happening.{Happening, FrontMoves, BackMoves, JobMoves, Negotiates, FrontEnters, BackAttaches, BackHalts, Submits, Notifies, Pokes, OverwritesKey, Dumps, Looks, Settles, happens, lines_at, after as world_after}
+use Rattle.split_model.specs.Happening.{Happening, FrontMoves, BackMoves, JobMoves, Negotiates, FrontEnters, BackAttaches, BackHalts, Submits, Notifies, Pokes, OverwritesKey, Suspends, Dumps, Looks, Settles, happens, lines_at, after as world_after}
 use Rattle.split_model.proofs.Safe.{safe_start, safe_happens}
 use Rattle.machine_pipeline.specs.Plain.{IsPlain}
 use Rattle.machine_pipeline.specs.Allowed.{IsServed, AreServed}
@@ -39,6 +39,8 @@ use Rattle.machine_pipeline.proofs.Leaving.{halts_goes}
 use Rattle.machine_pipeline.proofs.OverMoves.{front_ends, back_ends, job_ends}
 use Rattle.machine_pipeline.proofs.OverRest.{keys_end, notified_ends, submit_ends, enters_ends, attaches_late, halts_no_more}
 use Rattle.machine_pipeline.proofs.Keyed.{negotiates_goes}
+use Rattle.machine_pipeline.proofs.Unsuspended.{one_served}
+use Rattle.machine_pipeline.proofs.Unasked.{IsUnasked, unasked_happens}
 use Rattle.machine_pipeline.proofs.Quiet.{dumps_goes, looks_goes, settles_goes}
 use Rattle.pipeline_laws.specs.Pipeline.{Pipeline, pipeline_of, after_steps}
 use Rattle.machine_pipeline.specs.Step.{CallAt, GoesStepwise}
@@ -93,6 +95,7 @@ serving_goes config w g d (Submits job) plain safe holds may = goes_on config _ 
 serving_goes config w g d (Notifies at) plain safe holds may = goes_on config _ _ d (notified_goes config w g d at (record { safe = safe; holds = holds }))
 serving_goes config w g d (Pokes frame word value) plain safe holds may = absurd may
 serving_goes config w g d (OverwritesKey name text) plain safe holds may = absurd may
+serving_goes config w g d Suspends plain safe holds may = absurd may
 serving_goes config w g d Dumps plain safe holds may = dumps_goes config w d (inl (g, holds))
 serving_goes config w g d (Looks quiet) plain safe holds may = looks_goes config w d quiet may safe (inl (g, holds))
 serving_goes config w g d (Settles quiet) plain safe holds may = settles_goes config w d quiet may safe (inl (g, holds))
@@ -110,6 +113,7 @@ ending_goes config w d (Submits job) safe over may = submit_ends config w d job 
 ending_goes config w d (Notifies at) safe over may = notified_ends config w d at over
 ending_goes config w d (Pokes frame word value) safe over may = absurd may
 ending_goes config w d (OverwritesKey name text) safe over may = absurd may
+ending_goes config w d Suspends safe over may = absurd may
 ending_goes config w d Dumps safe over may = dumps_goes config w d (inr over)
 ending_goes config w d (Looks quiet) safe over may = looks_goes config w d quiet may safe (inr over)
 ending_goes config w d (Settles quiet) safe over may = settles_goes config w d quiet may safe (inr over)
@@ -124,19 +128,20 @@ pub record IsStanding (config : Options) (w : World) : Type 0 where
   pub pipeline : Pipeline
   pub safe : IsSafe w
   pub kept : IsKept config w pipeline
+  pub unasked : IsUnasked w.front
 
-pub run_kept : (config : Options) (hs : List Happening) (w : World) (d : Pipeline) → IsPlain config → IsSafe w → IsKept config w d → AreServed hs w → IsStanding config (world_after hs w)
-run_kept config [] w d plain safe kept may = record { pipeline = d; safe = safe; kept = kept }
-run_kept config (h ∷ hs) w d plain safe kept may =
-    let one = step_kept config w d h plain safe kept may.0 in
-    run_kept config hs (happens w h) (after_steps one.steps d) plain (safe_happens w h safe) one.kept may.1
+pub run_kept : (config : Options) (hs : List Happening) (w : World) → IsPlain config → IsStanding config w → AreServed hs w → IsStanding config (world_after hs w)
+run_kept config [] w plain stands may = stands
+run_kept config (h ∷ hs) w plain stands may =
+    let one = step_kept config w stands.pipeline h plain stands.safe stands.kept may.0 in
+    run_kept config hs (happens w h) plain (record { pipeline = after_steps one.steps stands.pipeline; safe = safe_happens w h stands.safe; kept = one.kept; unasked = unasked_happens w h (one_served w h may.0) stands.unasked }) may.1
 
 -- so all starts
 start_kept : (config : Options) → IsPlain config → IsKept config (start_of config) (pipeline_of config)
 start_kept config plain = let start = start_holds config plain in inl (start_flow (record { abi = config.abi; order = config.order }) config.start, start.holds)
 
 pub always_stands : (config : Options) (hs : List Happening) → IsPlain config → AreServed hs (start_of config) → IsStanding config (world_after hs (start_of config))
-always_stands config hs plain may = run_kept config hs (start_of config) (pipeline_of config) plain (safe_start config) (start_kept config plain) may
+always_stands config hs plain may = run_kept config hs (start_of config) plain (record { pipeline = pipeline_of config; safe = safe_start config; kept = start_kept config plain; unasked = λ early. refl }) may
 
 -- each happening in its turn
 pub steps_on : (config : Options) (hs : List Happening) (w : World) (d : Pipeline) → IsPlain config → IsSafe w → IsKept config w d → AreServed hs w → GoesStepwise hs w d

@@ -19,10 +19,10 @@ use Rattle.blk_front.specs.Submit.{is_connected}
 use Rattle.blk_back.specs.View as back
 use Rattle.blk_back.specs.declared.stage.Stage.TheVariants.{Halted}
 use Rattle.blk_back.specs.declared.told.Halt.{Halt}
-use Rattle.split_model.specs.World.{World, is_quiet}
+use Rattle.split_model.specs.World.{World, is_quiet, may_suspend}
 use Rattle.split_model.specs.Keys.{KeyMove, Gets, Sets, Watches, TakesWatch}
 use Rattle.split_model.specs.Shown.{halt_line}
-use Rattle.split_model.specs.Happening.{Happening, FrontMoves, BackMoves, JobMoves, Negotiates, FrontEnters, BackAttaches, BackHalts, Submits, Pokes, OverwritesKey, Looks, Settles, is_guest_word, is_guest_key, happens}
+use Rattle.split_model.specs.Happening.{Happening, FrontMoves, BackMoves, JobMoves, Negotiates, FrontEnters, BackAttaches, BackHalts, Submits, Pokes, OverwritesKey, Suspends, Looks, Settles, is_guest_word, is_guest_key, happens}
 use Rattle.pipeline_laws.specs.Allowed.{is_farewell}
 use Rattle.hypervisor.specs.Act.{IsGiven}
 
@@ -79,7 +79,7 @@ pub record IsFarewell (w : World) (why : Halt) : Type 0 where
   pub free : is_free w.front.stage ≡ true
   pub said : IsSaid why
 
--- the terms that the back takes are the front's own; it moves only once the front made its ring and its port, or after it halted, and then the front makes none; a sector that the disk gives has 128 words of 32 bits; what is submitted may be served; no hostile hand overwrites a word or a key; paths and texts of keys are of the grammar; and where all is found quiet it is
+-- the terms that the back takes are the front's own; it moves only once the front made its ring and its port, or after it halted, and then the front makes none; a sector that the disk gives has 128 words of 32 bits; what is submitted may be served; no hostile hand overwrites a word or a key, and the domain isn't suspended; paths and texts of keys are of the grammar; and where all is found quiet it is
 abbrev pub IsServed : World → Happening → Type 0
 IsServed w FrontMoves = is_some w.back.halted ≡ true → is_connected w.front.stage ≡ true
 IsServed w BackMoves = is_some w.back.halted ≡ false → is_connected w.front.stage ≡ true
@@ -91,6 +91,7 @@ IsServed w (BackHalts why) = IsFarewell w why
 IsServed w (Submits job) = IsServable job
 IsServed w (Pokes frame word value) = ⊥
 IsServed w (OverwritesKey name text) = ⊥
+IsServed w Suspends = ⊥
 IsServed w (Looks quiet) = quiet ≡ true → is_quiet w ≡ true
 IsServed w (Settles quiet) = quiet ≡ true → is_quiet w ≡ true
 IsServed w h = Unit {0}
@@ -109,7 +110,7 @@ IsStated w state = Unit {0}
 abbrev pub AreSaid : List ℕ → ℕ → Type 0
 AreSaid grefs port = All (λ (gref : ℕ). gref < 2 ^ 32) grefs × (port < 2 ^ 32)
 
--- what may happen where a word of the guest's memory or a key of the front may be overwritten too; all may then be found quiet where an end waits for its negotiation
+-- what may happen where a word of the guest's memory or a key of the front may be overwritten too, and the domain suspended; all may then be found quiet where an end waits for its negotiation
 abbrev pub IsPossible : World → Happening → Type 0
 IsPossible w FrontMoves = Unit {0}
 IsPossible w BackMoves = Unit {0}
@@ -118,6 +119,7 @@ IsPossible w (BackAttaches shape grefs port) = AreSaid grefs port
 IsPossible w (BackHalts why) = IsSaid why
 IsPossible w (Pokes frame word value) = (is_guest_word frame word ≡ true) × (value < 2 ^ 32)
 IsPossible w (OverwritesKey name text) = is_guest_key name text ≡ true
+IsPossible w Suspends = may_suspend w ≡ true
 IsPossible w (Looks quiet) = Unit {0}
 IsPossible w (Settles quiet) = Unit {0}
 IsPossible w h = IsServed w h

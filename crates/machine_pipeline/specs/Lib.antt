@@ -4,3 +4,4 @@ pub mod Submissions
 pub mod Sectors
 pub mod Step
 pub mod Run
+pub mod First

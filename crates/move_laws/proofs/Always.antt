@@ -4,13 +4,16 @@ use Rattle.std.specs.Prelude.{Option, Some, None}
 use Rattle.blk_base.specs.Options.{Options}
 use Rattle.hypervisor.specs.Act.{FrontAct, BackAct, Outcome, Took}
 use Rattle.split_model.specs.World.{World, start_of}
-use Rattle.split_model.specs.Happening.{Happening, FrontMoves, BackMoves, JobMoves, FrontEnters, BackAttaches, BackHalts, Submits, Dumps, happens, front_after, back_after, job_after, front_turn, back_turn, job_turn}
+use Rattle.split_model.specs.Happening.{Happening, FrontMoves, BackMoves, JobMoves, FrontEnters, BackAttaches, BackHalts, Submits, Suspends, Dumps, happens, front_after, back_after, job_after, front_turn, back_turn, job_turn}
 use Rattle.blk_front.proofs.Shapes.{few_pages}
+use Rattle.blk_back.specs.declared.told.Halt.TheVariants as halt
+use Rattle.blk_back.specs.View as back
 use Rattle.split_model.proofs.Attaching.{attach_cases}
+use Rattle.split_model.proofs.Suspending.{suspend_cases, begun_back, back_cases}
 use Rattle.split_model.proofs.SafeAnswers.{back_answered, job_answered}
 use Rattle.move_laws.specs.Permitted.{IsPermitted, ArePermitted}
-use Rattle.move_laws.proofs.Front.{IsFront, front_start, front_step, front_entered, front_submit, front_within}
-use Rattle.move_laws.proofs.Back.{IsBack, back_start, back_step, back_attached, back_halted, job_step_kept, back_names, job_names_own}
+use Rattle.move_laws.proofs.Front.{IsFront, front_start, front_step, front_entered, front_submit, front_suspended, front_within}
+use Rattle.move_laws.proofs.Back.{IsBack, back_new, back_start, back_step, back_attached, back_halted, job_step_kept, back_names, job_names_own}
 
 -- both ends are as they should be
 pub record IsOrderly (w : World) : Type 0 where
@@ -50,6 +53,7 @@ front_happens w BackMoves is = beside_back w (back_turn w Took) is
 front_happens w (JobMoves number outcome) is = beside_job w number (job_turn w number outcome) is
 front_happens w (FrontEnters state) is = front_entered state w.front is
 front_happens w (Submits job) is = front_submit w.front job is
+front_happens w Suspends is = suspend_cases (λ v shown. IsFront v.front) w (λ may. front_suspended w.front is) is
 front_happens w h is = is
 
 pub back_happens : (w : World) (h : Happening) → IsBack w.back → (let x : World = happens w h in IsBack x.back)
@@ -58,6 +62,9 @@ back_happens w BackMoves is = back_after_move w Took (back_turn w Took) is refl
 back_happens w (JobMoves number outcome) is = back_after_job w number outcome (job_turn w number outcome) is refl
 back_happens w (BackAttaches shape grefs port) is = attach_cases (λ v shown. IsBack v) w shape grefs port (λ may named says. back_attached shape grefs port w.back may is) is
 back_happens w (BackHalts why) is = back_halted why w.back is
+back_happens w Suspends is =
+    let new : IsBack (begun_back w) = back_new w.front.start (let b : back.View = w.back in b.jobs.info) in
+    suspend_cases (λ v shown. IsBack v.back) w (λ may. back_cases IsBack w new (back_halted (halt.Gone 6) (begun_back w) new)) is
 back_happens w h is = is
 
 pub orderly_happens : (w : World) (h : Happening) → IsOrderly w → IsOrderly (happens w h)

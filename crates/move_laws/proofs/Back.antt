@@ -13,6 +13,7 @@ use Rattle.blk_base.specs.declared.ask.BackAnswer.TheVariants as answer
 use Rattle.ring_words.specs.Ring.{next_of, requests_of, overruns, notifies}
 use Rattle.ring_words.specs.Shape.{Shape, entry_words_of, slot_word_of}
 use Rattle.blk_layout.specs.Entry.{request_of}
+use Rattle.segment_list.specs.declared.verdict.DiskInfo.{DiskInfo}
 use Rattle.back_jobs.specs.Task.{Work, IsAnswer as IsJobAnswer}
 use Rattle.back_jobs.specs.Jobs.{place_of, work_of, waits, ask_job, first_mapping, is_done}
 use Rattle.back_jobs.specs.Hands.{hands_in, Names}
@@ -21,7 +22,7 @@ use Rattle.blk_back.specs.declared.told.Halt.TheVariants as halt
 use Rattle.blk_back.specs.declared.stage.Reply.{Reply}
 use Rattle.blk_back.specs.declared.stage.Stage.{Stage}
 use Rattle.blk_back.specs.declared.stage.Stage.TheVariants as stage
-use Rattle.blk_back.specs.View.{View, no_page, page_of, slot_word, start_of}
+use Rattle.blk_back.specs.View.{View, no_page, page_of, slot_word, new_of, start_of, info_of}
 use Rattle.blk_back.specs.Ask.{ask_at, ask_of, loop_ask, response_word, reply_ask, entry_ask, index_ask, unmap_ask, next_reply, IsAnswer}
 use Rattle.blk_back.specs.Step.{giving_up, give_up, unbound, bound, other_pages, mapped, may_attach, attached, halts, overrun, looked, loop_word, loop_step, fetched, fetch_step, next_number, step_at, step_of, job_ask_of, job_step}
 use Rattle.blk_back.specs.Sound.{IsMapped, AreWritable}
@@ -44,8 +45,11 @@ pub record IsBack (v : View) : Type 0 where
   pub writable : AreWritable v.pages
   pub jobs : AreJobs v.jobs.works
 
+pub back_new : (start : ℕ) (info : DiskInfo) → IsBack (new_of start info)
+back_new start info = record { fetched = tt; mapped = refl; writable = All-nil (λ (m : Mapping). m.mode ≡ ReadWrite); jobs = none_jobs }
+
 pub back_start : (o : Options) → IsBack (start_of o)
-back_start o = record { fetched = tt; mapped = refl; writable = All-nil (λ (m : Mapping). m.mode ≡ ReadWrite); jobs = none_jobs }
+back_start o = back_new o.start (info_of o)
 
 -- all pages of the ring are mapped, and the jobs are as they should be
 record AreAll (v : View) : Type 0 where

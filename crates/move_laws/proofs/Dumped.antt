@@ -31,12 +31,13 @@ use Rattle.blk_back.specs.View as back
 use Rattle.blk_back.specs.Step as back_step
 use Rattle.split_model.specs.World.{World, start_of}
 use Rattle.split_model.specs.Shown.{front_lines, back_lines, halt_lines, effect_line}
-use Rattle.split_model.specs.Happening.{Happening, FrontMoves, BackMoves, JobMoves, Negotiates, FrontEnters, BackAttaches, BackHalts, Submits, Notifies, Pokes, OverwritesKey, Dumps, Looks, Settles, word_lines, ring_lines, happens, lines_at, lines_of, front_shows, back_shows, job_shows, front_turn, back_turn, job_turn, submit_line}
+use Rattle.split_model.specs.Happening.{Happening, FrontMoves, BackMoves, JobMoves, Negotiates, FrontEnters, BackAttaches, BackHalts, Submits, Notifies, Pokes, OverwritesKey, Suspends, Dumps, Looks, Settles, word_lines, ring_lines, happens, lines_at, lines_of, front_shows, back_shows, job_shows, front_turn, back_turn, job_turn, submit_line}
 use Rattle.split_model.specs.Report.{report_of, ended_report_of}
 use Rattle.split_model.specs.Safe.{IsSafe}
 use Rattle.split_model.proofs.Safe.{safe_start, safe_happens}
 use Rattle.blk_front.proofs.Shapes.{few_pages}
 use Rattle.split_model.proofs.Attaching.{attach_lines_are}
+use Rattle.split_model.proofs.Suspending.{suspend_lines_are}
 use Rattle.split_model.proofs.Overwriting.{poke_lines_are, overwritten_lines_are}
 use Rattle.split_model.proofs.Keys.{negotiated_lines_are}
 use Rattle.split_model.proofs.States.{enter_lines_are, state_lines_are}
@@ -211,6 +212,7 @@ dumped_happens order w (Submits job) before narrow is f d = others (1024 * 2 ^ o
 dumped_happens order w (Notifies at) before narrow is f d = others (1024 * 2 ^ order) [] before tt d
 dumped_happens order w (Pokes frame word value) before narrow is f d = others (1024 * 2 ^ order) _ before (poke_lines_are IsNoWord frame word value refl) d
 dumped_happens order w (OverwritesKey name text) before narrow is f d = others (1024 * 2 ^ order) _ before (overwritten_lines_are IsNoWord name text refl) d
+dumped_happens order w Suspends before narrow is f d = others (1024 * 2 ^ order) _ before (suspend_lines_are IsNoWord w refl) d
 dumped_happens order w Dumps before narrow is f d = dump_shows order w before narrow is f d
 dumped_happens order w (Looks quiet) before narrow is f d = others (1024 * 2 ^ order) _ before (one_none quiet lines.Quiet lines.Busy refl refl, tt) d
 dumped_happens order w (Settles quiet) before narrow is f d = others (1024 * 2 ^ order) _ before (one_none quiet lines.Quiet lines.Unsettled refl refl, tt) d

@@ -1,6 +1,6 @@
 -- The front keeps to the frames that both ends share, whatever it is told.
 use Rattle.std.proofs.Common.{◌≡◌, ℕ, zero, suc, ◌+◌, ◌-◌, ◌*◌, ◌/◌, ◌%◌, ◌^◌, ◌<◌, ◌≤◌, ◌&&◌, ◌||◌, Bool, true, false, not, if◌then◌else◌, List, [], ◌∷◌, ◌++◌, length, take, refl, ◌∙◌, subst, arith, length-set}
-use Rattle.std.specs.Prelude.{All, Option, Some, None, option_map, option_and_then, Result, Ok, Err, slice_get, slice_set, position, nat_lt, nat_le, ◌==◌}
+use Rattle.std.specs.Prelude.{All, IfSome, Option, Some, None, option_map, option_and_then, Result, Ok, Err, slice_get, slice_set, position, nat_lt, nat_le, ◌==◌}
 use Rattle.std.proofs.lemmas.Option.{none-some, same_Some, slice_get_within, get_or_from_slice_get}
 use Rattle.std.proofs.lemmas.List.Elements.{All-nil, All-push, All-append, All-take, All-drop, All-get_or}
 use Rattle.std.proofs.lemmas.List.Quantifiers.{position-Some}
@@ -34,13 +34,16 @@ use Rattle.blk_front.specs.Pool.{lowest_of, with_taken, with_free, with_all_free
 use Rattle.blk_front.specs.Request.{is_write, named_of, has_data, frame_at, frames_for, words_in, is_indirect, naming_words}
 use Rattle.blk_front.specs.View.{View, next_request, start_of, slot_frame, slot_word, ring_frame, ring_page_frame, entry_frame, entry_word}
 use Rattle.blk_front.specs.Ask.{ask_at, ask_of, data_ask, page_ask, name_ask, grant_ask, revoke_ask, end_ask, read_ask, issue_ask, is_through, loop_ask, StaysInMemory}
-use Rattle.blk_front.specs.Step.{at, broken, looked, entered, begun, answered, freed, revokes, after_data, data_stage, page_stage, granted, ring_granted, ring_left, loop_step, found_at, issued, response_at, is_mapped, finished, ended, revoked, sector_told, data_step, step_at, step_of}
+use Rattle.blk_front.specs.Step.{at, broken, looked, entered, begun, answered, freed, revokes, after_data, data_stage, page_stage, granted, ring_granted, ring_left, loop_step, found_at, issued, response_at, is_mapped, finished, ended, revoked, sector_told, data_step, left_step, step_at, step_of}
 use Rattle.blk_front.specs.State.{is_unmade, may_enter, in_state, enters}
 use Rattle.blk_front.specs.Submit.{is_ready, unfinished, wish_of, most_segments, frames_taken, submit_with, submit_one, submit_of}
+use Rattle.blk_front.specs.Suspend.{stage_after, suspended}
+use Rattle.blk_front.proofs.Order.{after_all, after_ending}
 use Rattle.blk_front.proofs.Shapes.{few_pages, wide_entries}
 use Rattle.blk_back.proofs.Slots.{slot_within}
 use Rattle.split_model.proofs.States.{enters_cases}
 use Rattle.split_model.proofs.Shapes.{entered_order}
+use Rattle.split_model.proofs.Suspending.{front_cases}
 
 -- a stage is at one of the words or the pages that it goes through
 abbrev pub IsPlaced : Stage → Shape → Type 0
@@ -58,8 +61,7 @@ abbrev Shared : Request → Type 0
 Shared r = All (λ (frame : ℕ). frame < 1018) r.frames.items
 
 abbrev SharedEnding : Option Ending → Type 0
-SharedEnding None = Unit {0}
-SharedEnding (Some e) = Shared e.request
+SharedEnding ending = IfSome ending (λ (e : Ending). Shared e.request)
 
 -- so it is with each request, the ring has at most 16 pages, and the pool has frames 18 to 1017
 pub record IsFront (v : View) : Type 0 where
@@ -194,6 +196,7 @@ within_at (stage.ResponseLast low high) v p f = response_in v 2 f.order (omega a
 within_at (stage.GrantRead place) v p f = revoke_within place v.ending f.ending
 within_at (stage.GrantEnd place seen) v p f = end_within place seen v.ending f.ending
 within_at (stage.ReadData n) v p f = read_within n v.ending f.ending
+within_at (stage.LeftData n) v p f = read_within n v.ending f.ending
 within_at stage.StoreEvent v p f = (omega arith, omega arith)
 within_at stage.LookAgain v p f = (omega arith, omega arith)
 within_at (stage.RingRead page) v p f = page_flags v page f.order p
@@ -290,6 +293,13 @@ data_kept v (Some e) n word f =
     let y = told_kept v e n (slice_set v.words (n % 128) word) f in
     either (nat_lt (n + 1) (words_in e.request)) _ _ (at_stage (stage.ReadData (n + 1)) _ tt y) (finished_kept _ e y)
 
+-- the same of data that are in hand after a suspend, and then the ring is made anew
+left_kept : (v : View) (e : Option Ending) (n word : ℕ) → IsFront v → IsFront (left_step e n word v)
+left_kept v None n word f = f
+left_kept v (Some e) n word f =
+    let y = told_kept v e n (slice_set v.words (n % 128) word) f in
+    either (nat_lt (n + 1) (words_in e.request)) _ _ (at_stage (stage.LeftData (n + 1)) _ tt y) (at_stage (stage.RingWord 0) _ (omega arith) (finished_kept _ e y))
+
 data_placed : (r : Option Request) (n : ℕ) (shape : Shape) → IsPlaced (data_stage r n) shape
 data_placed None n shape = tt
 data_placed (Some r) n shape =
@@ -339,6 +349,7 @@ step_kept (stage.GrantRead place) v (answer.Word word) p f = either (is_mapped w
 step_kept (stage.GrantEnd place before) v (answer.Word word) p f =
     either (word == before) (revoked v.ending place v) (broken word v) (revoked_kept v v.ending place f) (record { order = f.order; placed = tt; shared = f.shared; ending = f.ending; pool = f.pool })
 step_kept (stage.ReadData n) v (answer.Word word) p f = data_kept v v.ending n word f
+step_kept (stage.LeftData n) v (answer.Word word) p f = left_kept v v.ending n word f
 step_kept stage.StoreEvent v x p f = at_stage _ v tt f
 step_kept stage.EventFence v x p f = at_stage _ v tt f
 step_kept stage.LookAgain v (answer.Word word) p f = looked_kept v word (record v { seen = word; stage = stage.Loop; asleep = true }) f (record { order = f.order; placed = tt; shared = f.shared; ending = f.ending; pool = f.pool })
@@ -359,15 +370,15 @@ unmade_placed : (s : Stage) (before now : Shape) → is_unmade s ≡ true → Is
 unmade_placed (stage.RingWord k) before now unmade p = p
 unmade_placed s before now unmade p = absurd (cc)
 
-first_of : (a b : Bool) → (a && b) ≡ true → a ≡ true
-first_of true b both = refl
-first_of false b both = both
+first_of : (a b c : Bool) → (a && b && c) ≡ true → a ≡ true
+first_of true b c all = refl
+first_of false b c all = all
 
 -- whatever state it enters
 in_state_kept : (s : FrontState) (v : View) → may_enter s v ≡ true → IsFront v → IsFront (in_state s v)
 in_state_kept (state.Agreed order) v may f = record {
   order = let narrower = entered_order (state.Agreed order) v may in let narrow = f.order in omega arith;
-  placed = unmade_placed v.stage v.shape (record v.shape { order = order }) (first_of (is_unmade v.stage) (nat_le order v.shape.order) may) f.placed;
+  placed = unmade_placed v.stage v.shape (record v.shape { order = order }) (first_of (is_unmade v.stage) (nat_le order v.shape.order) (nat_le (length v.requests) (entries_of order)) may) f.placed;
   shared = f.shared;
   ending = f.ending;
   pool = f.pool;
@@ -380,6 +391,24 @@ in_state_kept (state.Broken word) v may f = at_stage _ v tt f
 
 pub front_entered : (s : FrontState) (v : View) → IsFront v → IsFront (enters s v)
 front_entered s v f = enters_cases (λ x shown. IsFront x) s v (λ may. in_state_kept s v may f) f
+
+-- and after a suspend
+suspended_placed : (s : Stage) (shape : Shape) → IsPlaced (stage_after s) shape
+suspended_placed (stage.ReadData n) shape = tt
+suspended_placed (stage.LeftData n) shape = tt
+suspended_placed s shape = omega arith
+
+pub front_suspended : (v : View) → IsFront v → IsFront (suspended v)
+front_suspended v f =
+    front_cases IsFront v
+    (λ on. record {
+      order = f.order;
+      placed = suspended_placed v.stage v.shape;
+      shared = after_all Shared v.stage v.ending v.requests f.ending f.shared;
+      ending = after_ending (λ (e : Ending). Shared e.request) v.stage v.ending f.ending;
+      pool = f.pool;
+    })
+    (λ closed. f)
 
 either_submit : (b : Bool) (x y : Result ℕ Refusal × View) → IsFront x.1 → IsFront y.1 → IsFront (if b then x else y).1
 either_submit true x y p q = p

@@ -31,15 +31,17 @@ use Rattle.blk_back.specs.declared.stage.Reply.{Reply}
 use Rattle.blk_back.specs.declared.stage.Stage.{Stage}
 use Rattle.blk_back.specs.declared.stage.Stage.TheVariants as stage
 use Rattle.blk_back.specs.declared.told.Halt.{Halt}
+use Rattle.blk_back.specs.declared.told.Halt.TheVariants as halt
 use Rattle.blk_back.specs.View.{View}
 use Rattle.blk_back.specs.Ask.{next_reply}
 use Rattle.blk_back.specs.Step.{halts, overrun, looked, loop_step, fetched, next_number, step_at}
 use Rattle.hypervisor.specs.Act.{FrontAct, BackAct, Outcome, Gave, Took, Failed}
 use Rattle.hypervisor.specs.Disk.{DiskDoes, NoCall}
 use Rattle.split_model.specs.World.{World, start_of}
-use Rattle.split_model.specs.Happening.{Happening, FrontMoves, BackMoves, JobMoves, BackAttaches, BackHalts, happens, back_after, job_after, front_after, front_turn, back_turn, job_turn, DiskGoes, DiskRuns}
+use Rattle.split_model.specs.Happening.{Happening, FrontMoves, BackMoves, JobMoves, BackAttaches, BackHalts, Suspends, happens, back_after, job_after, front_after, front_turn, back_turn, job_turn, DiskGoes, DiskRuns}
 use Rattle.split_model.proofs.States.{halts_cases}
 use Rattle.split_model.proofs.Attaching.{attach_cases}
+use Rattle.split_model.proofs.Suspending.{suspend_cases, begun_back, back_cases}
 use Rattle.move_laws.proofs.Jobs.{IsJob, IsPlaced}
 use Rattle.move_laws.proofs.Back.{IsBack, back_start}
 use Rattle.move_laws.proofs.Always.{back_happens}
@@ -240,6 +242,9 @@ world_stays w BackMoves o = back_stays w (back_turn w Took) o
 world_stays w (JobMoves number outcome) o = job_stays w number (job_turn w number outcome) o
 world_stays w (BackAttaches shape grefs port) o = attach_cases (λ v shown. Stays v) w shape grefs port (λ may named says. o) o
 world_stays w (BackHalts why) o = halt_stays why w.back o
+world_stays w Suspends o =
+    let new : Stays (begun_back w) = (o.0, All-nil Reads) in
+    suspend_cases (λ v shown. Stays v.back) w (λ may. back_cases Stays w new (halt_stays (halt.Gone 6) (begun_back w) new)) o
 world_stays w h o = o
 
 -- no call changes what the disk holds

@@ -24,9 +24,9 @@ use Rattle.blk_back.specs.declared.told.BackTold.TheVariants as back_told
 use Rattle.blk_back.specs.declared.told.Halt.{Halt}
 use Rattle.blk_back.specs.View as back
 use Rattle.blk_back.specs.Step as back_step
-use Rattle.split_model.specs.World.{World, start_of}
+use Rattle.split_model.specs.World.{World, start_of, may_suspend}
 use Rattle.split_model.specs.Shown.{front_lines, back_lines, halt_lines, state_lines, effect_line}
-use Rattle.split_model.specs.Happening.{Happening, FrontMoves, BackMoves, JobMoves, Negotiates, FrontEnters, BackAttaches, BackHalts, Submits, Notifies, Pokes, OverwritesKey, Dumps, Looks, Settles, is_guest_word, is_guest_key, word_lines, ring_lines, happens, lines_at, lines_of, front_shows, back_shows, job_shows, front_turn, back_turn, job_turn, submit_line}
+use Rattle.split_model.specs.Happening.{Happening, FrontMoves, BackMoves, JobMoves, Negotiates, FrontEnters, BackAttaches, BackHalts, Submits, Notifies, Pokes, OverwritesKey, Suspends, Dumps, Looks, Settles, is_guest_word, is_guest_key, word_lines, ring_lines, happens, lines_at, lines_of, front_shows, back_shows, job_shows, front_turn, back_turn, job_turn, submit_line}
 use Rattle.schedule_text.specs.Recorder.{kept_of}
 use Rattle.split_model.proofs.Keys.{key_cases, negotiated_cases}
 use Rattle.split_model.proofs.States.{enters_cases}
@@ -140,6 +140,7 @@ lines_at_kept w (Submits job) = submit_kept job (front_submit.submit_of w.front 
 lines_at_kept w (Notifies at) = refl
 lines_at_kept w (Pokes frame word value) = shown_kept (is_guest_word frame word) (lines.Poke frame word value) refl
 lines_at_kept w (OverwritesKey name text) = shown_kept (is_guest_key name text) (lines.Key name text) refl
+lines_at_kept w Suspends = shown_kept (may_suspend w) lines.Epoch refl
 lines_at_kept w Dumps = dump_kept w.under.pages 0 (1024 * 2 ^ w.front.shape.order)
 lines_at_kept w (Looks quiet) = look_kept quiet
 lines_at_kept w (Settles quiet) = settle_kept quiet

@@ -11,7 +11,8 @@ use Rattle.blk_base.specs.declared.moves.Move.{Move}
 use Rattle.blk_base.specs.declared.parts.End.{End}
 use Rattle.xen_pages.specs.Pages.{fresh_pages, word_of, with_word}
 use Rattle.xen_pages.proofs.Words.{length-fresh_pages, word_of-fresh_pages}
-use Rattle.grant_table.specs.Table.{GrantTable, fresh_table}
+use Rattle.grant_table.specs.Table.{GrantTable, fresh_table, revoked_table}
+use Rattle.hypervisor.specs.Suspend.{tables_cleared}
 use Rattle.grant_table.specs.Sound.{IsGrantable}
 use Rattle.schedule_text.specs.declared.line.Line.{Line}
 use Rattle.schedule_text.specs.declared.line.Line.TheVariants as lines
@@ -29,8 +30,8 @@ use Rattle.blk_back.specs.Ask as back_ask
 use Rattle.blk_back.specs.Step as back_step
 use Rattle.blk_back.specs.Hands.{hands_of}
 use Rattle.blk_back.specs.View as back
-use Rattle.split_model.specs.World.{World, start_of}
-use Rattle.split_model.specs.Happening.{Happening, FrontMoves, BackMoves, JobMoves, Negotiates, FrontEnters, BackAttaches, BackHalts, Submits, Notifies, Pokes, OverwritesKey, Dumps, Looks, Settles, happens, word_lines, ring_lines, layout_read, lines_at, after, lines_of, front_after, front_shows, back_after, back_shows, job_after, job_shows, front_turn, back_turn, job_turn}
+use Rattle.split_model.specs.World.{World, start_of, may_suspend, suspended}
+use Rattle.split_model.specs.Happening.{Happening, FrontMoves, BackMoves, JobMoves, Negotiates, FrontEnters, BackAttaches, BackHalts, Submits, Notifies, Pokes, OverwritesKey, Suspends, Dumps, Looks, Settles, happens, word_lines, ring_lines, layout_read, lines_at, after, lines_of, front_after, front_shows, back_after, back_shows, job_after, job_shows, front_turn, back_turn, job_turn}
 use Rattle.split_model.specs.Safe.{IsSafe}
 use Rattle.split_model.specs.Shown.{back_lines, halt_lines}
 use Rattle.split_model.specs.Keys.{KeyMove, mover_at}
@@ -38,12 +39,14 @@ use Rattle.split_model.proofs.Keys.{negotiated_lines_are}
 use Rattle.split_model.proofs.States.{enter_lines_are}
 use Rattle.split_model.proofs.Safe.{safe_start, safe_happens}
 use Rattle.split_model.proofs.Attaching.{attach_lines_are}
+use Rattle.split_model.proofs.Suspending.{suspend_cases}
 use Rattle.split_model.proofs.Overwriting.{poke_cases, overwriting_cases}
 use Rattle.move_laws.specs.Permitted.{IsPermitted, ArePermitted}
 use Rattle.move_laws.specs.Grantable.{AreGrantable}
 use Rattle.move_laws.proofs.Always.{always_within}
 use Rattle.move_laws.specs.Tells.{Tells}
 use Rattle.move_laws.proofs.Follows.{IsAllowed, Follows}
+use Rattle.move_laws.proofs.Tells.{tells_epoch}
 use Rattle.split_model.specs.Report.{report_of, ended_report_of}
 use Rattle.move_laws.proofs.Still.{IsStill, ArePlain, IsPlain, still, plain_front, plain_back, plain_halt, plain_submit, plain_state, plain_key, plain_quiet, plain_busy, plain_unsettled, tells_still, follow_one, follow_plain}
 use Rattle.move_laws.proofs.Acts.{IsKept, tells_write, front_kept, back_kept}
@@ -110,6 +113,16 @@ overwritten_follows w before name text follows =
     plain : IsPlain (lines.Key name text)
     plain = record { is_still = still (lines.Key name text) refl (λ f w' v b. refl) (λ n. refl) refl; free = λ b. record { coherent = tt; answered = tt; numbered = tt; touched = tt; grantable = tt } }
 
+-- a suspend clears the grant table, and no mapping stands then
+suspend_follows : (w : World) (before : List Line) → FollowsTo before w → FollowsTo (before ++ lines_at w Suspends) (happens w Suspends)
+suspend_follows w before follows = suspend_cases (λ v shown. FollowsTo (before ++ shown) v) w suspends (no_lines before w follows)
+  where
+    suspends : may_suspend w ≡ true → FollowsTo (before ++ lines.Epoch ∷ []) (suspended w)
+    suspends may =
+        follow_one before lines.Epoch w.under.pages (tables_cleared w.under.pages) w.under.grants (revoked_table w.under.grants) follows
+        (record { coherent = tt; answered = tt; numbered = tt; touched = tt; grantable = tt })
+        (tells_epoch before w.under.pages w.under.grants follows.tells)
+
 -- a line that changes nothing, and is allowed wherever the lines before tell what lies there
 record IsShown (pages : List ℕ) (table : GrantTable) (line : Line) : Type 0 where
   is_still : IsStill line
@@ -162,6 +175,7 @@ follows_happens w (Submits job) before safe within follows = follow_plain (lines
 follows_happens w (Notifies at) before safe within follows = no_lines before w follows
 follows_happens w (Pokes frame word value) before safe within follows = poke_follows w before frame word value follows
 follows_happens w (OverwritesKey name text) before safe within follows = overwritten_follows w before name text follows
+follows_happens w Suspends before safe within follows = suspend_follows w before follows
 follows_happens w Dumps before safe within follows = dump_follows w before within follows
 follows_happens w (Looks quiet) before safe within follows = follow_plain (lines_at w (Looks quiet)) before w.under.pages w.under.grants (one_plain quiet lines.Quiet lines.Busy plain_quiet plain_busy, tt) follows
 follows_happens w (Settles quiet) before safe within follows = follow_plain (lines_at w (Settles quiet)) before w.under.pages w.under.grants (one_plain quiet lines.Quiet lines.Unsettled plain_quiet plain_unsettled, tt) follows

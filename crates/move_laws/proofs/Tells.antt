@@ -1,18 +1,22 @@
 -- What the lines tell of memory and mappings, one line further on.
-use Rattle.std.proofs.Common.{◌≡◌, ℕ, ◌<◌, ◌||◌, ◌==◌, not, Bool, false, fold, List, [], ◌∷◌, ◌++◌, length, map, filter, refl, ap, ◌∙◌, arith}
-use Rattle.std.specs.Prelude.{All, Option, Some, None}
+use Rattle.std.proofs.Common.{◌≡◌, ℕ, ◌<◌, ◌||◌, ◌==◌, not, Bool, true, false, if◌then◌else◌, fold, List, [], ◌∷◌, ◌++◌, length, map, filter, refl, sym, ap, ◌∙◌, arith}
+use Rattle.std.specs.Prelude.{All, nat_lt, Option, Some, None}
 use Rattle.std.specs.List.{list_any}
 use Rattle.std.specs.Option.{option_to_list}
 use Rattle.std.proofs.lemmas.List.Sums.{fold-append}
 use Rattle.std.proofs.lemmas.Bool.Decides.{nat_tests}
-use Rattle.grant_table.specs.Table.{GrantTable}
+use Rattle.std.proofs.lemmas.List.Elements.{All-nil}
+use Rattle.grant_table.specs.Table.{GrantTable, revoked_table}
+use Rattle.hypervisor.specs.Suspend.{tables_cleared}
+use Rattle.hypervisor.proofs.Cleared.{cleared_word, kept_word, length-tables_cleared}
 use Rattle.grant_table.specs.Sound.{IsGrantable}
 use Rattle.xen_pages.specs.Pages.{word_of}
 use Rattle.schedule_text.specs.declared.line.Line.{Line}
+use Rattle.schedule_text.specs.declared.line.Line.TheVariants as lines
 use Rattle.report_rules.specs.declared.standing.Standing.{Standing}
 use Rattle.report_rules.specs.Standing.{is_epoch, is_unmap_of, mapping_made, has_number}
 use Rattle.report_rules.specs.Mapped.{was_made}
-use Rattle.report_rules.specs.Value.{value_after}
+use Rattle.report_rules.specs.Value.{value_before, value_after}
 use Rattle.report_rules.proofs.Back.{value_more, standing_more}
 use Rattle.move_laws.specs.Numbers.{greater_number, greatest_number}
 use Rattle.move_laws.specs.Tells.{Tells, standing_of}
@@ -60,3 +64,17 @@ tells_more before line pages pages' table table' tells same_epoch sized values s
   made = greatest_more before line ∙ (ap (λ (n : ℕ). greater_number n (mapping_made line)) tells.made ∙ made);
   grantable = grantable;
 }
+
+-- an epoch: the grant table is cleared, and no mapping stands
+pub tells_epoch : (before : List Line) (pages : List ℕ) (table : GrantTable) → Tells before pages table → Tells (before ++ lines.Epoch ∷ []) (tables_cleared pages) (revoked_table table)
+tells_epoch before pages table tells = record {
+  sized = length-tables_cleared pages ∙ tells.sized;
+  values = λ frame word framed worded. value_more before lines.Epoch frame word ∙ by_frame frame word framed worded (nat_lt frame 2) refl;
+  standing = standing_more before lines.Epoch;
+  made = greatest_more before lines.Epoch ∙ tells.made;
+  grantable = All-nil IsGrantable;
+}
+  where
+    by_frame : (frame word : ℕ) → frame < 1088 → word < 1024 → (b : Bool) → nat_lt frame 2 ≡ b → (if b then 0 else value_before before frame word) ≡ word_of (tables_cleared pages) frame word
+    by_frame frame word framed worded true t = sym (cleared_word pages frame word (grind (arith, nat_tests)) worded)
+    by_frame frame word framed worded false t = tells.values frame word framed worded ∙ sym (kept_word pages frame word (grind (arith, nat_tests)))

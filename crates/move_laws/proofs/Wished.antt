@@ -8,10 +8,11 @@ use Rattle.blk_front.specs.declared.state.FrontState.TheVariants as state
 use Rattle.blk_front.specs.View as front
 use Rattle.blk_front.specs.State.{in_state}
 use Rattle.split_model.specs.World.{World}
-use Rattle.split_model.specs.Happening.{Happening, FrontMoves, BackMoves, JobMoves, FrontEnters, Submits, happens, front_after, back_after, job_after, front_turn, back_turn, job_turn}
+use Rattle.split_model.specs.Happening.{Happening, FrontMoves, BackMoves, JobMoves, FrontEnters, Submits, Suspends, happens, front_after, back_after, job_after, front_turn, back_turn, job_turn}
 use Rattle.split_model.proofs.States.{enters_cases}
 use Rattle.split_model.proofs.Shapes.{step_shape}
 use Rattle.split_model.proofs.Narrow.{submit_shape}
+use Rattle.split_model.proofs.Suspending.{suspend_cases, front_kept}
 use Rattle.move_laws.specs.Dumped.{IsWished}
 
 abbrev pub HasOrder : (order : ℕ) → World → Type 0
@@ -46,4 +47,5 @@ order_happens order w BackMoves wished is = back_order order w (back_turn w Took
 order_happens order w (JobMoves number outcome) wished is = job_order order w number (job_turn w number outcome) is
 order_happens order w (FrontEnters s) wished is = enters_cases (λ (v : front.View) shown. v.shape.order ≡ order) s w.front (λ may. entered order s w.front wished is) is
 order_happens order w (Submits job) wished is = order_of _ _ (submit_shape w.front job) ∙ is
+order_happens order w Suspends wished is = suspend_cases (λ v shown. HasOrder order v) w (λ may. order_of _ _ (front_kept w.front).shape ∙ is) is
 order_happens order w h wished is = is

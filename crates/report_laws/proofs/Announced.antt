@@ -14,10 +14,12 @@ use Rattle.blk_front.specs.View.{View}
 use Rattle.blk_front.specs.Step.{step_of}
 use Rattle.blk_front.specs.State.{in_state}
 use Rattle.blk_front.specs.Submit.{submit_of}
+use Rattle.blk_front.specs.Suspend.{suspended}
 use Rattle.split_model.specs.World.{World}
 use Rattle.split_model.specs.Shown.{front_lines, state_lines}
-use Rattle.split_model.specs.Happening.{Happening, FrontMoves, BackMoves, JobMoves, Negotiates, FrontEnters, BackAttaches, BackHalts, Submits, Notifies, Pokes, OverwritesKey, Dumps, Looks, Settles, happens, lines_at, after, lines_of, front_after, front_shows, back_after, job_after, front_turn, back_turn, job_turn}
+use Rattle.split_model.specs.Happening.{Happening, FrontMoves, BackMoves, JobMoves, Negotiates, FrontEnters, BackAttaches, BackHalts, Submits, Notifies, Pokes, OverwritesKey, Suspends, Dumps, Looks, Settles, happens, lines_at, after, lines_of, front_after, front_shows, back_after, job_after, front_turn, back_turn, job_turn}
 use Rattle.split_model.proofs.States.{enters_cases}
+use Rattle.split_model.proofs.Suspending.{suspend_cases}
 
 -- a line that says this stands there
 abbrev pub Has : (Line → Bool) → List Line → Type 0
@@ -30,11 +32,12 @@ has_first says a b h = list_any-append says a b ∙ ap (λ (x : Bool). x || list
 pub has_later : (says : Line → Bool) (a b : List Line) → Has says b → Has says (a ++ b)
 has_later says a b h = list_any-append says a b ∙ ap (λ (x : Bool). list_any says a || x) h ∙ or-true (list_any says a)
 
--- a step and a state that the front enters make it so only with a line that says it, and a submission doesn't
+-- a step and a state that the front enters make it so only with a line that says it, and a submission and a suspend don't
 pub record IsAnnounced (so : View → Bool) (says : Line → Bool) : Type 0 where
   pub step : (v : View) (a : FrontAnswer) → (let x : View = step_of v a in so (record x { told = None })) ≡ true → so v ≡ true ⊎ Has says (front_lines (let x : View = step_of v a in x.told))
   pub enters : (s : FrontState) (v : View) → so (in_state s v) ≡ true → so v ≡ true ⊎ Has says (state_lines s)
   pub submit : (v : View) (job : Job) → so (submit_of v job).1 ≡ true → so v ≡ true
+  pub suspend : (v : View) → so (suspended v) ≡ true → so v ≡ true
 
 -- where it is so, a line among these said it
 abbrev pub IsSaid : (so : View → Bool) (says : Line → Bool) → List Line → World → Type 0
@@ -80,6 +83,10 @@ module _ (so : View → Bool) (says : Line → Bool) (announced : IsAnnounced so
   one_said w before (Notifies at) was = same_said w (happens w (Notifies at)) before _ refl was
   one_said w before (Pokes frame word value) was = same_said w (happens w (Pokes frame word value)) before _ refl was
   one_said w before (OverwritesKey name text) was = same_said w (happens w (OverwritesKey name text)) before _ refl was
+  one_said w before Suspends was =
+      suspend_cases (λ v shown. IsSaid so says (before ++ shown) v) w
+      (λ may t. has_first says before _ (was (announced.suspend w.front t)))
+      (same_said w w before [] refl was)
   one_said w before Dumps was = same_said w w before _ refl was
   one_said w before (Looks quiet) was = same_said w w before _ refl was
   one_said w before (Settles quiet) was = same_said w w before _ refl was

@@ -1,5 +1,5 @@
 -- Wherever the machine shows `quiet` its ring is served and read.
-use Rattle.std.proofs.Common.{◌≡◌, Bool, true, false, List, [], ◌∷◌, if◌then◌else◌, refl, true≢false}
+use Rattle.std.proofs.Common.{◌≡◌, ◌≢◌, Bool, true, false, List, [], ◌∷◌, if◌then◌else◌, refl, true≢false}
 use Rattle.std.specs.Prelude.{Contains}
 use Rattle.std.proofs.lemmas.List.Elements.{All-from_recursion, All-contains}
 use Rattle.blk_base.specs.Options.{Options}
@@ -8,25 +8,31 @@ use Rattle.schedule_text.specs.declared.line.Line.TheVariants as lines
 use Rattle.hypervisor.specs.Act.{Took}
 use Rattle.blk_front.specs.Submit as front_submit
 use Rattle.split_model.specs.World.{World, start_of, is_quiet}
-use Rattle.split_model.specs.Happening.{Happening, FrontMoves, BackMoves, JobMoves, Negotiates, FrontEnters, BackAttaches, BackHalts, Submits, Notifies, Pokes, OverwritesKey, Dumps, Looks, Settles, lines_at, after, front_shows, back_shows, job_shows, front_turn, back_turn, job_turn, submit_line}
+use Rattle.split_model.specs.Happening.{Happening, FrontMoves, BackMoves, JobMoves, Negotiates, FrontEnters, BackAttaches, BackHalts, Submits, Notifies, Pokes, OverwritesKey, Suspends, Dumps, Looks, Settles, lines_at, after, front_shows, back_shows, job_shows, front_turn, back_turn, job_turn, submit_line}
 use Rattle.machine_pipeline.specs.Plain.{IsPlain}
 use Rattle.machine_pipeline.specs.Allowed.{IsServed, AreServed}
-use Rattle.machine_pipeline.proofs.Together.{IsStanding, always_stands}
+use Rattle.machine_pipeline.proofs.Over.{IsDrained}
+use Rattle.machine_pipeline.proofs.Together.{always_stands}
 use Rattle.machine_pipeline.proofs.AtRest.{IsIdleRing, quiet_rests}
 use Rattle.report_laws.specs.AtRest.{IsReadRing, IsAtRest}
-use Rattle.report_laws.proofs.Lines.{says_quiet, is_usual, AreUsual, AreUnquiet, usual_unquiet, front_usual, back_usual, job_usual, keys_usual, attach_usual, states_unquiet, halt_usual, submit_usual, dump_usual}
+use Rattle.report_laws.proofs.OnePort.{made_one}
+use Rattle.report_laws.proofs.Lines.{says_quiet, is_usual, AreUsual, AreUnquiet, usual_unquiet, front_usual, back_usual, job_usual, keys_usual, attach_usual, states_unquiet, halt_usual, submit_usual, suspend_usual, dump_usual}
 
-pub rest_of : (config : Options) (w : World) → is_quiet w ≡ true → IsStanding config w → IsAtRest w
-rest_of config w quiet stands = record { ring = read; no_job = rest.no_job; no_request = rest.no_request }
-  where
-    rest : IsIdleRing w
-    rest = quiet_rests config w quiet stands
-
-    read : w.under.channels.made ≡ 1 → IsReadRing w
-    read made = let ring = rest.ring made in record { served = ring.served; fetched = ring.fetched; read = ring.read }
+-- a front that made its port in this epoch left nothing in its ring
+pub port_drained : (config : Options) (history : List Happening) → AreServed history (start_of config) → (let w : World = after history (start_of config) in (IsIdleRing w → w.under.channels.ports ≢ [] → IsDrained w.under.pages w.front.ring.cons w.back.ring.cons))
+port_drained config history may idle port = idle.ring (made_one config history may port)
 
 pub always_rests : (config : Options) (history : List Happening) → IsPlain config → AreServed history (start_of config) → is_quiet (after history (start_of config)) ≡ true → IsAtRest (after history (start_of config))
-always_rests config history plain may quiet = rest_of config (after history (start_of config)) quiet (always_stands config history plain may)
+always_rests config history plain may quiet = record { ring = read; no_job = rest.no_job; no_request = rest.no_request }
+  where
+    w : World
+    w = after history (start_of config)
+
+    rest : IsIdleRing w
+    rest = quiet_rests config w quiet (always_stands config history plain may)
+
+    read : w.under.channels.ports ≢ [] → IsReadRing w
+    read port = let ring : IsDrained w.under.pages w.front.ring.cons w.back.ring.cons = port_drained config history may rest port in record { served = ring.served; fetched = ring.fetched; read = ring.read }
 
 -- a happening shows `quiet` only where the machine is so
 none_quiet : (ls : List Line) → AreUnquiet ls → Contains ls lines.Quiet → ⊥
@@ -51,6 +57,7 @@ shown_quiet w (Submits job) may has = absurd (none_usual (submit_line job (front
 shown_quiet w (Notifies at) may has = absurd (none_usual [] tt has)
 shown_quiet w (Pokes frame word value) may has = absurd may
 shown_quiet w (OverwritesKey name text) may has = absurd may
+shown_quiet w Suspends may has = absurd (none_usual _ (suspend_usual w) has)
 shown_quiet w Dumps may has = absurd (none_usual _ (dump_usual w) has)
 shown_quiet w (Looks quiet) may has = may (look_quiet quiet lines.Busy refl has)
 shown_quiet w (Settles quiet) may has = may (look_quiet quiet lines.Unsettled refl has)

@@ -39,7 +39,7 @@ use Rattle.blk_back.specs.declared.told.BackTold.{BackTold}
 use Rattle.blk_back.specs.declared.told.BackTold.TheVariants as told
 use Rattle.blk_back.specs.declared.told.Halt.{Halt}
 use Rattle.blk_back.specs.declared.told.Halt.TheVariants as halt
-use Rattle.blk_back.specs.View.{View, start_of}
+use Rattle.blk_back.specs.View.{View, info_of, new_of, start_of}
 use Rattle.blk_back.specs.Ask.{reply_of, next_reply, next_gref}
 use Rattle.blk_back.specs.Step.{giving_up, give_up, unbound, bound, other_pages, attached, halts, overrun, looked, loop_step, next_number, fetched, fetch_step, step_at, step_of, told_effect, job_step}
 use Rattle.split_model.specs.Shown.{back_lines, halt_line, halt_lines}
@@ -351,12 +351,16 @@ pub record AreNumbers (most count prod : ℕ) (works : List Work) (info : DiskIn
 abbrev pub IsFit : ℕ → View → Type 0
 IsFit most v = AreNumbers most v.fetched v.ring.prod v.jobs.works v.jobs.info v.entry v.grefs v.port v.halted × HasWords v.stage × TellsWords v.told
 
-pub back_start : (config : Options) → AreOptions config → IsFit 0 (start_of config)
-back_start config options = (
-  record { few = omega arith; produced = options.3; jobs = All-nil IsWork; sized = (let sectors = options.4 in omega arith); copied = All-nil (λ (v : ℕ). v < 2 ^ 32); said = (All-nil (λ (v : ℕ). v < 2 ^ 32), omega arith); why = tt },
+-- a new back, of a ring of this first index and of this disk
+pub new_fits : (start : ℕ) (info : DiskInfo) → start < 2 ^ 32 → info.sectors ≤ 2 ^ 64 → IsFit 0 (new_of start info)
+new_fits start info small sized = (
+  record { few = omega arith; produced = small; jobs = All-nil IsWork; sized = sized; copied = All-nil (λ (v : ℕ). v < 2 ^ 32); said = (All-nil (λ (v : ℕ). v < 2 ^ 32), omega arith); why = tt },
   tt,
   tt,
 )
+
+pub back_start : (config : Options) → AreOptions config → IsFit 0 (start_of config)
+back_start config options = new_fits config.start (info_of config) options.3 (let sectors = options.4 in omega arith)
 
 pub later : (most more : ℕ) (v : View) → most ≤ more → IsFit most v → IsFit more v
 later most more v less f = let k = f.0 in (record { few = (let few = k.few in omega arith); produced = k.produced; jobs = k.jobs; sized = k.sized; copied = k.copied; said = k.said; why = k.why }, f.1, f.2)

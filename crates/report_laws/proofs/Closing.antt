@@ -1,12 +1,11 @@
 -- A front closes only after a `closing` line.
-use Rattle.std.proofs.Common.{◌≡◌, ◌⊎◌, inl, inr, ◌+◌, ◌*◌, ◌/◌, ◌%◌, ◌^◌, ◌&&◌, ℕ, Bool, true, false, not, if◌then◌else◌, List, [], ◌∷◌, length, refl, sym, ◌∙◌}
-use Rattle.std.specs.Prelude.{Option, Some, None, Result, Ok, Err, slice_set, nat_lt, nat_le, ◌==◌}
+use Rattle.std.proofs.Common.{◌≡◌, ◌⊎◌, inl, inr, ◌+◌, ◌*◌, ◌/◌, ◌%◌, ◌^◌, ℕ, Bool, true, false, if◌then◌else◌, List, [], ◌∷◌, length, refl, sym, ◌∙◌}
+use Rattle.std.specs.Prelude.{Option, Some, None, Result, Ok, Err, slice_set, nat_lt, ◌==◌}
 use Rattle.blk_base.specs.Distance.{distance_of}
 use Rattle.blk_base.specs.declared.config.Job.{Job}
 use Rattle.blk_base.specs.declared.ask.FrontAnswer.{FrontAnswer}
 use Rattle.blk_base.specs.declared.ask.FrontAnswer.TheVariants as answer
 use Rattle.ring_words.specs.Ring.{responses_of}
-use Rattle.ring_words.specs.Shape.{entries_of}
 use Rattle.blk_layout.specs.declared.response.Response.{Response}
 use Rattle.blk_layout.specs.Response.{response_of}
 use Rattle.blk_front.specs.declared.stage.Stage.{Stage}
@@ -15,21 +14,19 @@ use Rattle.blk_front.specs.declared.stage.Ending.{Ending}
 use Rattle.blk_front.specs.declared.request.Request.{Request}
 use Rattle.blk_front.specs.declared.request.Transfer.{Transfer}
 use Rattle.blk_front.specs.declared.request.Transfer.TheVariants as transfer
-use Rattle.blk_front.specs.declared.request.Wish.{Wish}
 use Rattle.blk_front.specs.declared.state.FrontState.{FrontState}
 use Rattle.blk_front.specs.declared.state.FrontState.TheVariants as state
-use Rattle.blk_front.specs.declared.told.Refusal.{Refusal}
-use Rattle.blk_front.specs.declared.told.Refusal.TheVariants as refusal
 use Rattle.blk_front.specs.declared.told.Told.TheVariants as told
-use Rattle.blk_front.specs.Pool.{taking}
-use Rattle.blk_front.specs.Request.{is_write, named_of, has_data, words_in, frames_for}
+use Rattle.blk_front.specs.Request.{has_data, words_in}
 use Rattle.blk_front.specs.View.{View, next_request}
-use Rattle.blk_front.specs.Step.{at, broken, looked, begun, answered, freed, revokes, granted, loop_step, issued, response_at, is_mapped, ring_left, ended, revoked, sector_told, data_step, step_at}
+use Rattle.blk_front.specs.Step.{at, broken, looked, begun, answered, freed, revokes, granted, loop_step, issued, response_at, is_mapped, ring_left, ended, revoked, sector_told, data_step, left_step, step_at}
 use Rattle.blk_front.specs.State.{in_state}
-use Rattle.blk_front.specs.Submit.{is_ready, unfinished, wish_of, most_segments, frames_taken, submit_with, submit_one, submit_of}
+use Rattle.blk_front.specs.Submit.{submit_of}
 use Rattle.split_model.specs.Shown.{state_lines}
+use Rattle.split_model.proofs.Suspending.{front_kept}
 use Rattle.report_laws.specs.States.{says_closing}
 use Rattle.report_laws.proofs.Announced.{Has, IsAnnounced}
+use Rattle.report_laws.proofs.Submitted.{submit_cases}
 
 -- it closes if and only if the front did before
 abbrev Keeps : View → View → Type 0
@@ -83,6 +80,12 @@ data_keeps v (Some e) n word =
     let told : Keeps v (sector_told e n (slice_set v.words (n % 128) word) v) = told_keeps v e n (slice_set v.words (n % 128) word) in
     either (nat_lt (n + 1) (words_in e.request)) v _ _ told told
 
+left_keeps : (v : View) (e : Option Ending) (n word : ℕ) → Keeps v (left_step e n word v)
+left_keeps v None n word = refl
+left_keeps v (Some e) n word =
+    let told : Keeps v (sector_told e n (slice_set v.words (n % 128) word) v) = told_keeps v e n (slice_set v.words (n % 128) word) in
+    either (nat_lt (n + 1) (words_in e.request)) v _ _ told told
+
 -- a step of the front leaves whether it closes
 step_keeps : (s : Stage) (v : View) (a : FrontAnswer) → Keeps v (step_at s v a)
 step_keeps stage.Loop v a = loop_keeps v (next_request v) a
@@ -91,6 +94,7 @@ step_keeps (stage.ResponseLast low high) v (answer.Word last) = response_keeps v
 step_keeps (stage.GrantRead place) v (answer.Word word) = either (is_mapped word) v (broken word v) (at (stage.GrantEnd place word) v) refl refl
 step_keeps (stage.GrantEnd place before) v (answer.Word word) = either (word == before) v (revoked v.ending place v) (broken word v) (revoked_keeps v v.ending place) refl
 step_keeps (stage.ReadData n) v (answer.Word word) = data_keeps v v.ending n word
+step_keeps (stage.LeftData n) v (answer.Word word) = left_keeps v v.ending n word
 step_keeps stage.LookAgain v (answer.Word word) = looked_keeps v word (record v { seen = word; stage = stage.Loop; asleep = true }) refl
 step_keeps (stage.RingRead page) v (answer.Word word) = either (is_mapped word) v (broken word v) (at (stage.RingEnd page word) v) refl refl
 step_keeps (stage.RingEnd page before) v (answer.Word word) = either (word == before) v (at (ring_left v page) v) (broken word v) refl refl
@@ -99,31 +103,8 @@ step_keeps (stage.ResponseHigh low) v (answer.Word high) = refl
 step_keeps s v a = refl
 
 -- and so does a submission
-either_submit : (b : Bool) (v : View) (x y : Result ℕ Refusal × View) → Keeps v x.1 → Keeps v y.1 → Keeps v (if b then x else y).1
-either_submit true v x y p q = p
-either_submit false v x y p q = q
-
-with_keeps : (v : View) (wish : Wish) (taken : Option (List ℕ × List Bool)) → Keeps v (submit_with v wish taken).1
-with_keeps v wish None = refl
-with_keeps v wish (Some taken) = refl
-
-wish_keeps : (v : View) (wish : Option Wish) → Keeps v (submit_one v wish).1
-wish_keeps v None = refl
-wish_keeps v (Some wish) =
-    let frames = taking (frames_taken wish.count) v.pool [] in
-    let unless_full = if nat_le (entries_of v.shape.order) (unfinished v) then (Err refusal.Full, v) else submit_with v wish frames in
-    let unless_long = if nat_lt (most_segments v.offers wish.transfer) (frames_for wish.count) then (Err refusal.Long, v) else unless_full in
-    either_submit (is_write wish.transfer && v.read_only) v (Err refusal.ReadOnly, v) (if nat_lt v.sectors (wish.sector + named_of wish.transfer wish.count) then (Err refusal.Range, v) else unless_long) refl
-    (either_submit (nat_lt v.sectors (wish.sector + named_of wish.transfer wish.count)) v (Err refusal.Range, v) unless_long refl
-    (either_submit (nat_lt (most_segments v.offers wish.transfer) (frames_for wish.count)) v (Err refusal.Long, v) unless_full refl
-    (either_submit (nat_le (entries_of v.shape.order) (unfinished v)) v (Err refusal.Full, v) (submit_with v wish frames) refl (with_keeps v wish frames))))
-
 submit_keeps : (v : View) (job : Job) → Keeps v (submit_of v job).1
-submit_keeps v job =
-    let unless_unready = if not (is_ready v.stage) then (Err refusal.NotReady, v) else submit_one v (wish_of v.offers job) in
-    either_submit (v.last == 4294967295) v (Err refusal.Spent, v) (if v.closing then (Err refusal.Closing, v) else unless_unready) refl
-    (either_submit v.closing v (Err refusal.Closing, v) unless_unready refl
-    (either_submit (not (is_ready v.stage)) v (Err refusal.NotReady, v) (submit_one v (wish_of v.offers job)) refl (wish_keeps v (wish_of v.offers job))))
+submit_keeps v job = submit_cases (Keeps v) v refl (λ wish taken. refl) job
 
 -- it begins to close with that line
 entered_closing : (s : FrontState) (v : View) → (let x : View = in_state s v in x.closing) ≡ true → v.closing ≡ true ⊎ Has says_closing (state_lines s)
@@ -139,4 +120,5 @@ closing_announced = record {
   step = λ v a t. inl (sym (step_keeps v.stage v a) ∙ t);
   enters = entered_closing;
   submit = λ v job t. sym (submit_keeps v job) ∙ t;
+  suspend = λ v t. sym (front_kept v).closing ∙ t;
 }

@@ -18,13 +18,14 @@ use Rattle.blk_front.specs.declared.stage.Stage.TheVariants as stage
 use Rattle.blk_front.specs.declared.told.Told.{Told}
 use Rattle.blk_front.specs.declared.told.Told.TheVariants as told
 use Rattle.blk_front.specs.View.{View, next_request}
-use Rattle.blk_front.specs.Step.{broken, looked, entered, begun, answered, freed, revokes, after_data, data_stage, page_stage, granted, loop_step, issued, response_at, is_mapped, at, ring_granted, ring_left, finished, ended, revoked, sector_told, data_step, step_at}
+use Rattle.blk_front.specs.Step.{broken, looked, entered, begun, answered, freed, revokes, after_data, data_stage, page_stage, granted, loop_step, issued, response_at, is_mapped, at, ring_granted, ring_left, finished, ended, revoked, sector_told, data_step, left_step, step_at}
 use Rattle.machine_pipeline.proofs.Flow.{wrapped}
 use Rattle.machine_pipeline.proofs.Wrapped.{next_wrapped}
 
 -- the consumer of responses, by how many answers were told, and the ring's first index while the ring isn't made; nothing is said of a front that broke
 abbrev pub CountsAt : (start answers begins cons : ℕ) → Stage → Type 0
 CountsAt start answers begins cons (stage.RingWord k) = (cons ≡ wrapped start answers) × (begins ≡ cons)
+CountsAt start answers begins cons (stage.LeftData n) = (cons ≡ wrapped start answers) × (begins ≡ cons)
 CountsAt start answers begins cons (stage.GrantRead place) = cons ≡ wrapped start (answers + 1)
 CountsAt start answers begins cons (stage.GrantEnd place before) = cons ≡ wrapped start (answers + 1)
 CountsAt start answers begins cons (stage.Broken word) = Unit {0}
@@ -104,6 +105,13 @@ read_counts start answers v (Some x) n word e s h =
     either start answers (nat_lt (n + 1) (words_in x.request)) (at (stage.ReadData (n + 1)) (sector_told x n words v)) (finished x (sector_told x n words v))
     (told_counts start answers v x n words (stage.ReadData (n + 1)) e h) (told_counts start answers v x n words stage.Loop e h)
 
+left_counts : (start answers : ℕ) (v : View) (ending : Option Ending) (n word : ℕ) → v.told ≡ None → v.stage ≡ stage.LeftData n → (v.ring.cons ≡ wrapped start answers) × (v.start ≡ v.ring.cons) → Counts start answers (left_step ending n word v)
+left_counts start answers v None n word e s h = untold start answers v.start v.ring.cons v.told v.stage e (subst (CountsAt start answers v.start v.ring.cons) (sym s) h)
+left_counts start answers v (Some x) n word e s h =
+    let words = slice_set v.words (n % 128) word in
+    either start answers (nat_lt (n + 1) (words_in x.request)) (at (stage.LeftData (n + 1)) (sector_told x n words v)) (at (stage.RingWord 0) (finished x (sector_told x n words v)))
+    (told_counts start answers v x n words (stage.LeftData (n + 1)) e h) (told_counts start answers v x n words (stage.RingWord 0) e h)
+
 loop_counts : (start answers : ℕ) (v : View) (next : Option Request) (a : FrontAnswer) → v.told ≡ None → v.stage ≡ stage.Loop → v.ring.cons ≡ wrapped start answers → Counts start answers (loop_step v next a)
 loop_counts start answers v (Some r) a e s h = begun_counts start answers v r r.transfer e h
 loop_counts start answers v None (answer.Word word) e s h =
@@ -147,6 +155,7 @@ front_counts start answers (stage.GrantRead place) v (answer.Word word) e same h
 front_counts start answers (stage.GrantEnd place before) v (answer.Word word) e same h =
     either start answers (word == before) (revoked v.ending place v) (broken word v) (revoked_counts start answers v v.ending place before e same h) tt
 front_counts start answers (stage.ReadData n) v (answer.Word word) e same h = read_counts start answers v v.ending n word e same h
+front_counts start answers (stage.LeftData n) v (answer.Word word) e same h = left_counts start answers v v.ending n word e same h
 front_counts start answers stage.StoreEvent v a e same h = untold start answers v.start v.ring.cons v.told stage.EventFence e h
 front_counts start answers stage.EventFence v a e same h = untold start answers v.start v.ring.cons v.told stage.LookAgain e h
 front_counts start answers stage.LookAgain v (answer.Word word) e same h = looked_counts start answers v word (record v { seen = word; stage = stage.Loop; asleep = true }) e h (untold start answers v.start v.ring.cons v.told stage.Loop e h)

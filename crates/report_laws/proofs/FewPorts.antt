@@ -1,9 +1,10 @@
--- The front makes one port at most: the moves that make one are as many as the ports that were made.
-use Rattle.std.proofs.Common.{◌≡◌, ℕ, ◌+◌, ◌*◌, ◌-◌, ◌^◌, ◌≤◌, Bool, true, false, cond, if◌then◌else◌, List, [], ◌∷◌, ◌++◌, length, refl, subst, arith}
-use Rattle.std.specs.Prelude.{Option, Some, None, Result, Ok, Err, not, count_by}
-use Rattle.std.specs.List.{AllByRecursion, suffix_len}
+-- The front makes one port at most in an epoch: the moves that make one are as many as the ports of this epoch.
+use Rattle.std.proofs.Common.{◌≡◌, ℕ, ◌+◌, ◌*◌, ◌^◌, ◌≤◌, Bool, true, false, cond, ◌||◌, if◌then◌else◌, List, [], ◌∷◌, ◌++◌, length, refl, ap, sym, ◌∙◌, subst, append_assoc, length-append, length-set, arith}
+use Rattle.std.specs.Prelude.{Option, Some, None, Result, Ok, Err, count_by}
+use Rattle.std.specs.List.{AllByRecursion}
 use Rattle.std.proofs.lemmas.Option.{none-some}
-use Rattle.std.proofs.lemmas.List.Sums.{sum_by-append, sum_by-take-drop}
+use Rattle.std.proofs.lemmas.List.Sums.{sum_by_push}
+use Rattle.std.proofs.lemmas.List.{append-nil, length-map}
 use Rattle.blk_base.specs.Options.{Options}
 use Rattle.blk_base.specs.declared.config.Job.{Job}
 use Rattle.blk_base.specs.declared.parts.End.{End}
@@ -28,7 +29,8 @@ use Rattle.grant_table.specs.declared.entry.MapRefusal.{MapRefusal}
 use Rattle.grant_table.specs.Table.{verdict_at}
 use Rattle.event_channel.specs.declared.channels.PortState.{PortState}
 use Rattle.event_channel.specs.declared.channels.PortState.TheVariants as port
-use Rattle.event_channel.specs.Channels.{ChannelState, state_of, sent}
+use Rattle.event_channel.specs.declared.channels.PortState.TheVariants.{Unbound, Bound}
+use Rattle.event_channel.specs.Channels.{ChannelState, state_of, place_of, sent, closed_port, unbound_port}
 use Rattle.hypervisor.specs.Hypervisor.{Hypervisor}
 use Rattle.hypervisor.specs.Act.{FrontAct, BackAct, Outcome, Gave, Took, Failed, front_act, back_act, map_act, bind_act, read_act, disk_act}
 use Rattle.blk_front.specs.declared.told.Told.{Told}
@@ -44,11 +46,12 @@ use Rattle.blk_back.specs.declared.told.Halt.{Halt}
 use Rattle.blk_back.specs.View as back
 use Rattle.blk_back.specs.Ask as back_ends
 use Rattle.blk_back.specs.Step as back_step
-use Rattle.report_rules.specs.Standing.{is_epoch}
+use Rattle.report_rules.specs.Standing.{is_epoch, this_epoch}
+use Rattle.report_rules.proofs.Back.{epoch_more}
 use Rattle.split_model.specs.World.{World, start_of}
 use Rattle.split_model.specs.Safe.{IsSafe}
 use Rattle.split_model.specs.Shown.{front_lines, back_lines, halt_lines, effect_line}
-use Rattle.split_model.specs.Happening.{Happening, FrontMoves, BackMoves, JobMoves, Negotiates, FrontEnters, BackAttaches, BackHalts, Submits, Notifies, Pokes, OverwritesKey, Dumps, Looks, Settles, other_end, submit_line, happens, lines_at, lines_of, front_after, front_shows, back_after, back_shows, job_after, job_shows, front_turn, back_turn, job_turn}
+use Rattle.split_model.specs.Happening.{Happening, FrontMoves, BackMoves, JobMoves, Negotiates, FrontEnters, BackAttaches, BackHalts, Submits, Notifies, Pokes, OverwritesKey, Suspends, Dumps, Looks, Settles, other_end, submit_line, happens, lines_at, lines_of, front_after, front_shows, back_after, back_shows, job_after, job_shows, front_turn, back_turn, job_turn}
 use Rattle.split_model.specs.Report.{report_of, ended_report_of}
 use Rattle.split_model.proofs.Keys.{negotiated_lines_are, backs_no_key, jobs_no_key}
 use Rattle.split_model.proofs.States.{enter_lines_are, state_lines_are}
@@ -56,82 +59,120 @@ use Rattle.split_model.proofs.Attaching.{attach_lines_are}
 use Rattle.split_model.proofs.Overwriting.{poke_cases, dump_lines_are, overwriting_cases}
 use Rattle.split_model.proofs.SafeActs.{of_front, of_back, AsksBackKey, front_wait, back_wait}
 use Rattle.split_model.proofs.SafeAnswers.{IsFronts, fronts_at, backs_of, jobs_of}
-use Rattle.split_model.proofs.Safe.{ports_back, safe_start, safe_happens}
+use Rattle.split_model.proofs.Suspending.{suspend_cases}
+use Rattle.split_model.proofs.Safe.{safe_start, safe_happens}
 use Rattle.report_laws.specs.Ports.{makes_port, ports_made, IsFewPortsAt, AreFewPorts}
 use Rattle.report_laws.proofs.Lines.{both_all}
 
--- how many ports these lines make
-abbrev ports_in : List Line → ℕ
-ports_in ls = count_by makes_port ls
+-- a line that makes no port and begins no epoch
+abbrev pub is_counted : Line → Bool
+is_counted line = makes_port line || is_epoch line
 
--- none
-abbrev MakesNone : Line → Type 0
-MakesNone line = makes_port line ≡ false
+abbrev pub MakesNone : Line → Type 0
+MakesNone line = is_counted line ≡ false
 
 abbrev MakeNone : List Line → Type 0
 MakeNone ls = AllByRecursion MakesNone ls
 
-none_made : (ls : List Line) → MakeNone ls → ports_in ls ≡ 0
-none_made [] all = refl
-none_made (line ∷ ls) all = rw (all.0, none_made ls all.1) refl
+-- how many ports were made in the epoch after a line, and after these, where so many were before
+abbrev pub next_count : ℕ → Line → ℕ
+next_count n line = if is_epoch line then 0 else (if makes_port line then n + 1 else n)
 
-ports_append : (a b : List Line) → ports_in (a ++ b) ≡ ports_in a + ports_in b
-ports_append a b = sum_by-append (λ (line : Line). cond (makes_port line) 1 0) a b
+abbrev pub count_after : ℕ → List Line → ℕ
+count_after n [] = n
+count_after n (line ∷ ls) = count_after (next_count n line) ls
 
-ports_more : (line : Line) (ls : List Line) → ports_in (line ∷ ls) ≡ ports_in (line ∷ []) + ports_in ls
-ports_more line ls = ports_append (line ∷ []) ls
+-- at each of these lines one was made at most
+abbrev pub AreThrifty : ℕ → List Line → Type 0
+AreThrifty n [] = n ≤ 1
+AreThrifty n (line ∷ ls) = (n ≤ 1) × AreThrifty (next_count n line) ls
+
+same_next : (n : ℕ) (line : Line) → MakesNone line → next_count n line ≡ n
+same_next n line none = by_tests (is_epoch line) (makes_port line) none
+  where
+    by_tests : (e m : Bool) → (m || e) ≡ false → (if e then 0 else (if m then n + 1 else n)) ≡ n
+    by_tests false false h = refl
+    by_tests true true h = absurd (cc)
+    by_tests true false h = absurd (cc)
+    by_tests false true h = absurd (cc)
+
+none_made : (n : ℕ) (ls : List Line) → MakeNone ls → count_after n ls ≡ n
+none_made n [] all = refl
+none_made n (line ∷ ls) all = ap (λ (k : ℕ). count_after k ls) (same_next n line all.0) ∙ none_made n ls all.1
+
+none_thrifty : (n : ℕ) (ls : List Line) → MakeNone ls → n ≤ 1 → AreThrifty n ls
+none_thrifty n [] all few = few
+none_thrifty n (line ∷ ls) all few = (few, subst (λ (k : ℕ). AreThrifty k ls) (sym (same_next n line all.0)) (none_thrifty n ls all.1 few))
+
+count_append : (n : ℕ) (a b : List Line) → count_after n (a ++ b) ≡ count_after (count_after n a) b
+count_append n [] b = refl
+count_append n (line ∷ a) b = count_append (next_count n line) a b
+
+thrifty_append : (n : ℕ) (a b : List Line) → AreThrifty n a → AreThrifty (count_after n a) b → AreThrifty n (a ++ b)
+thrifty_append n [] b p q = q
+thrifty_append n (line ∷ a) b p q = (p.0, thrifty_append (next_count n line) a b p.1 q)
+
+-- how many ports of this epoch there are
+abbrev pub ports_of : Hypervisor → ℕ
+ports_of h = length h.channels.ports
 
 -- the front's act makes a port where its move shows it, and only where none was made
 record IsTallied (h : Hypervisor) (a : FrontAct) : Type 0 where
-  told : h.channels.made + ports_in (lines.Move a.shown ∷ []) ≡ a.under.channels.made
-  few : h.channels.made ≤ 1 → a.under.channels.made ≤ 1
+  told : next_count (ports_of h) (lines.Move a.shown) ≡ ports_of a.under
+  few : ports_of h ≤ 1 → ports_of a.under ≤ 1
 
 front_tallied : (h : Hypervisor) (ask : FrontAsk) (a : FrontAct) → IsFronts h.channels ask → front_act h ask ≡ Some a → IsTallied h a
-front_tallied h front_ask.Wait a own e = front_wait (IsTallied h) h a (record { told = omega arith; few = λ few. few }) (λ path. record { told = omega arith; few = λ few. few }) e
-front_tallied h front_ask.Fence a own e = of_front (IsTallied h) _ a (record { told = omega arith; few = λ few. few }) e
-front_tallied h (front_ask.Read frame word) a own e = of_front (IsTallied h) _ a (record { told = omega arith; few = λ few. few }) e
-front_tallied h (front_ask.Write frame word value) a own e = of_front (IsTallied h) _ a (record { told = omega arith; few = λ few. few }) e
-front_tallied h (front_ask.Cas frame word old new) a own e = of_front (IsTallied h) _ a (record { told = omega arith; few = λ few. few }) e
-front_tallied h front_ask.NewPort a own e = let none = own.0 in of_front (IsTallied h) _ a (record { told = omega arith; few = λ few. omega arith }) e
-front_tallied h front_ask.Send a own e = of_front (IsTallied h) _ a (record { told = omega arith; few = λ few. few }) e
-front_tallied h front_ask.ClosePort a own e = of_front (IsTallied h) _ a (record { told = omega arith; few = λ few. few }) e
+front_tallied h front_ask.Wait a own e = front_wait (IsTallied h) h a (record { told = refl; few = λ few. few }) (λ path. record { told = refl; few = λ few. few }) e
+front_tallied h front_ask.Fence a own e = of_front (IsTallied h) _ a (record { told = refl; few = λ few. few }) e
+front_tallied h (front_ask.Read frame word) a own e = of_front (IsTallied h) _ a (record { told = refl; few = λ few. few }) e
+front_tallied h (front_ask.Write frame word value) a own e = of_front (IsTallied h) _ a (record { told = refl; few = λ few. few }) e
+front_tallied h (front_ask.Cas frame word old new) a own e = of_front (IsTallied h) _ a (record { told = refl; few = λ few. few }) e
+front_tallied h front_ask.NewPort a own e =
+    let one : length (h.channels.ports ++ Unbound ∷ []) ≡ ports_of h + 1 = length-append h.channels.ports (Unbound ∷ []) in
+    let none : ports_of h ≡ 0 = ap (λ (ps : List PortState). length ps) own.1 in
+    of_front (IsTallied h) _ a (record { told = sym one; few = λ few. omega arith }) e
+front_tallied h front_ask.Send a own e = of_front (IsTallied h) _ a (record { told = refl; few = λ few. few }) e
+front_tallied h front_ask.ClosePort a own e =
+    let as_many = length-map h.channels.ports closed_port in
+    of_front (IsTallied h) _ a (record { told = sym as_many; few = λ few. omega arith }) e
 front_tallied h (front_ask.GetKey path) a own e = absurd own
 front_tallied h (front_ask.SetKey path text) a own e = absurd own
 front_tallied h (front_ask.Watch path) a own e = absurd own
 
 -- the move of the back or a job makes none
-abbrev BackMakesNone : BackAct → Type 0
-BackMakesNone a = MakesNone (lines.Move a.shown)
+pub record BackMakesNone (h : Hypervisor) (a : BackAct) : Type 0 where
+  pub told : MakesNone (lines.Move a.shown)
+  pub same : ports_of a.under ≡ ports_of h
 
-map_none : (h : Hypervisor) (who : BackMover) (gref : ℕ) (mode : Mode) (verdict : Result ℕ MapRefusal) → BackMakesNone (map_act h who gref mode verdict)
-map_none h who gref mode (Ok frame) = refl
-map_none h who gref mode (Err refusal) = refl
+map_none : (h : Hypervisor) (who : BackMover) (gref : ℕ) (mode : Mode) (verdict : Result ℕ MapRefusal) → BackMakesNone h (map_act h who gref mode verdict)
+map_none h who gref mode (Ok frame) = record { told = refl; same = refl }
+map_none h who gref mode (Err refusal) = record { told = refl; same = refl }
 
-bind_none : (h : Hypervisor) (p : ℕ) (state : PortState) → BackMakesNone (bind_act h p state)
-bind_none h p port.Unbound = refl
-bind_none h p port.Closed = refl
-bind_none h p port.Bound = refl
+bind_none : (h : Hypervisor) (p : ℕ) (state : PortState) → BackMakesNone h (bind_act h p state)
+bind_none h p port.Unbound = record { told = refl; same = length-set h.channels.ports (place_of h.channels p) Bound }
+bind_none h p port.Closed = record { told = refl; same = refl }
+bind_none h p port.Bound = record { told = refl; same = refl }
 
-read_none : (h : Hypervisor) (shown : Move) (o : Outcome) (a : BackAct) → MakesNone (lines.Move shown) → read_act h shown o ≡ Some a → BackMakesNone a
-read_none h shown (Gave words) a is e = of_back BackMakesNone _ a is e
-read_none h shown Failed a is e = of_back BackMakesNone _ a is e
+read_none : (h : Hypervisor) (shown : Move) (o : Outcome) (a : BackAct) → MakesNone (lines.Move shown) → read_act h shown o ≡ Some a → BackMakesNone h a
+read_none h shown (Gave words) a is e = of_back (BackMakesNone h) _ a (record { told = is; same = refl }) e
+read_none h shown Failed a is e = of_back (BackMakesNone h) _ a (record { told = is; same = refl }) e
 read_none h shown Took a is e = absurd (none-some a e)
 
-disk_none : (h : Hypervisor) (shown : Move) (o : Outcome) (a : BackAct) → MakesNone (lines.Move shown) → disk_act h shown o ≡ Some a → BackMakesNone a
-disk_none h shown Took a is e = of_back BackMakesNone _ a is e
-disk_none h shown Failed a is e = of_back BackMakesNone _ a is e
+disk_none : (h : Hypervisor) (shown : Move) (o : Outcome) (a : BackAct) → MakesNone (lines.Move shown) → disk_act h shown o ≡ Some a → BackMakesNone h a
+disk_none h shown Took a is e = of_back (BackMakesNone h) _ a (record { told = is; same = refl }) e
+disk_none h shown Failed a is e = of_back (BackMakesNone h) _ a (record { told = is; same = refl }) e
 disk_none h shown (Gave words) a is e = absurd (none-some a e)
 
-back_none : (h : Hypervisor) (who : BackMover) (ask : BackAsk) (o : Outcome) (a : BackAct) → (AsksBackKey ask → ⊥) → back_act h who ask o ≡ Some a → MakesNone (lines.Move a.shown)
-back_none h who back_ask.Wait o a own e = back_wait BackMakesNone h who a refl (λ path. refl) e
-back_none h who back_ask.Fence o a own e = of_back BackMakesNone _ a refl e
-back_none h who (back_ask.Read m word) o a own e = of_back BackMakesNone _ a refl e
-back_none h who (back_ask.Write m word value) o a own e = of_back BackMakesNone _ a refl e
-back_none h who (back_ask.Map gref mode) o a own e = of_back BackMakesNone _ a (map_none h who gref mode (verdict_at h.pages gref mode)) e
-back_none h who (back_ask.Unmap m) o a own e = of_back BackMakesNone _ a refl e
-back_none h who (back_ask.Bind p) o a own e = of_back BackMakesNone _ a (bind_none h p (state_of h.channels p)) e
-back_none h who back_ask.Send o a own e = of_back BackMakesNone _ a refl e
-back_none h who back_ask.ClosePort o a own e = of_back BackMakesNone _ a refl e
+pub back_none : (h : Hypervisor) (who : BackMover) (ask : BackAsk) (o : Outcome) (a : BackAct) → (AsksBackKey ask → ⊥) → back_act h who ask o ≡ Some a → BackMakesNone h a
+back_none h who back_ask.Wait o a own e = back_wait (BackMakesNone h) h who a (record { told = refl; same = refl }) (λ path. record { told = refl; same = refl }) e
+back_none h who back_ask.Fence o a own e = of_back (BackMakesNone h) _ a (record { told = refl; same = refl }) e
+back_none h who (back_ask.Read m word) o a own e = of_back (BackMakesNone h) _ a (record { told = refl; same = refl }) e
+back_none h who (back_ask.Write m word value) o a own e = of_back (BackMakesNone h) _ a (record { told = refl; same = refl }) e
+back_none h who (back_ask.Map gref mode) o a own e = of_back (BackMakesNone h) _ a (map_none h who gref mode (verdict_at h.pages gref mode)) e
+back_none h who (back_ask.Unmap m) o a own e = of_back (BackMakesNone h) _ a (record { told = refl; same = refl }) e
+back_none h who (back_ask.Bind p) o a own e = of_back (BackMakesNone h) _ a (bind_none h p (state_of h.channels p)) e
+back_none h who back_ask.Send o a own e = of_back (BackMakesNone h) _ a (record { told = refl; same = refl }) e
+back_none h who back_ask.ClosePort o a own e = of_back (BackMakesNone h) _ a (record { told = refl; same = length-map h.channels.ports unbound_port }) e
 back_none h who (back_ask.GetKey path) o a own e = absurd (own tt)
 back_none h who (back_ask.SetKey path text) o a own e = absurd (own tt)
 back_none h who (back_ask.Watch path) o a own e = absurd (own tt)
@@ -172,46 +213,48 @@ look_none : (quiet : Bool) (other : Line) → MakesNone other → MakeNone ((if 
 look_none true other e = (refl, tt)
 look_none false other e = (e, tt)
 
--- whatever happens, the lines of it make as many ports as were made, and where at most one was, at most one is
-record IsCounted (h : Hypervisor) (ls : List Line) (h' : Hypervisor) : Type 0 where
-  told : h.channels.made + ports_in ls ≡ h'.channels.made
-  few : h.channels.made ≤ 1 → h'.channels.made ≤ 1
+-- whatever happens, the lines of it make as many ports as there are then in this epoch, and one at most
+pub record IsCounted (h : Hypervisor) (ls : List Line) (h' : Hypervisor) : Type 0 where
+  pub told : count_after (ports_of h) ls ≡ ports_of h'
+  pub few : ports_of h ≤ 1 → AreThrifty (ports_of h) ls × (ports_of h' ≤ 1)
 
-uncounted : (h h' : Hypervisor) (ls : List Line) → MakeNone ls → h'.channels.made ≡ h.channels.made → IsCounted h ls h'
-uncounted h h' ls all same = record { told = let none = none_made ls all in omega arith; few = λ few. omega arith }
+uncounted : (h h' : Hypervisor) (ls : List Line) → MakeNone ls → ports_of h' ≡ ports_of h → IsCounted h ls h'
+uncounted h h' ls all same = record { told = none_made (ports_of h) ls all ∙ sym same; few = λ few. (none_thrifty (ports_of h) ls all few, omega arith) }
 
 front_counted : (w : World) (act : Option FrontAct) → IsSafe w → front_turn w ≡ act → IsCounted w.under (front_shows w act) (let x : World = front_after w act in x.under)
 front_counted w None safe e = uncounted w.under w.under [] tt refl
 front_counted w (Some a) safe e =
     let is : IsTallied w.under a = front_tallied w.under (front_ends.ask_of w.front) a (fronts_at w.under.channels w.front.stage w.front safe.ported) e in
-    let told = is.told in
     let follow = front_lines (let f : front.View = front_step.step_of w.front a.answer in f.told) in
-    let none = none_made follow (front_lines_none (let f : front.View = front_step.step_of w.front a.answer in f.told)) in
-    record { told = omega (arith, ports_more (lines.Move a.shown) follow); few = is.few }
+    let none : MakeNone follow = front_lines_none (let f : front.View = front_step.step_of w.front a.answer in f.told) in
+    let same : count_after (ports_of a.under) follow ≡ ports_of a.under = none_made (ports_of a.under) follow none in
+    record {
+      told = ap (λ (n : ℕ). count_after n follow) is.told ∙ same;
+      few = λ few. ((few, subst (λ (n : ℕ). AreThrifty n follow) (sym is.told) (none_thrifty (ports_of a.under) follow none (is.few few))), is.few few);
+    }
 
 back_counted : (w : World) (act : Option BackAct) → back_turn w Took ≡ act → IsCounted w.under (back_shows w act) (let x : World = back_after w act in x.under)
 back_counted w None e = uncounted w.under w.under [] tt refl
 back_counted w (Some a) e =
     let b : back.View = back_step.step_of w.back a.answer in
+    let is : BackMakesNone w.under a = back_none w.under back_mover.Back (back_ends.ask_of w.back) Took a (backs_no_key (back_ends.ask_of w.back) (backs_of w.back)) e in
     uncounted w.under a.under (back_shows w (Some a)) (
-      back_none w.under back_mover.Back (back_ends.ask_of w.back) Took a (backs_no_key (back_ends.ask_of w.back) (backs_of w.back)) e,
+      is.told,
       both_all MakesNone (back_lines b.told a.answer) (halt_lines w.back.halted b.halted) (back_lines_none b.told a.answer) (halt_none w.back.halted b.halted),
-    ) (ports_back w.under back_mover.Back (back_ends.ask_of w.back) Took a e).0
+    ) is.same
 
 job_counted : (w : World) (k : ℕ) (o : Outcome) (act : Option BackAct) → job_turn w k o ≡ act → IsCounted w.under (job_shows w k act) (let x : World = job_after w k act in x.under)
 job_counted w k o None e = uncounted w.under w.under [] tt refl
 job_counted w k o (Some a) e =
     let b : back.View = back_step.job_step w.back k a.answer in
-    uncounted w.under a.under (job_shows w k (Some a)) (
-      back_none w.under (back_mover.Job k) (back_step.job_ask_of w.back k) o a (jobs_no_key (back_step.job_ask_of w.back k) (jobs_of w.back k)) e,
-      back_lines_none b.told a.answer,
-    ) (ports_back w.under (back_mover.Job k) (back_step.job_ask_of w.back k) o a e).0
+    let is : BackMakesNone w.under a = back_none w.under (back_mover.Job k) (back_step.job_ask_of w.back k) o a (jobs_no_key (back_step.job_ask_of w.back k) (jobs_of w.back k)) e in
+    uncounted w.under a.under (job_shows w k (Some a)) (is.told, back_lines_none b.told a.answer) is.same
 
-sent_same : (c : ChannelState) (at : End) → (let x : ChannelState = sent c (other_end at) in x.made) ≡ c.made
+sent_same : (c : ChannelState) (at : End) → (let x : ChannelState = sent c (other_end at) in length x.ports) ≡ length c.ports
 sent_same c end.Front = refl
 sent_same c end.Back = refl
 
-one_counted : (w : World) (h : Happening) → IsSafe w → IsCounted w.under (lines_at w h) (let x : World = happens w h in x.under)
+pub one_counted : (w : World) (h : Happening) → IsSafe w → IsCounted w.under (lines_at w h) (let x : World = happens w h in x.under)
 one_counted w FrontMoves safe = front_counted w (front_turn w) safe refl
 one_counted w BackMoves safe = back_counted w (back_turn w Took) refl
 one_counted w (JobMoves number outcome) safe = job_counted w number outcome (job_turn w number outcome) refl
@@ -223,59 +266,87 @@ one_counted w (Submits job) safe = uncounted w.under w.under _ (submit_none job 
 one_counted w (Notifies at) safe = uncounted w.under _ [] tt (sent_same w.under.channels at)
 one_counted w (Pokes frame word value) safe = poke_cases (λ under shown. IsCounted w.under shown under) w.under frame word value (λ framed worded. uncounted w.under _ _ (refl, tt) refl) (uncounted w.under w.under [] tt refl)
 one_counted w (OverwritesKey name text) safe = overwriting_cases (λ under shown. IsCounted w.under shown under) w.under name text (λ allowed. uncounted w.under _ _ (refl, tt) refl) (uncounted w.under w.under [] tt refl)
+one_counted w Suspends safe =
+    suspend_cases (λ v shown. IsCounted w.under shown v.under) w
+    (λ may. record { told = refl; few = λ few. ((few, omega arith), omega arith) }) (uncounted w.under w.under [] tt refl)
 one_counted w Dumps safe = uncounted w.under w.under _ (dump_lines_are MakesNone w.under.pages 0 (1024 * 2 ^ w.front.shape.order) (λ frame word value. refl)) refl
 one_counted w (Looks quiet) safe = uncounted w.under w.under _ (look_none quiet lines.Busy refl) refl
 one_counted w (Settles quiet) safe = uncounted w.under w.under _ (look_none quiet lines.Unsettled refl) refl
 
--- so all that happens makes one at most
-all_few : (history : List Happening) (w : World) → IsSafe w → w.under.channels.made ≤ 1 → w.under.channels.made + ports_in (lines_of history w) ≤ 1
-all_few [] w safe few = omega arith
+-- so all that happens makes one at most in each epoch
+all_few : (history : List Happening) (w : World) → IsSafe w → ports_of w.under ≤ 1 → AreThrifty (ports_of w.under) (lines_of history w)
+all_few [] w safe few = few
 all_few (h ∷ history) w safe few =
     let one : IsCounted w.under (lines_at w h) (let x : World = happens w h in x.under) = one_counted w h safe in
-    let told = one.told in
-    let rest = all_few history (happens w h) (safe_happens w h safe) (one.few few) in
-    omega (arith, ports_append (lines_at w h) (lines_of history (happens w h)))
+    let rest = all_few history (happens w h) (safe_happens w h safe) (one.few few).1 in
+    thrifty_append (ports_of w.under) (lines_at w h) (lines_of history (happens w h)) (one.few few).0 (subst (λ (n : ℕ). AreThrifty n (lines_of history (happens w h))) (sym one.told) rest)
 
-report_once : (config : Options) (detail : Detail) (history : List Happening) → ports_in (report_of config detail history) ≤ 1
-report_once config detail history = let rest = all_few history (start_of config) (safe_start config) (omega arith) in omega arith
+report_once : (config : Options) (detail : Detail) (history : List Happening) → AreThrifty 0 (report_of config detail history)
+report_once config detail history = (omega arith, all_few history (start_of config) (safe_start config) (omega arith))
 
--- what a recorder keeps makes no more
-one_kept : (detail : Detail) (line : Line) → ports_in (recorded detail line) ≤ ports_in (line ∷ [])
-one_kept detail (lines.Begin config other) = omega arith
-one_kept Lines (lines.Move move) = omega arith
-one_kept Moves (lines.Move move) = omega arith
-one_kept detail line = omega arith
+-- what a recorder keeps makes no more: each line or none
+fewer_thrifty : (ls : List Line) (n m : ℕ) → m ≤ n → AreThrifty n ls → AreThrifty m ls
+fewer_thrifty [] n m le h = omega (arith, h)
+fewer_thrifty (line ∷ ls) n m le h = (omega (arith, h.0), fewer_thrifty ls (next_count n line) (next_count m line) (by_tests (is_epoch line) (makes_port line)) h.1)
+  where
+    by_tests : (e p : Bool) → (if e then 0 else (if p then m + 1 else m)) ≤ (if e then 0 else (if p then n + 1 else n))
+    by_tests true p = omega arith
+    by_tests false true = omega arith
+    by_tests false false = le
 
-kept_few : (detail : Detail) (ls : List Line) → ports_in (kept_of detail ls) ≤ ports_in ls
-kept_few detail [] = omega arith
-kept_few detail (line ∷ ls) =
-    let here = one_kept detail line in
-    let rest = kept_few detail ls in
-    omega (arith, ports_append (recorded detail line) (kept_of detail ls), ports_more line ls)
+kept_one : (detail : Detail) (line : Line) (ls : List Line) (n : ℕ) → n ≤ 1 → AreThrifty (next_count n line) ls → AreThrifty n (recorded detail line ++ ls)
+kept_one Lines (lines.Move move) ls n few h = fewer_thrifty ls (next_count n (lines.Move move)) n (by_port (makes_port (lines.Move move))) h
+  where
+    by_port : (b : Bool) → n ≤ (if b then n + 1 else n)
+    by_port true = omega arith
+    by_port false = omega arith
+kept_one Moves (lines.Move move) ls n few h = (few, h)
+kept_one detail line ls n few h = (few, h)
 
--- where all lines make one at most, no epoch has more
-epoch_few : (before : List Line) → ports_made before ≤ ports_in before
-epoch_few before =
-    let parts = sum_by-take-drop (λ (line : Line). cond (makes_port line) 1 0) before (length before - suffix_len (λ (x : Line). not (is_epoch x)) before) in
-    omega arith
+kept_few : (detail : Detail) (ls : List Line) (n : ℕ) → AreThrifty n ls → AreThrifty n (kept_of detail ls)
+kept_few detail [] n h = h
+kept_few detail (line ∷ ls) n h = kept_one detail line (kept_of detail ls) n h.0 (kept_few detail ls (next_count n line) h.1)
 
-few_at : (before after : List Line) (line : Line) → ports_in (before ++ line ∷ after) ≤ 1 → IsFewPortsAt before line
-few_at before after (lines.Move (moves.FrontPort port)) few =
-    let epoch = epoch_few before in
-    omega (arith, ports_append before (lines.Move (moves.FrontPort port) ∷ after))
-few_at before after line few = tt
+-- so many were made in the present epoch
+one_more : (before : List Line) (n : ℕ) (line : Line) → ports_made before ≡ n → ports_made (before ++ line ∷ []) ≡ next_count n line
+one_more before n line is = ap (λ (ls : List Line). count_by makes_port ls) (epoch_more before line) ∙ by_epoch (is_epoch line)
+  where
+    by_port : (b : Bool) (made : ℕ) → made ≡ ports_made before + cond b 1 0 → made ≡ (if b then n + 1 else n)
+    by_port true made more = omega (arith, is)
+    by_port false made more = omega (arith, is)
 
-once_few : (report : List Line) → ports_in report ≤ 1 → AreFewPorts report
-once_few report few before after line e = few_at before after line (subst (λ (ls : List Line). ports_in ls ≤ 1) e few)
+    by_epoch : (e : Bool) → count_by makes_port (if e then [] else this_epoch before ++ line ∷ []) ≡ (if e then 0 else (if makes_port line then n + 1 else n))
+    by_epoch true = refl
+    by_epoch false = by_port (makes_port line) _ (sum_by_push (λ (x : Line). cond (makes_port x) 1 0) (this_epoch before) line)
+
+made_by : (ls before : List Line) (n : ℕ) → ports_made before ≡ n → ports_made (before ++ ls) ≡ count_after n ls
+made_by [] before n is = ap ports_made (append-nil before) ∙ is
+made_by (line ∷ ls) before n is = ap ports_made (sym (append_assoc before (line ∷ []) ls)) ∙ made_by ls (before ++ line ∷ []) (next_count n line) (one_more before n line is)
+
+rest_thrifty : (n : ℕ) (before : List Line) (line : Line) (after : List Line) → AreThrifty n (before ++ line ∷ after) → count_after n before ≤ 1
+rest_thrifty n [] line after h = h.0
+rest_thrifty n (first ∷ before) line after h = rest_thrifty (next_count n first) before line after h.1
+
+last_thrifty : (n : ℕ) (ls : List Line) → AreThrifty n ls → count_after n ls ≤ 1
+last_thrifty n [] h = h
+last_thrifty n (line ∷ ls) h = last_thrifty (next_count n line) ls h.1
+
+few_at : (before : List Line) (line : Line) → ports_made before ≤ 1 → IsFewPortsAt before line
+few_at before (lines.Move (moves.FrontPort port)) few = omega arith
+few_at before line few = tt
+
+once_few : (report : List Line) → AreThrifty 0 report → AreFewPorts report
+once_few report thrifty before after line e =
+    let so_far : count_after 0 before ≤ 1 = rest_thrifty 0 before line after (subst (AreThrifty 0) e thrifty) in
+    few_at before line (subst (λ (n : ℕ). n ≤ 1) (sym (made_by before [] 0 refl)) so_far)
 
 pub report_ports : (config : Options) (detail : Detail) (history : List Happening) → AreFewPorts (kept_of detail (report_of config detail history))
-report_ports config detail history =
-    let kept = kept_few detail (report_of config detail history) in
-    let once = report_once config detail history in
-    once_few (kept_of detail (report_of config detail history)) (omega arith)
+report_ports config detail history = once_few (kept_of detail (report_of config detail history)) (kept_few detail (report_of config detail history) 0 (report_once config detail history))
+
+ended_once : (config : Options) (detail : Detail) (history : List Happening) → AreThrifty 0 (ended_report_of config detail history)
+ended_once config detail history =
+    thrifty_append 0 (report_of config detail history) (lines.End ∷ []) (report_once config detail history)
+    (let few = last_thrifty 0 (report_of config detail history) (report_once config detail history) in (few, few))
 
 pub ended_ports : (config : Options) (detail : Detail) (history : List Happening) → AreFewPorts (kept_of detail (ended_report_of config detail history))
-ended_ports config detail history =
-    let kept = kept_few detail (ended_report_of config detail history) in
-    let once = report_once config detail history in
-    once_few (kept_of detail (ended_report_of config detail history)) (omega (arith, ports_append (report_of config detail history) (lines.End ∷ [])))
+ended_ports config detail history = once_few (kept_of detail (ended_report_of config detail history)) (kept_few detail (ended_report_of config detail history) 0 (ended_once config detail history))

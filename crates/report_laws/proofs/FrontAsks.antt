@@ -107,6 +107,7 @@ asks_at h stage.Producer v shared ported within words f = omega arith
 asks_at h (stage.GrantRead place) v shared ported within words f = revoke_fits h v.ending place
 asks_at h (stage.GrantEnd place before) v shared ported within words f = end_fits h v.ending place before words
 asks_at h (stage.ReadData n) v shared ported within words f = read_fits h v.ending n
+asks_at h (stage.LeftData n) v shared ported within words f = read_fits h v.ending n
 asks_at h stage.StoreEvent v shared ported within words f = omega arith
 asks_at h (stage.RingEnd page seen) v shared ported within words f = (words, omega arith)
 asks_at h s v shared ported within words f = tt

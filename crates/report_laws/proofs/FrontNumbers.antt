@@ -1,6 +1,6 @@
 -- The numbers that the front keeps have the widths of the grammar, and so has what it tells and answers, whatever word it reads.
 use Rattle.std.proofs.Common.{◌≡◌, ℕ, zero, suc, ◌≤◌, ◌+◌, ◌-◌, ◌*◌, ◌/◌, ◌%◌, ◌^◌, ◌<◌, Bool, true, false, not, if◌then◌else◌, List, [], ◌∷◌, length, take, map, refl, arith, length-set}
-use Rattle.std.specs.Prelude.{◌&&◌, max, min, All, Option, Some, None, Result, Ok, Err, nat_lt, nat_le, ◌==◌, slice_get, slice_set, slice_index, position}
+use Rattle.std.specs.Prelude.{◌&&◌, max, min, All, Option, Some, None, IfSome, Result, Ok, Err, nat_lt, nat_le, ◌==◌, slice_get, slice_set, slice_index, position}
 use Rattle.std.specs.Option.{option_map}
 use Rattle.std.specs.List.{AllByRecursion, range_with_len}
 use Rattle.std.proofs.lemmas.Bool.Decides.{nat_tests}
@@ -42,16 +42,19 @@ use Rattle.blk_front.specs.Pool.{taking}
 use Rattle.blk_front.specs.Request.{operation_of, is_write, named_of, segments_of, grant_flags, has_data, frames_for, words_in, segment_in, segment_at, is_indirect, may_be_indirect, naming_words, reference_in, page_reference, page_references}
 use Rattle.blk_front.specs.View.{View, next_request, start_of}
 use Rattle.blk_front.specs.Entry.{entry_as, entry_of}
-use Rattle.blk_front.specs.Step.{at, broken, looked, entered, begun, freed, revokes, answered, after_data, data_stage, page_stage, granted, loop_step, found_at, issued, response_at, is_mapped, ring_left, finished, ended, revoked, sector_told, data_step, step_at, step_of}
+use Rattle.blk_front.specs.Step.{at, broken, looked, entered, begun, freed, revokes, answered, after_data, data_stage, page_stage, granted, loop_step, found_at, issued, response_at, is_mapped, ring_left, finished, ended, revoked, sector_told, data_step, left_step, step_at, step_of}
 use Rattle.blk_front.specs.Submit.{is_ready, unfinished, wished, wish_of, most_segments, frames_taken, request_with, submit_with, submit_one, submit_of}
 use Rattle.blk_front.specs.declared.state.Offers.{Offers}
 use Rattle.blk_front.specs.declared.state.FrontState.{FrontState}
 use Rattle.blk_front.specs.declared.state.FrontState.TheVariants as state
 use Rattle.blk_front.specs.State.{in_state, enters}
+use Rattle.blk_front.specs.Suspend.{stage_after, ending_after, suspended}
+use Rattle.blk_front.proofs.Order.{after_all}
 use Rattle.split_model.specs.World.{World}
 use Rattle.split_model.specs.Shown.{front_lines, state_lines, refusal_word}
 use Rattle.split_model.specs.Happening.{enter_lines, submit_line}
 use Rattle.split_model.proofs.States.{enters_cases}
+use Rattle.split_model.proofs.Suspending.{front_cases}
 use Rattle.machine_pipeline.specs.Allowed.{IsServable, IsStated}
 use Rattle.machine_pipeline.proofs.Lists.{all_at}
 use Rattle.report_laws.proofs.Told.{AreGood, good}
@@ -201,6 +204,7 @@ HasWords (stage.ResponseLast low high) = low < 2 ^ 32
 HasWords (stage.GrantEnd place before) = before < 2 ^ 32
 HasWords (stage.RingEnd page seen) = seen < 2 ^ 32
 HasWords (stage.ReadData n) = n < 983040
+HasWords (stage.LeftData n) = n < 983040
 HasWords s = Unit {0}
 
 abbrev pub TellsWords : Option Told → Type 0
@@ -343,15 +347,28 @@ told_fits v e n words is below sector f =
 still_below : (n count : ℕ) → count ≤ 7680 → nat_lt (n + 1) (128 * count) ≡ true → n + 1 < 983040
 still_below n count few more = grind (arith, nat_tests)
 
+-- with one more word of a sector
+sector_fits : (v : View) (e : Ending) (n word : ℕ) → n < 983040 → word < 2 ^ 32 → IsAsked e.request → IsFit v → IsFit (sector_told e n (slice_set v.words (n % 128) word) v)
+sector_fits v e n word below small is f =
+    let read = f.0.read in
+    let length_is = length-set v.words (n % 128) word in
+    let size = read.size in
+    told_fits v e n (slice_set v.words (n % 128) word) is below (record { size = omega arith; fits = All-set (λ (w : ℕ). w < 2 ^ 32) v.words (n % 128) word small read.fits }) f
+
 data_fits : (v : View) (ending : Option Ending) (n word : ℕ) → n < 983040 → word < 2 ^ 32 → IsAskedEnding ending → IsFit v → IsFit (data_step ending n word v)
 data_fits v None n word below small is f = f
 data_fits v (Some e) n word below small is f =
     let words = slice_set v.words (n % 128) word in
-    let read = f.0.read in
-    let length_is = length-set v.words (n % 128) word in
-    let size = read.size in
-    let y : IsFit (sector_told e n words v) = told_fits v e n words is below (record { size = omega arith; fits = All-set (λ (w : ℕ). w < 2 ^ 32) v.words (n % 128) word small read.fits }) f in
+    let y : IsFit (sector_told e n words v) = sector_fits v e n word below small is f in
     either (nat_lt (n + 1) (words_in e.request)) (at (stage.ReadData (n + 1)) (sector_told e n words v)) (finished e (sector_told e n words v))
+    (λ more. (y.0, still_below n e.request.count is.few more, y.2)) (λ last. (ending_now None tt y.0, tt, y.2))
+
+left_fits : (v : View) (ending : Option Ending) (n word : ℕ) → n < 983040 → word < 2 ^ 32 → IsAskedEnding ending → IsFit v → IsFit (left_step ending n word v)
+left_fits v None n word below small is f = f
+left_fits v (Some e) n word below small is f =
+    let words = slice_set v.words (n % 128) word in
+    let y : IsFit (sector_told e n words v) = sector_fits v e n word below small is f in
+    either (nat_lt (n + 1) (words_in e.request)) (at (stage.LeftData (n + 1)) (sector_told e n words v)) (at (stage.RingWord 0) (finished e (sector_told e n words v)))
     (λ more. (y.0, still_below n e.request.count is.few more, y.2)) (λ last. (ending_now None tt y.0, tt, y.2))
 
 -- an answer of the front's ask
@@ -380,6 +397,7 @@ step_fits (stage.GrantRead place) v (answer.Word word) shared h f small = either
 step_fits (stage.GrantEnd place before) v (answer.Word word) shared h f small =
     either (word == before) (revoked v.ending place v) (broken word v) (λ t. revoked_fits v v.ending place f.0.ends f) (λ t. (f.0, tt, small))
 step_fits (stage.ReadData n) v (answer.Word word) shared h f small = data_fits v v.ending n word h small f.0.ends f
+step_fits (stage.LeftData n) v (answer.Word word) shared h f small = left_fits v v.ending n word h small f.0.ends f
 step_fits stage.StoreEvent v x shared h f small = (f.0, tt, f.2)
 step_fits stage.EventFence v x shared h f small = (f.0, tt, f.2)
 step_fits stage.LookAgain v (answer.Word word) shared h f small = looked_fits v word (record v { seen = word; stage = stage.Loop; asleep = true }) small f (f.0, tt, f.2)
@@ -391,6 +409,39 @@ step_fits s v x shared h f small = f
 
 pub front_fits : (v : View) (x : FrontAnswer) → AreShared v.requests → IsFit v → FrontTells x → IsFit (step_of v x)
 front_fits v x shared f small = step_fits v.stage v x shared f.1 f small
+
+-- after a suspend the requests are those that were there, with the one whose grants were being ended
+some_asked : (ending : Option Ending) → IsAskedEnding ending → IfSome ending (λ (e : Ending). IsAsked e.request)
+some_asked None is = tt
+some_asked (Some e) is = is
+
+after_asked : (s : Stage) (ending : Option Ending) → IsAskedEnding ending → IsAskedEnding (ending_after s ending)
+after_asked (stage.GrantRead place) ending is = tt
+after_asked (stage.GrantEnd place before) ending is = tt
+after_asked s ending is = is
+
+after_words : (s : Stage) → HasWords s → HasWords (stage_after s)
+after_words (stage.ReadData n) words = words
+after_words (stage.LeftData n) words = words
+after_words s words = tt
+
+pub suspended_fits : (v : View) → IsFit v → IsFit (suspended v)
+suspended_fits v f =
+    let k = f.0 in
+    front_cases IsFit v
+    (λ on. (
+      record {
+        begins = k.begins;
+        sized = k.sized;
+        given = k.given;
+        asked = after_all IsAsked v.stage v.ending v.requests (some_asked v.ending k.ends) k.asked;
+        ends = after_asked v.stage v.ending k.ends;
+        written = k.written;
+        read = k.read;
+      },
+      after_words v.stage f.1,
+      f.2,
+    )) (λ closed. f)
 
 -- a state that it enters, and its line
 pub enters_fits : (w : World) (s : FrontState) (v : View) → IsStated w s → IsFit v → IsFit (enters s v) × AreGood (enter_lines s v)

@@ -22,25 +22,28 @@ use Rattle.blk_front.specs.View as front
 use Rattle.blk_front.specs.Ask as front_ask
 use Rattle.blk_front.specs.Step as front_step
 use Rattle.blk_front.specs.State.{enters}
+use Rattle.segment_list.specs.declared.verdict.DiskInfo.{DiskInfo}
 use Rattle.blk_back.specs.declared.told.Halt.{Halt}
+use Rattle.blk_back.specs.declared.told.Halt.TheVariants as halt
 use Rattle.blk_back.specs.View as back
 use Rattle.blk_back.specs.Ask as back_ask
 use Rattle.blk_back.specs.Step as back_step
 use Rattle.blk_back.specs.Hands.{hands_of}
 use Rattle.split_model.specs.World.{World, start_of}
 use Rattle.split_model.specs.Safe.{IsSafe}
-use Rattle.split_model.specs.Shown.{back_lines, halt_lines}
-use Rattle.split_model.specs.Happening.{Happening, FrontMoves, BackMoves, JobMoves, Negotiates, FrontEnters, BackAttaches, BackHalts, Submits, Notifies, Pokes, OverwritesKey, Dumps, Looks, Settles, happens, lines_at, lines_of, front_after, front_shows, back_after, back_shows, job_after, job_shows, front_turn, back_turn, job_turn}
+use Rattle.split_model.specs.Shown.{back_lines, halt_line, halt_lines}
+use Rattle.split_model.specs.Happening.{Happening, FrontMoves, BackMoves, JobMoves, Negotiates, FrontEnters, BackAttaches, BackHalts, Submits, Notifies, Pokes, OverwritesKey, Suspends, Dumps, Looks, Settles, happens, lines_at, lines_of, front_after, front_shows, back_after, back_shows, job_after, job_shows, front_turn, back_turn, job_turn}
 use Rattle.split_model.specs.Report.{report_of, ended_report_of}
 use Rattle.split_model.proofs.Overwriting.{poke_cases, overwriting_cases}
 use Rattle.split_model.proofs.Attaching.{attach_cases}
+use Rattle.split_model.proofs.Suspending.{suspend_cases, begun_back, back_cases}
 use Rattle.split_model.proofs.Safe.{safe_start, safe_happens}
 use Rattle.move_laws.specs.Permitted.{IsPermitted}
 use Rattle.move_laws.proofs.Always.{IsOrderly, orderly_start, orderly_happens, within_here}
 use Rattle.move_laws.proofs.Runs.{FollowsTo, dump_words_are, follows_happens, follows_begin}
 use Rattle.machine_pipeline.specs.Allowed.{IsSaid, AreSaid, IsPossible, ArePossible}
 use Rattle.report_laws.specs.Grammar.{IsInGrammar}
-use Rattle.report_laws.proofs.Words.{AreWords, word_fits, write_fits, fresh_words}
+use Rattle.report_laws.proofs.Words.{AreWords, word_fits, write_fits, cleared_fits, fresh_words}
 use Rattle.report_laws.proofs.Spelled.{AreSpelled, keys_good, layout_good, spelled_happens, spelled_start}
 use Rattle.report_laws.proofs.Acts.{ActFits, FrontFits, BackFits, front_act_fits, back_act_fits, front_told_fits, back_told_fits}
 use Rattle.report_laws.proofs.Numbers.{HasNumbers, HaveNumbers}
@@ -183,6 +186,28 @@ halted_good before w why said n =
     let fits : back_numbers.IsFit most b = back_numbers.halts_fits most why w.back said n.back in
     back_stays before (halt_lines w.back.halted b.halted) w b n fits (back_numbers.halt_good w.back.halted b.halted fits.0.why)
 
+-- the domain is suspended: its line is one of the grammar, and a new back begins, or one whose front is gone
+gone_said : IsSaid (halt.Gone 6)
+gone_said = good (lines.Halt (halt_line (halt.Gone 6))) (omega arith) refl
+
+suspended_good : (before : List Line) (w : World) → IsNumbered w → ShowsGood before (lines_at w Suspends) (happens w Suspends)
+suspended_good before w n =
+    suspend_cases (λ v shown. ShowsGood before shown v) w
+    (λ may. record {
+      good_lines = (good lines.Epoch tt refl, tt);
+      numbered = record {
+        words = cleared_fits w.under.pages n.words;
+        front = front_numbers.suspended_fits w.front n.front;
+        back = back_cases (back_numbers.IsFit most) w new (back_numbers.halts_fits most (halt.Gone 6) (begun_back w) gone_said new);
+      };
+    }) (stays before [] w w.front w.under n n.front n.words tt)
+  where
+    info : DiskInfo
+    info = let b : back.View = w.back in b.jobs.info
+
+    new : back_numbers.IsFit most (begun_back w)
+    new = back_numbers.later 0 most (begun_back w) (omega arith) (back_numbers.new_fits w.front.start info n.front.0.begins n.back.0.sized)
+
 -- the words of the ring that a dump shows
 dump_good : (w : World) → IsPermitted w Dumps → AreWords w.under.pages → AreGood (lines_at w Dumps)
 dump_good w few words =
@@ -202,6 +227,7 @@ one_good before w (Submits job) is may short =
 one_good before w (Notifies at) is may short = let n = is.numbered in stays before [] w w.front _ n n.front n.words tt
 one_good before w (Pokes frame word value) is may short = poke_good before w frame word value may.1 is.numbered
 one_good before w (OverwritesKey name text) is may short = overwritten_good before w name text is.numbered
+one_good before w Suspends is may short = suspended_good before w is.numbered
 one_good before w Dumps is may short = let n = is.numbered in stays before _ w w.front w.under n n.front n.words (dump_good w (within_here w Dumps is.orderly) n.words)
 one_good before w (Looks quiet) is may short = let n = is.numbered in stays before _ w w.front w.under n n.front n.words (look_good quiet lines.Busy (good lines.Busy tt refl))
 one_good before w (Settles quiet) is may short = let n = is.numbered in stays before _ w w.front w.under n n.front n.words (look_good quiet lines.Unsettled (good lines.Unsettled tt refl))

@@ -2,6 +2,13 @@ pub mod Lines
 pub mod Begun
 pub mod Looks
 pub mod Announced
+mod Submitted
+mod Held
+mod Epochs
+mod Aside
+mod Phases
+mod Gone
+mod OnePort
 pub mod Ready
 pub mod Closing
 pub mod AtRest

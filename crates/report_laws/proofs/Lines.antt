@@ -31,8 +31,9 @@ use Rattle.split_model.specs.Keys.{KeyMove}
 use Rattle.split_model.proofs.Keys.{negotiated_lines_are}
 use Rattle.split_model.proofs.States.{enter_lines_are, state_lines_are}
 use Rattle.split_model.proofs.Attaching.{attach_lines_are}
+use Rattle.split_model.proofs.Suspending.{suspend_lines_are}
 use Rattle.split_model.proofs.Overwriting.{poke_lines_are, dump_lines_are, overwritten_lines_are}
-use Rattle.split_model.specs.Happening.{Happening, FrontMoves, BackMoves, JobMoves, Negotiates, FrontEnters, BackAttaches, BackHalts, Submits, Notifies, Pokes, OverwritesKey, Dumps, Looks, Settles, poke_lines, enter_lines, happens, lines_at, lines_of, front_shows, back_shows, job_shows, front_turn, back_turn, job_turn, submit_line, overwritten_lines}
+use Rattle.split_model.specs.Happening.{Happening, FrontMoves, BackMoves, JobMoves, Negotiates, FrontEnters, BackAttaches, BackHalts, Submits, Notifies, Pokes, OverwritesKey, Suspends, Dumps, Looks, Settles, poke_lines, enter_lines, happens, lines_at, lines_of, front_shows, back_shows, job_shows, front_turn, back_turn, job_turn, submit_line, overwritten_lines}
 use Rattle.report_laws.specs.Begun.{is_begin}
 use Rattle.report_laws.specs.Ready.{says_ready}
 
@@ -157,6 +158,10 @@ poke_usual frame word value = poke_lines_are (λ (line : Line). is_usual line �
 pub overwritten_usual : (name text : List ℕ) → AreUsual (overwritten_lines name text)
 overwritten_usual name text = overwritten_lines_are (λ (line : Line). is_usual line ≡ true) name text refl
 
+-- the line of a suspend
+pub suspend_usual : (w : World) → AreUsual (lines_at w Suspends)
+suspend_usual w = suspend_lines_are (λ (line : Line). is_usual line ≡ true) w refl
+
 pub dump_usual : (w : World) → AreUsual (lines_at w Dumps)
 dump_usual w = dump_lines_are (λ (line : Line). is_usual line ≡ true) w.under.pages 0 (1024 * 2 ^ w.front.shape.order) (λ frame word value. refl)
 
@@ -187,6 +192,7 @@ one_later w (Submits job) = usual_later (submit_line job (front_submit.submit_of
 one_later w (Notifies at) = tt
 one_later w (Pokes frame word value) = usual_later _ (poke_usual frame word value)
 one_later w (OverwritesKey name text) = usual_later _ (overwritten_usual name text)
+one_later w Suspends = usual_later _ (suspend_usual w)
 one_later w Dumps = usual_later _ (dump_usual w)
 one_later w (Looks quiet) = look_later quiet lines.Busy refl
 one_later w (Settles quiet) = look_later quiet lines.Unsettled refl

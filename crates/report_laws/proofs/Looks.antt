@@ -12,12 +12,12 @@ use Rattle.report_rules.proofs.Obeys.{obeys_none, obeys_more}
 use Rattle.hypervisor.specs.Act.{Took}
 use Rattle.blk_front.specs.Submit as front_submit
 use Rattle.split_model.specs.World.{World, start_of, is_quiet}
-use Rattle.split_model.specs.Happening.{Happening, FrontMoves, BackMoves, JobMoves, Negotiates, FrontEnters, BackAttaches, BackHalts, Submits, Notifies, Pokes, OverwritesKey, Dumps, Looks, Settles, happens, lines_at, after, lines_of, front_turn, back_turn, job_turn}
+use Rattle.split_model.specs.Happening.{Happening, FrontMoves, BackMoves, JobMoves, Negotiates, FrontEnters, BackAttaches, BackHalts, Submits, Notifies, Pokes, OverwritesKey, Suspends, Dumps, Looks, Settles, happens, lines_at, after, lines_of, front_turn, back_turn, job_turn}
 use Rattle.schedule_text.specs.Recorder.{kept_of}
 use Rattle.split_model.specs.Report.{report_of, ended_report_of}
 use Rattle.split_model.proofs.Running.{lines_of-append, kept_of-append}
 use Rattle.machine_pipeline.specs.Allowed.{IsServed, AreServed}
-use Rattle.report_laws.proofs.Lines.{says_quiet, AreUsual, AreUnquiet, usual_unquiet, front_usual, back_usual, job_usual, keys_usual, attach_usual, states_unquiet, halt_usual, submit_usual, poke_usual, dump_usual, overwritten_usual}
+use Rattle.report_laws.proofs.Lines.{says_quiet, AreUsual, AreUnquiet, usual_unquiet, front_usual, back_usual, job_usual, keys_usual, attach_usual, states_unquiet, halt_usual, submit_usual, poke_usual, dump_usual, overwritten_usual, suspend_usual}
 
 -- a rule that says nothing of any other line than `quiet`
 abbrev pub SpeaksOfQuiet : (List Line → Line → Type 0) → Type 0
@@ -54,6 +54,7 @@ one_obeys Rule free before w (Submits job) holds obeys = usual_obey Rule free _ 
 one_obeys Rule free before w (Notifies at) holds obeys = usual_obey Rule free [] before tt obeys
 one_obeys Rule free before w (Pokes frame word value) holds obeys = usual_obey Rule free _ before (poke_usual frame word value) obeys
 one_obeys Rule free before w (OverwritesKey name text) holds obeys = usual_obey Rule free _ before (overwritten_usual name text) obeys
+one_obeys Rule free before w Suspends holds obeys = usual_obey Rule free _ before (suspend_usual w) obeys
 one_obeys Rule free before w Dumps holds obeys = usual_obey Rule free _ before (dump_usual w) obeys
 one_obeys Rule free before w (Looks quiet) holds obeys = look_obeys Rule free before quiet lines.Busy refl holds obeys
 one_obeys Rule free before w (Settles quiet) holds obeys = look_obeys Rule free before quiet lines.Unsettled refl holds obeys

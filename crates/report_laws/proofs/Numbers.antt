@@ -21,8 +21,9 @@ use Rattle.blk_back.specs.View.{View}
 use Rattle.blk_back.specs.Ask as back_ask
 use Rattle.blk_back.specs.Ask.{next_reply}
 use Rattle.blk_back.specs.Step.{attached, halts, overrun, looked, loop_step, fetched, step_at}
+use Rattle.split_model.proofs.Suspending.{suspend_cases, back_cases}
 use Rattle.split_model.specs.World.{World, start_of}
-use Rattle.split_model.specs.Happening.{Happening, FrontMoves, BackMoves, JobMoves, Negotiates, FrontEnters, BackAttaches, BackHalts, Submits, Notifies, Pokes, OverwritesKey, Dumps, Looks, Settles, happens, lines_at, lines_of, front_after, front_shows, back_after, back_shows, job_after, job_shows, front_turn, back_turn, job_turn, is_guest_word, attaches_at, is_guest_key}
+use Rattle.split_model.specs.Happening.{Happening, FrontMoves, BackMoves, JobMoves, Negotiates, FrontEnters, BackAttaches, BackHalts, Submits, Notifies, Pokes, OverwritesKey, Suspends, Dumps, Looks, Settles, happens, lines_at, lines_of, front_after, front_shows, back_after, back_shows, job_after, job_shows, front_turn, back_turn, job_turn, is_guest_word, attaches_at, is_guest_key}
 use Rattle.split_model.specs.Report.{report_of}
 use Rattle.split_model.proofs.SafeActs.{made_front, made_back}
 use Rattle.split_model.proofs.States.{halts_cases}
@@ -120,6 +121,10 @@ grew w (Submits job) = record { made = omega arith; fetched = omega arith }
 grew w (Notifies at) = record { made = omega arith; fetched = omega arith }
 grew w (Pokes frame word value) = overwritten_grew (is_guest_word frame word) w _ (lines_at w (Pokes frame word value)) refl
 grew w (OverwritesKey name text) = overwritten_grew (is_guest_key name text) w _ (lines_at w (OverwritesKey name text)) refl
+grew w Suspends =
+    suspend_cases (λ v shown. Grew (length shown) w v) w
+    (λ may. record { made = omega arith; fetched = back_cases (λ (b : View). b.fetched ≤ w.back.fetched + 1) w (omega arith) (omega arith) })
+    (record { made = omega arith; fetched = omega arith })
 grew w Dumps = record { made = omega arith; fetched = omega arith }
 grew w (Looks quiet) = record { made = omega arith; fetched = omega arith }
 grew w (Settles quiet) = record { made = omega arith; fetched = omega arith }
@@ -159,4 +164,5 @@ fetched_happens w (JobMoves number outcome) = by_act (job_turn w number outcome)
     by_act (Some a) = omega arith
 fetched_happens w (BackAttaches shape grefs port) = let few = attached_few (attaches_at w shape grefs) shape grefs port w.back in omega arith
 fetched_happens w (BackHalts why) = let few = halted_few why w.back in omega arith
+fetched_happens w Suspends = suspend_cases (λ v shown. v.back.fetched ≤ w.back.fetched + 0) w (λ may. back_cases (λ (b : View). b.fetched ≤ w.back.fetched + 0) w (omega arith) (omega arith)) (omega arith)
 fetched_happens w h = omega arith

@@ -1,141 +1,143 @@
--- Where a report says `ready` the front made its port, and it makes no other.
-use Rattle.std.proofs.Common.{◌≡◌, ℕ, ◌||◌, Bool, true, false, if◌then◌else◌, List, [], ◌∷◌, ◌++◌, refl, ap, sym, ◌∙◌, subst, append_assoc, arith, true≢false}
+-- Where a report says `ready` the front made its port in this epoch.
+use Rattle.std.proofs.Common.{◌≡◌, ◌≢◌, inl, inr, ℕ, ◌+◌, ◌≤◌, ◌||◌, Bool, true, false, if◌then◌else◌, List, [], ◌∷◌, ◌++◌, length, refl, ap, sym, ◌∙◌, subst, append_assoc, length-append, arith, true≢false}
 use Rattle.std.specs.Prelude.{Option, Some, None}
 use Rattle.std.specs.List.{list_any}
-use Rattle.std.proofs.lemmas.List.{append-nil}
 use Rattle.std.proofs.lemmas.List.Folds.{list_any-append}
 use Rattle.blk_base.specs.Options.{Options}
-use Rattle.blk_base.specs.declared.parts.End.{End}
-use Rattle.blk_base.specs.declared.parts.End.TheVariants as end
-use Rattle.blk_base.specs.declared.ask.FrontAsk.{FrontAsk}
 use Rattle.blk_base.specs.declared.ask.FrontAsk.TheVariants as front_ask
-use Rattle.blk_base.specs.declared.moves.BackMover.TheVariants as mover
 use Rattle.schedule_text.specs.declared.line.Detail.{Detail}
 use Rattle.schedule_text.specs.declared.line.Line.{Line}
 use Rattle.schedule_text.specs.declared.line.Line.TheVariants as lines
-use Rattle.event_channel.specs.Channels.{ChannelState, sent}
+use Rattle.event_channel.specs.declared.channels.PortState.{PortState}
+use Rattle.event_channel.specs.declared.channels.PortState.TheVariants.{Unbound}
 use Rattle.hypervisor.specs.Hypervisor.{Hypervisor}
-use Rattle.hypervisor.specs.Act.{FrontAct, BackAct, Outcome, Took, front_act}
+use Rattle.hypervisor.specs.Act.{FrontAct, front_act}
 use Rattle.blk_front.specs.declared.stage.Stage.{Stage}
 use Rattle.blk_front.specs.declared.stage.Stage.TheVariants as stage
 use Rattle.blk_front.specs.declared.state.FrontState.{FrontState}
 use Rattle.blk_front.specs.declared.state.FrontState.TheVariants as state
-use Rattle.blk_front.specs.Ask as front_ends
-use Rattle.blk_front.specs.State.{may_enter}
-use Rattle.blk_front.specs.Submit as front_submit
+use Rattle.blk_front.specs.Ask as ask
+use Rattle.blk_front.specs.State.{may_enter, in_state}
+use Rattle.blk_front.specs.Step.{step_of}
 use Rattle.blk_front.specs.Submit.{is_initialised}
-use Rattle.blk_back.specs.Ask as back_ends
-use Rattle.blk_back.specs.Step.{job_ask_of}
+use Rattle.blk_front.specs.Suspend.{stage_after, suspended}
+use Rattle.blk_front.specs.View.{View}
+use Rattle.report_rules.specs.Standing.{is_epoch, this_epoch}
 use Rattle.split_model.specs.World.{World, start_of}
 use Rattle.split_model.specs.Safe.{IsSafe}
 use Rattle.split_model.specs.Shown.{state_lines}
-use Rattle.split_model.specs.Happening.{Happening, FrontMoves, BackMoves, JobMoves, Negotiates, FrontEnters, BackAttaches, BackHalts, Submits, Notifies, Pokes, OverwritesKey, Dumps, Looks, Settles, other_end, happens, lines_at, after, lines_of, front_after, front_shows, back_after, back_shows, job_after, job_shows, front_turn, back_turn, job_turn, submit_line}
+use Rattle.split_model.specs.Happening.{Happening, FrontMoves, FrontEnters, Suspends, happens, lines_at, after, lines_of, front_after, front_shows, front_turn}
 use Rattle.split_model.specs.Report.{report_of}
-use Rattle.split_model.proofs.SafeActs.{of_front, front_wait}
-use Rattle.split_model.proofs.SafeAnswers.{IsFronts, fronts_at}
-use Rattle.split_model.proofs.Safe.{ports_back}
+use Rattle.split_model.proofs.Safe.{safe_start, safe_happens}
+use Rattle.split_model.proofs.SafeActs.{of_front}
 use Rattle.split_model.proofs.States.{enters_cases}
-use Rattle.machine_pipeline.specs.Plain.{IsPlain}
-use Rattle.machine_pipeline.specs.Allowed.{IsServed, AreServed}
-use Rattle.machine_pipeline.proofs.Together.{IsStanding, always_stands, run_kept}
-use Rattle.machine_pipeline.proofs.AtRest.{port_made}
+use Rattle.split_model.proofs.Suspending.{suspend_cases, front_cases}
+use Rattle.report_laws.specs.Ports.{makes_port}
 use Rattle.report_laws.specs.Ready.{says_ready}
-use Rattle.report_laws.proofs.Lines.{AreUsual, usual_ready, front_usual, back_usual, job_usual, keys_usual, attach_usual, halt_usual, submit_usual, dump_usual}
+use Rattle.report_laws.proofs.Aside.{LeavesFront, leaves_front, aside_unready, aside_within, shows_unready}
+use Rattle.report_laws.proofs.Epochs.{AreWithin, epoch_on, epoch_begins, shows_within}
+use Rattle.report_laws.proofs.FewPorts.{ports_of, next_count, count_after, IsCounted, one_counted}
+use Rattle.report_laws.proofs.Phases.{Steps, front_steps, same_initialised, over_unwaiting, anew_phase}
 
--- a front that made its port makes no other
-abbrev HasOne : FrontAct → Type 0
-HasOne a = a.under.channels.made ≡ 1
+-- lines of one epoch leave as many ports as there are, or more
+count_grows : (n : ℕ) (ls : List Line) → AreWithin ls → n ≤ count_after n ls
+count_grows n [] all = omega arith
+count_grows n (line ∷ ls) all =
+    let one : n ≤ next_count n line = by_tests (is_epoch line) (makes_port line) all.0 in
+    let rest = count_grows (next_count n line) ls all.1 in
+    omega arith
+  where
+    by_tests : (e p : Bool) → e ≡ false → n ≤ (if e then 0 else (if p then n + 1 else n))
+    by_tests false true none = omega arith
+    by_tests false false none = omega arith
+    by_tests true p none = absurd (true≢false none)
 
-ports_front : (h : Hypervisor) (ask : FrontAsk) (a : FrontAct) → IsFronts h.channels ask → h.channels.made ≡ 1 → front_act h ask ≡ Some a → HasOne a
-ports_front h front_ask.Wait a own one e = front_wait HasOne h a one (λ path. one) e
-ports_front h front_ask.Fence a own one e = of_front HasOne _ a one e
-ports_front h (front_ask.Read frame word) a own one e = of_front HasOne _ a one e
-ports_front h (front_ask.Write frame word value) a own one e = of_front HasOne _ a one e
-ports_front h (front_ask.Cas frame word old new) a own one e = of_front HasOne _ a one e
-ports_front h front_ask.NewPort a own one e = let none = own.0 in absurd (omega arith)
-ports_front h front_ask.Send a own one e = of_front HasOne _ a one e
-ports_front h front_ask.ClosePort a own one e = of_front HasOne _ a one e
-ports_front h (front_ask.GetKey path) a own one e = absurd own
-ports_front h (front_ask.SetKey path text) a own one e = absurd own
-ports_front h (front_ask.Watch path) a own one e = absurd own
+ports_grow : (w : World) (h : Happening) → IsSafe w → AreWithin (lines_at w h) → ports_of w.under ≤ ports_of (let x : World = happens w h in x.under)
+ports_grow w h safe all =
+    let is : IsCounted w.under (lines_at w h) (let x : World = happens w h in x.under) = one_counted w h safe in
+    subst (λ (n : ℕ). ports_of w.under ≤ n) is.told (count_grows (ports_of w.under) (lines_at w h) all)
 
--- where `ready` stands the port was made
-abbrev HasPort : List Line → World → Type 0
-HasPort before w = list_any says_ready before ≡ true → w.under.channels.made ≡ 1
-
-usual_unready : (ls : List Line) → AreUsual ls → list_any says_ready ls ≡ false
-usual_unready [] all = refl
-usual_unready (line ∷ ls) all = ap (λ (b : Bool). b || list_any says_ready ls) (usual_ready line all.0) ∙ usual_unready ls all.1
-
-look_unready : (quiet : Bool) (other : Line) → says_ready other ≡ false → list_any says_ready ((if quiet then lines.Quiet else other) ∷ []) ≡ false
-look_unready true other e = refl
-look_unready false other e = ap (λ (b : Bool). b || false) e
+-- a front that waits to be connected, and one of which this epoch says that it is, made its port
+record HasPort (before : List Line) (w : World) : Type 0 where
+  waiting : is_initialised w.front.stage ≡ true → 1 ≤ ports_of w.under
+  ready : list_any says_ready (this_epoch before) ≡ true → 1 ≤ ports_of w.under
 
 -- it stands before lines that don't say it
-earlier : (before ls : List Line) → list_any says_ready ls ≡ false → list_any says_ready (before ++ ls) ≡ true → list_any says_ready before ≡ true
-earlier before ls none t = first (list_any says_ready before) (list_any says_ready ls) none (sym (list_any-append says_ready before ls) ∙ t)
+earlier : (before ls : List Line) → AreWithin ls → list_any says_ready ls ≡ false → list_any says_ready (this_epoch (before ++ ls)) ≡ true → list_any says_ready (this_epoch before) ≡ true
+earlier before ls all none t =
+    first (list_any says_ready (this_epoch before)) (list_any says_ready ls) none (sym (list_any-append says_ready (this_epoch before) ls) ∙ (sym (ap (list_any says_ready) (epoch_on ls before all)) ∙ t))
   where
     first : (a b : Bool) → b ≡ false → (a || b) ≡ true → a ≡ true
     first true b f t = refl
     first false b f t = absurd (true≢false (sym t ∙ f))
 
-kept : (before ls : List Line) (w w' : World) → list_any says_ready ls ≡ false → (w.under.channels.made ≡ 1 → w'.under.channels.made ≡ 1) → HasPort before w → HasPort (before ++ ls) w'
-kept before ls w w' none same has = λ t. same (has (earlier before ls none t))
+-- what connects no front and has none wait to be
+still : (before ls : List Line) (w w' : World) → AreWithin ls → list_any says_ready ls ≡ false → ports_of w.under ≤ ports_of w'.under → (is_initialised w'.front.stage ≡ true → is_initialised w.front.stage ≡ true) → HasPort before w → HasPort (before ++ ls) w'
+still before ls w w' all none grown waits was = record {
+  waiting = λ t. (let made = was.waiting (waits t) in omega arith);
+  ready = λ t. (let made = was.ready (earlier before ls all none t) in omega arith);
+}
 
-usual_kept : (before ls : List Line) (w w' : World) → AreUsual ls → (w.under.channels.made ≡ 1 → w'.under.channels.made ≡ 1) → HasPort before w → HasPort (before ++ ls) w'
-usual_kept before ls w w' all same has = kept before ls w w' (usual_unready ls all) same has
+-- the move that makes the port
+makes_one : (h : Hypervisor) (a : FrontAct) → front_act h front_ask.NewPort ≡ Some a → 1 ≤ ports_of a.under
+makes_one h a e = of_front (λ (x : FrontAct). 1 ≤ ports_of x.under) _ a (let one = length-append h.channels.ports (Unbound ∷ []) in omega arith) e
 
-front_ports : (w : World) (act : Option FrontAct) → IsSafe w → front_turn w ≡ act → w.under.channels.made ≡ 1 → (let x : World = front_after w act in x.under.channels.made) ≡ 1
-front_ports w None safe e one = one
-front_ports w (Some a) safe e one = ports_front w.under (front_ends.ask_of w.front) a (fronts_at w.under.channels w.front.stage w.front safe.ported) one e
+front_port : (w : World) (before : List Line) (act : Option FrontAct) → front_turn w ≡ act → IsSafe w → ports_of w.under ≤ ports_of (let x : World = front_after w act in x.under) → HasPort before w → HasPort (before ++ front_shows w act) (front_after w act)
+front_port w before None e safe grown was = still before [] w w tt refl grown (λ t. t) was
+front_port w before (Some a) e safe grown was = by_step (front_steps w.front.stage w.front a.answer safe.front_told refl)
+  where
+    x : View
+    x = step_of w.front a.answer
 
-back_ports : (w : World) (act : Option BackAct) → back_turn w Took ≡ act → w.under.channels.made ≡ 1 → (let x : World = back_after w act in x.under.channels.made) ≡ 1
-back_ports w None e one = one
-back_ports w (Some a) e one = (ports_back w.under mover.Back (back_ends.ask_of w.back) Took a e).0 ∙ one
+    stays_so : (is_initialised x.stage ≡ true → is_initialised w.front.stage ≡ true) → HasPort (before ++ front_shows w (Some a)) (front_after w (Some a))
+    stays_so waits = still before (front_shows w (Some a)) w (front_after w (Some a)) (shows_within w (Some a)) (shows_unready w (Some a)) grown waits was
 
-job_ports : (w : World) (number : ℕ) (o : Outcome) (act : Option BackAct) → job_turn w number o ≡ act → w.under.channels.made ≡ 1 → (let x : World = job_after w number act in x.under.channels.made) ≡ 1
-job_ports w number o None e one = one
-job_ports w number o (Some a) e one = (ports_back w.under (mover.Job number) (job_ask_of w.back number) o a e).0 ∙ one
+    by_step : Steps w.front.stage x → HasPort (before ++ front_shows w (Some a)) (front_after w (Some a))
+    by_step (inl stays) = stays_so (λ t. sym (same_initialised x.stage w.front.stage stays.same) ∙ t)
+    by_step (inr (inl makes)) =
+        let made : 1 ≤ ports_of a.under = makes_one w.under a (subst (λ (s : Stage). front_act w.under (ask.ask_at s w.front) ≡ Some a) makes.was e) in
+        record { waiting = λ t. made; ready = λ t. made }
+    by_step (inr (inr breaks)) = stays_so (λ t. absurd (true≢false (sym t ∙ over_unwaiting x.stage breaks.over)))
 
-sent_ports : (c : ChannelState) (at : End) → (let x : ChannelState = sent c (other_end at) in x.made) ≡ c.made
-sent_ports c end.Front = refl
-sent_ports c end.Back = refl
+-- a state that the front enters: it is connected where it waited for it
+abbrev entered : World → View → World
+entered w v = record { front = v; back = w.back; under = w.under }
 
-initialised : (s : Stage) → is_initialised s ≡ true → s ≡ stage.Initialised
-initialised stage.Initialised e = refl
-initialised s e = absurd (cc)
+entered_port : (w : World) (before : List Line) (s : FrontState) → HasPort before w → may_enter s w.front ≡ true → HasPort (before ++ state_lines s) (entered w (in_state s w.front))
+entered_port w before (state.Connected offers) was may = let made = was.waiting may in record { waiting = λ t. made; ready = λ t. made }
+entered_port w before state.Closing was may = still before (lines.Closing ∷ []) w (entered w (in_state state.Closing w.front)) (refl, tt) refl (omega arith) (λ t. t) was
+entered_port w before (state.Agreed order) was may = still before [] w (entered w (in_state (state.Agreed order) w.front)) tt refl (omega arith) (λ t. t) was
+entered_port w before state.Leaving was may = still before [] w (entered w (in_state state.Leaving w.front)) tt refl (omega arith) (λ t. absurd (true≢false (sym t))) was
+entered_port w before state.Closed was may = still before (lines.Closed ∷ []) w (entered w (in_state state.Closed w.front)) (refl, tt) refl (omega arith) (λ t. absurd (true≢false (sym t))) was
+entered_port w before (state.Broken word) was may = still before (lines.Broken word ∷ []) w (entered w (in_state (state.Broken word) w.front)) (refl, tt) refl (omega arith) (λ t. absurd (true≢false (sym t))) was
 
-entered_port : (config : Options) (w : World) (before : List Line) (s : FrontState) → IsStanding config w → HasPort before w → may_enter s w.front ≡ true → list_any says_ready (before ++ state_lines s) ≡ true → w.under.channels.made ≡ 1
-entered_port config w before (state.Connected offers) stands has may t = port_made config w (initialised w.front.stage may) stands
-entered_port config w before state.Closing stands has may t = has (earlier before (lines.Closing ∷ []) refl t)
-entered_port config w before (state.Agreed order) stands has may t = has (earlier before [] refl t)
-entered_port config w before state.Leaving stands has may t = has (earlier before [] refl t)
-entered_port config w before state.Closed stands has may t = has (earlier before (lines.Closed ∷ []) refl t)
-entered_port config w before (state.Broken word) stands has may t = has (earlier before (lines.Broken word ∷ []) refl t)
+-- a suspended front doesn't wait to be connected
+suspended_unwaiting : (v : View) → (let x : View = suspended v in is_initialised x.stage) ≡ false
+suspended_unwaiting v = front_cases (λ (x : View). is_initialised x.stage ≡ false) v (λ on. same_initialised (stage_after v.stage) (stage.RingWord 0) (anew_phase v.stage)) (λ over. over_unwaiting v.stage over)
 
-one_port : (config : Options) (w : World) (before : List Line) (h : Happening) → IsServed w h → IsStanding config w → HasPort before w → HasPort (before ++ lines_at w h) (happens w h)
-one_port config w before FrontMoves may stands has = usual_kept before (front_shows w (front_turn w)) w (front_after w (front_turn w)) (front_usual w (front_turn w)) (front_ports w (front_turn w) stands.safe refl) has
-one_port config w before BackMoves may stands has = usual_kept before (back_shows w (back_turn w Took)) w (back_after w (back_turn w Took)) (back_usual w (back_turn w Took)) (back_ports w (back_turn w Took) refl) has
-one_port config w before (JobMoves number o) may stands has =
-    usual_kept before (job_shows w number (job_turn w number o)) w (job_after w number (job_turn w number o)) (job_usual w number (job_turn w number o)) (job_ports w number o (job_turn w number o) refl) has
-one_port config w before (Negotiates at move) may stands has = usual_kept before _ w (happens w (Negotiates at move)) (keys_usual w at move) (λ one. one) has
-one_port config w before (FrontEnters s) may stands has =
-    enters_cases (λ v shown. list_any says_ready (before ++ shown) ≡ true → w.under.channels.made ≡ 1) s w.front (entered_port config w before s stands has) (λ t. has (earlier before [] refl t))
-one_port config w before (BackAttaches shape grefs port) may stands has = usual_kept before _ w (happens w (BackAttaches shape grefs port)) (attach_usual w shape grefs port) (λ one. one) has
-one_port config w before (BackHalts why) may stands has = usual_kept before _ w (happens w (BackHalts why)) (halt_usual w.back.halted _) (λ one. one) has
-one_port config w before (Submits job) may stands has = usual_kept before (submit_line job (front_submit.submit_of w.front job).0 ∷ []) w (happens w (Submits job)) (submit_usual job (front_submit.submit_of w.front job).0) (λ one. one) has
-one_port config w before (Notifies at) may stands has = kept before [] w (happens w (Notifies at)) refl (λ one. sent_ports w.under.channels at ∙ one) has
-one_port config w before (Pokes frame word value) may stands has = absurd may
-one_port config w before (OverwritesKey name text) may stands has = absurd may
-one_port config w before Dumps may stands has = usual_kept before _ w w (dump_usual w) (λ one. one) has
-one_port config w before (Looks quiet) may stands has = kept before _ w w (look_unready quiet lines.Busy refl) (λ one. one) has
-one_port config w before (Settles quiet) may stands has = kept before _ w w (look_unready quiet lines.Unsettled refl) (λ one. one) has
+one_port : (w : World) (before : List Line) (h : Happening) → IsSafe w → HasPort before w → HasPort (before ++ lines_at w h) (happens w h)
+one_port w before FrontMoves safe was = front_port w before (front_turn w) refl safe (ports_grow w FrontMoves safe (shows_within w (front_turn w))) was
+one_port w before (FrontEnters s) safe was =
+    enters_cases (λ v shown. HasPort (before ++ shown) (entered w v)) s w.front (λ may. entered_port w before s was may) (still before [] w w tt refl (omega arith) (λ t. t) was)
+one_port w before Suspends safe was =
+    suspend_cases (λ v shown. HasPort (before ++ shown) v) w
+    (λ may. record { waiting = λ t. absurd (true≢false (sym t ∙ suspended_unwaiting w.front)); ready = λ t. absurd (true≢false (sym t ∙ ap (list_any says_ready) (epoch_begins before))) })
+    (still before [] w w tt refl (omega arith) (λ t. t) was)
+one_port w before h safe was =
+    let is : LeavesFront w (happens w h) (lines_at w h) = leaves_front w h tt in
+    still before (lines_at w h) w (happens w h) (aside_within (lines_at w h) is.lines) (aside_unready (lines_at w h) is.lines) (ports_grow w h safe (aside_within (lines_at w h) is.lines)) (λ t. ap is_initialised (sym is.front.stage) ∙ t) was
 
-all_ports : (config : Options) (history : List Happening) (w : World) (before : List Line) → IsPlain config → AreServed history w → IsStanding config w → HasPort before w → HasPort (before ++ lines_of history w) (after history w)
-all_ports config [] w before plain may stands has = subst (λ (ls : List Line). HasPort ls w) (sym (append-nil before)) has
-all_ports config (h ∷ history) w before plain may stands has =
+all_ports : (history : List Happening) (w : World) (before : List Line) → IsSafe w → HasPort before w → HasPort (before ++ lines_of history w) (after history w)
+all_ports [] w before safe was = still before [] w w tt refl (omega arith) (λ t. t) was
+all_ports (h ∷ history) w before safe was =
     subst (λ (ls : List Line). HasPort ls (after history (happens w h))) (append_assoc before (lines_at w h) (lines_of history (happens w h)))
-    (all_ports config history (happens w h) (before ++ lines_at w h) plain may.1 (run_kept config (h ∷ []) w stands.pipeline plain stands.safe stands.kept (may.0, tt)) (one_port config w before h may.0 stands has))
+    (all_ports history (happens w h) (before ++ lines_at w h) (safe_happens w h safe) (one_port w before h safe was))
 
-pub report_port : (config : Options) (detail : Detail) (history : List Happening) → IsPlain config → AreServed history (start_of config) → HasPort (report_of config detail history) (after history (start_of config))
-report_port config detail history plain may = all_ports config history (start_of config) (lines.Begin config detail ∷ []) plain may (always_stands config [] plain tt) (λ t. absurd (true≢false (sym t)))
+some_port : (ports : List PortState) → 1 ≤ length ports → ports ≢ []
+some_port ports some none = let empty = ap (λ (ps : List PortState). length ps) none in omega arith
+
+pub report_port : (config : Options) (detail : Detail) (history : List Happening) → list_any says_ready (this_epoch (report_of config detail history)) ≡ true → (let w : World = after history (start_of config) in w.under.channels.ports) ≢ []
+report_port config detail history ready =
+    let has : HasPort (report_of config detail history) (after history (start_of config)) =
+    all_ports history (start_of config) (lines.Begin config detail ∷ []) (safe_start config) (record { waiting = λ t. absurd (true≢false (sym t)); ready = λ t. absurd (true≢false (sym t)) }) in
+    some_port (let w : World = after history (start_of config) in w.under.channels.ports) (has.ready ready)

@@ -30,6 +30,7 @@ use Rattle.report_laws.specs.Begun.{is_begin}
 use Rattle.report_laws.specs.QuietRing.{answers_told, IsQuietRingAt, IsQuietRing}
 use Rattle.report_laws.proofs.Lines.{AreLater, all_later}
 use Rattle.report_laws.proofs.Looks.{SpeaksOfQuiet, HoldsWhereQuiet, reports_obey, ended_obey}
+use Rattle.report_laws.proofs.AtRest.{port_drained}
 use Rattle.report_laws.proofs.Ports.{report_port}
 use Rattle.report_laws.proofs.Counts.{CountsAt}
 use Rattle.report_laws.proofs.Answers.{report_counts}
@@ -46,7 +47,7 @@ same_start start (line ∷ ls) all = ap (λ (n : ℕ). fold start_told n ls) (on
 report_start : (config : Options) (detail : Detail) (history : List Happening) → start_of (report_of config detail history) ≡ config.start
 report_start config detail history = same_start config.start (lines_of history (world.start_of config)) (all_later history (world.start_of config))
 
--- a front in its loop, or closed, took as many responses as it told answers
+-- a front in its loop, or closed, took as many responses as it told answers in this epoch
 taken_at : (start n begins cons : ℕ) (s : Stage) → (s ≡ stage.Loop) ⊎ (s ≡ stage.Closed) → CountsAt start n begins cons s → cons ≡ wrapped start n
 taken_at start n begins cons s (inl looping) h = subst (CountsAt start n begins cons) looping h
 taken_at start n begins cons s (inr closed) h = subst (CountsAt start n begins cons) closed h
@@ -76,10 +77,10 @@ served_where_quiet config history plain may quiet ready = record {
     idle = quiet_rests config w quiet (always_stands config history plain may)
 
     rest : IsDrained w.under.pages w.front.ring.cons w.back.ring.cons
-    rest = idle.ring (report_port config Moves history plain may ready)
+    rest = port_drained config history may idle (report_port config Moves history ready)
 
     taken : w.front.ring.cons ≡ wrapped config.start (answers_told report)
-    taken = taken_at config.start (answers_told report) w.front.start w.front.ring.cons w.front.stage idle.front_at (report_counts config Moves history plain)
+    taken = taken_at config.start (answers_told report) w.front.start w.front.ring.cons w.front.stage idle.front_at (report_counts config Moves history plain ready)
 
 quiet_free : SpeaksOfQuiet IsQuietRingAt
 quiet_free before lines.Quiet e = absurd (true≢false e)

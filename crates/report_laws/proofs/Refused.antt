@@ -33,7 +33,11 @@ pub moved : (config : Options) (move : Move) → IsBegun config Lines (lines.Beg
 moved config move h = true≢false (second (λ (line : Line). is_move line ≡ false) (lines.Move move) (lines.Begin config Lines) h.rest (lines.Begin config Lines) h.first (h.unmoved refl))
 
 pub ready_late : (config : Options) (detail : Detail) → IsReadyFirst (lines.Begin config detail ∷ lines.Quiet ∷ lines.Ready ∷ []) → ⊥
-ready_late config detail h = true≢false (sym (h (lines.Begin config detail ∷ []) (lines.Ready ∷ []) lines.Quiet refl))
+ready_late config detail h = by_outcome (h (lines.Begin config detail ∷ []) (lines.Ready ∷ []) lines.Quiet refl)
+  where
+    by_outcome : (false ≡ true) ⊎ (false ≡ true) → ⊥
+    by_outcome (inl ready) = true≢false (sym ready)
+    by_outcome (inr over) = true≢false (sym over)
 
 pub unserved : (config : Options) → IsQuietRing (lines.Begin config Moves ∷ lines.Ready ∷ lines.Move (FrontWrite 2 0 1) ∷ lines.Quiet ∷ []) → ⊥
 unserved config h =
@@ -74,6 +78,36 @@ closed_unsaid config h = by_states (h before [] lines.Quiet refl)
 
     by_states : SayBoth (codes "4") before ⊎ (SayBoth (codes "6") before × (list_any says_closing before ≡ true)) → ⊥
     by_states (inl both) = let back : ◌≡◌ {A = ℕ} 54 52 = ap first both.back in omega arith
+    by_states (inr closed) = true≢false (sym closed.1)
+
+pub ready_before : (config : Options) (detail : Detail) → IsReadyFirst (lines.Begin config detail ∷ lines.Ready ∷ lines.Epoch ∷ lines.Quiet ∷ []) → ⊥
+ready_before config detail h = by_outcome (h (lines.Begin config detail ∷ lines.Ready ∷ lines.Epoch ∷ []) [] lines.Quiet refl)
+  where
+    by_outcome : (false ≡ true) ⊎ (false ≡ true) → ⊥
+    by_outcome (inl ready) = true≢false (sym ready)
+    by_outcome (inr over) = true≢false (sym over)
+
+pub answered_before : (config : Options) (status : Status) → config.start ≡ 0
+    → IsQuietRing (lines.Begin config Moves ∷ lines.Ready ∷ lines.Answer 1 status ∷ lines.Epoch ∷ lines.Ready ∷ lines.Move (FrontWrite 2 0 1) ∷ lines.Move (FrontWrite 2 2 1) ∷ lines.Quiet ∷ []) → ⊥
+answered_before config status start h =
+    let before : List Line = lines.Begin config Moves ∷ lines.Ready ∷ lines.Answer 1 status ∷ lines.Epoch ∷ lines.Ready ∷ lines.Move (FrontWrite 2 0 1) ∷ lines.Move (FrontWrite 2 2 1) ∷ [] in
+    let is : IsServedRing before = h before [] lines.Quiet refl refl in
+    let read : 1 ≡ (config.start + 0) % 2 ^ 32 = is.read in
+    omega arith
+
+pub connected_before : (config : Options)
+    → AreStatesAgreed (lines.Begin config Moves ∷ lines.Move (SetKey Front front_state (codes "4")) ∷ lines.Move (SetKey Back back_state (codes "4")) ∷ lines.Ready ∷ lines.Epoch ∷ lines.Ready ∷ lines.Quiet ∷ []) → ⊥
+connected_before config h = by_states (h before [] lines.Quiet refl)
+  where
+    before : List Line
+    before = lines.Begin config Moves ∷ lines.Move (SetKey Front front_state (codes "4")) ∷ lines.Move (SetKey Back back_state (codes "4")) ∷ lines.Ready ∷ lines.Epoch ∷ lines.Ready ∷ []
+
+    first : List ℕ → ℕ
+    first [] = 0
+    first (n ∷ ns) = n
+
+    by_states : SayBoth (codes "4") before ⊎ (SayBoth (codes "6") before × (list_any says_closing before ≡ true)) → ⊥
+    by_states (inl both) = let back : ◌≡◌ {A = ℕ} 49 52 = ap first both.back in omega arith
     by_states (inr closed) = true≢false (sym closed.1)
 
 pub five_ports : (config : Options) → AreFewPorts (lines.Begin config Moves ∷ lines.Move (FrontPort 1) ∷ lines.Move (FrontPort 2) ∷ lines.Move (FrontPort 3) ∷ lines.Move (FrontPort 4) ∷ lines.Move (FrontPort 5) ∷ []) → ⊥

@@ -21,7 +21,8 @@ use Rattle.schedule_text.specs.Range.{IsInRange, MoveHasWidths, MoverHasWidths, 
 use Rattle.key_directory.specs.Paths.{is_at_or_under}
 use Rattle.key_directory.specs.Watches.{Watches, same_path, with_watch, fired, first_of, next_watch, taken, taken_from}
 use Rattle.key_directory.specs.Directory.{Directory, key_of, with_key, written, watches_of, with_watches, fresh_directory}
-use Rattle.split_model.specs.World.{World}
+use Rattle.blk_front.specs.State.{is_open}
+use Rattle.split_model.specs.World.{World, state_after}
 use Rattle.split_model.specs.Keys.{KeyMove, Gets, Sets, Watches as WatchesPath, mover_at, may_set, layout_path, negotiated, negotiated_lines, front_path}
 use Rattle.split_model.specs.Happening.{Happening, layout_text, layout_read, happens}
 use Rattle.split_model.proofs.Keys.{key_cases, negotiated_cases, keys_happen}
@@ -198,12 +199,22 @@ pub layout_good : (w : World) → AreSpelled w.under.keys → IsInRange (lines.M
 layout_good w all =
     good (lines.Move (layout_read w)) tt (got_allowed end.Back layout_path (layout_text w) layout_named (λ text. text_found w.under.keys.keys layout_path text all.keys))
 
+-- so are the keys of an epoch that begins, of a front that is open or not
+spelled_fresh : (text : List ℕ) → is_key_text text ≡ true → AreSpelled (fresh_directory text)
+unfolding is_key_path
+spelled_fresh text said = record { keys = ((refl, said), ((refl, said), tt)); front = record { pending = tt; idle = tt }; back = record { pending = tt; idle = tt } }
+
+fresh_spelled : (going : Bool) → AreSpelled (fresh_directory (state_after going))
+unfolding is_key_text
+fresh_spelled true = spelled_fresh (codes "1") refl
+fresh_spelled false = spelled_fresh (codes "6") refl
+
 -- whatever happens
 pub spelled_happens : (w : World) (h : Happening) → IsPossible w h → AreSpelled w.under.keys → (let v : World = happens w h in AreSpelled v.under.keys)
 spelled_happens w h may all =
     keys_happen AreSpelled spelled_taken w h (λ at move is here. (negotiates w at move (subst (IsPossible w) is may) here).0)
-    (λ name text is allowed here. let both = both_true (is_key_name name) (is_key_text text) allowed in spelled_written w.under.keys (front_path name) text (named_path name both.0) both.1 here) all
+    (λ name text is allowed here. let both = both_true (is_key_name name) (is_key_text text) allowed in spelled_written w.under.keys (front_path name) text (named_path name both.0) both.1 here)
+    (λ is may here. fresh_spelled (is_open w.front.stage)) all
 
 pub spelled_start : AreSpelled (fresh_directory (codes "1"))
-unfolding is_key_path is_key_text
-spelled_start = record { keys = ((refl, refl), ((refl, refl), tt)); front = record { pending = tt; idle = tt }; back = record { pending = tt; idle = tt } }
+spelled_start = fresh_spelled true

@@ -1,8 +1,9 @@
--- Each key has the text that the lines of a report set last, so where all is found quiet the lines say what the directory says.
-use Rattle.std.proofs.Common.{◌≡◌, ◌≢◌, ℕ, ◌*◌, ◌^◌, Bool, true, false, true≢false, if◌then◌else◌, List, [], ◌∷◌, ◌++◌, inl, inr, refl, sym, ap, ◌∙◌, subst}
+-- Each end's state has the text that the lines of the epoch set last, or the one that an epoch begins with, so where all is found quiet the lines say what the directory says.
+use Rattle.std.proofs.Common.{◌≡◌, ◌≢◌, ℕ, ◌*◌, ◌^◌, ◌||◌, not, Bool, true, false, true≢false, if◌then◌else◌, List, [], ◌∷◌, ◌++◌, inl, inr, refl, sym, ap, ◌∙◌, subst, append_assoc}
 use Rattle.std.specs.Prelude.{Option, Some, None, Result, Ok, Err, codes}
-use Rattle.std.specs.List.{AllByRecursion}
+use Rattle.std.specs.List.{AllByRecursion, list_any}
 use Rattle.std.specs.Str.{bytes_eq}
+use Rattle.std.proofs.lemmas.List.{append-nil}
 use Rattle.std.proofs.lemmas.Option.{none-some, same_Some}
 use Rattle.std.proofs.lemmas.Slice.Eq.{bytes_eq-Decides}
 use Rattle.blk_base.specs.Options.{Options}
@@ -30,7 +31,7 @@ use Rattle.event_channel.specs.declared.channels.PortState.{PortState}
 use Rattle.event_channel.specs.declared.channels.PortState.TheVariants as port
 use Rattle.event_channel.specs.Channels.{state_of}
 use Rattle.key_directory.specs.Watches.{Watches}
-use Rattle.key_directory.specs.Directory.{Directory, key_of, with_key, with_watches}
+use Rattle.key_directory.specs.Directory.{Directory, key_of, with_key, with_watches, fresh_directory}
 use Rattle.key_directory.proofs.Entries.{key_of-with_key_same, key_of-with_key_other}
 use Rattle.hypervisor.specs.Hypervisor.{Hypervisor}
 use Rattle.hypervisor.specs.Act.{FrontAct, BackAct, Outcome, Gave, Took, Failed, front_act, back_act, map_act, bind_act, read_act, disk_act}
@@ -39,6 +40,7 @@ use Rattle.blk_front.specs.declared.told.Told.TheVariants as front_told
 use Rattle.blk_front.specs.declared.told.Refusal.{Refusal}
 use Rattle.blk_front.specs.declared.state.FrontState.{FrontState}
 use Rattle.blk_front.specs.View as front
+use Rattle.blk_front.specs.State.{is_open}
 use Rattle.blk_front.specs.Ask as front_ends
 use Rattle.blk_front.specs.Step as front_step
 use Rattle.blk_front.specs.Submit as front_submit
@@ -48,29 +50,35 @@ use Rattle.blk_back.specs.declared.told.Halt.{Halt}
 use Rattle.blk_back.specs.View as back
 use Rattle.blk_back.specs.Ask as back_ends
 use Rattle.blk_back.specs.Step as back_step
-use Rattle.split_model.specs.World.{World, start_of}
+use Rattle.split_model.specs.World.{World, start_of, state_after}
+use Rattle.split_model.specs.Safe.{IsSafe}
 use Rattle.split_model.specs.Shown.{front_lines, back_lines, halt_lines, effect_line}
 use Rattle.split_model.specs.Keys.{KeyMove, front_path}
-use Rattle.split_model.specs.Happening.{Happening, FrontMoves, BackMoves, JobMoves, Negotiates, FrontEnters, BackAttaches, BackHalts, Submits, Notifies, Pokes, OverwritesKey, Dumps, Looks, Settles, enter_lines, submit_line, happens, after, lines_at, lines_of, front_shows, back_shows, job_shows, front_turn, back_turn, job_turn}
+use Rattle.split_model.specs.Happening.{Happening, FrontMoves, BackMoves, JobMoves, Negotiates, FrontEnters, BackAttaches, BackHalts, Submits, Notifies, Pokes, OverwritesKey, Suspends, Dumps, Looks, Settles, enter_lines, submit_line, happens, after, lines_at, lines_of, front_shows, back_shows, job_shows, front_turn, back_turn, job_turn}
 use Rattle.split_model.specs.Report.{report_of, ended_report_of}
 use Rattle.split_model.proofs.Keys.{key_cases, negotiated_cases, keys_happen, backs_no_key, jobs_no_key}
 use Rattle.split_model.proofs.States.{enter_lines_are, state_lines_are}
+use Rattle.split_model.proofs.Safe.{safe_start, safe_happens}
+use Rattle.split_model.proofs.Suspending.{suspend_cases}
 use Rattle.split_model.proofs.Attaching.{attach_lines_are}
 use Rattle.split_model.proofs.Overwriting.{poke_lines_are, dump_lines_are, overwriting_cases}
 use Rattle.split_model.proofs.SafeActs.{of_front, of_back, AsksBackKey, front_wait, back_wait}
 use Rattle.split_model.proofs.SafeAnswers.{AsksNoKey, fronts_no_key, backs_of, jobs_of}
 use Rattle.move_laws.proofs.Recorded.{report_kept, ended_kept}
-use Rattle.report_laws.specs.States.{front_state, back_state, text_at, text_after, SayBoth, says_closing, IsAgreedAt, AreStatesAgreed}
+use Rattle.report_laws.specs.Ready.{says_over}
+use Rattle.report_laws.specs.States.{front_state, back_state, begun_text, text_at, text_after, said_last, SayBoth, says_closing, IsAgreedAt, AreStatesAgreed}
 use Rattle.report_laws.specs.Agreed.{HasBoth, AreAlike, IsAgreed, AreAgreed}
 use Rattle.report_laws.proofs.Lines.{both_all}
 use Rattle.report_laws.proofs.Announced.{all_said}
 use Rattle.report_laws.proofs.Closing.{closing_announced}
+use Rattle.report_laws.proofs.Gone.{IsToldOver, one_over}
 use Rattle.report_laws.proofs.Looks.{SpeaksOfQuiet, finds_quiet, HoldsWhereFound, reports_found, ended_found}
 
--- a line that sets no key
+-- a line that sets no key and begins no epoch
 abbrev sets_none : Line → Bool
 sets_none (lines.Move (moves.SetKey who path text)) = false
 sets_none (lines.Key name text) = false
+sets_none lines.Epoch = false
 sets_none line = true
 
 abbrev IsSilent : Line → Type 0
@@ -80,15 +88,17 @@ abbrev AreSilent : List Line → Type 0
 AreSilent ls = AllByRecursion IsSilent ls
 
 -- leaves the text of each key
-one_silent : (path text : List ℕ) (line : Line) → IsSilent line → text_at path text line ≡ text
-one_silent path text (lines.Move (moves.SetKey who set now)) e = absurd (true≢false (sym e))
-one_silent path text (lines.Move move) e = refl
-one_silent path text (lines.Key name now) e = absurd (true≢false (sym e))
-one_silent path text line e = refl
+one_silent : (path : List ℕ) (over : Bool) (text : List ℕ) (line : Line) → IsSilent line → text_at path over text line ≡ text
+one_silent path over text (lines.Move (moves.SetKey who set now)) e = absurd (true≢false (sym e))
+one_silent path over text (lines.Move move) e = refl
+one_silent path over text (lines.Key name now) e = absurd (true≢false (sym e))
+one_silent path over text lines.Epoch e = absurd (true≢false (sym e))
+one_silent path over text line e = refl
 
-silent_text : (path text : List ℕ) (ls : List Line) → AreSilent ls → text_after path text ls ≡ text
-silent_text path text [] all = refl
-silent_text path text (line ∷ ls) all = ap (λ (t : List ℕ). text_after path t ls) (one_silent path text line all.0) ∙ silent_text path text ls all.1
+silent_text : (path : List ℕ) (over : Bool) (text : List ℕ) (ls : List Line) → AreSilent ls → text_after path over text ls ≡ text
+silent_text path over text [] all = refl
+silent_text path over text (line ∷ ls) all =
+    ap (λ (t : List ℕ). text_after path (over || says_over line) t ls) (one_silent path over text line all.0) ∙ silent_text path (over || says_over line) text ls all.1
 
 -- the move of an end that asks for no key
 abbrev FrontSilent : FrontAct → Type 0
@@ -218,61 +228,100 @@ set_told path text d set now has = by_test (bytes_eq set path) refl
         let differs : path ≢ set = λ same. true≢false (sym ((bytes_eq-Decides set path).1 (sym same)) ∙ e) in
         key_of-with_key_other d.keys set now path differs ∙ has
 
-abbrev IsTold : (path text : List ℕ) → Directory → List Line → Type 0
-IsTold path text d shown = key_of d.keys path ≡ Some (text_after path text shown)
+abbrev IsTold : (path : List ℕ) (over : Bool) (text : List ℕ) → Directory → List Line → Type 0
+IsTold path over text d shown = key_of d.keys path ≡ Some (text_after path over text shown)
 
 -- what an end does with the keys is told
-keys_told : (path text : List ℕ) (w : World) (at : End) (move : KeyMove) → key_of w.under.keys.keys path ≡ Some text → (let v : World = happens w (Negotiates at move) in IsTold path text v.under.keys (lines_at w (Negotiates at move)))
-keys_told path text w at move has =
-    negotiated_cases (IsTold path text) w.back.stage at move w.under.keys
-    (λ may. key_cases (IsTold path text) at move w.under.keys
+keys_told : (path : List ℕ) (over : Bool) (text : List ℕ) (w : World) (at : End) (move : KeyMove) → key_of w.under.keys.keys path ≡ Some text → (let v : World = happens w (Negotiates at move) in IsTold path over text v.under.keys (lines_at w (Negotiates at move)))
+keys_told path over text w at move has =
+    negotiated_cases (IsTold path over text) w.back.stage at move w.under.keys
+    (λ may. key_cases (IsTold path over text) at move w.under.keys
     (λ got same. has) (λ set now same may_set. set_told path text w.under.keys set now has)
     (λ watched same. watch_told path text w.under.keys at _ has) (λ watched first. watch_told path text w.under.keys at _ has) has) has
 
 abbrev is_of_keys : Happening → Bool
 is_of_keys (Negotiates at move) = true
 is_of_keys (OverwritesKey name text) = true
+is_of_keys Suspends = true
 is_of_keys h = false
 
 -- whatever else happens changes no key
-other_told : (path text : List ℕ) (w : World) (h : Happening) → is_of_keys h ≡ false → AreSilent (lines_at w h) → key_of w.under.keys.keys path ≡ Some text → (let v : World = happens w h in IsTold path text v.under.keys (lines_at w h))
-other_told path text w h other silent has =
+other_told : (path : List ℕ) (over : Bool) (text : List ℕ) (w : World) (h : Happening) → is_of_keys h ≡ false → AreSilent (lines_at w h) → key_of w.under.keys.keys path ≡ Some text → (let v : World = happens w h in IsTold path over text v.under.keys (lines_at w h))
+other_told path over text w h other silent has =
     keys_happen (λ (d : Directory). key_of d.keys path ≡ Some text) (λ at d here. watch_told path text d at _ here) w h (λ at move is here. absurd (true≢false (sym (ap is_of_keys is) ∙ other)))
-    (λ name now is allowed here. absurd (true≢false (sym (ap is_of_keys is) ∙ other))) has
-    ∙ ap (λ (t : List ℕ). Some t) (sym (silent_text path text (lines_at w h) silent))
+    (λ name now is allowed here. absurd (true≢false (sym (ap is_of_keys is) ∙ other))) (λ is may here. absurd (true≢false (sym (ap is_of_keys is) ∙ other))) has
+    ∙ ap (λ (t : List ℕ). Some t) (sym (silent_text path over text (lines_at w h) silent))
 
-one_told : (path text : List ℕ) (w : World) (h : Happening) → key_of w.under.keys.keys path ≡ Some text → (let v : World = happens w h in IsTold path text v.under.keys (lines_at w h))
-one_told path text w FrontMoves has = other_told path text w FrontMoves refl (front_turn_silent w (front_turn w) refl) has
-one_told path text w BackMoves has = other_told path text w BackMoves refl (back_turn_silent w (back_turn w Took) refl) has
-one_told path text w (JobMoves number outcome) has = other_told path text w (JobMoves number outcome) refl (job_turn_silent w number outcome (job_turn w number outcome) refl) has
-one_told path text w (Negotiates at move) has = keys_told path text w at move has
-one_told path text w (FrontEnters state) has = other_told path text w (FrontEnters state) refl (state_silent state w.front) has
-one_told path text w (BackAttaches shape grefs port) has = other_told path text w (BackAttaches shape grefs port) refl (attach_lines_are IsSilent w shape grefs refl) has
-one_told path text w (BackHalts why) has = other_told path text w (BackHalts why) refl (halt_silent w.back.halted _) has
-one_told path text w (Submits job) has = other_told path text w (Submits job) refl (submit_silent job (front_submit.submit_of w.front job).0) has
-one_told path text w (Notifies at) has = other_told path text w (Notifies at) refl tt has
-one_told path text w (Pokes frame word value) has = other_told path text w (Pokes frame word value) refl (poke_lines_are IsSilent frame word value refl) has
-one_told path text w (OverwritesKey name now) has =
-    overwriting_cases (λ under shown. IsTold path text under.keys shown) w.under name now (λ allowed. set_told path text w.under.keys (front_path name) now has) has
-one_told path text w Dumps has = other_told path text w Dumps refl (dump_lines_are IsSilent w.under.pages 0 (1024 * 2 ^ w.front.shape.order) (λ frame word value. refl)) has
-one_told path text w (Looks quiet) has = other_told path text w (Looks quiet) refl (look_silent quiet lines.Busy refl) has
-one_told path text w (Settles quiet) has = other_told path text w (Settles quiet) refl (look_silent quiet lines.Unsettled refl) has
+-- a state: the directory has it again as an epoch begins
+abbrev IsRenewed : List ℕ → Type 0
+IsRenewed path = (state : List ℕ) → key_of (let d : Directory = fresh_directory state in d.keys) path ≡ Some state
 
-append_text : (path text : List ℕ) (a b : List Line) → text_after path text (a ++ b) ≡ text_after path (text_after path text a) b
-append_text path text [] b = refl
-append_text path text (line ∷ a) b = append_text path (text_at path text line) a b
+front_renewed : IsRenewed front_state
+front_renewed state = refl
 
-all_told : (path text : List ℕ) (history : List Happening) (w : World) → key_of w.under.keys.keys path ≡ Some text → (let v : World = after history w in IsTold path text v.under.keys (lines_of history w))
-all_told path text [] w has = has
-all_told path text (h ∷ history) w has =
-    all_told path (text_after path text (lines_at w h)) history (happens w h) (one_told path text w h has)
-    ∙ ap (λ (t : List ℕ). Some t) (sym (append_text path text (lines_at w h) (lines_of history (happens w h))))
+back_renewed : IsRenewed back_state
+back_renewed state = refl
+
+begun_state : (on : Bool) → state_after on ≡ begun_text (not on)
+begun_state true = refl
+begun_state false = refl
+
+one_told : (path : List ℕ) → IsRenewed path → (over : Bool) (text : List ℕ) (w : World) (h : Happening) → over ≡ not (is_open w.front.stage) → key_of w.under.keys.keys path ≡ Some text
+    → (let v : World = happens w h in IsTold path over text v.under.keys (lines_at w h))
+one_told path renewed over text w FrontMoves is has = other_told path over text w FrontMoves refl (front_turn_silent w (front_turn w) refl) has
+one_told path renewed over text w BackMoves is has = other_told path over text w BackMoves refl (back_turn_silent w (back_turn w Took) refl) has
+one_told path renewed over text w (JobMoves number outcome) is has = other_told path over text w (JobMoves number outcome) refl (job_turn_silent w number outcome (job_turn w number outcome) refl) has
+one_told path renewed over text w (Negotiates at move) is has = keys_told path over text w at move has
+one_told path renewed over text w (FrontEnters state) is has = other_told path over text w (FrontEnters state) refl (state_silent state w.front) has
+one_told path renewed over text w (BackAttaches shape grefs port) is has = other_told path over text w (BackAttaches shape grefs port) refl (attach_lines_are IsSilent w shape grefs refl) has
+one_told path renewed over text w (BackHalts why) is has = other_told path over text w (BackHalts why) refl (halt_silent w.back.halted _) has
+one_told path renewed over text w (Submits job) is has = other_told path over text w (Submits job) refl (submit_silent job (front_submit.submit_of w.front job).0) has
+one_told path renewed over text w (Notifies at) is has = other_told path over text w (Notifies at) refl tt has
+one_told path renewed over text w (Pokes frame word value) is has = other_told path over text w (Pokes frame word value) refl (poke_lines_are IsSilent frame word value refl) has
+one_told path renewed over text w (OverwritesKey name now) is has =
+    overwriting_cases (λ under shown. IsTold path over text under.keys shown) w.under name now (λ allowed. set_told path text w.under.keys (front_path name) now has) has
+one_told path renewed over text w Suspends is has =
+    suspend_cases (λ v shown. IsTold path over text v.under.keys shown) w
+    (λ may. renewed (state_after (is_open w.front.stage)) ∙ ap (λ (t : List ℕ). Some t) (begun_state (is_open w.front.stage) ∙ ap begun_text (sym is))) has
+one_told path renewed over text w Dumps is has = other_told path over text w Dumps refl (dump_lines_are IsSilent w.under.pages 0 (1024 * 2 ^ w.front.shape.order) (λ frame word value. refl)) has
+one_told path renewed over text w (Looks quiet) is has = other_told path over text w (Looks quiet) refl (look_silent quiet lines.Busy refl) has
+one_told path renewed over text w (Settles quiet) is has = other_told path over text w (Settles quiet) refl (look_silent quiet lines.Unsettled refl) has
+
+or_none : (b : Bool) → (b || false) ≡ b
+or_none true = refl
+or_none false = refl
+
+or_first : (a b c : Bool) → ((a || b) || c) ≡ (a || (b || c))
+or_first true b c = refl
+or_first false b c = refl
+
+append_text : (path : List ℕ) (over : Bool) (text : List ℕ) (a b : List Line) → text_after path over text (a ++ b) ≡ text_after path (over || list_any says_over a) (text_after path over text a) b
+append_text path over text [] b = ap (λ (o : Bool). text_after path o text b) (sym (or_none over))
+append_text path over text (line ∷ a) b =
+    append_text path (over || says_over line) (text_at path over text line) a b
+    ∙ ap (λ (o : Bool). text_after path o (text_after path (over || says_over line) (text_at path over text line) a) b) (or_first over (says_over line) (list_any says_over a))
+
+-- so the directory has at a state what these lines say last of it
+abbrev HasLast : (path : List ℕ) → List Line → World → Type 0
+HasLast path before w = key_of w.under.keys.keys path ≡ Some (said_last path before)
+
+all_told : (path : List ℕ) → IsRenewed path → (history : List Happening) (w : World) (before : List Line) → IsSafe w → IsToldOver before w → HasLast path before w → HasLast path (before ++ lines_of history w) (after history w)
+all_told path renewed [] w before safe is has = has ∙ ap (λ (ls : List Line). Some (said_last path ls)) (sym (append-nil before))
+all_told path renewed (h ∷ history) w before safe is has =
+    let one : HasLast path (before ++ lines_at w h) (happens w h) =
+    one_told path renewed (list_any says_over before) (said_last path before) w h is has
+    ∙ ap (λ (t : List ℕ). Some t) (sym (append_text path false (begun_text false) before (lines_at w h))) in
+    subst (λ (ls : List Line). HasLast path ls (after history (happens w h))) (append_assoc before (lines_at w h) (lines_of history (happens w h)))
+    (all_told path renewed history (happens w h) (before ++ lines_at w h) (safe_happens w h safe) (one_over w before h safe is) one)
+
+report_told : (path : List ℕ) → IsRenewed path → (config : Options) (history : List Happening) → HasLast path (report_of config Moves history) (after history (start_of config))
+report_told path renewed config history = all_told path renewed history (start_of config) (lines.Begin config Moves ∷ []) (safe_start config) refl (renewed (begun_text false))
 
 -- so the lines of a report say of both states what the directory says
 both_said : (text : List ℕ) (config : Options) (history : List Happening) → (let v : World = after history (start_of config) in HasBoth text v.under.keys) → SayBoth text (report_of config Moves history)
 both_said text config history has = record {
-  front = same_Some _ _ (sym (all_told front_state (codes "1") history (start_of config) refl) ∙ has.front);
-  back = same_Some _ _ (sym (all_told back_state (codes "1") history (start_of config) refl) ∙ has.back);
+  front = same_Some _ _ (sym (report_told front_state front_renewed config history) ∙ has.front);
+  back = same_Some _ _ (sym (report_told back_state back_renewed config history) ∙ has.back);
 }
 
 alike_said : (config : Options) (history : List Happening) → (let v : World = after history (start_of config) in AreAlike v) → IsAgreedAt (report_of config Moves history) lines.Quiet

@@ -1,9 +1,9 @@
 -- Words of memory stay words of 32 bits.
 use Rattle.std.proofs.Common.{◌≡◌, ℕ, zero, suc, ◌+◌, ◌-◌, ◌*◌, ◌/◌, ◌%◌, ◌^◌, ◌<◌, ◌==◌, Bool, true, false, if◌then◌else◌, List, [], ◌∷◌, refl, arith}
-use Rattle.std.specs.Prelude.{All, slice_index}
+use Rattle.std.specs.Prelude.{All, map, take, drop, slice_index}
 use Rattle.std.specs.List.{AllByRecursion}
 use Rattle.std.proofs.lemmas.Bool.Decides.{nat_tests}
-use Rattle.std.proofs.lemmas.List.Elements.{recursion_from_All, All-set, All-replicate}
+use Rattle.std.proofs.lemmas.List.Elements.{recursion_from_All, All-append, All-drop, All-map, All-set, All-replicate}
 use Rattle.blk_base.specs.declared.parts.Mapping.{Mapping}
 use Rattle.blk_base.specs.declared.parts.Mode.{Mode}
 use Rattle.blk_base.specs.declared.parts.Mode.TheVariants.{ReadOnly, ReadWrite}
@@ -11,6 +11,7 @@ use Rattle.xen_pages.specs.Pages.{zero_words, word_of, with_word}
 use Rattle.grant_table.specs.Entry.{is_reading, is_writing, with_reading, with_writing, without_reading, without_writing, mapped_entry, unmapped_entry}
 use Rattle.grant_table.specs.Table.{GrantTable, entry_word0, with_entry_word0, unmap_pages, without, mappings_of, writers_of}
 use Rattle.hypervisor.specs.Act.{exchanged}
+use Rattle.hypervisor.specs.Suspend.{cleared, tables_cleared}
 
 abbrev pub AreWords : List ℕ → Type 0
 AreWords words = All (λ (v : ℕ). v < 2 ^ 32) words
@@ -39,6 +40,12 @@ exchange_fits pages frame word old new all fits = by_test (word_of pages frame w
     by_test : (b : Bool) → AreWords (if b then with_word pages frame word new else pages)
     by_test true = write_fits pages frame word new all fits
     by_test false = all
+
+-- the words that a suspend clears are 0
+pub cleared_fits : (pages : List ℕ) → AreWords pages → AreWords (tables_cleared pages)
+cleared_fits pages all =
+    All-append (λ (v : ℕ). v < 2 ^ 32) (map cleared (take 2048 pages)) (drop 2048 pages)
+    (All-map (λ (v : ℕ). v < 2 ^ 32) cleared (take 2048 pages) (λ k d lt. omega arith)) (All-drop (λ (v : ℕ). v < 2 ^ 32) 2048 pages all)
 
 -- a bit that isn't set can be added, and one that is set taken away
 reading_fits : (n : ℕ) → n < 2 ^ 32 → with_reading n < 2 ^ 32

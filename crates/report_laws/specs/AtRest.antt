@@ -1,5 +1,5 @@
 -- What a quiet machine leaves in its ring (`io/ring.h`: req_prod is word 0 of the ring's first page and rsp_prod word 2; that page is frame 2).
-use Rattle.std.specs.Prelude.{◌≡◌, []}
+use Rattle.std.specs.Prelude.{◌≡◌, ◌≢◌, []}
 use Rattle.xen_pages.specs.Pages.{word_of}
 use Rattle.split_model.specs.World.{World}
 
@@ -9,8 +9,8 @@ pub record IsReadRing (w : World) : Type 0 where
   pub fetched : w.back.ring.cons ≡ word_of w.under.pages 2 0
   pub read : w.front.ring.cons ≡ word_of w.under.pages 2 2
 
--- so it is where the front made its port, and so a ring before it; no job is held, and no request that was accepted is left
+-- so it is where the front made its port in this epoch, and so a ring before it; no job is held, and no request that was accepted is left
 pub record IsAtRest (w : World) : Type 0 where
-  pub ring : w.under.channels.made ≡ 1 → IsReadRing w
+  pub ring : w.under.channels.ports ≢ [] → IsReadRing w
   pub no_job : w.back.jobs.works ≡ []
   pub no_request : w.front.requests ≡ []

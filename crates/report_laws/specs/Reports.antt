@@ -33,7 +33,7 @@ OfServedEnded Rule =
     (config : Options) (detail : Detail) (history : List Happening) → AreServed history (start_of config)
     → Rule config detail (kept_of detail (ended_report_of config detail history))
 
--- of the report of each history that may happen, with words and keys overwritten, with options of the grammar, where it has fewer than 2 ^ 64 lines
+-- of the report of each history that may happen, with words and keys overwritten and the domain suspended, with options of the grammar, where it has fewer than 2 ^ 64 lines
 abbrev pub OfShortReports : (Options → Detail → List Line → Type 0) → Type 0
 OfShortReports Rule =
     (config : Options) (detail : Detail) (history : List Happening) → AreOptions config → ArePossible history (start_of config) → length (report_of config detail history) < 2 ^ 64

@@ -1,6 +1,7 @@
 -- Worked reports that no machine gives.
 use Rattle.std.specs.Prelude.{List, [], ◌∷◌, codes}
 use Rattle.blk_base.specs.Options.{Options}
+use Rattle.blk_base.specs.declared.operation.Status.{Status}
 use Rattle.blk_base.specs.declared.moves.Move.{Move}
 use Rattle.blk_base.specs.declared.moves.Move.TheVariants.{FrontWrite, FrontPort, SetKey}
 use Rattle.blk_base.specs.declared.moves.Mover.TheVariants.{Front, Back}
@@ -41,3 +42,17 @@ closed_unsaid config = lines.Begin config Moves ∷ lines.Move (SetKey Back back
 -- the front makes five ports in one epoch
 abbrev pub five_ports : Options → List Line
 five_ports config = lines.Begin config Moves ∷ lines.Move (FrontPort 1) ∷ lines.Move (FrontPort 2) ∷ lines.Move (FrontPort 3) ∷ lines.Move (FrontPort 4) ∷ lines.Move (FrontPort 5) ∷ []
+
+-- it is quiet in an epoch in which the front wasn't connected, only in the one before
+abbrev pub ready_before : Options → Detail → List Line
+ready_before config detail = lines.Begin config detail ∷ lines.Ready ∷ lines.Epoch ∷ lines.Quiet ∷ []
+
+-- it is quiet while a response was pushed (rsp_prod is 1) and no answer told in this epoch, only in the one before
+abbrev pub answered_before : Options → Status → List Line
+answered_before config status =
+    lines.Begin config Moves ∷ lines.Ready ∷ lines.Answer 1 status ∷ lines.Epoch ∷ lines.Ready ∷ lines.Move (FrontWrite 2 0 1) ∷ lines.Move (FrontWrite 2 2 1) ∷ lines.Quiet ∷ []
+
+-- it is quiet where both have said that they are connected in the epoch before, and nothing in this one
+abbrev pub connected_before : Options → List Line
+connected_before config =
+    lines.Begin config Moves ∷ lines.Move (SetKey Front front_state (codes "4")) ∷ lines.Move (SetKey Back back_state (codes "4")) ∷ lines.Ready ∷ lines.Epoch ∷ lines.Ready ∷ lines.Quiet ∷ []

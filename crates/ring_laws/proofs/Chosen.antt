@@ -78,6 +78,10 @@ no_row s none P = tt
 rests_all : (before : List Line) (t : Stage) → under_way t ≡ [] → (k : ℕ) (words : List ℕ) → response_due (lines_before before (length (under_way t))) k ≡ Some words → response_due before k ≡ Some words
 rests_all before t none k words due = fresh before k words (sym (ap (λ (n : ℕ). response_due (lines_before before n) k) (none_long t none)) ∙ due)
 
+-- no job was answered yet
+pub new_chosen : (before : List Line) (s : Stage) → under_way s ≡ [] → answered_in before ≡ [] → IsChosen before s []
+new_chosen before s none unanswered = record { matched = []; chosen = unanswered; answers = refl; due = tt; stays = rests_all before s none; row = no_row s none _ }
+
 -- of a stage at which no word is under way the lines alone count
 pub chosen_stage : (before : List Line) (s t : Stage) (answered : List Answered) → under_way t ≡ [] → IsChosen before s answered → IsChosen before t answered
 chosen_stage before s t answered none c = record { matched = c.matched; chosen = c.chosen; answers = c.answers; due = c.due; stays = rests_all before t none; row = no_row t none _ }

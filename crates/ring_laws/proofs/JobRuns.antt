@@ -15,6 +15,7 @@ use Rattle.report_rules.specs.Steps.{AreSteps}
 use Rattle.report_rules.specs.Data.{AreData}
 use Rattle.report_rules.specs.Effect.{AreEffects}
 use Rattle.report_rules.specs.Job.{entry_values}
+use Rattle.report_rules.specs.Ring.{start_of as told_start}
 use Rattle.report_rules.proofs.Obeys.{obeys_none, obeys_more}
 use Rattle.back_jobs.specs.Jobs.{ask_job, place_of, work_of, waits}
 use Rattle.blk_front.specs.declared.told.Refusal.{Refusal}
@@ -33,8 +34,8 @@ use Rattle.hypervisor.specs.Hypervisor.{Hypervisor}
 use Rattle.blk_back.specs.Ask.{ask_of}
 use Rattle.blk_back.specs.View as back
 use Rattle.blk_back.specs.Step as back_step
-use Rattle.split_model.specs.World.{World, start_of}
-use Rattle.split_model.specs.Happening.{Happening, FrontMoves, BackMoves, JobMoves, Negotiates, FrontEnters, BackAttaches, BackHalts, Submits, Notifies, Pokes, OverwritesKey, Dumps, Looks, Settles, is_guest_word, poke_lines, overwritten_lines, layout_text, layout_read, happens, lines_at, after, front_after, front_shows, back_after, back_shows, job_after, job_shows, front_turn, back_turn, job_turn, submit_line, is_guest_key}
+use Rattle.split_model.specs.World.{World, start_of, suspended}
+use Rattle.split_model.specs.Happening.{Happening, FrontMoves, BackMoves, JobMoves, Negotiates, FrontEnters, BackAttaches, BackHalts, Submits, Notifies, Pokes, OverwritesKey, Suspends, Dumps, Looks, Settles, is_guest_word, poke_lines, overwritten_lines, layout_text, layout_read, happens, lines_at, after, front_after, front_shows, back_after, back_shows, job_after, job_shows, front_turn, back_turn, job_turn, submit_line, is_guest_key}
 use Rattle.split_model.specs.Safe.{IsSafe}
 use Rattle.split_model.proofs.Safe.{safe_start, safe_happens}
 use Rattle.split_model.specs.Shown.{back_lines, halt_lines}
@@ -42,8 +43,11 @@ use Rattle.split_model.proofs.SafeAnswers.{backs_of, jobs_of, fronts_no_key}
 use Rattle.split_model.specs.Keys.{is_layout, front_path}
 use Rattle.split_model.proofs.SafeActs.{made_front}
 use Rattle.split_model.proofs.Shapes.{back_shape}
+use Rattle.split_model.proofs.Suspending.{suspend_cases, begun_back, gone_back, back_cases}
 use Rattle.split_model.proofs.Attaching.{SaysServed, attach_cases}
 use Rattle.split_model.specs.Report.{report_of, ended_report_of}
+use Rattle.ring_laws.proofs.Anew.{new_sight, shows_epoch}
+use Rattle.ring_laws.proofs.Epochs.{new_tells, epoch_tells, new_fetched, epoch_fetched, epoch_stands}
 use Rattle.ring_laws.proofs.BackReads.{reads_of}
 use Rattle.ring_laws.proofs.Sight.{is_other}
 use Rattle.ring_laws.proofs.Shows.{Sight, Shows}
@@ -51,13 +55,13 @@ use Rattle.ring_laws.proofs.Knows.{Follows}
 use Rattle.ring_laws.proofs.Outsiders.{AreOutsiders, keys_outsiders, state_outsiders, poke_outsiders, overwritten_outsiders, dump_outsiders, outsiders_other, outsiders_by, outsiders_calm}
 use Rattle.ring_laws.proofs.Free.{IsFree, AreFree, front_free, job_free, job_running, free_front, free_told, free_submit, free_look, free_settle}
 use Rattle.ring_laws.proofs.Runs.{FollowsTo, earlier_pages, unread, follows_happens, follows_begin}
-use Rattle.ring_laws.proofs.Works.{no_jobs, jobs_anew}
+use Rattle.ring_laws.proofs.Works.{jobs_anew}
 use Rattle.ring_laws.proofs.Began.{Terms}
 use Rattle.ring_laws.proofs.Lists.{all_both}
 use Rattle.ring_laws.proofs.Standings.{Stands, stands_aside, turn_stands}
 use Rattle.ring_laws.proofs.MakerLines.{AreCalm, calm_quiet, front_lines_calm, back_calm, halt_calm, told_calm, submit_calm, look_calm, settle_calm}
 use Rattle.ring_laws.proofs.Bystanders.{IsRule, IsBystander, AreBystanders, Aside, bystanders_go, no_effect}
-use Rattle.ring_laws.proofs.Fetched.{is_ready, AreFetched, AreOther, none_fetched, fetched_anew, values_aside, others_fetched, back_fetched}
+use Rattle.ring_laws.proofs.Fetched.{is_ready, AreFetched, AreOther, fetched_anew, values_aside, others_fetched, back_fetched}
 use Rattle.ring_laws.proofs.BackChange.{back_by, back_sets, back_reads, front_by, front_told_by, halt_by}
 use Rattle.ring_laws.proofs.Halting.{Stops, stops_cases}
 use Rattle.ring_laws.proofs.Tells.{Tells, terms_of, tells_aside, shows_free}
@@ -172,6 +176,10 @@ attached_tells config w before shape grefs port s = attach_cases (λ (new : back
         let t : Tells config (before ++ lines.Move (layout_read w) ∷ []) w.back = tells_aside config before (lines.Move (layout_read w) ∷ []) w.back (layout_by w) same s.tells in
         record { tale = t.tale; quiet = t.quiet; info = t.info; room = t.room; jobs = λ runs. jobs_anew (terms_of config w.back) _ _ _ w.back.fetched w.back.jobs.works (same ∙ unread config.start w before shape grefs s.ring may) (t.jobs runs); unseen = t.unseen }
 
+-- a back that begins in a new epoch holds none
+suspended_tells : (config : Options) (w : World) (before : List Line) → Tells config before w.back → (let v : World = suspended w in Tells config (before ++ lines.Epoch ∷ []) v.back)
+suspended_tells config w before t = back_cases (λ (b : back.View). Tells config (before ++ lines.Epoch ∷ []) b) w (epoch_tells config before w.back (begun_back w) t refl refl) (epoch_tells config before w.back (gone_back w) t refl refl)
+
 tells_happens : (config : Options) (w : World) (h : Happening) (before : List Line) → Stand config before w → reads_of (before ++ lines_at w h) < 2 ^ 64 → (let n : World = happens w h in Tells config (before ++ lines_at w h) n.back)
 tells_happens config w FrontMoves before s few = front_after_tells config w (before ++ front_shows w (front_turn w)) (front_turn w) (front_tells config w before (front_turn w) s.ring s.tells refl)
 tells_happens config w BackMoves before s few = back_goes_on config w before Took (back_turn w Took) s.safe s.ring s.tells refl few
@@ -184,6 +192,7 @@ tells_happens config w (Submits job) before s few = aside config config.start be
 tells_happens config w (Notifies at) before s few = no_lines config before w.back s.tells
 tells_happens config w (Pokes frame word value) before s few = outside config w before (poke_lines frame word value) (poke_outsiders w.back.stage frame word value) s
 tells_happens config w (OverwritesKey name text) before s few = outside config w before (overwritten_lines name text) (overwritten_outsiders w.back.stage name text) s
+tells_happens config w Suspends before s few = suspend_cases (λ (v : World) (shown : List Line). Tells config (before ++ shown) v.back) w (λ may. suspended_tells config w before s.tells) (no_lines config before w.back s.tells)
 tells_happens config w Dumps before s few = outside config w before (lines_at w Dumps) (dump_outsiders w.back.stage w.under.pages (1024 * 2 ^ w.front.shape.order)) s
 tells_happens config w (Looks quiet) before s few = aside config config.start before (lines_at w (Looks quiet)) w.back s.ring.follows (free_look (is_some w.back.halted) quiet, tt) (look_by quiet, tt) s.tells
 tells_happens config w (Settles quiet) before s few = aside config config.start before (lines_at w (Settles quiet)) w.back s.ring.follows (free_settle (is_some w.back.halted) quiet, tt) (settle_by quiet, tt) s.tells
@@ -257,6 +266,9 @@ outside_fetched config w before ys all s = others_fetched (terms_of config w.bac
 free_fetched : (config : Options) (w : World) (before ys : List Line) → AreFree (is_some w.back.halted) ys → Stand config before w → AreFetched (terms_of config w.back) (before ++ ys)
 free_fetched config w before ys free s = others_fetched (terms_of config w.back) before ys (others_of (is_some w.back.halted) ys free) s.fetched
 
+suspended_fetched : (config : Options) (w : World) (before : List Line) → (let v : World = suspended w in AreFetched (terms_of config v.back) (before ++ lines.Epoch ∷ []))
+suspended_fetched config w before = epoch_fetched (let v : World = suspended w in terms_of config v.back) before (let shows : Shows (before ++ lines.Epoch ∷ []) (new_sight (told_start before)) = shows_epoch before (told_start before) refl in shows.values)
+
 fetched_happens : (config : Options) (w : World) (h : Happening) (before : List Line) → Stand config before w → (let n : World = happens w h in AreFetched (terms_of config n.back) (before ++ lines_at w h))
 fetched_happens config w FrontMoves before s = front_terms config w (before ++ front_shows w (front_turn w)) (front_turn w) (front_fetches (terms_of config w.back) w before (front_turn w) refl s.fetched)
 fetched_happens config w BackMoves before s = back_fetches config w before (back_turn w Took) refl s
@@ -270,6 +282,7 @@ fetched_happens config w (Submits job) before s = free_fetched config w before (
 fetched_happens config w (Notifies at) before s = no_fetch (terms_of config w.back) before s.fetched
 fetched_happens config w (Pokes frame word value) before s = outside_fetched config w before (poke_lines frame word value) (poke_outsiders w.back.stage frame word value) s
 fetched_happens config w (OverwritesKey name text) before s = outside_fetched config w before (overwritten_lines name text) (overwritten_outsiders w.back.stage name text) s
+fetched_happens config w Suspends before s = suspend_cases (λ (v : World) (shown : List Line). AreFetched (terms_of config v.back) (before ++ shown)) w (λ may. suspended_fetched config w before) (no_fetch (terms_of config w.back) before s.fetched)
 fetched_happens config w Dumps before s = outside_fetched config w before (lines_at w Dumps) (dump_outsiders w.back.stage w.under.pages (1024 * 2 ^ w.front.shape.order)) s
 fetched_happens config w (Looks quiet) before s = free_fetched config w before (lines_at w (Looks quiet)) (free_look (is_some w.back.halted) quiet, tt) s
 fetched_happens config w (Settles quiet) before s = free_fetched config w before (lines_at w (Settles quiet)) (free_settle (is_some w.back.halted) quiet, tt) s
@@ -332,6 +345,7 @@ stands_happen config w (Submits job) before s = free_stands config w before (lin
 stands_happen config w (Notifies at) before s = none_stands before w.under.grants s.standing
 stands_happen config w (Pokes frame word value) before s = poked_stands w frame word value (before ++ poke_lines frame word value) (outside_stands config w before (poke_lines frame word value) (poke_outsiders w.back.stage frame word value) s)
 stands_happen config w (OverwritesKey name text) before s = overwritten_stands w name text (before ++ overwritten_lines name text) (outside_stands config w before (overwritten_lines name text) (overwritten_outsiders w.back.stage name text) s)
+stands_happen config w Suspends before s = suspend_cases (λ (v : World) (shown : List Line). Stands (before ++ shown) v.under.grants) w (λ may. epoch_stands before w.under.grants) (none_stands before w.under.grants s.standing)
 stands_happen config w Dumps before s = outside_stands config w before (lines_at w Dumps) (dump_outsiders w.back.stage w.under.pages (1024 * 2 ^ w.front.shape.order)) s
 stands_happen config w (Looks quiet) before s = free_stands config w before (lines_at w (Looks quiet)) (look_calm quiet, tt) (free_look false quiet, tt) s
 stands_happen config w (Settles quiet) before s = free_stands config w before (lines_at w (Settles quiet)) (settle_calm quiet, tt) (free_settle false quiet, tt) s
@@ -351,18 +365,13 @@ begin_rule config detail = record { step = tt; moved = tt; effect = no_effect []
 
 pub stand_start : (config : Options) (detail : Detail) → config.indirect ≤ 960 → Stand config (lines.Begin config detail ∷ []) (start_of config)
 stand_start config detail room = record {
-  ring = record { follows = follows_begin config detail; told = refl };
+  ring = record { follows = follows_begin config detail; told = refl; begins = refl };
   standing = refl;
   safe = safe_start config;
-  tells = record {
-    tale = record { obeys = obeys_more IsRule [] (lines.Begin config detail) (obeys_none IsRule) (begin_rule config detail); keeping = refl; told = refl };
-    quiet = refl;
-    info = refl;
-    room = room;
-    jobs = λ running. no_jobs (terms_of config (back.start_of config)) [] (lines.Begin config detail ∷ []) 0;
-    unseen = λ k above. refl;
-  };
-  fetched = λ k. sym (none_fetched (terms_of config (back.start_of config)) [] k refl);
+  tells = new_tells config (lines.Begin config detail ∷ []) (back.start_of config)
+      (record { obeys = obeys_more IsRule [] (lines.Begin config detail) (obeys_none IsRule) (begin_rule config detail); keeping = refl; told = refl })
+      refl refl room refl (λ k. refl);
+  fetched = new_fetched (terms_of config (back.start_of config)) (lines.Begin config detail ∷ []) refl (λ k. refl);
   published = record { told = refl; says = λ ready. absurd (cc) };
 }
 

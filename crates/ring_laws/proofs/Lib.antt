@@ -12,6 +12,7 @@ pub mod Looking
 pub mod Back
 pub mod Stages
 pub mod Free
+pub mod Anew
 pub mod Runs
 pub mod JobLines
 pub mod TaskSteps
@@ -43,6 +44,7 @@ pub mod Tells
 pub mod BackTells
 pub mod JobTells
 pub mod After
+pub mod Epochs
 pub mod Publishes
 pub mod JobRuns
 pub mod Makers

@@ -30,12 +30,14 @@ use Rattle.blk_back.specs.Ask.{ask_of}
 use Rattle.blk_back.specs.declared.told.Halt.{Halt}
 use Rattle.blk_back.specs.View as back
 use Rattle.blk_back.specs.Step as back_step
-use Rattle.split_model.specs.World.{World, start_of}
-use Rattle.split_model.specs.Happening.{Happening, FrontMoves, BackMoves, JobMoves, Negotiates, FrontEnters, BackAttaches, BackHalts, Submits, Notifies, Pokes, OverwritesKey, Dumps, Looks, Settles, poke_lines, overwritten_lines, layout_read, happens, lines_at, after, front_after, front_shows, back_after, back_shows, job_after, job_shows, front_turn, back_turn, job_turn}
+use Rattle.split_model.specs.World.{World, start_of, suspended}
+use Rattle.split_model.specs.Happening.{Happening, FrontMoves, BackMoves, JobMoves, Negotiates, FrontEnters, BackAttaches, BackHalts, Submits, Notifies, Pokes, OverwritesKey, Suspends, Dumps, Looks, Settles, poke_lines, overwritten_lines, layout_read, happens, lines_at, after, front_after, front_shows, back_after, back_shows, job_after, job_shows, front_turn, back_turn, job_turn}
 use Rattle.split_model.specs.Report.{report_of, ended_report_of}
 use Rattle.split_model.specs.Shown.{back_lines, halt_lines}
 use Rattle.split_model.proofs.SafeAnswers.{backs_of}
 use Rattle.split_model.proofs.Attaching.{attach_cases}
+use Rattle.split_model.proofs.Suspending.{suspend_cases, begun_back, gone_back, back_cases}
+use Rattle.ring_laws.proofs.Epochs.{new_made, epoch_made}
 use Rattle.ring_laws.proofs.Outsiders.{keys_outsiders, state_outsiders, poke_outsiders, overwritten_outsiders, dump_outsiders, outsiders_calm}
 use Rattle.ring_laws.proofs.Knows.{Follows}
 use Rattle.ring_laws.proofs.Free.{job_running}
@@ -110,6 +112,10 @@ halted_made config w before why s m = stops_cases (λ (new : back.View). Made (b
     stops : (new : back.View) → Stops f.sight why w.back new → Made (before ++ halt_lines w.back.halted new.halted) new
     stops new p = let over : is_some new.halted ≡ true = p.over in let t : Made (before ++ halt_lines w.back.halted new.halted) w.back = made new.halted in record { obeys = t.obeys; hands = λ runs. absurd (cc) }
 
+-- a back that begins in a new epoch holds none either
+suspended_made : (w : World) (before : List Line) → Made before w.back → (let v : World = suspended w in Made (before ++ lines.Epoch ∷ []) v.back)
+suspended_made w before m = back_cases (λ (b : back.View). Made (before ++ lines.Epoch ∷ []) b) w (epoch_made before w.back (begun_back w) m refl) (epoch_made before w.back (gone_back w) m refl)
+
 -- one happening keeps it
 pub made_happens : (config : Options) (w : World) (h : Happening) (before : List Line) → Stand config before w → Stand config (before ++ lines_at w h) (happens w h) → Made before w.back → (let n : World = happens w h in Made (before ++ lines_at w h) n.back)
 made_happens config w FrontMoves before s t m = front_made w before (front_turn w) refl m
@@ -125,12 +131,13 @@ made_happens config w (Submits job) before s t m = made_aside before (lines_at w
 made_happens config w (Notifies at) before s t m = no_lines before w.back m
 made_happens config w (Pokes frame word value) before s t m = made_aside before (poke_lines frame word value) w.back (outsiders_calm w.back.stage _ (poke_outsiders w.back.stage frame word value)) m
 made_happens config w (OverwritesKey name text) before s t m = made_aside before (overwritten_lines name text) w.back (outsiders_calm w.back.stage _ (overwritten_outsiders w.back.stage name text)) m
+made_happens config w Suspends before s t m = suspend_cases (λ (v : World) (shown : List Line). Made (before ++ shown) v.back) w (λ may. suspended_made w before m) (no_lines before w.back m)
 made_happens config w Dumps before s t m = made_aside before (lines_at w Dumps) w.back (outsiders_calm w.back.stage _ (dump_outsiders w.back.stage w.under.pages (1024 * 2 ^ w.front.shape.order))) m
 made_happens config w (Looks quiet) before s t m = made_aside before (lines_at w (Looks quiet)) w.back (look_calm quiet, tt) m
 made_happens config w (Settles quiet) before s t m = made_aside before (lines_at w (Settles quiet)) w.back (settle_calm quiet, tt) m
 
 pub made_start : (config : Options) (detail : Detail) → (let w : World = start_of config in Made (lines.Begin config detail ∷ []) w.back)
-made_start config detail = record { obeys = obeys_more IsMine [] (lines.Begin config detail) (obeys_none IsMine) (record { unmap = tt; touch = tt }); hands = λ runs. tt }
+made_start config detail = new_made (lines.Begin config detail ∷ []) (back.start_of config) (obeys_more IsMine [] (lines.Begin config detail) (obeys_none IsMine) (record { unmap = tt; touch = tt })) refl
 
 -- nothing is left to a job whose hand is empty
 pub hand_empty : (before : List Line) (v : back.View) → Made before v → is_some v.halted ≡ false → (place : ℕ) (t : Work) → slice_get v.jobs.works place ≡ Some t → mapping_at t.stage ≡ None → left_to t.number (this_epoch before) ≡ []

@@ -81,6 +81,16 @@ ring_more before line start over s same shown idle none first stretch = record {
 pub unnamed_first : (before : List Line) (line : Line) → reads_protocol line ≡ false → IsNamedFirstAt before line
 unnamed_first before line unnamed read = absurd (cc)
 
+-- an epoch: no producer overran in it, whatever back begins
+pub ring_epoch : (before : List Line) (start : ℕ) (over now : Bool) → ObeysRing before start over → ObeysRing (before ++ lines.Epoch ∷ []) start now
+ring_epoch before start over now s = record {
+  overruns = obeys_more IsOverrunAt before lines.Epoch s.overruns (allowed before lines.Epoch start over s (λ e. refl) refl);
+  stretches = λ small. obeys_more IsStretchAt before lines.Epoch (s.stretches small) (record { next = tt; whole = λ own. absurd (cc); inside = tt });
+  named = obeys_more IsNamedFirstAt before lines.Epoch s.named (unnamed_first before lines.Epoch refl);
+  last = shown_more before lines.Epoch ∙ shows_none before lines.Epoch refl;
+  halted = λ overran. let none : overran_behind (before ++ lines.Epoch ∷ []) ≡ false = overran_more before lines.Epoch in absurd (cc);
+}
+
 -- a read that overran, and the halt after it
 pub ring_overrun : (before : List Line) (line : Line) (start produced replied : ℕ) → ObeysRing before start false → is_epoch line ≡ false → overrun_by before line ≡ Some (record { produced = produced; replied = replied }) → is_overrun line ≡ false → IsNamedFirstAt before line
     → (start < 2 ^ 32 → IsStretchAt before line) → (start < 2 ^ 32 → IsStretchAt (before ++ line ∷ []) (lines.Halt (halts.Overrun produced replied)))

@@ -13,7 +13,7 @@ use Rattle.blk_base.specs.declared.ask.BackAnswer.{BackAnswer}
 use Rattle.blk_base.specs.declared.moves.Mover.TheVariants as mover
 use Rattle.blk_base.specs.declared.moves.Move.TheVariants as moves
 use Rattle.key_directory.specs.Watches.{Watches, with_watch, taken}
-use Rattle.key_directory.specs.Directory.{Directory, key_of, with_key, written, watches_of, with_watches}
+use Rattle.key_directory.specs.Directory.{Directory, key_of, with_key, written, watches_of, with_watches, fresh_directory}
 use Rattle.key_directory.proofs.Entries.{key_of-with_key_same, key_of-with_key_other}
 use Rattle.hypervisor.specs.Act.{FrontAct, BackAct, Outcome, Took, is_own_path}
 use Rattle.segment_list.specs.declared.verdict.DiskInfo.{DiskInfo}
@@ -23,6 +23,7 @@ use Rattle.report_rules.specs.declared.published.Serving.{Serving}
 use Rattle.report_rules.specs.Standing.{is_epoch, this_epoch}
 use Rattle.report_rules.specs.Published.{info_of, no_disk, info_told, serving, is_offer, serving_after, served_by, disk_with, disk_of}
 use Rattle.back_jobs.specs.Jobs.{ask_job}
+use Rattle.blk_front.specs.State.{is_open}
 use Rattle.blk_front.specs.Ask as front_ask
 use Rattle.blk_front.specs.Step as front_step
 use Rattle.blk_front.specs.Submit as front_submit
@@ -34,13 +35,15 @@ use Rattle.blk_back.specs.Ask.{is_led, ask_of}
 use Rattle.blk_back.specs.View as back
 use Rattle.blk_back.specs.View.{info_of as back_info}
 use Rattle.blk_back.specs.Step as back_step
-use Rattle.split_model.specs.World.{World}
+use Rattle.split_model.specs.World.{World, state_after, suspended}
 use Rattle.split_model.specs.Keys.{KeyMove, Sets, barrier_path, flush_path, discard_path, indirect_path, names_feature, mover_at, may_set, may_negotiate, is_between, offers, said_by, is_like, says_served, keys_after, key_lines, negotiated, negotiated_lines, front_path}
-use Rattle.split_model.specs.Happening.{Happening, FrontMoves, BackMoves, JobMoves, Negotiates, FrontEnters, BackAttaches, BackHalts, Submits, Notifies, Pokes, OverwritesKey, Dumps, Looks, Settles, happens, lines_at, front_after, front_shows, back_after, back_shows, job_after, job_shows, front_turn, back_turn, job_turn}
+use Rattle.split_model.specs.Happening.{Happening, FrontMoves, BackMoves, JobMoves, Negotiates, FrontEnters, BackAttaches, BackHalts, Submits, Notifies, Pokes, OverwritesKey, Suspends, Dumps, Looks, Settles, happens, lines_at, front_after, front_shows, back_after, back_shows, job_after, job_shows, front_turn, back_turn, job_turn}
 use Rattle.split_model.specs.Shown.{back_lines, halt_lines}
 use Rattle.split_model.proofs.SafeAnswers.{backs_of, jobs_of, fronts_no_key}
 use Rattle.split_model.proofs.Keys.{key_cases, negotiated_cases, keys_happen}
+use Rattle.split_model.proofs.Suspending.{suspend_cases, back_cases}
 use Rattle.split_model.proofs.Attaching.{attach_cases, attach_lines_are}
+use Rattle.ring_laws.proofs.Anew.{epoch_begins}
 use Rattle.ring_laws.proofs.Shows.{epoch_longer}
 use Rattle.ring_laws.proofs.Knows.{Follows}
 use Rattle.ring_laws.proofs.Free.{IsFree, AreFree, front_free, job_free, job_running, free_front, free_told, free_submit, free_look, free_settle}
@@ -233,9 +236,10 @@ job_sets w k o (Some a) e =
     let running : is_some w.back.halted ≡ false = job_running (is_some w.back.halted) w.under k (ask_job w.back.jobs k) o a e in
     free_sets (is_some w.back.halted) (job_shows w k (Some a)) (job_free (is_some w.back.halted) w.under k (back_step.job_ask_of w.back k) o a running (jobs_of w.back k) e, free_told (is_some w.back.halted) _ a.answer running)
 
--- whatever happens but a move of an end on its keys
+-- whatever happens but a move of an end on its keys, and a suspend
 abbrev IsElse : Happening → Type 0
 IsElse (Negotiates at move) = ⊥
+IsElse Suspends = ⊥
 IsElse h = Unit {0}
 
 lines_set_none : (w : World) (h : Happening) → IsElse h → SetNone (lines_at w h)
@@ -250,13 +254,14 @@ lines_set_none w (Submits job) other = free_sets false (lines_at w (Submits job)
 lines_set_none w (Notifies at) other = tt
 lines_set_none w (Pokes frame word value) other = outside_sets (lines_at w (Pokes frame word value)) (poke_outsiders stage.Send frame word value)
 lines_set_none w (OverwritesKey name text) other = outside_sets (lines_at w (OverwritesKey name text)) (overwritten_outsiders stage.Send name text)
+lines_set_none w Suspends other = absurd other
 lines_set_none w Dumps other = outside_sets (lines_at w Dumps) (dump_outsiders stage.Send w.under.pages (1024 * 2 ^ w.front.shape.order))
 lines_set_none w (Looks quiet) other = free_sets false (lines_at w (Looks quiet)) (free_look false quiet, tt)
 lines_set_none w (Settles quiet) other = free_sets false (lines_at w (Settles quiet)) (free_settle false quiet, tt)
 
 keys_still : (w : World) (h : Happening) → IsElse h → (let n : World = happens w h in said_by n.under.keys) ≡ said_by w.under.keys
 keys_still w h other = keys_happen (λ (d : Directory). said_by d ≡ said_by w.under.keys) (λ at d here. watches_said at d _ ∙ here) w h (λ at move is here. absurd (subst IsElse is other))
-    (λ name text is allowed here. unnamed_said w.under.keys (front_path name) text (front_unnamed (front_path name) refl) ∙ here) refl
+    (λ name text is allowed here. unnamed_said w.under.keys (front_path name) text (front_unnamed (front_path name) refl) ∙ here) (λ is may here. absurd (subst IsElse is other)) refl
 
 -- where the back is ready its keys say what the disk has that it knows
 abbrev pub IsSaying : Directory → back.View → Type 0
@@ -294,25 +299,26 @@ back_says start w before (Some a) told says = λ ready.
     by_led true e none runs = absurd (true≢false (sym (still_led v.stage w.back a.answer refl e) ∙ none))
     by_led false e none runs = ap (λ (led : Bool). not led && not (is_some v.halted)) e ∙ ap (λ (b : Bool). not b) runs
 
-says_happen : (start : ℕ) (w : World) (h : Happening) (before : List Line) → FollowsTo start before w → IsSaying w.under.keys w.back → (let n : World = happens w h in IsSaying w.under.keys n.back)
-says_happen start w FrontMoves before told says = by_act (front_turn w)
+says_happen : (start : ℕ) (w : World) (h : Happening) (before : List Line) → IsElse h → FollowsTo start before w → IsSaying w.under.keys w.back → (let n : World = happens w h in IsSaying w.under.keys n.back)
+says_happen start w FrontMoves before other told says = by_act (front_turn w)
   where
     by_act : (act : Option FrontAct) → (let n : World = front_after w act in IsSaying w.under.keys n.back)
     by_act None = says
     by_act (Some a) = says
-says_happen start w BackMoves before told says = back_says start w before (back_turn w Took) told says
-says_happen start w (JobMoves number outcome) before told says = by_act (job_turn w number outcome)
+says_happen start w BackMoves before other told says = back_says start w before (back_turn w Took) told says
+says_happen start w (JobMoves number outcome) before other told says = by_act (job_turn w number outcome)
   where
     by_act : (act : Option BackAct) → (let n : World = job_after w number act in IsSaying w.under.keys n.back)
     by_act None = says
     by_act (Some a) = says
-says_happen start w (BackAttaches shape grefs port) before told says = attach_cases (λ (v : back.View) (shown : List Line). IsSaying w.under.keys v) w shape grefs port (λ may layout served ready. served) says
-says_happen start w (BackHalts why) before told says =
+says_happen start w (BackAttaches shape grefs port) before other told says = attach_cases (λ (v : back.View) (shown : List Line). IsSaying w.under.keys v) w shape grefs port (λ may layout served ready. served) says
+says_happen start w (BackHalts why) before other told says =
     stops_cases (λ (v : back.View). IsSaying w.under.keys v) why w.back f.sight f.knows (λ new p ready. let goes = ready_runs (is_led new.stage) (is_some new.halted) ready in absurd (true≢false (sym p.over ∙ goes.1))) says
   where
     f : Follows start [] before w.back
     f = told.follows
-says_happen start w h before told says = says
+says_happen start w Suspends before other told says = absurd other
+says_happen start w h before other told says = says
 
 -- the lines tell just what the keys say, and those say what the back serves
 pub record Publishes (before : List Line) (w : World) : Type 0 where
@@ -324,8 +330,19 @@ else_publishes start w h before other told p =
     let same = keys_still w h other in
     record {
       told = serves_still (lines_at w h) before (lines_set_none w h other) ∙ (p.told ∙ sym same);
-      says = λ ready. ap (λ (s : Serving). says_served s (let n : World = happens w h in n.back.jobs.info)) same ∙ says_happen start w h before told p.says ready;
+      says = λ ready. ap (λ (s : Serving). says_served s (let n : World = happens w h in n.back.jobs.info)) same ∙ says_happen start w h before other told p.says ready;
     }
+
+-- a back that begins has set no key, and waits or has halted
+fresh_said : (going : Bool) → said_by (fresh_directory (state_after going)) ≡ serving false false false false
+fresh_said true = refl
+fresh_said false = refl
+
+suspended_publishes : (w : World) (before : List Line) → Publishes (before ++ lines.Epoch ∷ []) (suspended w)
+suspended_publishes w before = record {
+  told = ap (λ (ls : List Line). fold serving_after (serving false false false false) ls) (epoch_begins before) ∙ sym (fresh_said (is_open w.front.stage));
+  says = back_cases (λ (b : back.View). IsSaying (let v : World = suspended w in v.under.keys) b) w (λ ready. absurd (cc)) (λ ready. absurd (cc));
+}
 
 pub publishes_happens : (start : ℕ) (w : World) (h : Happening) (before : List Line) → FollowsTo start before w → Publishes before w → Publishes (before ++ lines_at w h) (happens w h)
 publishes_happens start w (Negotiates at move) before told p = record {
@@ -334,6 +351,7 @@ publishes_happens start w (Negotiates at move) before told p = record {
       let goes = ready_runs (is_led w.back.stage) (is_some w.back.halted) ready in
       ap (λ (s : Serving). says_served s w.back.jobs.info) (negotiated_still w.back.stage at move w.under.keys goes.0) ∙ p.says ready;
 }
+publishes_happens start w Suspends before told p = suspend_cases (λ (v : World) (shown : List Line). Publishes (before ++ shown) v) w (λ may. suspended_publishes w before) (subst (λ (ls : List Line). Publishes ls w) (sym (append-nil before)) p)
 publishes_happens start w h before told p = else_publishes start w h before tt told p
 
 -- as keys say what the back serves, the disk that the lines tell is the one that it publishes

@@ -12,7 +12,7 @@ use Rattle.schedule_text.specs.declared.line.Detail.{Detail}
 use Rattle.hypervisor.specs.Act.{FrontAct, BackAct, Outcome, Took, back_act}
 use Rattle.report_rules.specs.Job.{entry_values}
 use Rattle.report_rules.specs.Standing.{is_epoch, this_epoch}
-use Rattle.report_rules.specs.Reply.{AreReplies}
+use Rattle.report_rules.specs.Reply.{answered_in, AreReplies}
 use Rattle.back_jobs.specs.Jobs.{ask_job, asked, place_of, work_of, waits, work_at, told_at as told_works}
 use Rattle.back_jobs.specs.Task.{Work, step_of}
 use Rattle.ring_words.specs.Shape.{Shape}
@@ -30,10 +30,12 @@ use Rattle.blk_back.specs.declared.stage.Stage.TheVariants as stage
 use Rattle.blk_back.specs.declared.stage.Stage.{Stage}
 use Rattle.blk_back.specs.declared.told.Halt.{Halt}
 use Rattle.hypervisor.specs.Hypervisor.{Hypervisor}
-use Rattle.split_model.specs.World.{World, start_of}
-use Rattle.split_model.specs.Happening.{Happening, FrontMoves, BackMoves, JobMoves, Negotiates, FrontEnters, BackAttaches, BackHalts, Submits, Notifies, Pokes, OverwritesKey, Dumps, Looks, Settles, poke_lines, overwritten_lines, layout_text, layout_read, happens, lines_at, after, front_after, front_shows, back_after, back_shows, job_after, job_shows, front_turn, back_turn, job_turn}
+use Rattle.split_model.specs.World.{World, start_of, suspended}
+use Rattle.split_model.specs.Happening.{Happening, FrontMoves, BackMoves, JobMoves, Negotiates, FrontEnters, BackAttaches, BackHalts, Submits, Notifies, Pokes, OverwritesKey, Suspends, Dumps, Looks, Settles, poke_lines, overwritten_lines, layout_text, layout_read, happens, lines_at, after, front_after, front_shows, back_after, back_shows, job_after, job_shows, front_turn, back_turn, job_turn}
 use Rattle.split_model.specs.Shown.{halt_lines}
 use Rattle.split_model.specs.Report.{report_of, ended_report_of}
+use Rattle.split_model.proofs.Suspending.{suspend_cases, begun_back, gone_back, back_cases}
+use Rattle.ring_laws.proofs.Epochs.{epoch_writes, epoch_unanswered}
 use Rattle.split_model.proofs.Attaching.{SaysServed, attach_cases}
 use Rattle.split_model.proofs.Shapes.{back_shape, attaches_waiting}
 use Rattle.split_model.proofs.SafeAnswers.{backs_of, jobs_of, fronts_no_key}
@@ -69,7 +71,7 @@ use Rattle.ring_laws.proofs.Replying.{pending, pending_at, IsReplyOf, IsOwing, F
 use Rattle.ring_laws.proofs.NextReply.{next_has}
 use Rattle.ring_laws.proofs.WrittenBack.{MoveWrites, halt_passes, back_writes}
 use Rattle.ring_laws.proofs.Halting.{Stops, stops_cases}
-use Rattle.ring_laws.proofs.Chosen.{IsChosen, chosen_aside, chosen_stage, chosen_goes}
+use Rattle.ring_laws.proofs.Chosen.{IsChosen, new_chosen, chosen_aside, chosen_stage, chosen_goes}
 use Rattle.ring_laws.proofs.Written.{AllPass, writes_all, writes_stage, start_writes, end_writes}
 use Rattle.ring_laws.proofs.WrittenElse.{AreElse, other_writes, front_else, job_else, submit_else, look_else, settle_else}
 
@@ -292,6 +294,23 @@ attached_replies config w before shape grefs port s r = attach_cases (λ (new : 
           chosen = chosen_stage _ w.back.stage stage.MapRing told.answered refl told.chosen;
         }
 
+-- a back that begins has answered none
+new_replies : (config : Options) (before : List Line) (v : back.View) → Writes before v.stage [] → under_way v.stage ≡ [] → pending_at v.stage 0 ≡ [] → answered_in before ≡ [] → v.jobs.works ≡ [] → Replies config before v
+new_replies config before v writes none nothing unanswered empty = record {
+  answered = [];
+  job = 0;
+  writes = writes;
+  owes = λ runs. rw (nothing, empty) (nothing_owed (terms_of config v) (entry_values before) (this_epoch before) v.fetched);
+  chosen = new_chosen before v.stage none unanswered;
+}
+
+suspended_replies : (config : Options) (w : World) (before : List Line) → Replies config before w.back → (let v : World = suspended w in Replies config (before ++ lines.Epoch ∷ []) v.back)
+suspended_replies config w before r =
+    let unanswered = epoch_unanswered before in
+    back_cases (λ (b : back.View). Replies config (before ++ lines.Epoch ∷ []) b) w
+    (new_replies config (before ++ lines.Epoch ∷ []) (begun_back w) (epoch_writes before w.back.stage stage.InitWait r.answered refl r.writes) refl refl unanswered refl)
+    (new_replies config (before ++ lines.Epoch ∷ []) (gone_back w) (epoch_writes before w.back.stage stage.Halted r.answered refl r.writes) refl refl unanswered refl)
+
 replies_happen : (config : Options) (w : World) (h : Happening) (before : List Line) → Stand config before w → Stand config (before ++ lines_at w h) (happens w h) → Made before w.back → Replies config before w.back → (let n : World = happens w h in Replies config (before ++ lines_at w h) n.back)
 replies_happen config w FrontMoves before s t made r = front_after_replies config w (before ++ front_shows w (front_turn w)) (front_turn w) (front_replies config w before (front_turn w) s refl r)
 replies_happen config w BackMoves before s t made r = back_replies config w before Took (back_turn w Took) refl s t made r
@@ -304,6 +323,7 @@ replies_happen config w (Submits job) before s t made r = others_free config w b
 replies_happen config w (Notifies at) before s t made r = no_lines config before w.back r
 replies_happen config w (Pokes frame word value) before s t made r = outside_replies config w before (poke_lines frame word value) (poke_outsiders w.back.stage frame word value) s r
 replies_happen config w (OverwritesKey name text) before s t made r = outside_replies config w before (overwritten_lines name text) (overwritten_outsiders w.back.stage name text) s r
+replies_happen config w Suspends before s t made r = suspend_cases (λ (v : World) (shown : List Line). Replies config (before ++ shown) v.back) w (λ may. suspended_replies config w before r) (no_lines config before w.back r)
 replies_happen config w Dumps before s t made r = outside_replies config w before (lines_at w Dumps) (dump_outsiders w.back.stage w.under.pages (1024 * 2 ^ w.front.shape.order)) s r
 replies_happen config w (Looks quiet) before s t made r = others_free config w before (lines_at w (Looks quiet)) (look_else quiet) (look_by quiet, tt) (free_look (is_some w.back.halted) quiet, tt) s r
 replies_happen config w (Settles quiet) before s t made r = others_free config w before (lines_at w (Settles quiet)) (settle_else quiet) (settle_by quiet, tt) (free_settle (is_some w.back.halted) quiet, tt) s r
@@ -320,7 +340,7 @@ all_happens config w h before all few =
     record { stand = t; made = made_happens config w h before all.stand t all.made; replies = replies_happen config w h before all.stand t all.made all.replies }
 
 start_replies : (config : Options) (detail : Detail) → (let w : World = start_of config in Replies config (lines.Begin config detail ∷ []) w.back)
-start_replies config detail = record { answered = []; job = 0; writes = start_writes config detail; owes = λ runs. nothing_owed (terms_of config (back.start_of config)) (entry_values (lines.Begin config detail ∷ [])) (this_epoch (lines.Begin config detail ∷ [])) 0; chosen = record { matched = []; chosen = refl; answers = refl; due = tt; stays = λ k words due. due; row = tt } }
+start_replies config detail = new_replies config (lines.Begin config detail ∷ []) (back.start_of config) (start_writes config detail) refl refl refl refl
 
 report_all : (config : Options) (detail : Detail) (history : List Happening) → config.indirect ≤ 960 → reads_of (report_of config detail history) < 2 ^ 64 → All config (report_of config detail history) (after history (start_of config))
 report_all config detail history room few = kept_after (All config) (all_happens config) history (start_of config) (lines.Begin config detail ∷ []) (record { stand = stand_start config detail room; made = made_start config detail; replies = start_replies config detail }) few

@@ -31,20 +31,23 @@ use Rattle.blk_back.specs.Step.{may_attach, attached}
 use Rattle.report_rules.specs.Job.{entry_values}
 use Rattle.blk_back.specs.View as back
 use Rattle.blk_back.specs.Step as back_step
-use Rattle.split_model.specs.World.{World, start_of}
-use Rattle.split_model.specs.Happening.{Happening, FrontMoves, BackMoves, JobMoves, Negotiates, FrontEnters, BackAttaches, BackHalts, Submits, Notifies, Pokes, OverwritesKey, Dumps, Looks, Settles, poke_lines, overwritten_lines, layout_text, layout_read, happens, lines_at, after, lines_of, front_after, front_shows, back_after, back_shows, job_after, job_shows, front_turn, back_turn, job_turn}
+use Rattle.split_model.specs.World.{World, start_of, suspended}
+use Rattle.split_model.specs.Happening.{Happening, FrontMoves, BackMoves, JobMoves, Negotiates, FrontEnters, BackAttaches, BackHalts, Submits, Notifies, Pokes, OverwritesKey, Suspends, Dumps, Looks, Settles, poke_lines, overwritten_lines, layout_text, layout_read, happens, lines_at, after, lines_of, front_after, front_shows, back_after, back_shows, job_after, job_shows, front_turn, back_turn, job_turn}
 use Rattle.split_model.proofs.SafeAnswers.{jobs_of, fronts_no_key}
 use Rattle.split_model.specs.Keys.{is_layout, layout_path}
 use Rattle.split_model.specs.Shown.{halt_lines, halt_line}
 use Rattle.split_model.specs.Report.{report_of, ended_report_of}
 use Rattle.split_model.specs.Safe.{IsSafe}
 use Rattle.split_model.proofs.Safe.{safe_start, safe_happens}
+use Rattle.split_model.proofs.SafeFront.{start_front, entered_kept, submit_kept}
+use Rattle.split_model.proofs.Suspending.{suspend_cases, front_kept, back_cases, suspended_told}
 use Rattle.split_model.proofs.Attaching.{SaysServed, attach_cases}
 use Rattle.split_model.proofs.Shapes.{attaches_waiting, attaches_order, attaches_grefs}
 use Rattle.ring_laws.specs.Layout.{IsNamedFirst}
-use Rattle.ring_laws.proofs.ObeysRing.{IsWhole, ring_none, ring_more, foreign_stretch, none_whole, own_stretch}
+use Rattle.ring_laws.proofs.ObeysRing.{ObeysRing, IsWhole, ring_none, ring_more, ring_epoch, foreign_stretch, none_whole, own_stretch}
+use Rattle.ring_laws.proofs.Anew.{new_sight, shows_epoch, new_follows, gone_follows}
 use Rattle.ring_laws.proofs.Pages.{AreEarlier, pages_earlier}
-use Rattle.ring_laws.proofs.Shows.{Sight}
+use Rattle.ring_laws.proofs.Shows.{Sight, Shows}
 use Rattle.ring_laws.proofs.Knows.{AreMapped, Waits, Untold, Maps, KnowsAt, Follows, knows_still, unhalted}
 use Rattle.ring_laws.proofs.Back.{halt_follows}
 use Rattle.ring_laws.proofs.Halting.{Stops, stops_cases}
@@ -52,10 +55,11 @@ use Rattle.ring_laws.proofs.Stages.{back_goes}
 use Rattle.ring_laws.proofs.Outsiders.{keys_outsiders, state_outsiders, poke_outsiders, overwritten_outsiders, dump_outsiders, outsiders_follow}
 use Rattle.ring_laws.proofs.Free.{follow_named, follow_free, follow_all, front_free, job_free, job_running, free_front, free_told, free_submit, free_look, free_settle, free_end}
 
--- the lines so far keep the rules, and the back has nothing left to tell
+-- the lines so far keep the rules, the back has nothing left to tell, and the front's rings begin at that index
 pub record FollowsTo (start : ℕ) (before : List Line) (w : World) : Type 0 where
   pub follows : Follows start [] before w.back
   pub told : w.back.told ≡ None
+  pub begins : w.front.start ≡ start
 
 -- only what it tells differs
 retold : (start : ℕ) (before : List Line) (v : back.View) → Follows start [] before v → Follows start [] before (record v { told = None })
@@ -69,6 +73,7 @@ front_follows start w before None f e = no_lines start before w f
 front_follows start w before (Some a) f e = record {
   follows = follow_all start [] _ before w.back (front_free (is_some w.back.halted) w.under (front_ask.ask_of w.front) a (fronts_no_key w.front) e, free_front (is_some w.back.halted) _) f.follows;
   told = f.told;
+  begins = start_front w.front a.answer ∙ f.begins;
 }
 
 whole : (start n : ℕ) (values : List ℕ) {ls : List Line} {v : back.View} → n ≡ start → Follows n values ls v → Follows start [] ls v
@@ -82,14 +87,14 @@ back_follows : (start : ℕ) (w : World) (before : List Line) (o : Outcome) (act
 back_follows start w before o None safe f e = no_lines start before w f
 back_follows start w before o (Some a) safe f e =
     let gone = back_goes before w.under w.back.stage w.back o a f.follows.sight (earlier_pages w safe) f.follows.knows f.follows.knows f.follows.shows f.follows.stands f.told e in
-    record { follows = retold start _ (back_step.step_of w.back a.answer) (whole start f.follows.sight.start f.follows.sight.values f.follows.begun gone); told = refl }
+    record { follows = retold start _ (back_step.step_of w.back a.answer) (whole start f.follows.sight.start f.follows.sight.values f.follows.begun gone); told = refl; begins = f.begins }
 
 job_follows : (start : ℕ) (w : World) (before : List Line) (k : ℕ) (o : Outcome) (act : Option BackAct) → FollowsTo start before w → job_turn w k o ≡ act → FollowsTo start (before ++ job_shows w k act) (job_after w k act)
 job_follows start w before k o None f e = no_lines start before w f
 job_follows start w before k o (Some a) f e =
     let running : is_some w.back.halted ≡ false = job_running (is_some w.back.halted) w.under k (ask_job w.back.jobs k) o a e in
     let all : Follows start [] (before ++ job_shows w k (Some a)) w.back = follow_all start [] _ before w.back (job_free (is_some w.back.halted) w.under k (back_step.job_ask_of w.back k) o a running (jobs_of w.back k) e, free_told (is_some w.back.halted) _ a.answer running) f.follows in
-    record { follows = record { sight = all.sight; begun = all.begun; more = all.more; grown = all.grown; shows = all.shows; knows = knows_still w.back.stage all.sight w.back w.back.asleep (tell_job w.back.jobs k a.answer) None all.knows; stands = all.stands }; told = refl }
+    record { follows = record { sight = all.sight; begun = all.begun; more = all.more; grown = all.grown; shows = all.shows; knows = knows_still w.back.stage all.sight w.back w.back.asleep (tell_job w.back.jobs k a.answer) None all.knows; stands = all.stands }; told = refl; begins = f.begins }
 
 -- the lines of a back whose negotiation has it halt
 halted_follows : (start : ℕ) (w : World) (before : List Line) (why : Halt) → FollowsTo start before w → FollowsTo start (before ++ lines_at w (BackHalts why)) (happens w (BackHalts why))
@@ -101,10 +106,10 @@ halted_follows start w before why f =
         let one : lines.Halt (halt_line why) ∷ [] ≡ halt_lines w.back.halted new.halted = sym (ap (λ (o : Option Halt). halt_lines o new.halted) s.running ∙ ap (λ (o : Option Halt). halt_lines None o) s.halted) in
         let x : Sight = f.follows.sight in
         let all : Follows x.start x.values (before ++ lines.Halt (halt_line why) ∷ []) new = halt_follows before new f.follows.sight why (is_some w.back.halted) s.halted s.plain s.knows s.whole f.follows.shows f.follows.stands in
-        record { follows = subst (λ (ls : List Line). Follows start [] (before ++ ls) new) one (whole start x.start x.values f.follows.begun all); told = s.told ∙ f.told }
+        record { follows = subst (λ (ls : List Line). Follows start [] (before ++ ls) new) one (whole start x.start x.values f.follows.begun all); told = s.told ∙ f.told; begins = f.begins }
 
     none : FollowsTo start (before ++ halt_lines w.back.halted w.back.halted) (record { front = w.front; back = w.back; under = w.under })
-    none = record { follows = subst (λ (ls : List Line). Follows start [] ls w.back) (sym (ap (λ (ls : List Line). before ++ ls) (unhalted w.back.halted) ∙ append-nil before)) f.follows; told = f.told }
+    none = record { follows = subst (λ (ls : List Line). Follows start [] ls w.back) (sym (ap (λ (ls : List Line). before ++ ls) (unhalted w.back.halted) ∙ append-nil before)) f.follows; told = f.told; begins = f.begins }
 
 -- the layout that the key names is the one that the back takes
 abi_told : (last : Option Abi) (abi : Abi) (text : Option (List ℕ)) → is_layout abi text ≡ true → abi_after last (lines.Move (moves.GetKey mover.Back layout_path text)) ≡ Some abi
@@ -156,27 +161,57 @@ attached_follows start w before shape grefs port f =
           follows = follow_named start [] before line w.back (attached shape grefs port w.back) (Some shape.abi) f.follows refl (abi_told x.abi shape.abi (layout_text w) layout) (λ over. refl) refl
               (λ read. f.follows.shows.pages ∙ n.untold) (own_stretch before line x f.follows.shows whole refl tt) refl knows;
           told = f.told;
+          begins = f.begins;
         }
+
+-- a new epoch, in which a new back begins, or one whose front is gone
+suspended_follows : (start : ℕ) (w : World) (before : List Line) → FollowsTo start before w → FollowsTo start (before ++ lines.Epoch ∷ []) (suspended w)
+suspended_follows start w before f = record {
+  follows = subst (λ (n : ℕ). Follows n [] longer (let v : World = suspended w in v.back)) f.begins
+      (back_cases (λ (b : back.View). Follows w.front.start [] longer b) w
+      (new_follows w.front.start (let b : back.View = w.back in b.jobs.info) longer shows (obeys false)) (gone_follows w.front.start (let b : back.View = w.back in b.jobs.info) longer shows (obeys true)));
+  told = suspended_told w;
+  begins = (front_kept w.front).start ∙ f.begins;
+}
+  where
+    longer : List Line
+    longer = before ++ lines.Epoch ∷ []
+
+    x : Sight
+    x = f.follows.sight
+
+    same : x.start ≡ w.front.start
+    same = f.follows.begun ∙ sym f.begins
+
+    shows : Shows (before ++ lines.Epoch ∷ []) (new_sight w.front.start)
+    shows = shows_epoch before w.front.start (f.follows.shows.start ∙ same)
+
+    obeys : (over : Bool) → ObeysRing (before ++ lines.Epoch ∷ []) w.front.start over
+    obeys over = ring_epoch before w.front.start (is_some w.back.halted) over (subst (λ (n : ℕ). ObeysRing before n (is_some w.back.halted)) same f.follows.stands)
+
+suspend_follows : (start : ℕ) (w : World) (before : List Line) → FollowsTo start before w → FollowsTo start (before ++ lines_at w Suspends) (happens w Suspends)
+suspend_follows start w before f = suspend_cases (λ (v : World) (shown : List Line). FollowsTo start (before ++ shown) v) w (λ may. suspended_follows start w before f) (no_lines start before w f)
 
 pub follows_happens : (start : ℕ) (w : World) (h : Happening) (before : List Line) → IsSafe w → FollowsTo start before w → FollowsTo start (before ++ lines_at w h) (happens w h)
 follows_happens start w FrontMoves before safe f = front_follows start w before (front_turn w) f refl
 follows_happens start w BackMoves before safe f = back_follows start w before Took (back_turn w Took) safe f refl
 follows_happens start w (JobMoves number outcome) before safe f = job_follows start w before number outcome (job_turn w number outcome) f refl
 follows_happens start w (Negotiates at move) before safe f =
-    record { follows = outsiders_follow start [] (lines_at w (Negotiates at move)) before w.back (keys_outsiders w.back.stage at move w.under.keys) f.follows; told = f.told }
-follows_happens start w (FrontEnters state) before safe f = record { follows = outsiders_follow start [] (lines_at w (FrontEnters state)) before w.back (state_outsiders w.back.stage state w.front) f.follows; told = f.told }
+    record { follows = outsiders_follow start [] (lines_at w (Negotiates at move)) before w.back (keys_outsiders w.back.stage at move w.under.keys) f.follows; told = f.told; begins = f.begins }
+follows_happens start w (FrontEnters state) before safe f = record { follows = outsiders_follow start [] (lines_at w (FrontEnters state)) before w.back (state_outsiders w.back.stage state w.front) f.follows; told = f.told; begins = (entered_kept state w.front).start ∙ f.begins }
 follows_happens start w (BackAttaches shape grefs port) before safe f = attached_follows start w before shape grefs port f
 follows_happens start w (BackHalts why) before safe f = halted_follows start w before why f
-follows_happens start w (Submits job) before safe f = record { follows = follow_free start [] before _ w.back (free_submit (is_some w.back.halted) job (front_submit.submit_of w.front job).0) f.follows; told = f.told }
-follows_happens start w (Notifies at) before safe f = subst (λ (ls : List Line). FollowsTo start ls (happens w (Notifies at))) (sym (append-nil before)) (record { follows = f.follows; told = f.told })
+follows_happens start w (Submits job) before safe f = record { follows = follow_free start [] before _ w.back (free_submit (is_some w.back.halted) job (front_submit.submit_of w.front job).0) f.follows; told = f.told; begins = (submit_kept w.front job).start ∙ f.begins }
+follows_happens start w (Notifies at) before safe f = subst (λ (ls : List Line). FollowsTo start ls (happens w (Notifies at))) (sym (append-nil before)) (record { follows = f.follows; told = f.told; begins = f.begins })
 follows_happens start w (Pokes frame word value) before safe f =
-    record { follows = outsiders_follow start [] (poke_lines frame word value) before w.back (poke_outsiders w.back.stage frame word value) f.follows; told = f.told }
+    record { follows = outsiders_follow start [] (poke_lines frame word value) before w.back (poke_outsiders w.back.stage frame word value) f.follows; told = f.told; begins = f.begins }
 follows_happens start w (OverwritesKey name text) before safe f =
-    record { follows = outsiders_follow start [] (overwritten_lines name text) before w.back (overwritten_outsiders w.back.stage name text) f.follows; told = f.told }
+    record { follows = outsiders_follow start [] (overwritten_lines name text) before w.back (overwritten_outsiders w.back.stage name text) f.follows; told = f.told; begins = f.begins }
+follows_happens start w Suspends before safe f = suspend_follows start w before f
 follows_happens start w Dumps before safe f =
-    record { follows = outsiders_follow start [] (lines_at w Dumps) before w.back (dump_outsiders w.back.stage w.under.pages (1024 * 2 ^ w.front.shape.order)) f.follows; told = f.told }
-follows_happens start w (Looks quiet) before safe f = record { follows = follow_free start [] before _ w.back (free_look (is_some w.back.halted) quiet) f.follows; told = f.told }
-follows_happens start w (Settles quiet) before safe f = record { follows = follow_free start [] before _ w.back (free_settle (is_some w.back.halted) quiet) f.follows; told = f.told }
+    record { follows = outsiders_follow start [] (lines_at w Dumps) before w.back (dump_outsiders w.back.stage w.under.pages (1024 * 2 ^ w.front.shape.order)) f.follows; told = f.told; begins = f.begins }
+follows_happens start w (Looks quiet) before safe f = record { follows = follow_free start [] before _ w.back (free_look (is_some w.back.halted) quiet) f.follows; told = f.told; begins = f.begins }
+follows_happens start w (Settles quiet) before safe f = record { follows = follow_free start [] before _ w.back (free_settle (is_some w.back.halted) quiet) f.follows; told = f.told; begins = f.begins }
 
 follows_after : (start : ℕ) (hs : List Happening) (w : World) (before : List Line) → IsSafe w → FollowsTo start before w → FollowsTo start (before ++ lines_of hs w) (after hs w)
 follows_after start [] w before safe f = no_lines start before w f
@@ -186,18 +221,13 @@ follows_after start (h ∷ hs) w before safe f =
 
 -- the first line
 pub follows_begin : (config : Options) (detail : Detail) → Follows config.start [] (lines.Begin config detail ∷ []) (back.start_of config)
-follows_begin config detail = record {
-  sight = record { pages = []; replied = config.start; produced = config.start; words = 0; start = config.start; values = []; abi = Some X64; touched = false };
-  begun = refl;
-  more = [];
-  grown = refl;
-  shows = record { pages = refl; replied = refl; produced = refl; words = refl; start = refl; values = refl; abi = refl; fresh = λ none. refl };
-  knows = record { waits = record { running = refl; untouched = refl; begins = refl; replied = refl; produced = refl; words = refl; values = refl; numbered = refl }; untold = refl; none = refl };
-  stands = ring_more [] (lines.Begin config detail) config.start false (ring_none config.start) refl refl (λ over. refl) refl (λ read. absurd (cc)) (λ small. foreign_stretch [] (lines.Begin config detail) refl refl);
-}
+follows_begin config detail =
+    new_follows config.start (back.info_of config) (lines.Begin config detail ∷ [])
+    (record { pages = refl; replied = refl; produced = refl; words = refl; start = refl; values = refl; abi = refl; fresh = λ none. refl })
+    (ring_more [] (lines.Begin config detail) config.start false (ring_none config.start) refl refl (λ over. refl) refl (λ read. absurd (cc)) (λ small. foreign_stretch [] (lines.Begin config detail) refl refl))
 
 report_follows : (config : Options) (detail : Detail) (history : List Happening) → FollowsTo config.start (report_of config detail history) (after history (start_of config))
-report_follows config detail history = follows_after config.start history (start_of config) (lines.Begin config detail ∷ []) (safe_start config) (record { follows = follows_begin config detail; told = refl })
+report_follows config detail history = follows_after config.start history (start_of config) (lines.Begin config detail ∷ []) (safe_start config) (record { follows = follows_begin config detail; told = refl; begins = refl })
 
 ended_follows : (config : Options) (detail : Detail) (history : List Happening) → Follows config.start [] (ended_report_of config detail history) (let w : World = after history (start_of config) in w.back)
 ended_follows config detail history =

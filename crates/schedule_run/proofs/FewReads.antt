@@ -9,7 +9,7 @@ use Rattle.blk_base.specs.declared.parts.End.{End}
 use Rattle.blk_base.specs.declared.ask.BackAnswer.{BackAnswer}
 use Rattle.schedule_text.specs.declared.event.Event.{Event}
 use Rattle.schedule_text.specs.declared.line.Line.{Line}
-use Rattle.schedule_text.specs.declared.line.Line.TheVariants.{Begin, Move, Poke, Key}
+use Rattle.schedule_text.specs.declared.line.Line.TheVariants.{Begin, Move, Poke, Key, Epoch}
 use Rattle.schedule_text.specs.declared.line.Detail.{Detail}
 use Rattle.key_directory.specs.Directory.{Directory}
 use Rattle.hypervisor.specs.Act.{FrontAct, BackAct, Outcome, Took, Gave, Failed, back_act, map_act, bind_act, disk_act}
@@ -27,7 +27,7 @@ use Rattle.vbd_model.specs.World.{World, start_of, frontend_of, backend_of}
 use Rattle.split_model.specs.Shown.{front_lines, back_lines, halt_lines, state_lines}
 use Rattle.split_model.specs.Happening.{is_guest_word, word_lines, ring_lines, enter_lines, front_shows, back_shows, job_shows, front_turn, back_turn, job_turn, is_guest_key}
 use Rattle.split_model.specs.Happening as ring
-use Rattle.vbd_model.specs.Happening.{Happening, FrontMoves, BackMoves, JobMoves, Closes, Submits, Notifies, Pokes, OverwritesKey, Dumps, Looks, Settles, does, front_key, back_key, entered_at, reasons_of, halted_at, front_enters, back_halts, back_negotiates, back_bus_after, attaches, closes_does, is_fronts_ring, is_backs_ring, happens, after, all_does}
+use Rattle.vbd_model.specs.Happening.{Happening, FrontMoves, BackMoves, JobMoves, Closes, Submits, Notifies, Pokes, OverwritesKey, Suspends, Dumps, Looks, Settles, does, front_key, back_key, entered_at, reasons_of, halted_at, front_enters, back_halts, back_negotiates, back_bus_after, attaches, closes_does, is_fronts_ring, is_backs_ring, happens, after, all_does}
 use Rattle.blk_back.specs.declared.stage.Stage.{Stage as BackStage}
 use Rattle.split_model.specs.Keys.{KeyMove, negotiated_lines}
 use Rattle.vbd_model.specs.Kind.{AreOfAll, AreOfSoFar}
@@ -222,6 +222,7 @@ ring_few w (ring.Submits job) = short_reads (ring.lines_at w (ring.Submits job))
 ring_few w (ring.Notifies at) = short_reads (ring.lines_at w (ring.Notifies at)) (omega arith)
 ring_few w (ring.Pokes frame word value) = short_reads (ring.lines_at w (ring.Pokes frame word value)) (one_few (is_guest_word frame word) (Poke frame word value))
 ring_few w (ring.OverwritesKey name text) = short_reads (ring.lines_at w (ring.OverwritesKey name text)) (one_few (is_guest_key name text) (Key name text))
+ring_few w ring.Suspends = short_reads (ring.lines_at w ring.Suspends) (one_few (rings.may_suspend w) Epoch)
 ring_few w ring.Dumps = let none = words_reads w.under.pages 0 (1024 * 2 ^ w.front.shape.order) in omega arith
 ring_few w (ring.Looks quiet) = short_reads (ring.lines_at w (ring.Looks quiet)) (omega arith)
 ring_few w (ring.Settles quiet) = short_reads (ring.lines_at w (ring.Settles quiet)) (omega arith)
@@ -330,6 +331,7 @@ small w (Submits job) = alone_small (ring.Submits job)
 small w (Notifies at) = alone_small (ring.Notifies at)
 small w (Pokes frame word value) = alone_small (ring.Pokes frame word value)
 small w (OverwritesKey name text) = alone_small (ring.OverwritesKey name text)
+small w Suspends = alone_small ring.Suspends
 small w Dumps = alone_small ring.Dumps
 small w (Looks quiet) = alone_small (ring.Looks quiet)
 small w (Settles quiet) = alone_small (ring.Settles quiet)
@@ -358,6 +360,7 @@ does_few w (Submits job) = by_small (small w (Submits job))
 does_few w (Notifies at) = by_small (small w (Notifies at))
 does_few w (Pokes frame word value) = by_small (small w (Pokes frame word value))
 does_few w (OverwritesKey name text) = by_small (small w (OverwritesKey name text))
+does_few w Suspends = by_small (small w Suspends)
 does_few w Dumps = by_small (small w Dumps)
 does_few w (Looks quiet) = by_small (small w (Looks quiet))
 does_few w (Settles quiet) = by_small (small w (Settles quiet))

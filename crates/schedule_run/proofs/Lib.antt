@@ -15,3 +15,4 @@ pub mod Whole
 pub mod Begins
 pub mod Told
 pub mod LawfulEnds
+pub mod Suspended

@@ -107,8 +107,8 @@ carried_short (events.Poke f w v) h e = omega (arith, four_words (codes "poke") 
 carried_short (events.Key name text) h e =
     let both = both_true (is_key_name name) (is_key_text text) e in
     omega (arith, three_words (codes "key") name text, name_short name both.0, text_short text both.1)
+carried_short events.Suspend h e = omega arith
 carried_short events.Dump h e = omega arith
-carried_short event h e = cc
 
 -- a longer line isn't carried out
 pub long_is_bad : (line : List ℕ) → 128 < length line → IsBadLine line

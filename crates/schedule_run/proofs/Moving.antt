@@ -333,6 +333,9 @@ job_fit k o w b u same world fit =
 pub asked_now : (f : front_view.View) (ask : FrontAsk) → HasHeard f → ask ≡ front.ask_of f → ask ≡ front.ask_of (record { ring = f.ring; bus = f.bus; news = None })
 asked_now f ask heard asked = subst (λ (n : Option FrontNews). ask ≡ front.ask_of (record { ring = f.ring; bus = f.bus; news = n })) heard asked
 
+pub asked_here : (f : front_view.View) (ask : FrontAsk) → HasHeard f → ask ≡ front.ask_of (record { ring = f.ring; bus = f.bus; news = None }) → ask ≡ front.ask_of f
+asked_here f ask heard asked = subst (λ (n : Option FrontNews). ask ≡ front.ask_of (record { ring = f.ring; bus = f.bus; news = n })) (sym heard) asked
+
 pub heard_now : (f x : front_view.View) (a : FrontAnswer) → HasHeard f → x ≡ front_step.step_of f a → x ≡ front_step.step_of (record { ring = f.ring; bus = f.bus; news = None }) a
 heard_now f x a heard stepped = subst (λ (n : Option FrontNews). x ≡ front_step.step_of (record { ring = f.ring; bus = f.bus; news = n }) a) heard stepped
 

@@ -120,7 +120,7 @@ impl Machine {
             Event::Poke { frame, word, value } => self.split.poke(frame, word, value, recorder),
             Event::Dump => self.split.dump(recorder),
             Event::Key { name, text } => self.split.overwrite_key(&name, &text, recorder),
-            Event::Suspend => Ok(()),
+            Event::Suspend => self.split.suspend(recorder),
         }
     }
 }
@@ -134,9 +134,9 @@ pub fn can_serve(config: &Config) -> bool
     config.persistent == 0 && config.indirect <= 960
 }
 
-/// Whether an event is one that the machine carries out yet, with the numbers of the grammar: a
+/// Whether an event is one that the machine carries out, with the numbers of the grammar: a
 /// submission, moves of the front, of the back or of a job, rounds, settling, a look, a close of an
-/// end, a spurious event, a word or a key that a hostile hand overwrites, and a dump.
+/// end, a spurious event, a word or a key that a hostile hand overwrites, a suspend, and a dump.
 pub fn can_carry_out(event: &Event) -> bool
     ensures { result ≡ is_carried event.now }
 {
@@ -144,12 +144,12 @@ pub fn can_carry_out(event: &Event) -> bool
         Event::Submit(_) => true,
         Event::Front(n) | Event::Back(n) | Event::Turn(n) => is_number(n),
         Event::Job { number, moves } => is_number(number) && is_number(moves),
-        Event::Settle | Event::Look | Event::Notify(_) | Event::Close(_) | Event::Dump => true,
+        Event::Settle | Event::Look | Event::Dump => true,
+        Event::Notify(_) | Event::Close(_) | Event::Suspend => true,
         Event::Poke { frame, word, .. } => frame < 1024 && word < 1024,
         Event::Key { name, text } => {
             is_key_name(name.as_str().as_bytes()) && is_key_text(text.as_str().as_bytes())
         }
-        Event::Suspend => false,
     }
 }
 

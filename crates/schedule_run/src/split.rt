@@ -28,6 +28,7 @@ use vbd_front::Frontend;
 
 mod memory;
 mod rounds;
+mod suspend;
 
 /// The frontend in its domain, the backend with its jobs in another, and what lies under both.
 #[derive(Drop)]
@@ -37,6 +38,8 @@ pub struct Split {
     under: Hypervisor,
     // where what an answer lends lies until it is told
     room: Room,
+    // where the memory of a new backend comes from
+    alloc: Global,
 }
 
 impl Model for Split {
@@ -62,6 +65,7 @@ impl Split {
             back: Backend::new(alloc, config)?,
             under: Hypervisor::new(alloc)?,
             room: Room::new(),
+            alloc,
         })
     }
 

@@ -492,7 +492,7 @@ fn a_machine_carries_out_events_and_counts_them(rt: HostRuntime) -> Result<(), F
     assert_eq!(rt; can_carry_out(&Event::Submit(read)), true);
     assert_eq!(rt; can_carry_out(&Event::Submit(discard)), true);
     assert_eq!(rt; can_carry_out(&Event::Submit(Job::Flush)), true);
-    assert_eq!(rt; can_carry_out(&Event::Suspend), false);
+    assert_eq!(rt; can_carry_out(&Event::Suspend), true);
     assert_eq!(rt; can_carry_out(&Event::Turn(1000001)), false);
     assert_eq!(rt; can_carry_out(&Event::Close(End::Back)), true);
     Ok(())
@@ -725,5 +725,38 @@ fn a_flush_and_a_discard_that_the_disk_fails_are_answered_with_an_error(
         sink.bytes(),
         b"begin 64 0 0 0 0 rw 8 lines\nready\nquiet\nsubmit 1 flush\nfault 1 0\nreply 1 error\nanswer 1 error\nquiet\nsubmit 2 discard 0 8\nfault 2 0\nreply 2 error\nanswer 2 error\nquiet\nend\n".as_slice()
     );
+    Ok(())
+}
+
+#[test]
+fn a_suspend_between_an_effect_and_its_reply_issues_again_in_order_of_number(
+    rt: HostRuntime,
+) -> Result<(), Fail> {
+    let alloc = rt.alloc();
+    let schedule =
+        "settle\nsubmit write 0 1 00000001\nsubmit write 0 1 00000002\nfront 1000\nback 1000\njob 2 1000\nsuspend\nsettle\n";
+    let sink = report(alloc, schedule, zeros(alloc)?, Detail::Lines)?;
+    assert_eq!(rt;
+        sink.bytes(),
+        b"begin 64 0 0 0 0 rw 8 lines\nready\nquiet\nsubmit 1 write 0 1 00000001\nsubmit 2 write 0 1 00000002\neffect 2 0\nepoch\nready\neffect 1 0\nreply 1 ok\nanswer 1 ok\neffect 2 0\nreply 2 ok\nanswer 2 ok\nquiet\nend\n".as_slice()
+    );
+    Ok(())
+}
+
+// With `rt try --test --fail-alloc` each allocation of the suspend fails in turn: then its line is missing.
+#[test]
+fn a_suspend_that_lacks_memory_tells_no_epoch(rt: HostRuntime) -> Result<(), Fail> {
+    let alloc = rt.alloc();
+    let mut disk = zeros(alloc)?;
+    let sectors = match disk.attach("image", true) {
+        Ok(sectors) => sectors,
+        Err(_) => return Err(Fail::from("attach")),
+    };
+    let mut lines = LineList::new(alloc, Detail::Lines);
+    let mut machine = Machine::new(alloc, &config(sectors))?;
+    match machine.event(Event::Suspend, &mut disk, &mut lines) {
+        Ok(()) => assert_eq!(rt; lines.lines.as_slice(), [Line::Epoch].as_slice()),
+        Err(_) => assert_eq!(rt; lines.lines.len(), 0),
+    }
     Ok(())
 }

@@ -25,9 +25,9 @@ use Rattle.blk_back.specs.declared.told.Halt.{Halt}
 use Rattle.hypervisor.specs.Act.{FrontAct, BackAct, Took}
 use Rattle.plain_disk.specs.Echo.{is_echo, AnswersSubmit, AreRingWords}
 use Rattle.xen_pages.specs.Pages.{word_of}
-use Rattle.split_model.specs.World.{World}
+use Rattle.split_model.specs.World.{World, may_suspend}
 use Rattle.split_model.specs.Shown.{front_lines, back_lines, halt_lines, effect_line}
-use Rattle.split_model.specs.Happening.{Happening, FrontMoves, BackMoves, JobMoves, Negotiates, FrontEnters, BackAttaches, BackHalts, Submits, Notifies, Pokes, OverwritesKey, Dumps, Looks, Settles, is_guest_word, is_guest_key, word_lines, ring_lines, happens, lines_at, lines_of, front_shows, back_shows, job_shows, front_turn, back_turn, job_turn, submit_line}
+use Rattle.split_model.specs.Happening.{Happening, FrontMoves, BackMoves, JobMoves, Negotiates, FrontEnters, BackAttaches, BackHalts, Submits, Notifies, Pokes, OverwritesKey, Suspends, Dumps, Looks, Settles, is_guest_word, is_guest_key, word_lines, ring_lines, happens, lines_at, lines_of, front_shows, back_shows, job_shows, front_turn, back_turn, job_turn, submit_line}
 use Rattle.schedule_text.specs.Recorder.{recorded, kept_of}
 use Rattle.split_model.proofs.Keys.{negotiated_lines_are}
 use Rattle.split_model.proofs.Attaching.{attach_lines_are}
@@ -123,6 +123,7 @@ move_silent w (Notifies at) m = refl
 move_silent w (Submits job) m = absurd (cc)
 move_silent w (Pokes frame word value) m = absurd (cc)
 move_silent w (OverwritesKey name text) m = absurd (cc)
+move_silent w Suspends m = absurd (cc)
 move_silent w Dumps m = absurd (cc)
 move_silent w (Looks quiet) m = absurd (cc)
 move_silent w (Settles quiet) m = absurd (cc)
@@ -148,6 +149,10 @@ poke_echo w frame word value allowed = rw allowed refl
 -- so is a key
 pub overwritten_echo : (w : World) (name text : List ℕ) → is_guest_key name text ≡ true → echo_of (lines_of (OverwritesKey name text ∷ []) w) ≡ lines.Key name text ∷ []
 overwritten_echo w name text allowed = rw allowed refl
+
+-- so is a suspend
+pub suspend_echo : (w : World) → may_suspend w ≡ true → echo_of (lines_of (Suspends ∷ []) w) ≡ lines.Epoch ∷ []
+suspend_echo w may = rw may refl
 
 -- places from further on, and below a bound that is further on, are as good
 later_words : (from to bound : ℕ) (shown : List Line) → from ≤ to → AreRingWords to bound shown → AreRingWords from bound shown

@@ -1,6 +1,6 @@
 -- The front owes no more requests than its ring has entries, and no more sectors than the frames of its pool hold, whatever it is told.
 use Rattle.std.proofs.Common.{◌≡◌, ℕ, zero, suc, ◌+◌, ◌-◌, ◌*◌, ◌/◌, ◌%◌, ◌^◌, ◌<◌, ◌≤◌, ◌&&◌, Bool, true, false, not, if◌then◌else◌, cond, List, [], ◌∷◌, ◌++◌, length, refl, sym, ap, ◌∙◌, subst, arith, length-append, length-set}
-use Rattle.std.specs.Prelude.{All, Option, Some, None, Result, Ok, Err, nat_lt, nat_le, ◌==◌, slice_get, slice_set, drop, take, position, count_by, sum_by, option_and_then, option_map}
+use Rattle.std.specs.Prelude.{All, IfSome, Option, Some, None, Result, Ok, Err, nat_lt, nat_le, ◌==◌, slice_get, slice_set, drop, take, position, count_by, sum_by, option_and_then, option_map}
 use Rattle.std.proofs.lemmas.Bool.Decides.{nat_tests}
 use Rattle.std.proofs.lemmas.List.Edits.{length-remove}
 use Rattle.std.proofs.lemmas.List.Elements.{All-append, All-take, All-drop, All-get_or, All-push}
@@ -31,10 +31,13 @@ use Rattle.blk_front.specs.declared.told.Told.TheVariants as told
 use Rattle.blk_front.specs.Pool.{taking, with_taken, with_free, with_all_free}
 use Rattle.blk_front.specs.Request.{is_write, named_of, has_data, words_in, frames_for, pages_for, is_indirect, naming_words}
 use Rattle.blk_front.specs.View.{View, next_request}
-use Rattle.blk_front.specs.Step.{at, broken, ring_granted, ring_left, looked, begun, after_data, data_stage, page_stage, granted, loop_step, found_at, issued, taken, response_at, is_mapped, finished, ended, revoked, sector_told, data_step, step_at, step_of}
+use Rattle.blk_front.specs.Step.{at, broken, ring_granted, ring_left, looked, begun, after_data, data_stage, page_stage, granted, loop_step, found_at, issued, taken, response_at, is_mapped, finished, ended, revoked, sector_told, data_step, left_step, step_at, step_of}
 use Rattle.blk_front.specs.State.{in_state, enters}
+use Rattle.blk_front.specs.Suspend.{by_number, with_ending, requests_after, ending_after, suspended}
+use Rattle.blk_front.proofs.Order.{after_fits, after_all, after_ending}
 use Rattle.blk_front.specs.Submit.{is_ready, ending_of, ending_sectors, sectors_owed, unfinished, wish_of, request_with, most_segments, frames_taken, submit_with, submit_one, submit_of}
 use Rattle.split_model.proofs.States.{enters_cases}
+use Rattle.split_model.proofs.Suspending.{front_cases}
 use Rattle.split_model.proofs.Shapes.{front_shape, entered_order, few_entries}
 
 -- a request has at most eight sectors in each of its frames
@@ -49,8 +52,7 @@ abbrev pub IsShort : Request → Type 0
 IsShort r = r.count ≤ 8 * frames_of r
 
 abbrev pub IsShortEnding : Option Ending → Type 0
-IsShortEnding None = Unit {0}
-IsShortEnding (Some e) = IsShort e.request
+IsShortEnding ending = IfSome ending (λ (e : Ending). IsShort e.request)
 
 -- so many frames of the pool are in use
 abbrev pub in_use : List Bool → ℕ
@@ -235,21 +237,42 @@ told_pool v e n words = by_last (n % 128 == 127)
     by_last true = refl
     by_last false = refl
 
-data_owed : (v : View) (e : Option Ending) (n word : ℕ) → v.stage ≡ stage.ReadData n → v.ending ≡ e → Owed 1 v (data_step e n word v)
-data_owed v None n word here same = stays (stage.ReadData n) v here
-data_owed v (Some e) n word here same =
+-- a word of its data was read: the next one is, or its frames are given back
+told_on : (v : View) (e : Ending) (n word : ℕ) (to : Stage) → ending_of to ≤ 1 → Owed 1 v (at to (sector_told e n (slice_set v.words (n % 128) word) v))
+told_on v e n word to le =
     let words = slice_set v.words (n % 128) word in
-    let x = sector_told e n words v in
     let requests = told_requests v e n words in
     let ending = told_ending v e n words in
+    let pool = told_pool v e n words in
+    let used = ap in_use pool in
+    let still = ap ending_frames ending in
+    (requests, λ short. subst IsShortEnding (sym ending) short, le, ap length pool, omega arith)
+
+told_whole : (v : View) (e : Ending) (n word : ℕ) (to : Stage) → ending_of to ≤ 1 → v.ending ≡ Some e → Owed 1 v (at to (finished e (sector_told e n (slice_set v.words (n % 128) word) v)))
+told_whole v e n word to le same =
+    let words = slice_set v.words (n % 128) word in
+    let x = sector_told e n words v in
     let pool = told_pool v e n words in
     let used = ap in_use pool in
     let its = ap ending_frames same in
     let free = all_free e.request.frames.items x.pool in
     let few = free.1 in
+    (told_requests v e n words, λ short. tt, le, free.0 ∙ ap length pool, omega arith)
+
+data_owed : (v : View) (e : Option Ending) (n word : ℕ) → v.stage ≡ stage.ReadData n → v.ending ≡ e → Owed 1 v (data_step e n word v)
+data_owed v None n word here same = stays (stage.ReadData n) v here
+data_owed v (Some e) n word here same =
+    let x = sector_told e n (slice_set v.words (n % 128) word) v in
     either (nat_lt (n + 1) (words_in e.request)) 1 v (at (stage.ReadData (n + 1)) x) (finished e x)
-    (requests, λ short. subst IsShortEnding (sym ending) short, omega arith, ap length pool, let still = ap ending_frames ending in omega arith)
-    (requests, λ short. tt, omega arith, free.0 ∙ ap length pool, omega arith)
+    (told_on v e n word (stage.ReadData (n + 1)) (omega arith)) (told_whole v e n word stage.Loop (omega arith) same)
+
+-- so are data that are in hand after a suspend
+left_owed : (v : View) (e : Option Ending) (n word : ℕ) → v.stage ≡ stage.LeftData n → v.ending ≡ e → Owed 1 v (left_step e n word v)
+left_owed v None n word here same = stays (stage.LeftData n) v here
+left_owed v (Some e) n word here same =
+    let x = sector_told e n (slice_set v.words (n % 128) word) v in
+    either (nat_lt (n + 1) (words_in e.request)) 1 v (at (stage.LeftData (n + 1)) x) (at (stage.RingWord 0) (finished e x))
+    (told_on v e n word (stage.LeftData (n + 1)) (omega arith)) (told_whole v e n word (stage.RingWord 0) (omega arith) same)
 
 -- the next page of the ring is granted, or its grant ended
 granted_ring_owed : (v : View) (page : ℕ) → ending_of (ring_granted v page) ≤ 0
@@ -283,6 +306,7 @@ step_owed (stage.GrantRead place) v (answer.Word word) here takes =
 step_owed (stage.GrantEnd place before) v (answer.Word word) here takes =
     either (word == before) 1 v (revoked v.ending place v) (broken word v) (revoked_owed v v.ending place before here refl) (refl, λ short. short, omega arith, refl, omega arith)
 step_owed (stage.ReadData n) v (answer.Word word) here takes = data_owed v v.ending n word here refl
+step_owed (stage.LeftData n) v (answer.Word word) here takes = left_owed v v.ending n word here refl
 step_owed stage.StoreEvent v x here takes = goes_to 0 v stage.EventFence (omega arith)
 step_owed stage.EventFence v x here takes = goes_to 0 v stage.LookAgain (omega arith)
 step_owed stage.LookAgain v (answer.Word word) here takes = looked_owed 0 v word (record v { seen = word; stage = stage.Loop; asleep = true }) (refl, λ short. short, omega arith, refl, omega arith)
@@ -359,6 +383,43 @@ in_state_owed (state.Broken word) v = (refl, λ short. short, omega arith, refl,
 
 pub entered_modest : (s : FrontState) (v : View) → IsModest v → IsModest (enters s v)
 entered_modest s v m = enters_cases (λ x shown. IsModest x) s v (λ may. owed_modest (ending_of v.stage) v (in_state s v) (omega arith) (entered_order s v may) (in_state_owed s v) m) m
+
+-- and after a suspend: the request that was ending is one of the others again, or its data are in hand
+sum_by_number : (f : Request → ℕ) (r : Request) (l : List Request) → sum_by f (by_number r l) ≡ f r + sum_by f l
+sum_by_number f r [] = sum_by-cons f r []
+sum_by_number f r (s ∷ rest) = by_test (nat_lt r.number s.number) (sum_by_number f r rest)
+  where
+    by_test : (b : Bool) → sum_by f (by_number r rest) ≡ f r + sum_by f rest → sum_by f (if b then r ∷ s ∷ rest else s ∷ by_number r rest) ≡ f r + sum_by f (s ∷ rest)
+    by_test true more = sum_by-cons f r (s ∷ rest)
+    by_test false more =
+        let first = sum_by-cons f s (by_number r rest) in
+        let all = sum_by-cons f s rest in
+        omega arith
+
+with_ending_sum : (f : Request → ℕ) (of : Option Ending → ℕ) (ending : Option Ending) (l : List Request) → of None ≡ 0 → ((e : Ending) → of (Some e) ≡ f e.request) → sum_by f (with_ending ending l) + of None ≡ sum_by f l + of ending
+with_ending_sum f of None l none some = refl
+with_ending_sum f of (Some e) l none some = let more = sum_by_number f e.request l in let its = some e in omega arith
+
+pub after_sum : (f : Request → ℕ) (of : Option Ending → ℕ) (s : Stage) (ending : Option Ending) (l : List Request) → of None ≡ 0 → ((e : Ending) → of (Some e) ≡ f e.request)
+    → sum_by f (requests_after s ending l) + of (ending_after s ending) ≡ sum_by f l + of ending
+after_sum f of (stage.GrantRead place) ending l none some = with_ending_sum f of ending l none some
+after_sum f of (stage.GrantEnd place before) ending l none some = with_ending_sum f of ending l none some
+after_sum f of s ending l none some = refl
+
+pub suspended_modest : (v : View) → IsModest v → IsModest (suspended v)
+suspended_modest v m =
+    let same = after_sum frames_of ending_frames v.stage v.ending v.requests refl (λ e. refl) in
+    let used = m.used in
+    front_cases IsModest v
+    (λ on. record {
+      order = m.order;
+      room = after_fits v.stage v.ending v.requests 512 m.room;
+      short = after_all IsShort v.stage v.ending v.requests m.ending m.short;
+      ending = after_ending (λ (e : Ending). IsShort e.request) v.stage v.ending m.ending;
+      size = m.size;
+      used = omega arith;
+    })
+    (λ closed. m)
 
 -- and whatever is submitted
 either_submit : (b : Bool) (x y : Result ℕ Refusal × View) → IsModest x.1 → IsModest y.1 → IsModest (if b then x else y).1

@@ -7,7 +7,7 @@ use Rattle.blk_back.specs.Step as back_step
 use Rattle.hypervisor.specs.Act.{Outcome, Gave, Took, Failed}
 use Rattle.hypervisor.specs.Disk.{DiskDoes, DiskReads, DiskWrites, DiskFlushes, DiskTrims, NoCall}
 use Rattle.split_model.specs.World.{World}
-use Rattle.split_model.specs.Happening.{Happening, FrontMoves, BackMoves, JobMoves, Negotiates, FrontEnters, BackAttaches, BackHalts, Submits, Notifies, Pokes, OverwritesKey, Dumps, Looks, Settles, DiskGoes}
+use Rattle.split_model.specs.Happening.{Happening, FrontMoves, BackMoves, JobMoves, Negotiates, FrontEnters, BackAttaches, BackHalts, Submits, Notifies, Pokes, OverwritesKey, Suspends, Dumps, Looks, Settles, DiskGoes}
 
 attachment_of : (a b : DiskSeen) → b ≡ a → b.attachment ≡ a.attachment
 attachment_of a b e = ap (λ (d : DiskSeen). d.attachment) e
@@ -58,6 +58,7 @@ disk_attachment w (Submits job) a b p = attachment_of a b p
 disk_attachment w (Notifies at) a b p = attachment_of a b p
 disk_attachment w (Pokes frame word value) a b p = attachment_of a b p
 disk_attachment w (OverwritesKey name text) a b p = attachment_of a b p
+disk_attachment w Suspends a b p = attachment_of a b p
 disk_attachment w Dumps a b p = attachment_of a b p
 disk_attachment w (Looks quiet) a b p = attachment_of a b p
 disk_attachment w (Settles quiet) a b p = attachment_of a b p

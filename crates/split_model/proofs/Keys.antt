@@ -1,10 +1,8 @@
 -- What becomes of the keys: what an end does with them.
-use Rattle.std.proofs.Common.{◌≡◌, ◌≢◌, ℕ, Bool, true, false, true≢false, if◌then◌else◌, List, [], ◌∷◌, refl, sym, ap, ◌∙◌, subst}
+use Rattle.std.proofs.Common.{◌≡◌, ℕ, Bool, true, false, if◌then◌else◌, List, [], ◌∷◌, refl, sym, ap, subst}
 use Rattle.std.specs.Prelude.{Option, Some, None, Result, Ok, Err}
 use Rattle.std.specs.List.{AllByRecursion}
-use Rattle.std.specs.Str.{bytes_eq}
 use Rattle.std.proofs.lemmas.Option.{none-some}
-use Rattle.std.proofs.lemmas.Slice.Eq.{bytes_eq-Decides}
 use Rattle.blk_base.specs.declared.parts.Mode.{Mode}
 use Rattle.blk_base.specs.declared.parts.End.{End}
 use Rattle.blk_base.specs.declared.parts.End.TheVariants as end
@@ -23,17 +21,18 @@ use Rattle.event_channel.specs.declared.channels.PortState.{PortState}
 use Rattle.event_channel.specs.declared.channels.PortState.TheVariants as port
 use Rattle.event_channel.specs.Channels.{state_of}
 use Rattle.key_directory.specs.Watches.{Watches, with_watch, next_watch, first_of, taken, taken_from}
-use Rattle.key_directory.specs.Directory.{Directory, key_of, with_key, written, watches_of, with_watches}
-use Rattle.key_directory.proofs.Entries.{key_of-with_key_same, key_of-with_key_other}
+use Rattle.key_directory.specs.Directory.{Directory, key_of, written, watches_of, with_watches, fresh_directory}
 use Rattle.hypervisor.specs.Hypervisor.{Hypervisor}
 use Rattle.hypervisor.specs.Act.{FrontAct, BackAct, Outcome, Took, front_act, back_act, map_act, bind_act}
+use Rattle.blk_front.specs.State.{is_open}
 use Rattle.blk_front.specs.Ask as front_ends
 use Rattle.blk_back.specs.declared.stage.Stage.{Stage as BackStage}
 use Rattle.blk_back.specs.Ask as back_ends
 use Rattle.blk_back.specs.Step.{job_ask_of}
-use Rattle.split_model.specs.World.{World}
+use Rattle.split_model.specs.World.{World, state_after, may_suspend}
 use Rattle.split_model.specs.Keys.{KeyMove, front_path, Gets, Sets, Watches as WatchesPath, TakesWatch, mover_at, may_set, may_negotiate, keys_after, watched_lines, key_lines, negotiated, negotiated_lines}
-use Rattle.split_model.specs.Happening.{Happening, FrontMoves, BackMoves, JobMoves, Negotiates, FrontEnters, BackAttaches, BackHalts, Submits, Notifies, Pokes, OverwritesKey, Dumps, Looks, Settles, happens, front_after, back_after, job_after, front_turn, back_turn, job_turn, is_guest_key}
+use Rattle.split_model.specs.Happening.{Happening, FrontMoves, BackMoves, JobMoves, Negotiates, FrontEnters, BackAttaches, BackHalts, Submits, Notifies, Pokes, OverwritesKey, Suspends, Dumps, Looks, Settles, happens, front_after, back_after, job_after, front_turn, back_turn, job_turn, is_guest_key}
+use Rattle.split_model.proofs.Suspending.{suspend_cases}
 use Rattle.split_model.proofs.Overwriting.{poke_cases, overwriting_cases}
 use Rattle.split_model.proofs.SafeActs.{of_front, of_back, of_read, of_disk, AsksBackKey, front_wait, back_wait}
 use Rattle.split_model.proofs.SafeAnswers.{AsksNoKey, fronts_no_key, IsBacks, backs_of, IsJobs, jobs_of}
@@ -178,63 +177,24 @@ job_turn_stays : (P : Directory → Type 0) → StaysTaken P → (w : World) (k 
 job_turn_stays P taking w k o None e u = u
 job_turn_stays P taking w k o (Some a) e u = back_stays P taking w.under (back_mover.Job k) (job_ask_of w.back k) o a (jobs_no_key (job_ask_of w.back k) (jobs_of w.back k)) u e
 
--- whatever happens: what an end does with the keys keeps it, a key of the front that is overwritten, and the taking of a watch
+-- whatever happens: what an end does with the keys keeps it, a key of the front that is overwritten, a suspend, and the taking of a watch
 pub keys_happen :
     (P : Directory → Type 0) → StaysTaken P → (w : World) (h : Happening) → ((at : End) (move : KeyMove) → h ≡ Negotiates at move → P w.under.keys → P (negotiated w.back.stage at move w.under.keys))
     → ((name text : List ℕ) → h ≡ OverwritesKey name text → is_guest_key name text ≡ true → P w.under.keys → P (written w.under.keys (front_path name) text))
+    → (h ≡ Suspends → may_suspend w ≡ true → P w.under.keys → P (fresh_directory (state_after (is_open w.front.stage))))
     → P w.under.keys → (let v : World = happens w h in P v.under.keys)
-keys_happen P taking w FrontMoves kept set u = front_turn_stays P taking w (front_turn w) refl u
-keys_happen P taking w BackMoves kept set u = back_turn_stays P taking w (back_turn w Took) refl u
-keys_happen P taking w (JobMoves number outcome) kept set u = job_turn_stays P taking w number outcome (job_turn w number outcome) refl u
-keys_happen P taking w (Negotiates at move) kept set u = kept at move refl u
-keys_happen P taking w (FrontEnters state) kept set u = u
-keys_happen P taking w (BackAttaches shape grefs port) kept set u = u
-keys_happen P taking w (BackHalts why) kept set u = u
-keys_happen P taking w (Submits job) kept set u = u
-keys_happen P taking w (Notifies at) kept set u = u
-keys_happen P taking w (Pokes frame word value) kept set u = poke_cases (λ under shown. P under.keys) w.under frame word value (λ framed worded. u) u
-keys_happen P taking w (OverwritesKey name text) kept set u = overwriting_cases (λ under shown. P under.keys) w.under name text (λ allowed. set name text refl allowed u) u
-keys_happen P taking w Dumps kept set u = u
-keys_happen P taking w (Looks quiet) kept set u = u
-keys_happen P taking w (Settles quiet) kept set u = u
-
--- no text, or one of this kind
-abbrev pub IsOrNone : (List ℕ → Bool) → Option (List ℕ) → Type 0
-IsOrNone kind None = Unit {0}
-IsOrNone kind (Some text) = kind text ≡ true
-
--- each key that the one test names is so by the other
-abbrev pub SayOnly : (names kind : List ℕ → Bool) → Directory → Type 0
-SayOnly names kind d = (path : List ℕ) → names path ≡ true → IsOrNone kind (key_of d.keys path)
-
-say_watching : (names kind : List ℕ → Bool) (d : Directory) (at : End) (w : Watches) → SayOnly names kind d → SayOnly names kind (with_watches d at w)
-say_watching names kind d end.Front w say = say
-say_watching names kind d end.Back w say = say
-
-say_written : (names kind : List ℕ → Bool) (path text : List ℕ) (d : Directory) → (names path ≡ true → kind text ≡ true) → SayOnly names kind d → SayOnly names kind (written d path text)
-say_written names kind path text d may say other is = by_test (bytes_eq path other) refl
-  where
-    by_test : (b : Bool) → bytes_eq path other ≡ b → IsOrNone kind (key_of (with_key d.keys path text) other)
-    by_test true e =
-        let same : path ≡ other = (bytes_eq-Decides path other).0 e in
-        subst (λ (p : List ℕ). IsOrNone kind (key_of (with_key d.keys path text) p)) same (subst (IsOrNone kind) (sym (key_of-with_key_same d.keys path text)) (may (ap names same ∙ is)))
-    by_test false e =
-        let differs : other ≢ path = λ same. true≢false (sym ((bytes_eq-Decides path other).1 (sym same)) ∙ e) in
-        subst (IsOrNone kind) (sym (key_of-with_key_other d.keys path text other differs)) (say other is)
-
--- what an end does with the keys keeps it, where each text that may be set is so
-say_keys :
-    (names kind : List ℕ → Bool) → ((at : End) (path text : List ℕ) → may_set at path text ≡ true → names path ≡ true → kind text ≡ true)
-    → (s : BackStage) (at : End) (move : KeyMove) (d : Directory) → SayOnly names kind d → SayOnly names kind (negotiated s at move d)
-say_keys names kind set s at move d say =
-    negotiated_cases (λ (k : Directory) (shown : List Line). SayOnly names kind k) s at move d
-    (λ may. key_cases (λ (k : Directory) (shown : List Line). SayOnly names kind k) at move d
-    (λ path same. say) (λ path text same may_set. say_written names kind path text d (set at path text may_set) say)
-    (λ path same. say_watching names kind d at _ say) (λ path first. say_watching names kind d at _ say) say) say
-
-say_happens :
-    (names kind : List ℕ → Bool) → ((at : End) (path text : List ℕ) → may_set at path text ≡ true → names path ≡ true → kind text ≡ true)
-    → (w : World) (h : Happening) → SayOnly names kind w.under.keys → (let v : World = happens w h in SayOnly names kind v.under.keys)
-say_happens names kind set w h say =
-    keys_happen (SayOnly names kind) (λ at d here. say_watching names kind d at _ here) w h (λ at move is here. say_keys names kind set w.back.stage at move w.under.keys here)
-    (λ name text is allowed here. say_written names kind (front_path name) text w.under.keys (set end.Front (front_path name) text refl) here) say
+keys_happen P taking w FrontMoves kept set fresh u = front_turn_stays P taking w (front_turn w) refl u
+keys_happen P taking w BackMoves kept set fresh u = back_turn_stays P taking w (back_turn w Took) refl u
+keys_happen P taking w (JobMoves number outcome) kept set fresh u = job_turn_stays P taking w number outcome (job_turn w number outcome) refl u
+keys_happen P taking w (Negotiates at move) kept set fresh u = kept at move refl u
+keys_happen P taking w (FrontEnters state) kept set fresh u = u
+keys_happen P taking w (BackAttaches shape grefs port) kept set fresh u = u
+keys_happen P taking w (BackHalts why) kept set fresh u = u
+keys_happen P taking w (Submits job) kept set fresh u = u
+keys_happen P taking w (Notifies at) kept set fresh u = u
+keys_happen P taking w (Pokes frame word value) kept set fresh u = poke_cases (λ under shown. P under.keys) w.under frame word value (λ framed worded. u) u
+keys_happen P taking w (OverwritesKey name text) kept set fresh u = overwriting_cases (λ under shown. P under.keys) w.under name text (λ allowed. set name text refl allowed u) u
+keys_happen P taking w Suspends kept set fresh u = suspend_cases (λ v shown. P v.under.keys) w (λ may. fresh refl may u) u
+keys_happen P taking w Dumps kept set fresh u = u
+keys_happen P taking w (Looks quiet) kept set fresh u = u
+keys_happen P taking w (Settles quiet) kept set fresh u = u

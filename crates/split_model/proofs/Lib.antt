@@ -6,7 +6,9 @@ pub mod SafeActs
 pub mod SafeAnswers
 pub mod SafeGrowth
 pub mod SafeFront
+pub mod Suspending
 pub mod Safe
+pub mod FewPorts
 pub mod Overwriting
 pub mod States
 pub mod Shapes

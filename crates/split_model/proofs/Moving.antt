@@ -11,7 +11,7 @@ use Rattle.blk_base.specs.declared.moves.BackMover.{BackMover}
 use Rattle.blk_base.specs.declared.moves.BackMover.TheVariants.{Job as JobOf}
 use Rattle.blk_base.specs.declared.moves.Move.{Move as Shown}
 use Rattle.schedule_text.specs.declared.line.Line.{Line}
-use Rattle.schedule_text.specs.declared.line.Line.TheVariants.{Move, Poke, Key}
+use Rattle.schedule_text.specs.declared.line.Line.TheVariants.{Move, Poke, Key, Epoch}
 use Rattle.xen_pages.specs.Pages.{with_word}
 use Rattle.blk_io.specs.Disk.{DiskSeen}
 use Rattle.schedule_text.specs.declared.recorder.RecordStop.{RecordStop}
@@ -33,9 +33,9 @@ use Rattle.blk_back.specs.Hands.{hands_of}
 use Rattle.back_jobs.specs.Task as task
 use Rattle.back_jobs.specs.Hands.{Names}
 use Rattle.back_jobs.specs.Sound.{StaysInPageAndDisk}
-use Rattle.split_model.specs.World.{World}
+use Rattle.split_model.specs.World.{World, may_suspend, suspended}
 use Rattle.split_model.specs.Shown.{back_lines}
-use Rattle.split_model.specs.Happening.{Happening, JobMoves, Submits, Pokes, is_guest_word, submit_line, happens, lines_at, DiskGoes, job_after, job_shows, job_turn, OverwritesKey, is_guest_key}
+use Rattle.split_model.specs.Happening.{Happening, JobMoves, Submits, Pokes, is_guest_word, submit_line, happens, lines_at, DiskGoes, job_after, job_shows, job_turn, OverwritesKey, is_guest_key, Suspends}
 use Rattle.hypervisor.specs.Act.{IsGiven}
 use Rattle.split_model.specs.Leads.{moment, Goes, Is, IsJobMove}
 use Rattle.split_model.specs.Safe.{IsSafe}
@@ -44,6 +44,7 @@ use Rattle.split_model.proofs.Running.{goes_one}
 use Rattle.split_model.proofs.Safe.{job_may}
 use Rattle.split_model.proofs.SafeActs.{made_back}
 use Rattle.split_model.proofs.SafeFront.{submit_kept}
+use Rattle.split_model.proofs.Suspending.{front_kept}
 use Rattle.split_model.proofs.SafeAnswers.{IsBacks, backs_of, IsJobs, jobs_of, job_answered}
 
 -- one thing happened to the machine, and its lines were given to the recorder
@@ -211,3 +212,10 @@ pub overwrote_goes : (w : World) (name text : List ℕ) (u : Hypervisor) (c : Di
 overwrote_goes w name text u c r s result allowed set shown =
     goes_here (Is (OverwritesKey name text ∷ [])) (Is (OverwritesKey name text ∷ [])) 0 (OverwritesKey name text) w (record { front = w.front; back = w.back; under = u }) c c r s result refl refl
     (overwrote w name text u allowed set) (rw set (omega arith)) refl refl (rw allowed shown)
+
+-- the domain was suspended, and that was said
+pub suspended_goes : (w v : World) (c : DiskSeen) (r s : RecorderSeen) (result : Result (Unit {0}) RecordStop) → may_suspend w ≡ true → v ≡ suspended w → Adds (Epoch ∷ []) result r s
+    → Goes (Is (Suspends ∷ [])) (Is (Suspends ∷ [])) 0 result (moment w c r) (moment v c s)
+suspended_goes w v c r s result may is shown =
+    goes_here (Is (Suspends ∷ [])) (Is (Suspends ∷ [])) 0 Suspends w v c c r s result refl refl
+    (is ∙ rw may refl) (rw is (omega arith)) (ap (λ (x : World). x.front.sectors) is ∙ (front_kept w.front).sectors) refl (rw may shown)

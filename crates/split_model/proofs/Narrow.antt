@@ -12,9 +12,10 @@ use Rattle.blk_front.specs.Request.{is_write, named_of, frames_for}
 use Rattle.blk_front.specs.View.{View}
 use Rattle.blk_front.specs.Submit.{is_ready, unfinished, wish_of, most_segments, frames_taken, submit_with, submit_one, submit_of}
 use Rattle.split_model.specs.World.{World}
-use Rattle.split_model.specs.Happening.{Happening, FrontMoves, BackMoves, JobMoves, Negotiates, FrontEnters, BackAttaches, BackHalts, Submits, Notifies, Pokes, OverwritesKey, Dumps, Looks, Settles, happens, after, front_after, back_after, job_after, front_turn, back_turn, job_turn}
+use Rattle.split_model.specs.Happening.{Happening, FrontMoves, BackMoves, JobMoves, Negotiates, FrontEnters, BackAttaches, BackHalts, Submits, Notifies, Pokes, OverwritesKey, Suspends, Dumps, Looks, Settles, happens, after, front_after, back_after, job_after, front_turn, back_turn, job_turn}
 use Rattle.hypervisor.specs.Act.{Took}
 use Rattle.split_model.proofs.States.{enters_cases}
+use Rattle.split_model.proofs.Suspending.{suspend_cases, front_kept}
 use Rattle.split_model.proofs.Shapes.{step_shape, entered_order}
 
 either : (b : Bool) (x y : Result ℕ Refusal × View) (s : Shape) → x.1.shape ≡ s → y.1.shape ≡ s → (if b then x else y).1.shape ≡ s
@@ -71,6 +72,7 @@ happens_narrow w (Submits job) = let same = ap (λ (s : Shape). s.order) (submit
 happens_narrow w (Notifies at) = omega arith
 happens_narrow w (Pokes frame word value) = omega arith
 happens_narrow w (OverwritesKey name text) = omega arith
+happens_narrow w Suspends = suspend_cases (λ v shown. IsNarrower w v) w (λ may. let same = ap (λ (s : Shape). s.order) (front_kept w.front).shape in rw same (omega arith)) (omega arith)
 happens_narrow w Dumps = omega arith
 happens_narrow w (Looks quiet) = omega arith
 happens_narrow w (Settles quiet) = omega arith

@@ -1,5 +1,5 @@
 -- What is true of the machine at every moment stays true, and then each ask may be carried out.
-use Rattle.std.proofs.Common.{◌≡◌, ℕ, ◌+◌, ◌<◌, ◌≤◌, ◌^◌, List, [], ◌∷◌, length, refl, sym, ap, ◌∙◌, arith}
+use Rattle.std.proofs.Common.{◌≡◌, ℕ, true, ◌+◌, ◌<◌, ◌≤◌, ◌^◌, List, [], ◌∷◌, length, refl, sym, ap, ◌∙◌, arith}
 use Rattle.std.specs.Prelude.{Option, Some, None, Result, Ok, Err}
 use Rattle.std.proofs.lemmas.Option.{none-some}
 use Rattle.std.proofs.lemmas.List.Elements.{All-nil, All-contains}
@@ -17,17 +17,19 @@ use Rattle.blk_base.specs.declared.moves.BackMover.{BackMover}
 use Rattle.blk_base.specs.declared.moves.BackMover.TheVariants as back_mover
 use Rattle.grant_table.specs.declared.held.Held.{Held}
 use Rattle.grant_table.specs.declared.entry.MapRefusal.{MapRefusal}
-use Rattle.grant_table.specs.Table.{GrantTable, IsLive, fresh_table, verdict_at}
+use Rattle.grant_table.specs.Table.{GrantTable, IsLive, verdict_at}
 use Rattle.event_channel.specs.declared.channels.PortState.{PortState}
 use Rattle.event_channel.specs.declared.channels.PortState.TheVariants as port
-use Rattle.event_channel.specs.Channels.{ChannelState, state_of, sent}
+use Rattle.event_channel.specs.Channels.{ChannelState, state_of, sent, reset}
 use Rattle.hypervisor.specs.Hypervisor.{Hypervisor}
 use Rattle.hypervisor.specs.Act.{FrontAct, BackAct, Outcome, Took, front_act, back_act, map_act, bind_act}
 use Rattle.hypervisor.specs.May.{FrontMay, BackMay, HasMappingLeft}
 use Rattle.blk_front.specs.declared.stage.Stage.{Stage as FrontStage}
 use Rattle.blk_front.specs.declared.stage.Stage.TheVariants as front_stage
 use Rattle.blk_front.specs.declared.state.FrontState.{FrontState}
+use Rattle.blk_front.specs.View as front
 use Rattle.blk_front.specs.Ask as front_ends
+use Rattle.blk_front.specs.Suspend.{suspended as front_suspended}
 use Rattle.back_jobs.specs.Hands.{Names}
 use Rattle.back_jobs.specs.Sound.{StaysInPageAndDisk}
 use Rattle.blk_back.specs.declared.stage.Stage.{Stage as BackStage}
@@ -39,42 +41,49 @@ use Rattle.blk_back.specs.Step.{attached, halts, step_of, job_step, job_ask_of}
 use Rattle.blk_back.specs.Hands.{hands_at, hands_of}
 use Rattle.blk_back.proofs.Hands.{hands_after, halted_hands, job_hands_after, step_info}
 use Rattle.segment_list.specs.declared.verdict.DiskInfo.{DiskInfo}
-use Rattle.split_model.specs.World.{World, start_of}
+use Rattle.split_model.specs.World.{World, start_of, may_suspend, suspended}
 use Rattle.split_model.proofs.Overwriting.{poke_cases, overwriting_cases}
-use Rattle.split_model.specs.Happening.{Happening, FrontMoves, BackMoves, JobMoves, Negotiates, FrontEnters, BackAttaches, BackHalts, Submits, Notifies, Pokes, OverwritesKey, Dumps, Looks, Settles, happens, after, front_after, back_after, job_after, front_turn, back_turn, job_turn, other_end}
-use Rattle.split_model.specs.Safe.{AreHeld, IsPorted, IsSafe}
+use Rattle.split_model.specs.Happening.{Happening, FrontMoves, BackMoves, JobMoves, Negotiates, FrontEnters, BackAttaches, BackHalts, Submits, Notifies, Pokes, OverwritesKey, Suspends, Dumps, Looks, Settles, happens, after, front_after, back_after, job_after, front_turn, back_turn, job_turn, other_end}
+use Rattle.split_model.specs.Safe.{AreHeld, HasNoPort, IsPorted, IsSafe}
 use Rattle.split_model.proofs.SafeActs.{of_back, of_read, of_disk, held_after, made_front, back_wait, back_keys, back_key_channels}
 use Rattle.split_model.proofs.SafeAnswers.{IsFronts, IsBacks, IsJobs, fronts_at, backs_of, jobs_of, back_answered, job_answered}
 use Rattle.split_model.proofs.States.{halts_cases}
 use Rattle.split_model.proofs.Shapes.{attaches_waiting}
 use Rattle.split_model.proofs.Attaching.{attach_cases}
 use Rattle.split_model.proofs.SafeFront.{channels_front, step_fits, entered_kept, submit_kept}
+use Rattle.split_model.proofs.Suspending.{suspend_cases, ports_left_then, front_kept, suspended_hands, suspended_info, suspended_told}
 
--- at the start nothing is mapped, made or to be told
-none_live : AreHeld fresh_table []
-none_live = record {
-  live = All-nil (IsLive fresh_table);
+-- where nothing is mapped, whatever was, nothing is held
+none_live : (made : ℕ) → AreHeld (record { made = made; live = [] }) []
+none_live made = record {
+  live = All-nil (IsLive (record { made = made; live = [] }));
   counted = λ number. refl;
   as_many = refl;
   ascending = tt;
-  made_before = All-nil (λ (h : Held). h.mapping.number ≤ 0);
+  made_before = All-nil (λ (h : Held). h.mapping.number ≤ made);
 }
 
 pub safe_start : (o : Options) → IsSafe (start_of o)
-safe_start o = record { ported = (refl, refl); held = none_live; sized = refl; front_told = refl; back_told = refl }
+safe_start o = record { ported = (omega arith, refl); held = none_live 0; sized = refl; front_told = refl; back_told = refl }
 
--- no port was made
-abbrev NoPort : ChannelState → Type 0
-NoPort c = (c.made ≡ 0) × (c.ports ≡ [])
-
--- where no port was made and none is, that fits any stage before the port and so does what is like it
-ported_as : (s : FrontStage) (c c' : ChannelState) → (NoPort c → NoPort c') → IsPorted s c → IsPorted s c'
+-- where no port is there that fits any stage before the port, and so does what is like it
+ported_as : (s : FrontStage) (c c' : ChannelState) → (HasNoPort c → HasNoPort c') → IsPorted s c → IsPorted s c'
+ported_as (front_stage.LeftData n) c c' into p = into p
 ported_as (front_stage.RingWord k) c c' into p = into p
 ported_as (front_stage.RingFrame page) c c' into p = into p
 ported_as (front_stage.RingFence page) c c' into p = into p
 ported_as (front_stage.RingFlags page) c c' into p = into p
 ported_as front_stage.NewPort c c' into p = into p
 ported_as s c c' into p = tt
+
+ported_none : (s : FrontStage) (c : ChannelState) → HasNoPort c → IsPorted s c
+ported_none (front_stage.LeftData n) c none = none
+ported_none (front_stage.RingWord k) c none = none
+ported_none (front_stage.RingFrame page) c none = none
+ported_none (front_stage.RingFence page) c none = none
+ported_none (front_stage.RingFlags page) c none = none
+ported_none front_stage.NewPort c none = none
+ported_none s c none = tt
 
 -- the back makes no port
 abbrev pub MakesNoPort : Hypervisor → BackAct → Type 0
@@ -113,9 +122,9 @@ ports_back h who (back_ask.DiskWrite sector words) o a e = of_disk (MakesNoPort 
 ports_back h who back_ask.Flush o a e = of_disk (MakesNoPort h) h _ o a (under_ports h) e
 ports_back h who (back_ask.Trim sector count) o a e = of_disk (MakesNoPort h) h _ o a (under_ports h) e
 
--- so where none was made none is
-no_port : (h : Hypervisor) (a : BackAct) → MakesNoPort h a → NoPort h.channels → NoPort a.under.channels
-no_port h a makes none = (makes.0 ∙ none.0, makes.1 none.1)
+-- so where none is there none is
+no_port : (h : Hypervisor) (a : BackAct) → MakesNoPort h a → HasNoPort h.channels → HasNoPort a.under.channels
+no_port h a makes none = (let few = none.0 in let same = makes.0 in omega arith, makes.1 none.1)
 
 -- a move of the front
 pub safe_front : (w : World) (a : FrontAct) → IsSafe w → front_act w.under (front_ends.ask_of w.front) ≡ Some a → IsSafe (front_after w (Some a))
@@ -202,7 +211,7 @@ safe_submit w job safe =
       back_told = safe.back_told;
     }
 
-notified_ports : (c : ChannelState) (at : End) → NoPort c → NoPort (sent c (other_end at))
+notified_ports : (c : ChannelState) (at : End) → HasNoPort c → HasNoPort (sent c (other_end at))
 notified_ports c end.Front none = none
 notified_ports c end.Back none = none
 
@@ -230,6 +239,19 @@ safe_key w name text safe =
     (λ allowed. record { ported = safe.ported; held = safe.held; sized = safe.sized; front_told = safe.front_told; back_told = safe.back_told })
     (record { ported = safe.ported; held = safe.held; sized = safe.sized; front_told = safe.front_told; back_told = safe.back_told })
 
+-- after a suspend nothing is mapped, and no port is there, but one may be made
+safe_suspended : (w : World) → may_suspend w ≡ true → IsSafe w → IsSafe (suspended w)
+safe_suspended w may safe = record {
+  ported = ported_none (let f : front.View = front_suspended w.front in f.stage) (reset w.under.channels) (let left = ports_left_then w may in omega arith, refl);
+  held = rw (suspended_hands w) (none_live w.under.grants.made);
+  sized = ap (λ (i : DiskInfo). i.sectors) (suspended_info w) ∙ (safe.sized ∙ sym (front_kept w.front).sectors);
+  front_told = (front_kept w.front).told ∙ safe.front_told;
+  back_told = suspended_told w;
+}
+
+safe_suspend : (w : World) → IsSafe w → IsSafe (happens w Suspends)
+safe_suspend w safe = suspend_cases (λ v shown. IsSafe v) w (λ may. safe_suspended w may safe) safe
+
 -- what the front asks may be carried out
 front_may_at : (h : Hypervisor) (ask : FrontAsk) → IsFronts h.channels ask → front_ends.StaysInMemory ask → FrontMay h ask
 front_may_at h front_ask.Wait own within = tt
@@ -237,7 +259,7 @@ front_may_at h front_ask.Fence own within = tt
 front_may_at h (front_ask.Read frame word) own within = within
 front_may_at h (front_ask.Write frame word value) own within = within
 front_may_at h (front_ask.Cas frame word old new) own within = within
-front_may_at h front_ask.NewPort own within = (rw own.0 (omega arith), rw own.1 (omega arith))
+front_may_at h front_ask.NewPort own within = (own.0, rw own.1 (omega arith))
 front_may_at h front_ask.Send own within = tt
 front_may_at h front_ask.ClosePort own within = tt
 front_may_at h (front_ask.GetKey path) own within = tt
@@ -319,6 +341,7 @@ safe_happens w (Submits job) safe = safe_submit w job safe
 safe_happens w (Notifies at) safe = safe_notify w at safe
 safe_happens w (Pokes frame word value) safe = safe_poke w frame word value safe
 safe_happens w (OverwritesKey name text) safe = safe_key w name text safe
+safe_happens w Suspends safe = safe_suspend w safe
 safe_happens w Dumps safe = safe
 safe_happens w (Looks quiet) safe = safe
 safe_happens w (Settles quiet) safe = safe

@@ -1,5 +1,5 @@
 -- Each act's answer is one that its ask allows.
-use Rattle.std.proofs.Common.{◌≡◌, ℕ, Bool, true, false, if◌then◌else◌, List, [], ◌∷◌, refl}
+use Rattle.std.proofs.Common.{◌≡◌, ℕ, Bool, true, false, if◌then◌else◌, List, [], ◌∷◌, refl, arith}
 use Rattle.std.specs.Prelude.{Option, Some, None, Result, Ok, Err, is_some, ◌==◌, ◌||◌}
 use Rattle.std.proofs.lemmas.Option.{none-some}
 use Rattle.blk_base.specs.declared.parts.Mapping.{Mapping}
@@ -40,12 +40,12 @@ use Rattle.blk_back.specs.declared.stage.Stage.TheVariants as back_stage
 use Rattle.blk_back.specs.View as back
 use Rattle.blk_back.specs.Ask as back_ends
 use Rattle.blk_back.specs.Step.{job_ask_of}
-use Rattle.split_model.specs.Safe.{IsPorted}
+use Rattle.split_model.specs.Safe.{HasNoPort, IsPorted}
 use Rattle.split_model.proofs.SafeActs.{of_front, of_back, front_wait, back_wait}
 
 -- what the front asks: a new port only where there is none, and never for a key
 abbrev pub IsFronts : ChannelState → FrontAsk → Type 0
-IsFronts c front_ask.NewPort = (c.made ≡ 0) × (c.ports ≡ [])
+IsFronts c front_ask.NewPort = HasNoPort c
 IsFronts c (front_ask.GetKey path) = ⊥
 IsFronts c (front_ask.SetKey path text) = ⊥
 IsFronts c (front_ask.Watch path) = ⊥
@@ -117,6 +117,7 @@ fronts_at c (front_stage.ResponseLast low high) v ported = tt
 fronts_at c (front_stage.GrantRead place) v ported = revoke_fronts c v.ending place
 fronts_at c (front_stage.GrantEnd place seen) v ported = end_fronts c v.ending place seen
 fronts_at c (front_stage.ReadData n) v ported = read_fronts c v.ending n
+fronts_at c (front_stage.LeftData n) v ported = read_fronts c v.ending n
 fronts_at c front_stage.StoreEvent v ported = tt
 fronts_at c front_stage.EventFence v ported = tt
 fronts_at c front_stage.LookAgain v ported = tt
@@ -127,12 +128,16 @@ fronts_at c front_stage.Left v ported = tt
 fronts_at c front_stage.Closed v ported = tt
 fronts_at c (front_stage.Broken word) v ported = tt
 
+none_fresh : HasNoPort fresh_channels
+none_fresh = (omega arith, refl)
+
 ported_fresh : (s : FrontStage) → IsPorted s fresh_channels
-ported_fresh (front_stage.RingWord k) = (refl, refl)
-ported_fresh (front_stage.RingFrame page) = (refl, refl)
-ported_fresh (front_stage.RingFence page) = (refl, refl)
-ported_fresh (front_stage.RingFlags page) = (refl, refl)
-ported_fresh front_stage.NewPort = (refl, refl)
+ported_fresh (front_stage.LeftData n) = none_fresh
+ported_fresh (front_stage.RingWord k) = none_fresh
+ported_fresh (front_stage.RingFrame page) = none_fresh
+ported_fresh (front_stage.RingFence page) = none_fresh
+ported_fresh (front_stage.RingFlags page) = none_fresh
+ported_fresh front_stage.NewPort = none_fresh
 ported_fresh s = tt
 
 abbrev AnswersFront : FrontAsk → FrontAct → Type 0

@@ -23,7 +23,7 @@ use Rattle.blk_front.specs.declared.request.Transfer.TheVariants as transfer
 use Rattle.blk_front.specs.declared.told.Told.TheVariants as told
 use Rattle.blk_front.specs.Request.{has_data, words_in}
 use Rattle.blk_front.specs.View.{View, next_request}
-use Rattle.blk_front.specs.Step.{at, broken, ring_left, looked, begun, granted, loop_step, issued, response_at, is_mapped, ended, revoked, sector_told, data_step, step_at, step_of}
+use Rattle.blk_front.specs.Step.{at, broken, ring_left, looked, begun, granted, loop_step, issued, response_at, is_mapped, ended, revoked, sector_told, data_step, left_step, step_at, step_of}
 use Rattle.blk_front.specs.State.{is_unmade, may_enter, in_state}
 use Rattle.blk_back.specs.declared.stage.Stage.{Stage as BackStage}
 use Rattle.blk_back.specs.declared.stage.Stage.TheVariants as back_stage
@@ -79,6 +79,10 @@ data_shape : (v : View) (e : Option Ending) (n word : ℕ) → (data_step e n wo
 data_shape v None n word = refl
 data_shape v (Some e) n word = either (nat_lt (n + 1) (words_in e.request)) _ _ v.shape (told_shape v e n _) (told_shape v e n _)
 
+left_shape : (v : View) (e : Option Ending) (n word : ℕ) → (left_step e n word v).shape ≡ v.shape
+left_shape v None n word = refl
+left_shape v (Some e) n word = either (nat_lt (n + 1) (words_in e.request)) _ _ v.shape (told_shape v e n _) (told_shape v e n _)
+
 pub front_shape : (s : Stage) (v : View) (x : FrontAnswer) → (step_at s v x).shape ≡ v.shape
 front_shape stage.Loop v x = loop_shape v (next_request v) x
 front_shape (stage.GrantFlags place) v x = granted_shape v (next_request v) place
@@ -88,6 +92,7 @@ front_shape (stage.ResponseHigh low) v (answer.Word high) = refl
 front_shape (stage.GrantRead place) v (answer.Word word) = either (is_mapped word) (broken word v) (at (stage.GrantEnd place word) v) v.shape refl refl
 front_shape (stage.GrantEnd place before) v (answer.Word word) = either (word == before) (revoked v.ending place v) (broken word v) v.shape (revoked_shape v v.ending place) refl
 front_shape (stage.ReadData n) v (answer.Word word) = data_shape v v.ending n word
+front_shape (stage.LeftData n) v (answer.Word word) = left_shape v v.ending n word
 front_shape stage.LookAgain v (answer.Word word) = looked_shape v word (record v { seen = word; stage = stage.Loop; asleep = true }) refl
 front_shape (stage.RingRead page) v (answer.Word word) = either (is_mapped word) (broken word v) (at (stage.RingEnd page word) v) v.shape refl refl
 front_shape (stage.RingEnd page before) v (answer.Word word) = either (word == before) (at (ring_left v page) v) (broken word v) v.shape refl refl
@@ -113,18 +118,36 @@ front_shape s v x = refl
 pub step_shape : (v : View) (x : FrontAnswer) → (step_of v x).shape ≡ v.shape
 step_shape v x = front_shape v.stage v x
 
-agreed_order : (unmade : Bool) (order wished : ℕ) → (unmade && nat_le order wished) ≡ true → order ≤ wished
-agreed_order true order wished may = grind (arith, nat_tests)
-agreed_order false order wished may = absurd (true≢false (sym may))
+-- where three tests hold each does
+first_of : (a b c : Bool) → (a && b && c) ≡ true → a ≡ true
+first_of true b c may = refl
+first_of false b c may = may
+
+second_of : (a b c : Bool) → (a && b && c) ≡ true → b ≡ true
+second_of true true c may = refl
+second_of true false c may = may
+second_of false b c may = absurd (true≢false (sym may))
+
+third_of : (a b c : Bool) → (a && b && c) ≡ true → c ≡ true
+third_of true true c may = may
+third_of true false c may = absurd (true≢false (sym may))
+third_of false b c may = absurd (true≢false (sym may))
+
+is_low : (a b : ℕ) → nat_le a b ≡ true → a ≤ b
+is_low a b test = grind (arith, nat_tests)
 
 -- a state that it enters leaves it, but for an order that is agreed, which is no greater
 pub entered_order : (s : FrontState) (v : View) → may_enter s v ≡ true → (in_state s v).shape.order ≤ v.shape.order
-entered_order (state.Agreed order) v may = agreed_order (is_unmade v.stage) order v.shape.order may
+entered_order (state.Agreed order) v may = is_low order v.shape.order (second_of (is_unmade v.stage) (nat_le order v.shape.order) (nat_le (length v.requests) (entries_of order)) may)
 entered_order (state.Connected offers) v may = omega arith
 entered_order state.Closing v may = omega arith
 entered_order state.Leaving v may = omega arith
 entered_order state.Closed v may = omega arith
 entered_order (state.Broken word) v may = omega arith
+
+-- a ring of an order that is agreed has an entry for each request
+pub agreed_room : (order : ℕ) (v : View) → may_enter (state.Agreed order) v ≡ true → length v.requests ≤ entries_of order
+agreed_room order v may = is_low (length v.requests) (entries_of order) (third_of (is_unmade v.stage) (nat_le order v.shape.order) (nat_le (length v.requests) (entries_of order)) may)
 
 -- a ring has at most 512 entries
 pub few_entries : (order : ℕ) → order ≤ 4 → entries_of order ≤ 512
@@ -174,29 +197,15 @@ pub back_shape : (v : back.View) (x : BackAnswer) → (back_step.step_of v x).sh
 back_shape v x = back_shape_at v.stage v x
 
 -- a back that takes terms waited for them, and the order is at most 4
-waiting_of : (led narrow many : Bool) → (led && narrow && many) ≡ true → led ≡ true
-waiting_of true narrow many may = refl
-waiting_of false narrow many may = may
-
-narrow_of : (led narrow many : Bool) → (led && narrow && many) ≡ true → narrow ≡ true
-narrow_of true true many may = refl
-narrow_of true false many may = may
-narrow_of false narrow many may = absurd (true≢false (sym may))
-
-many_of : (led narrow many : Bool) → (led && narrow && many) ≡ true → many ≡ true
-many_of true true many may = may
-many_of true false many may = absurd (true≢false (sym may))
-many_of false narrow many may = absurd (true≢false (sym may))
-
 is_waiting : (s : BackStage) → is_led s ≡ true → s ≡ back_stage.InitWait
 is_waiting back_stage.InitWait led = refl
 is_waiting s led = absurd (cc)
 
 pub attaches_waiting : (shape : Shape) (grefs : List ℕ) (v : back.View) → back_step.may_attach shape grefs v ≡ true → v.stage ≡ back_stage.InitWait
-attaches_waiting shape grefs v may = is_waiting v.stage (waiting_of (is_led v.stage) (nat_le shape.order 4) (length grefs == 2 ^ shape.order) may)
+attaches_waiting shape grefs v may = is_waiting v.stage (first_of (is_led v.stage) (nat_le shape.order 4) (length grefs == 2 ^ shape.order) may)
 
 pub attaches_order : (shape : Shape) (grefs : List ℕ) (v : back.View) → back_step.may_attach shape grefs v ≡ true → shape.order ≤ 4
-attaches_order shape grefs v may = let narrow = narrow_of (is_led v.stage) (nat_le shape.order 4) (length grefs == 2 ^ shape.order) may in grind (arith, nat_tests)
+attaches_order shape grefs v may = let narrow = second_of (is_led v.stage) (nat_le shape.order 4) (length grefs == 2 ^ shape.order) may in grind (arith, nat_tests)
 
 pub attaches_grefs : (shape : Shape) (grefs : List ℕ) (v : back.View) → back_step.may_attach shape grefs v ≡ true → length grefs ≡ 2 ^ shape.order
-attaches_grefs shape grefs v may = let many = many_of (is_led v.stage) (nat_le shape.order 4) (length grefs == 2 ^ shape.order) may in grind (arith, nat_tests)
+attaches_grefs shape grefs v may = let many = third_of (is_led v.stage) (nat_le shape.order 4) (length grefs == 2 ^ shape.order) may in grind (arith, nat_tests)

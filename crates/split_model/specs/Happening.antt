@@ -11,7 +11,7 @@ use Rattle.blk_base.specs.declared.moves.Move.TheVariants as moves
 use Rattle.ring_words.specs.Shape.{Shape}
 use Rattle.key_directory.specs.Directory.{key_of, written}
 use Rattle.schedule_text.specs.declared.line.Line.{Line}
-use Rattle.schedule_text.specs.declared.line.Line.TheVariants.{Move, Submit, Refuse, Quiet, Busy, Unsettled, Poke, Key, Word}
+use Rattle.schedule_text.specs.declared.line.Line.TheVariants.{Move, Submit, Refuse, Quiet, Busy, Unsettled, Poke, Key, Epoch, Word}
 use Rattle.schedule_text.specs.Range.{is_allowed}
 use Rattle.event_channel.specs.Channels.{sent}
 use Rattle.xen_pages.specs.Pages.{word_of, with_word}
@@ -29,11 +29,11 @@ use Rattle.blk_back.specs.declared.told.Halt.{Halt}
 use Rattle.blk_back.specs.View as back
 use Rattle.blk_back.specs.Ask as back_ask
 use Rattle.blk_back.specs.Step as back_step
-use Rattle.split_model.specs.World.{World}
+use Rattle.split_model.specs.World.{World, may_suspend, suspended}
 use Rattle.split_model.specs.Keys.{KeyMove, front_path, layout_path, is_layout, said_by, says_served, negotiated, negotiated_lines}
 use Rattle.split_model.specs.Shown.{front_lines, back_lines, halt_lines, state_lines, refusal_word}
 
--- a move of the front, of the back, or of the job of a number with what the disk answers it; what an end does with the keys; a state that its negotiation has the front enter, the terms of its front that the back takes as it reads the key for the layout, and a reason for which its negotiation has it halt; a submission; a spurious event at an end's bound port; a word of the guest's memory, or a key of the front, overwritten by a hostile hand; a look at the words of the ring, at whether all is quiet, with what was found, and one when the rounds are over
+-- a move of the front, of the back, or of the job of a number with what the disk answers it; what an end does with the keys; a state that its negotiation has the front enter, the terms of its front that the back takes as it reads the key for the layout, and a reason for which its negotiation has it halt; a submission; a spurious event at an end's bound port; a word of the guest's memory, or a key of the front, overwritten by a hostile hand; the domain suspended and resumed; a look at the words of the ring, at whether all is quiet, with what was found, and one when the rounds are over
 pub data Happening : Type 0 where
   FrontMoves : Happening
   BackMoves : Happening
@@ -46,6 +46,7 @@ pub data Happening : Type 0 where
   Notifies : (at : End) → Happening
   Pokes : (frame word value : ℕ) → Happening
   OverwritesKey : (name text : List ℕ) → Happening
+  Suspends : Happening
   Dumps : Happening
   Looks : (quiet : Bool) → Happening
   Settles : (quiet : Bool) → Happening
@@ -153,6 +154,7 @@ happens w (Submits job) = record { front = (front_submit.submit_of w.front job).
 happens w (Notifies at) = record { front = w.front; back = w.back; under = let h : Hypervisor = w.under in record h { channels = sent h.channels (other_end at) } }
 happens w (Pokes frame word value) = record { front = w.front; back = w.back; under = overwritten w.under frame word value }
 happens w (OverwritesKey name text) = record { front = w.front; back = w.back; under = key_overwritten w.under name text }
+happens w Suspends = if may_suspend w then suspended w else w
 happens w Dumps = w
 happens w (Looks quiet) = w
 happens w (Settles quiet) = w
@@ -169,6 +171,7 @@ lines_at w (Submits job) = submit_line job (front_submit.submit_of w.front job).
 lines_at w (Notifies at) = []
 lines_at w (Pokes frame word value) = poke_lines frame word value
 lines_at w (OverwritesKey name text) = overwritten_lines name text
+lines_at w Suspends = if may_suspend w then Epoch ∷ [] else []
 lines_at w Dumps = ring_lines w.under.pages 0 (1024 * 2 ^ w.front.shape.order)
 lines_at w (Looks quiet) = (if quiet then Quiet else Busy) ∷ []
 lines_at w (Settles quiet) = (if quiet then Quiet else Unsettled) ∷ []

@@ -1,10 +1,11 @@
--- What happened before a hostile hand first overwrote a word or a key.
+-- What happened before a hostile hand first overwrote a word or a key, and before the domain was first suspended.
 use Rattle.std.specs.Prelude.{List, [], ◌∷◌}
-use Rattle.split_model.specs.Happening.{Happening, Pokes, OverwritesKey}
+use Rattle.split_model.specs.Happening.{Happening, Pokes, OverwritesKey, Suspends}
 
--- all of it where no word and no key was overwritten
+-- all of it where no word and no key was overwritten and no suspend came
 abbrev pub honest_history : List Happening → List Happening
 honest_history [] = []
 honest_history (Pokes frame word value ∷ history) = []
 honest_history (OverwritesKey name text ∷ history) = []
+honest_history (Suspends ∷ history) = []
 honest_history (h ∷ history) = h ∷ honest_history history

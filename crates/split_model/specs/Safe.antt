@@ -1,5 +1,5 @@
 -- What is true of the machine at every moment, so that each ask of an end may be carried out.
-use Rattle.std.specs.Prelude.{◌≡◌, ℕ, ◌≤◌, ◌==◌, nat_lt, List, [], length, count_by, None, All}
+use Rattle.std.specs.Prelude.{◌≡◌, ℕ, ◌<◌, ◌≤◌, ◌==◌, nat_lt, List, [], length, count_by, None, All}
 use Rattle.blk_base.specs.declared.parts.Mapping.{Mapping}
 use Rattle.grant_table.specs.declared.held.Held.{Held}
 use Rattle.grant_table.specs.Table.{GrantTable, IsLive}
@@ -20,14 +20,32 @@ pub record AreHeld (table : GrantTable) (hands : List Mapping) : Type 0 where
   pub ascending : IsAscending 0 table.live
   pub made_before : All (λ (h : Held). h.mapping.number ≤ table.made) table.live
 
--- before the front made its port there is none
+-- none of this epoch is made, and one may be
+abbrev pub HasNoPort : ChannelState → Type 0
+HasNoPort c = (c.made < 4294967295) × (c.ports ≡ [])
+
+-- before the front made its port in this epoch there is none
 abbrev pub IsPorted : Stage → ChannelState → Type 0
-IsPorted (stage.RingWord k) c = (c.made ≡ 0) × (c.ports ≡ [])
-IsPorted (stage.RingFrame page) c = (c.made ≡ 0) × (c.ports ≡ [])
-IsPorted (stage.RingFence page) c = (c.made ≡ 0) × (c.ports ≡ [])
-IsPorted (stage.RingFlags page) c = (c.made ≡ 0) × (c.ports ≡ [])
-IsPorted stage.NewPort c = (c.made ≡ 0) × (c.ports ≡ [])
+IsPorted (stage.LeftData n) c = HasNoPort c
+IsPorted (stage.RingWord k) c = HasNoPort c
+IsPorted (stage.RingFrame page) c = HasNoPort c
+IsPorted (stage.RingFence page) c = HasNoPort c
+IsPorted (stage.RingFlags page) c = HasNoPort c
+IsPorted stage.NewPort c = HasNoPort c
 IsPorted s c = Unit {0}
+
+-- how many ports the front is still to make in this epoch
+abbrev pub due_at : Stage → ℕ
+due_at (stage.LeftData n) = 1
+due_at (stage.RingWord k) = 1
+due_at (stage.RingFrame page) = 1
+due_at (stage.RingFence page) = 1
+due_at (stage.RingFlags page) = 1
+due_at stage.NewPort = 1
+due_at s = 0
+
+abbrev pub ports_due : World → ℕ
+ports_due w = due_at w.front.stage
 
 pub record IsSafe (w : World) : Type 0 where
   pub ported : IsPorted w.front.stage w.under.channels

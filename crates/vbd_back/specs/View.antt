@@ -2,6 +2,8 @@
 use Rattle.std.specs.Prelude.{ℕ, Bool, true, false, not, None}
 use Rattle.blk_base.specs.Options.{Options}
 use Rattle.blk_back.specs.View as ring
+use Rattle.blk_back.specs.declared.told.Halt.TheVariants as halt
+use Rattle.blk_back.specs.Step.{halts}
 use Rattle.xenbus_state.specs.declared.offer.Features.{Features}
 use Rattle.xenbus_state.specs.Offer.{facts_of}
 use Rattle.xenbus_state.specs.BackView as bus
@@ -32,3 +34,8 @@ heard v = let r : ring.View = v.ring in record v { ring = record r { told = None
 abbrev pub rests : BackBusAsk → Bool
 rests bus_ask.Wait = true
 rests ask = false
+
+-- after a suspend: a new backend of the same disk; one that has halted, since its front is gone, where that is closed or broken, so that its state is 6 (XenbusStateClosed)
+abbrev pub renewed : (start : ℕ) (going : Bool) → View → View
+renewed start true v = both (ring.new_of start v.ring.jobs.info) (bus.start_of v.bus.features v.bus.disk)
+renewed start false v = both (halts (halt.Gone 6) (ring.new_of start v.ring.jobs.info)) (bus.halted_of v.bus.features v.bus.disk)

@@ -4,7 +4,7 @@ ghost use Rattle.blk_back.specs.Ask.{StaysInPage};
 ghost use Rattle.blk_back.specs.Hands.{hands_of};
 ghost use Rattle.back_jobs.specs.Hands.{Names, HandsAfter};
 ghost use Rattle.vbd_back.specs.declared.turn.Turn.TheVariants as turn;
-ghost use Rattle.vbd_back.specs.View.{start_of, offer};
+ghost use Rattle.vbd_back.specs.View.{start_of, offer, renewed};
 ghost use Rattle.vbd_back.specs.Ask.{ask_of, IsAnswer};
 ghost use Rattle.vbd_back.specs.Step.{step_of, closes, is_plain};
 ghost use Rattle.vbd_back.specs.Turn.{turn_of};
@@ -14,7 +14,7 @@ mod ring;
 use crate::key::Key;
 use crate::moves;
 use crate::turn::{Turn, turn_of};
-use blk_back::Back;
+use blk_back::{Back, Halt};
 use blk_base::{BackAnswer, BackAsk, Config, Endpoint, OutOfMemory};
 use std::alloc::Global;
 use std::marker::Model;
@@ -66,6 +66,30 @@ impl Backend {
             offer(config.read_only, config.indirect),
             DiskFacts::of(config),
         );
+        let turn = turn_of(&bus, &ring);
+        let key = Key::of(&bus.ask());
+        Ok(Backend {
+            ring,
+            bus,
+            turn,
+            key,
+        })
+    }
+
+    /// After a suspend: a new backend of the same disk, of a ring of this first index, which publishes
+    /// what it offers first; where the front isn't going on, closed or broken, one that has halted. It fails
+    /// only where there is not enough memory.
+    pub fn renewed(&self, alloc: Global, start: u32, going: bool) -> Result<Backend, OutOfMemory>
+        ensures { IfOk result (λ backend. backend ≡ renewed start going self.now) }
+    {
+        let mut ring = self.ring.renewed(alloc, start)?;
+        let (features, disk) = (self.bus.features(), self.bus.disk());
+        let bus = if going {
+            BackBus::new(features, disk)
+        } else {
+            ring.halt(Halt::Gone(6));
+            BackBus::halted(features, disk)
+        };
         let turn = turn_of(&bus, &ring);
         let key = Key::of(&bus.ask());
         Ok(Backend {

@@ -386,3 +386,21 @@ fn a_push_is_ended_before_it_says_that_it_closes(rt: HostRuntime) -> Result<(), 
     sets(&rt, &mut backend, STATE, "6")?;
     Ok(())
 }
+
+fn renewed(backend: &Backend, alloc: Global, going: bool) -> Result<Backend, OutOfMemory> {
+    backend.renewed(alloc, 7, going)
+}
+
+#[test]
+fn after_a_suspend_a_new_backend_offers_the_same_and_none_whose_front_is_gone_moves(
+    rt: HostRuntime,
+) -> Result<(), Fail> {
+    let mut old = backend(rt.alloc())?;
+    begin(&rt, &mut old)?;
+    let mut new = renewed(&old, rt.alloc(), true)?;
+    begin(&rt, &mut new)?;
+    let gone = renewed(&old, rt.alloc(), false)?;
+    assert!(rt; waits(&gone) && idle(&gone));
+    assert_eq!(rt; halted(&gone), Some(Halt::Gone(6)));
+    Ok(())
+}

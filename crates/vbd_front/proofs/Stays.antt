@@ -86,6 +86,7 @@ stays (stage.RingWord k) v a h c = absurd (cc)
 stays (stage.RingFrame page) v a h c = absurd (cc)
 stays (stage.RingFence page) v a h c = absurd (cc)
 stays (stage.RingFlags page) v a h c = absurd (cc)
+stays (stage.LeftData n) v a h c = absurd (cc)
 stays stage.Loop v a h c = loop_stays v (next_request v) a h
 stays (stage.Data n) v a h c = data_stage_stays (next_request v) n
 stays (stage.Pages n) v a h c = page_stage_stays (next_request v) n

@@ -1,6 +1,6 @@
 -- Whose turn it is: what is asked and done then is what the frontend asks and does.
 use Rattle.std.proofs.Common.{◌≡◌, ℕ, ◌==◌, Bool, true, false, not, ◌&&◌, ◌||◌, if◌then◌else◌, refl, sym, ap, ◌∙◌, subst}
-use Rattle.std.specs.Prelude.{Option, Some, None}
+use Rattle.std.specs.Prelude.{Option, Some, None, IsSome}
 use Rattle.blk_base.specs.declared.ask.FrontAsk.{FrontAsk}
 use Rattle.blk_base.specs.declared.ask.FrontAsk.TheVariants as ask
 use Rattle.blk_base.specs.declared.ask.FrontAnswer.{FrontAnswer}
@@ -15,6 +15,7 @@ use Rattle.blk_front.specs.declared.stage.Stage.TheVariants as stage
 use Rattle.blk_front.specs.Request.{is_indirect}
 use Rattle.blk_front.specs.View.{View as Ring, next_request, ring_frame, slot_frame, slot_word}
 use Rattle.blk_front.specs.Ask as ring
+use Rattle.blk_front.specs.Suspend.{is_left}
 use Rattle.blk_front.specs.Step as step_ring
 use Rattle.blk_front.specs.Submit.{is_connected, is_led, is_wait, is_idle}
 use Rattle.xenbus_state.specs.declared.stage.FrontStage.{FrontStage}
@@ -27,7 +28,7 @@ use Rattle.vbd_front.specs.declared.turn.Turn.{Turn}
 use Rattle.vbd_front.specs.declared.turn.Turn.TheVariants as turn
 use Rattle.vbd_front.specs.View.{View, is_unoccupied, is_broken}
 use Rattle.vbd_front.specs.Ask.{speaks, key_ask, ring_moves, ring_ask, ask_at, ask_of, bus_ask_of, IsAnswer}
-use Rattle.vbd_front.specs.Step.{IsHeard, woken, ring_step, step_at, step_of}
+use Rattle.vbd_front.specs.Step.{IsHeard, woken, spoken, ring_step, step_at, step_of}
 use Rattle.vbd_front.specs.Turn.{turn_at, turn_of}
 use Rattle.vbd_front.proofs.Stays.{stays}
 
@@ -45,6 +46,11 @@ asks_at a v e m = ap (λ (b : Bool). if b then key_ask a else ring_ask (ring_mov
 
 pub ring_asks : (v : View) → (turn_of v ≡ turn.Keys → ⊥) → ring_moves (bus_ask_of v) v.ring.stage ≡ true → ask_of v ≡ ring.ask_of v.ring
 ring_asks v n m = asks_at (bus_ask_of v) v (silent (bus_ask_of v) v.bus.closing (is_connected v.ring.stage) n) m
+
+pub ring_steps : (v : View) (x : FrontAnswer) (b : Bool) → (turn_of v ≡ turn.Keys → ⊥) → ring_moves (bus_ask_of v) v.ring.stage ≡ b → step_of v x ≡ ring_step b (bus_ask_of v) v x
+ring_steps v x b n m =
+    ap (λ (s : Bool). if s then spoken v x else ring_step (ring_moves (bus_ask_of v) v.ring.stage) (bus_ask_of v) v x) (silent (bus_ask_of v) v.bus.closing (is_connected v.ring.stage) n)
+    ∙ ap (λ (c : Bool). ring_step c (bus_ask_of v) v x) m
 
 -- the ring's end asks for no key
 abbrev IsOfRing : FrontAsk → Type 0
@@ -107,6 +113,7 @@ of_ring (stage.GrantFlags place) v = grant_of_ring (next_request v) place
 of_ring (stage.GrantRead place) v = revoke_of_ring v.ending place
 of_ring (stage.GrantEnd place before) v = end_of_ring v.ending place before
 of_ring (stage.ReadData n) v = read_of_ring v.ending n
+of_ring (stage.LeftData n) v = read_of_ring v.ending n
 of_ring s v = tt
 
 narrowed : (a : FrontAsk) (x : FrontAnswer) → IsOfRing a → IsAnswer a x → ring.IsAnswer a x
@@ -151,10 +158,36 @@ ring_turn a c m t = absurd (cc)
 turn_is : (v : View) → turn_of v ≡ turn.Ring → (bus_ask_of v ≡ bus_ask.Wait) × (v.bus.closing ≡ false) × (is_connected v.ring.stage ≡ true)
 turn_is v t = ring_turn (bus_ask_of v) v.bus.closing (is_connected v.ring.stage) t
 
+-- then the ring's end has the move
+connected_moves : (s : Stage) → is_connected s ≡ true → ring_moves bus_ask.Wait s ≡ true
+connected_moves (stage.LeftData n) made = refl
+connected_moves s made = made
+
 pub made_asks : (v : View) → turn_of v ≡ turn.Ring → ask_of v ≡ ring.ask_of v.ring
 made_asks v t =
     let whose = turn_is v t in
-    ap (λ (a : FrontBusAsk). ask_at a v) whose.0 ∙ ap (λ (b : Bool). ring_ask b v) whose.2
+    ap (λ (a : FrontBusAsk). ask_at a v) whose.0 ∙ ap (λ (b : Bool). ring_ask b v) (connected_moves v.ring.stage whose.2)
+
+-- while data are in hand the negotiation asks nothing, and the ring's end has the move
+left_asks : (v : View) → is_left v.ring.stage ≡ true → bus_ask_of v ≡ bus_ask.Wait
+left_asks v e = ap (λ (b : Bool). if b then bus_ask.Wait else bus.ask_of v.bus (is_unoccupied v.ring)) e
+
+left_moves_at : (s : Stage) → is_left s ≡ true → ring_moves bus_ask.Wait s ≡ true
+left_moves_at (stage.LeftData n) e = refl
+left_moves_at s e = absurd (cc)
+
+-- where the negotiation speaks none are in hand
+pub left_speaks : (v : View) → turn_of v ≡ turn.Keys → is_left v.ring.stage ≡ false
+left_speaks v t = by_test (is_left v.ring.stage) refl
+  where
+    not_keys : (c m : Bool) → turn_at bus_ask.Wait c m ≡ turn.Keys → ⊥
+    not_keys false true t = absurd (cc)
+    not_keys false false t = absurd (cc)
+    not_keys true m t = absurd (cc)
+
+    by_test : (b : Bool) → is_left v.ring.stage ≡ b → b ≡ false
+    by_test false e = refl
+    by_test true e = let waits = ap (λ (a : FrontBusAsk). turn_at a v.bus.closing (is_connected v.ring.stage)) (left_asks v e) in absurd (not_keys v.bus.closing (is_connected v.ring.stage) (sym waits ∙ t))
 
 -- the end of the ring waits exactly where it is idle or waits for its negotiation
 or_none : (b : Bool) → b ≡ b || false
@@ -186,8 +219,29 @@ pub made_steps : (v : View) (x : FrontAnswer) → turn_of v ≡ turn.Ring → is
 made_steps v x t p =
     let whose = turn_is v t in
     let r : Ring = step_ring.step_of v.ring x in
-    ap (λ (a : FrontBusAsk). step_at a v x) whose.0 ∙ (ap (λ (b : Bool). ring_step b bus_ask.Wait v x) whose.2
+    ap (λ (a : FrontBusAsk). step_at a v x) whose.0 ∙ (ap (λ (b : Bool). ring_step b bus_ask.Wait v x) (connected_moves v.ring.stage whose.2)
     ∙ ap (λ (w : FrontView). record v { ring = r; bus = w }) (not_woken (is_broken r.stage) (is_unoccupied v.ring) v.bus x p))
+
+-- while data are in hand the ring's end reads a word of them, and the negotiation learns nothing
+left_plain : (s : Stage) (v : Ring) (x : FrontAnswer) → is_left s ≡ true → IsSome v.ending → ring.IsAnswer (ring.ask_at s v) x → is_plain x ≡ true
+left_plain (stage.LeftData n) v x e some h = by_read v.ending x some h
+  where
+    by_read : (ending : Option Ending) (x : FrontAnswer) → IsSome ending → ring.IsAnswer (ring.read_ask ending n) x → is_plain x ≡ true
+    by_read None x some h = absurd (cc)
+    by_read (Some r) (answer.Watched path) some h = absurd h
+    by_read (Some r) x some h = refl
+left_plain s v x e some h = absurd (cc)
+
+pub left_answers : (v : View) (x : FrontAnswer) → is_left v.ring.stage ≡ true → IsAnswer (ask_of v) x → ring.IsAnswer (ring.ask_of v.ring) x
+left_answers v x e h =
+    let asks : ask_of v ≡ ring.ask_of v.ring = ap (λ (a : FrontBusAsk). ask_at a v) (left_asks v e) ∙ ap (λ (b : Bool). ring_ask b v) (left_moves_at v.ring.stage e) in
+    narrowed (ring.ask_of v.ring) x (of_ring v.ring.stage v.ring) (subst (λ (a : FrontAsk). IsAnswer a x) asks h)
+
+pub left_steps : (v : View) (x : FrontAnswer) → is_left v.ring.stage ≡ true → IsSome v.ring.ending → IsAnswer (ask_of v) x → step_of v x ≡ record v { ring = step_ring.step_of v.ring x }
+left_steps v x e some h =
+    let r : Ring = step_ring.step_of v.ring x in
+    ap (λ (a : FrontBusAsk). step_at a v x) (left_asks v e) ∙ (ap (λ (b : Bool). ring_step b bus_ask.Wait v x) (left_moves_at v.ring.stage e)
+    ∙ ap (λ (w : FrontView). record v { ring = r; bus = w }) (not_woken (is_broken r.stage) (is_unoccupied v.ring) v.bus x (left_plain v.ring.stage v.ring x e some (left_answers v x e h))))
 
 -- what a negotiation that doesn't close asks is the same, whether a request is unfinished or not
 due_same : (s : FrontStage) (w : FrontView) (idle later : Bool) → w.closing ≡ false → bus.due_at s w idle ≡ bus.due_at s w later
@@ -198,8 +252,19 @@ due_same bus_stage.Rest w idle later c = by_closing w.closing c
     by_closing true e = absurd (cc)
 due_same s w idle later c = refl
 
-asks_same : (v w : View) → v.bus.closing ≡ false → w.bus ≡ v.bus → bus_ask_of w ≡ bus_ask_of v
-asks_same v w c e = ap (λ (b : FrontView). bus.ask_of b (is_unoccupied w.ring)) e ∙ ap (λ (s : FrontStage). bus.ask_at s v.bus) (due_same v.bus.stage v.bus (is_unoccupied w.ring) (is_unoccupied v.ring) c)
+busy_same : (v w : View) → v.bus.closing ≡ false → w.bus ≡ v.bus → bus.ask_of w.bus (is_unoccupied w.ring) ≡ bus.ask_of v.bus (is_unoccupied v.ring)
+busy_same v w c e = ap (λ (b : FrontView). bus.ask_of b (is_unoccupied w.ring)) e ∙ ap (λ (s : FrontStage). bus.ask_at s v.bus) (due_same v.bus.stage v.bus (is_unoccupied w.ring) (is_unoccupied v.ring) c)
+
+-- no data are in hand where the ring is made, and the negotiation asks what it has to ask
+made_none : (s : Stage) → is_connected s ≡ true → is_left s ≡ false
+made_none (stage.LeftData n) made = absurd (cc)
+made_none s made = refl
+
+none_left : (v : View) → is_connected v.ring.stage ≡ true → bus_ask_of v ≡ bus.ask_of v.bus (is_unoccupied v.ring)
+none_left v made = ap (λ (b : Bool). if b then bus_ask.Wait else bus.ask_of v.bus (is_unoccupied v.ring)) (made_none v.ring.stage made)
+
+asks_same : (v w : View) → v.bus.closing ≡ false → w.bus ≡ v.bus → is_connected v.ring.stage ≡ true → is_connected w.ring.stage ≡ true → bus_ask_of w ≡ bus_ask_of v
+asks_same v w c e here there = none_left w there ∙ (busy_same v w c e ∙ sym (none_left v here))
 
 -- the ring's end has the move again, and the negotiation asks for the same
 abbrev pub moved : View → FrontAnswer → View
@@ -209,7 +274,7 @@ again : (v : View) (x : FrontAnswer) → turn_of v ≡ turn.Ring → turn_of (mo
 again v x t =
     let whose = turn_is v t in
     let made : is_connected (moved v x).ring.stage ≡ true = stays v.ring.stage v.ring x whose.2 whose.2 in
-    let asked : bus_ask_of (moved v x) ≡ bus_ask.Wait = asks_same v (moved v x) whose.1 refl ∙ whose.0 in
+    let asked : bus_ask_of (moved v x) ≡ bus_ask.Wait = asks_same v (moved v x) whose.1 refl whose.2 made ∙ whose.0 in
     ap (λ (a : FrontBusAsk). turn_at a v.bus.closing (is_connected (moved v x).ring.stage)) asked
     ∙ (ap (λ (c : Bool). turn_at bus_ask.Wait c (is_connected (moved v x).ring.stage)) whose.1 ∙ ap (λ (m : Bool). turn_at bus_ask.Wait false m) made)
 
@@ -217,4 +282,6 @@ pub keeps_turn : (u : Turn) (v w : View) (x : FrontAnswer) → u ≡ turn.Ring �
 keeps_turn u v w x r known m = r ∙ sym (ap turn_of m ∙ again v x (sym known ∙ r))
 
 pub keeps_ask : (u : Turn) (v w : View) (x : FrontAnswer) → u ≡ turn.Ring → u ≡ turn_of v → w ≡ moved v x → bus_ask_of v ≡ bus_ask_of w
-keeps_ask u v w x r known m = sym (ap bus_ask_of m ∙ asks_same v (moved v x) (turn_is v (sym known ∙ r)).1 refl)
+keeps_ask u v w x r known m =
+    let whose = turn_is v (sym known ∙ r) in
+    sym (ap bus_ask_of m ∙ asks_same v (moved v x) whose.1 refl whose.2 (stays v.ring.stage v.ring x whose.2 whose.2))

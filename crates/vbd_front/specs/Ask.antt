@@ -8,6 +8,7 @@ use Rattle.blk_base.specs.declared.ask.FrontAnswer.TheVariants as answer
 use Rattle.blk_front.specs.declared.stage.Stage.{Stage}
 use Rattle.blk_front.specs.declared.stage.Stage.TheVariants as stage
 use Rattle.blk_front.specs.Submit.{is_connected, is_wait}
+use Rattle.blk_front.specs.Suspend.{is_left}
 use Rattle.blk_front.specs.Ask as ring
 use Rattle.xenbus_state.specs.declared.front.FrontBusAsk.{FrontBusAsk}
 use Rattle.xenbus_state.specs.declared.front.FrontBusAsk.TheVariants as bus_ask
@@ -25,9 +26,9 @@ own_state = path_under Front (codes "state")
 abbrev pub other_state : List ℕ
 other_state = path_under Back (codes "state")
 
--- what the negotiation asks
+-- what the negotiation asks: nothing while data are in hand after a suspend
 abbrev pub bus_ask_of : View → FrontBusAsk
-bus_ask_of v = bus.ask_of v.bus (is_unoccupied v.ring)
+bus_ask_of v = if is_left v.ring.stage then bus_ask.Wait else bus.ask_of v.bus (is_unoccupied v.ring)
 
 -- the negotiation asks for a key or a watch
 abbrev pub speaks : FrontBusAsk → Bool
@@ -46,7 +47,7 @@ key_ask (bus_ask.SetState s) = SetKey own_state (decimal (state_number s))
 key_ask (bus_ask.SetKey key value) = SetKey (path_under Front (front_name key)) (text_of value)
 key_ask a = Wait
 
--- the end of the ring has the move: the negotiation asks for what it does next to make the ring or to give it up, or the ring is made
+-- the end of the ring has the move: the negotiation asks for what it does next to make the ring or to give it up, or the ring is made, or data are in hand
 abbrev pub ring_moves : FrontBusAsk → Stage → Bool
 ring_moves (bus_ask.WriteRingWord word) (stage.RingWord k) = true
 ring_moves (bus_ask.WriteRingWord word) s = false
@@ -62,6 +63,7 @@ ring_moves (bus_ask.EndGrant page) (stage.Broken word) = true
 ring_moves (bus_ask.EndGrant page) s = false
 ring_moves bus_ask.ClosePort stage.ClosePort = true
 ring_moves bus_ask.ClosePort s = false
+ring_moves bus_ask.Wait (stage.LeftData n) = true
 ring_moves a s = is_connected s
 
 abbrev pub ring_ask : Bool → View → FrontAsk

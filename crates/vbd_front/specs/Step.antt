@@ -9,12 +9,13 @@ use Rattle.blk_front.specs.declared.state.FrontState.TheVariants as state
 use Rattle.blk_front.specs.declared.state.Offers.{Offers}
 use Rattle.blk_front.specs.View as ring
 use Rattle.blk_front.specs.Step as step_ring
-use Rattle.blk_front.specs.State.{may_enter, enters}
+use Rattle.blk_front.specs.State.{may_enter, enters, is_open}
+use Rattle.blk_front.specs.Suspend.{suspended as ring_suspended}
 use Rattle.xenbus_state.specs.declared.front.FrontNews.{FrontNews}
 use Rattle.xenbus_state.specs.declared.front.FrontNews.TheVariants as news
 use Rattle.xenbus_state.specs.declared.front.FrontBusAsk.{FrontBusAsk}
 use Rattle.xenbus_state.specs.declared.front.FrontBusAsk.TheVariants as bus_ask
-use Rattle.xenbus_state.specs.FrontView.{FrontView, ring_order, closed}
+use Rattle.xenbus_state.specs.FrontView.{FrontView, ring_order, closed, suspended as bus_suspended}
 use Rattle.xenbus_state.specs.FrontAsk as bus_asks
 use Rattle.xenbus_state.specs.FrontStep as bus
 use Rattle.vbd_front.specs.View.{View, is_broken, is_unoccupied}
@@ -124,3 +125,7 @@ step_of v a = step_at (bus_ask_of v) v a
 -- the front was asked to close
 abbrev pub closes : View → View
 closes v = record { ring = enters state.Closing v.ring; bus = closed v.bus; news = news_told (offers_of v.bus) (Some news.Closing) v.ring }
+
+-- the domain was suspended: both ends begin anew, unless the front is closed or broken
+abbrev pub suspended : View → View
+suspended v = if is_open v.ring.stage then record { ring = ring_suspended v.ring; bus = bus_suspended v.bus; news = v.news } else v

@@ -6,7 +6,9 @@ ghost use Rattle.blk_front.specs.Submit.{submit_of, unfinished, sectors_owed, is
 ghost use Rattle.xenbus_state.specs.FrontAsk.{IsAnswer as IsBusAnswer};
 ghost use Rattle.vbd_front.specs.View.{start_of, heard, is_still, is_unoccupied};
 ghost use Rattle.vbd_front.specs.Ask.{bus_ask_of, ring_moves, ask_of, IsAnswer, StaysInMemory};
-ghost use Rattle.vbd_front.specs.Step.{spoken, ring_step, step_of, closes};
+ghost use Rattle.blk_front.specs.State.{is_open};
+ghost use Rattle.blk_front.specs.Suspend.{is_left};
+ghost use Rattle.vbd_front.specs.Step.{spoken, ring_step, step_of, closes, suspended};
 ghost use Rattle.vbd_front.specs.Turn.{turn_of};
 
 use crate::news;
@@ -47,11 +49,14 @@ impl Ends {
         })
     }
 
-    /// What the negotiation asks.
+    /// What the negotiation asks: nothing while data are in hand after a suspend.
     pub fn bus_ask(&self) -> FrontBusAsk
         ensures { result ≡ bus_ask_of self.now }
     {
-        self.bus.ask(self.is_unoccupied())
+        match self.ring.stage() {
+            Stage::LeftData(_) => FrontBusAsk::Wait,
+            _ => self.bus.ask(self.is_unoccupied()),
+        }
     }
 
     /// Whose turn it is.
@@ -88,6 +93,7 @@ impl Ends {
                 )
             }
             (FrontBusAsk::ClosePort, stage) => matches!(stage, Stage::ClosePort),
+            (FrontBusAsk::Wait, Stage::LeftData(_)) => true,
             _ => self.ring.is_connected(),
         }
     }
@@ -112,7 +118,7 @@ impl Ends {
     }
 
     /// Tells the answer to what is asked, whosever turn it is.
-    #[tactic(auto, using(crate::proofs::Turns::ring_answers))]
+    #[tactic(auto, using(crate::proofs::Turns::ring_answers, crate::proofs::Turns::ring_steps, crate::proofs::Turns::left_steps, crate::proofs::Turns::left_speaks, crate::proofs::Turns::left_answers))]
     pub fn tell<'a>(&mut self, turn: Turn, answer: &FrontAnswer<'a>)
         requires turn { turn ≡ turn_of self.old }
         requires kind { IsAnswer (ask_of self.old) answer.now }
@@ -121,6 +127,7 @@ impl Ends {
     {
         match turn {
             Turn::Keys => self.take_key(answer),
+            _ if self.ring.has_left() => self.tell_ring(answer),
             _ if self.ring_moves() => self.move_ring(answer),
             _ => self.take_watch(answer),
         }
@@ -128,7 +135,8 @@ impl Ends {
 
     // The negotiation was answered.
     fn take_key(&mut self, answer: &FrontAnswer)
-        requires { IsBusAnswer (bus_ask_of self.old) answer.now }
+        requires left { is_left self.old.ring.stage ≡ false }
+        requires kind { IsBusAnswer (bus_ask_of self.old) answer.now }
         ensures { self.new ≡ spoken self.old answer.now }
     {
         let idle = self.is_unoccupied();
@@ -139,6 +147,7 @@ impl Ends {
     // The ring's end has moved.
     #[tactic(auto, using(crate::proofs::Turns::heard))]
     fn move_ring<'a>(&mut self, answer: &FrontAnswer<'a>)
+        requires left { is_left self.old.ring.stage ≡ false }
         requires moves { ring_moves (bus_ask_of self.old) self.old.ring.stage ≡ true }
         requires kind { IsRingAnswer (ring_ask_of self.old.ring) answer.now }
         requires told { self.old.ring.told ≡ None }
@@ -151,6 +160,7 @@ impl Ends {
 
     // The negotiation alone waited.
     fn take_watch(&mut self, answer: &FrontAnswer)
+        requires { is_left self.old.ring.stage ≡ false }
         ensures { self.new ≡ ring_step false (bus_ask_of self.old) self.old answer.now }
     {
         let idle = self.is_unoccupied();
@@ -164,6 +174,23 @@ impl Ends {
         let _ = self.bus.close();
         let news = Some(FrontNews::Closing);
         self.news = news::enter(&mut self.ring, news, &FrontBusAsk::Wait, &self.bus);
+    }
+
+    /// Whether the front is neither closed nor broken.
+    pub fn is_open(&self) -> bool
+        ensures { result ≡ is_open self.now.ring.stage }
+    {
+        !matches!(self.ring.stage(), Stage::Closed | Stage::Broken(_))
+    }
+
+    /// The domain was suspended and resumes.
+    pub fn suspend(&mut self)
+        ensures { self.new ≡ suspended self.old }
+    {
+        if self.is_open() {
+            self.ring.suspend();
+            self.bus.suspend();
+        }
     }
 
     /// Hands the ring's end a request.
@@ -191,6 +218,13 @@ impl Ends {
         ensures short { result.1 ≤ 3939840 }
     {
         self.ring.owed()
+    }
+
+    /// The first index of its ring.
+    pub fn start(&self) -> u32
+        ensures { result ≡ self.now.ring.start }
+    {
+        self.ring.start()
     }
 
     /// How many pages its ring has.

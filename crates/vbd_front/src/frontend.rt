@@ -3,7 +3,8 @@ ghost use Rattle.std.specs.Prelude.{◌≡◌, ◌||◌, ◌≤◌, ◌^◌, Non
 ghost use Rattle.blk_front.specs.Submit.{submit_of, unfinished, sectors_owed};
 ghost use Rattle.vbd_front.specs.View.{start_of, heard};
 ghost use Rattle.vbd_front.specs.Ask.{ask_of, is_waiting, IsAnswer, StaysInMemory};
-ghost use Rattle.vbd_front.specs.Step.{step_of, closes};
+ghost use Rattle.blk_front.specs.State.{is_open};
+ghost use Rattle.vbd_front.specs.Step.{step_of, closes, suspended};
 
 use crate::ends::Ends;
 use crate::key::Key;
@@ -69,6 +70,24 @@ impl Frontend {
         self.key = Key::of(&self.ends.bus_ask());
     }
 
+    /// Whether it is neither closed nor broken.
+    pub fn is_open(&self) -> bool
+        ensures { result ≡ is_open self.now.ring.stage }
+    {
+        self.ends.is_open()
+    }
+
+    /// The domain was suspended and resumes: the front negotiates anew, and then issues each request
+    /// whose answer wasn't told again, in order of number. The data of a read whose answer was told
+    /// are told before anything else. On a closed or broken front nothing happens. It takes no memory.
+    pub fn suspend(&mut self)
+        ensures { self.new ≡ suspended self.old }
+    {
+        self.ends.suspend();
+        self.turn = self.ends.turn();
+        self.key = Key::of(&self.ends.bus_ask());
+    }
+
     /// Whether it asks for nothing but an event or a watch.
     #[inline(always)]
     #[tactic(auto, using(crate::proofs::Turns::made_asks))]
@@ -89,6 +108,13 @@ impl Frontend {
         ensures short { result.1 ≤ 3939840 }
     {
         self.ends.owed()
+    }
+
+    /// The first index of its ring.
+    pub fn start(&self) -> u32
+        ensures { result ≡ self.now.ring.start }
+    {
+        self.ends.start()
     }
 
     /// How many pages its ring has.

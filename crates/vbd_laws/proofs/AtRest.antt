@@ -1,5 +1,5 @@
--- Where both ends wait and nothing is pending, before a hostile hand first overwrites a word or a key, neither waits for its negotiation.
-use Rattle.std.proofs.Common.{◌⊎◌, inl, inr, ◌≡◌, ◌∙◌, ap, sym, subst, refl, ℕ, ◌<◌, ◌≤◌, ◌==◌, Bool, true, false, true≢false, length, arith}
+-- Where both ends wait and nothing is pending, before a hostile hand first overwrites a word or a key and the domain is first suspended, neither waits for its negotiation.
+use Rattle.std.proofs.Common.{◌⊎◌, inl, inr, ◌≡◌, ◌∙◌, ap, sym, subst, refl, ℕ, ◌<◌, ◌≤◌, ◌==◌, Bool, true, false, true≢false, if◌then◌else◌, length, arith}
 use Rattle.std.specs.Prelude.{Option, Some, None}
 use Rattle.std.proofs.lemmas.Bool.{or_parts}
 use Rattle.std.proofs.lemmas.Bool.Decides.{nat_tests}
@@ -23,11 +23,16 @@ use Rattle.xenbus_state.specs.States.{state_number}
 use Rattle.xenbus_state.specs.declared.stage.FrontStage.{FrontStage}
 use Rattle.xenbus_state.specs.declared.stage.FrontStage.TheVariants as stage
 use Rattle.xenbus_state.specs.declared.stage.BackStage.{BackStage}
+use Rattle.xenbus_state.specs.declared.front.FrontBusAsk.{FrontBusAsk}
 use Rattle.xenbus_state.specs.declared.front.FrontBusAsk.TheVariants as front_bus
 use Rattle.xenbus_state.specs.declared.back.BackBusAsk.TheVariants as back_bus
+use Rattle.blk_front.specs.Suspend.{is_left}
+use Rattle.pipeline_laws.specs.Pipeline.{Pipeline}
+use Rattle.split_model.specs.World as rings
 use Rattle.machine_pipeline.proofs.Flow.{Flow}
-use Rattle.machine_pipeline.proofs.Holds.{IsOffered, Holds}
-use Rattle.machine_pipeline.proofs.Over.{IsKept}
+use Rattle.machine_pipeline.proofs.Holds.{Holds}
+use Rattle.machine_pipeline.proofs.Over.{Over, IsKept}
+use Rattle.machine_pipeline.proofs.AtRest.{none_before as none_yet}
 use Rattle.machine_pipeline.proofs.Together.{IsStanding}
 use Rattle.negotiation_laws.specs.Negotiation.{Negotiation}
 use Rattle.negotiation_laws.specs.Laws.{IsAtRest, AreBoth, WaitsForRequests}
@@ -42,7 +47,7 @@ use Rattle.vbd_laws.specs.Waits.{Check}
 use Rattle.vbd_laws.proofs.MovesTurns.{front_asks, back_asks}
 use Rattle.vbd_laws.proofs.NegotiatedRun.{Reached, Joined, negotiation_of}
 use Rattle.vbd_laws.proofs.WaitsFront.{Knows as FrontKnows, bus_waits as front_bus_waits, BusWaits as FrontBusWaits}
-use Rattle.vbd_laws.proofs.WaitsFrontCases.{only_rests as front_only_rests, rests_whole, ready_asks}
+use Rattle.vbd_laws.proofs.WaitsFrontCases.{bus_asks, only_rests as front_only_rests, rests_whole, ready_asks}
 use Rattle.vbd_laws.proofs.WaitsBack.{Knows as BackKnows}
 use Rattle.vbd_laws.proofs.WaitsBackCases.{only_rests as back_only_rests, rests_so, unmaps_some, bus_waits as back_bus_waits, BusWaits as BackBusWaits}
 
@@ -84,6 +89,22 @@ serving_unled s serves = refl
 other : {A : Type 0} (own a b : BusState) → own ≡ a → own ≡ b → state_number a < state_number b → A
 other own a b is also less = absurd (let one : state_number own ≡ state_number a = ap state_number is in let two : state_number own ≡ state_number b = ap state_number also in omega (arith, one, two, less))
 
+-- in its first epoch the front has no data left of an earlier one
+left_holds : (config : Options) (w : rings.World) (g : Flow) (d : Pipeline) (s : Stage) (b : BackRing) → Holds config w g d s b → is_left s ≡ false
+left_holds config w g d (ring_stage.LeftData n) b h = absurd h.front_at
+left_holds config w g d s b h = refl
+
+left_over : (config : Options) (w : rings.World) (d : Pipeline) (s : Stage) (b : BackRing) → Over config w d s b → is_left s ≡ false
+left_over config w d (ring_stage.LeftData n) b o = absurd o.front_at
+left_over config w d s b o = refl
+
+pub none_left : (config : Options) (w : rings.World) → IsStanding config w → is_left w.front.stage ≡ false
+none_left config w standing = by_kept standing.kept
+  where
+    by_kept : IsKept config w standing.pipeline → is_left w.front.stage ≡ false
+    by_kept (inl held) = left_holds config w held.0 standing.pipeline w.front.stage w.back.stage held.1
+    by_kept (inr over) = left_over config w standing.pipeline w.front.stage w.back.stage over
+
 -- both ends wait, and nothing is pending
 pub record AreWaiting (w : World) : Type 0 where
   pub front : front.ask_of (frontend_of w) ≡ front_ask.Wait
@@ -99,8 +120,14 @@ module _ (config : Options) (w : World) (c d : Check) (k : FrontKnows w c) (j : 
   abbrev idle : Bool
   idle = front_view.is_unoccupied w.rings.front
 
-  front_rests : front_asks w ≡ front_bus.Wait
-  front_rests = front_only_rests w c k whole waiting.front
+  asks : front_asks w ≡ bus_asks w
+  asks = ap (λ (left : Bool). if left then front_bus.Wait else bus_asks w) (none_left config w.rings standing)
+
+  waits : front.ask_at (bus_asks w) (frontend_of w) ≡ front_ask.Wait
+  waits = subst (λ (b : FrontBusAsk). front.ask_at b (frontend_of w) ≡ front_ask.Wait) asks waiting.front
+
+  front_rests : bus_asks w ≡ front_bus.Wait
+  front_rests = front_only_rests w c k whole waits
 
   back_rests : back_asks w ≡ back_bus.Wait
   back_rests = back_only_rests w d j waiting.back
@@ -140,22 +167,11 @@ module _ (config : Options) (w : World) (c d : Check) (k : FrontKnows w c) (j : 
 
   -- before it is connected it has no request
   none_before : is_ready r ≡ false → length w.rings.front.requests ≡ 0
-  none_before unready = by_kept standing.kept
-    where
-      by_held : (g : Flow) → Holds config w.rings g standing.pipeline r w.rings.back.stage → length w.rings.front.requests ≡ 0
-      by_held g h =
-          let offered : IsOffered false config.read_only config.indirect w.rings.front.offers g.pushed w.rings.front.last = subst (λ (b : Bool). IsOffered b config.read_only config.indirect w.rings.front.offers g.pushed w.rings.front.last) unready h.offered in
-          let held = h.indices.held in
-          let last : w.rings.front.last ≡ 0 = offered.1 in
-          omega (arith, held, last)
-
-      by_kept : IsKept config w.rings standing.pipeline → length w.rings.front.requests ≡ 0
-      by_kept (inl held) = by_held held.0 held.1
-      by_kept (inr over) = ap length over.no_request
+  none_before unready = ap length (none_yet config w.rings unready standing)
 
   -- connected, it isn't led
   ready_idle : is_ready r ≡ true → is_idle w.rings.front ≡ true
-  ready_idle ready = rw (ready_unled r ready, ready_asks w c k front_rests waiting.front ready) refl
+  ready_idle ready = rw (ready_unled r ready, ready_asks w c k front_rests waits ready) refl
 
   closed_idle : r ≡ ring_stage.Closed → is_idle w.rings.front ≡ true
   closed_idle here = rw here refl

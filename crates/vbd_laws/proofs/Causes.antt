@@ -34,7 +34,8 @@ use Rattle.blk_front.specs.declared.told.Told.{Told}
 use Rattle.blk_front.specs.declared.told.Told.TheVariants as front_told
 use Rattle.blk_front.specs.declared.told.Refusal.{Refusal}
 use Rattle.blk_front.specs.View as front
-use Rattle.blk_front.specs.State.{may_enter}
+use Rattle.blk_front.specs.State.{is_open, may_enter}
+use Rattle.blk_front.specs.Suspend.{resumed}
 use Rattle.blk_front.specs.declared.request.Wish.{Wish}
 use Rattle.blk_front.specs.Pool.{taking}
 use Rattle.blk_front.specs.Request.{is_write, named_of, frames_for}
@@ -45,7 +46,7 @@ use Rattle.blk_back.specs.declared.told.Halt.{Halt}
 use Rattle.blk_back.specs.Step as back_step
 use Rattle.report_rules.proofs.Obeys.{obeys_none, obeys_more}
 use Rattle.line_text.proofs.Both.{both_true}
-use Rattle.xenbus_state.specs.FrontView.{FrontView}
+use Rattle.xenbus_state.specs.FrontView.{FrontView, suspended as front_suspended}
 use Rattle.xenbus_state.specs.BackView.{BackView, unplugged, is_halting}
 use Rattle.xenbus_state.specs.declared.front.FrontNews.{FrontNews}
 use Rattle.xenbus_state.specs.declared.front.FrontNews.TheVariants as news
@@ -64,7 +65,7 @@ use Rattle.vbd_back.specs.View as back_view
 use Rattle.vbd_back.specs.Ask as back
 use Rattle.vbd_back.specs.Step as vbd_back_step
 use Rattle.vbd_model.specs.World.{World, start_of, frontend_of, backend_of}
-use Rattle.vbd_model.specs.Happening.{Happening, FrontMoves, BackMoves, JobMoves, Closes, Submits, Notifies, Pokes, OverwritesKey, Dumps, Looks, Settles, all_does, happens, lines_at, lines_of, front_turn, back_turn}
+use Rattle.vbd_model.specs.Happening.{Happening, FrontMoves, BackMoves, JobMoves, Closes, Submits, Notifies, Pokes, OverwritesKey, Suspends, Dumps, Looks, Settles, all_does, happens, lines_at, lines_of, front_turn, back_turn, renewed_bus}
 use Rattle.vbd_model.specs.News.{news_lines}
 use Rattle.vbd_model.specs.Fit.{IsFit}
 use Rattle.vbd_model.specs.Report.{report_of, ended_report_of}
@@ -73,9 +74,9 @@ use Rattle.move_laws.proofs.Recorded.{report_kept, ended_kept}
 use Rattle.vbd_laws.specs.Moves.{IsFrontMove, IsBackMove, IsClose, IsNoMove, close_lines}
 use Rattle.vbd_laws.specs.Causes.{IsCausedAt, AreCaused, EachReportIsCaused, EachEndedIsCaused, order_after, order_read, words_read}
 use Rattle.vbd_laws.proofs.CausesLines.{AreCausedFrom, caused_on, is_plain, ArePlain, plain_caused, words-append, words_same, plain_words}
-use Rattle.vbd_laws.proofs.CausesPlaced.{IsPlaced, closed_placed}
-use Rattle.vbd_laws.proofs.CausesOrder.{is_silent, AreSilent, order_same, order_move, front_silent, job_silent, back_order}
-use Rattle.vbd_laws.proofs.CausesRing.{HasRead}
+use Rattle.vbd_laws.proofs.CausesPlaced.{IsPlaced, closed_placed, suspended_placed}
+use Rattle.vbd_laws.proofs.CausesOrder.{is_silent, AreSilent, order_same, order_anew, order_move, front_silent, job_silent, back_order}
+use Rattle.vbd_laws.proofs.CausesRing.{HasRead, resumed_read}
 use Rattle.vbd_laws.proofs.CausesFront.{FrontGoes, front_goes, entered_read}
 use Rattle.vbd_laws.proofs.CausesBack.{back_caused}
 use Rattle.vbd_laws.proofs.MovesFront.{front_move_is, front_move_none, close_is}
@@ -382,6 +383,46 @@ front_closes w before fit has =
       }));
     }
 
+-- The domain is suspended: the front begins anew, or is closed or broken and stays as it was, and the new back has read no order.
+record GoesTo (before ls : List Line) (x : World) : Type 0 where
+  caused : AreCausedFrom before ls
+  knows : Knows (before ++ ls) x
+
+suspends_to : (w : World) (before : List Line) → Knows before w → GoesTo before (lines_at w Suspends) (happens w Suspends)
+suspends_to w before has = by_may (rings.may_suspend w.rings)
+  where
+    anew : List Line
+    anew = before ++ lines.Epoch ∷ []
+
+    same : words_read anew ≡ words_read before
+    same = words_same before (lines.Epoch ∷ []) refl
+
+    reads_anew : (opened : Bool) → (let v : front.View = (if opened then resumed w.rings.front else w.rings.front) in HasRead v.stage v.shape v.ring.cons (words_read anew))
+    reads_anew true = resumed_read w.rings.front (words_read anew)
+    reads_anew false = subst (λ (l : List Move). HasRead w.rings.front.stage w.rings.front.shape w.rings.front.ring.cons l) (sym same) has.reads
+
+    placed_anew : (opened : Bool) → (let v : FrontView = (if opened then front_suspended w.front else w.front) in IsPlaced v.stage)
+    placed_anew true = suspended_placed w.front has.placed
+    placed_anew false = has.placed
+
+    order_new : (opened : Bool) → (let v : BackView = renewed_bus opened w.back in order_read anew ≡ v.terms.order)
+    order_new true = order_anew before
+    order_new false = order_anew before
+
+    by_may : (may : Bool) → GoesTo before ((if may then lines.Epoch ∷ [] else []) ++ []) (record {
+      rings = if may then rings.suspended w.rings else w.rings;
+      front = if may && is_open w.rings.front.stage then front_suspended w.front else w.front;
+      back = if may then renewed_bus (is_open w.rings.front.stage) w.back else w.back;
+    })
+    by_may true = record {
+      caused = (tt, tt);
+      knows = record { reads = reads_anew (is_open w.rings.front.stage); placed = placed_anew (is_open w.rings.front.stage); order = order_new (is_open w.rings.front.stage) };
+    }
+    by_may false = record { caused = tt; knows = subst (λ (ls : List Line). Knows ls w) (sym (append-nil before)) has }
+
+suspends_goes : (w : World) (before : List Line) → Knows before w → Goes before w Suspends
+suspends_goes w before has = let to : GoesTo before (lines_at w Suspends) (happens w Suspends) = suspends_to w before has in record { caused = to.caused; knows = to.knows }
+
 as_it_was : (v : front.View) → IsSame v v
 as_it_was v = record { stage = refl; shape = refl; cons = refl }
 
@@ -401,6 +442,7 @@ one w (Pokes frame word value) before fit has =
     plain_goes before w (Pokes frame word value) (idle_nil (ring.poke_lines frame word value) (poke_lines_are (λ (line : Line). is_idle line ≡ true) frame word value refl)) (as_it_was w.rings.front) (record { front = refl; order = refl }) has
 one w (OverwritesKey name text) before fit has =
     plain_goes before w (OverwritesKey name text) (idle_nil (ring.overwritten_lines name text) (overwritten_lines_are (λ (line : Line). is_idle line ≡ true) name text refl)) (as_it_was w.rings.front) (record { front = refl; order = refl }) has
+one w Suspends before fit has = suspends_goes w before has
 one w Dumps before fit has =
     plain_goes before w Dumps (idle_nil (ring.ring_lines w.rings.under.pages 0 (1024 * 2 ^ w.rings.front.shape.order))
     (dump_lines_are (λ (line : Line). is_idle line ≡ true) w.rings.under.pages 0 (1024 * 2 ^ w.rings.front.shape.order) (λ frame word value. refl))) (as_it_was w.rings.front) (record { front = refl; order = refl }) has

@@ -1,5 +1,5 @@
 -- A move of the front: where it is broken the move is the cause, and it has read a response's first words where it reads the next.
-use Rattle.std.proofs.Common.{◌≡◌, ℕ, ◌&&◌, Bool, true, false, true≢false, if◌then◌else◌, List, [], ◌∷◌, ◌++◌, refl, sym, ap, ◌∙◌, subst, append-nil, inl, inr}
+use Rattle.std.proofs.Common.{◌≡◌, ℕ, Bool, true, false, true≢false, if◌then◌else◌, List, [], ◌∷◌, ◌++◌, refl, sym, ap, ◌∙◌, subst, append-nil, inl, inr}
 use Rattle.std.specs.Prelude.{Option, Some, None, nat_le}
 use Rattle.std.specs.Option.{option_map}
 use Rattle.std.proofs.lemmas.Option.{none-some, same_Some}
@@ -25,6 +25,7 @@ use Rattle.blk_front.specs.declared.told.Told.TheVariants as told
 use Rattle.blk_front.specs.View as ring
 use Rattle.blk_front.specs.Ask as front_ring
 use Rattle.blk_front.specs.State.{is_unmade, may_enter, in_state, enters}
+use Rattle.line_text.proofs.Both.{both_true}
 use Rattle.xenbus_state.specs.declared.state.BusState.{BusState}
 use Rattle.xenbus_state.specs.declared.state.BusState.TheVariants as state
 use Rattle.xenbus_state.specs.declared.stage.FrontStage.{FrontStage}
@@ -58,6 +59,7 @@ use Rattle.vbd_laws.specs.Causes.{CausesBreak, IsCausedAt, state_said, is_left, 
 use Rattle.vbd_laws.proofs.CausesLines.{AreCausedFrom, words_one}
 use Rattle.vbd_laws.proofs.CausesPlaced.{IsPlaced, due_placed, told_placed, followed_placed, waited_placed, bad_feature, bad_fact}
 use Rattle.vbd_laws.proofs.CausesRing.{HasRead, is_reading_on, unread, RingGoes, ring_goes}
+use Rattle.vbd_laws.proofs.FitFront.{asks_cases}
 use Rattle.vbd_laws.proofs.MovesTurns.{front_asks, front_cases}
 
 -- a move on a key reads no word
@@ -80,16 +82,16 @@ spoken_unread : (h : Hypervisor) (b : FrontBusAsk) (a : FrontAct) → front.spea
 spoken_unread h b a says e = front_keys (λ (x : FrontAct). word_read (lines.Move x.shown) ≡ []) h (front.key_ask b) a (asks_key b says) (λ x is. key_unread x.shown is.shown) e
 
 -- a state that it enters leaves what it has read
-unmade : (s : Stage) (b : Bool) → (is_unmade s && b) ≡ true → is_reading_on s ≡ false
-unmade (stage.ResponseHigh low) b e = absurd (true≢false (sym e))
-unmade (stage.ResponseLast low high) b e = absurd (true≢false (sym e))
-unmade s b e = refl
+unmade : (s : Stage) → is_unmade s ≡ true → is_reading_on s ≡ false
+unmade (stage.ResponseHigh low) e = absurd (true≢false (sym e))
+unmade (stage.ResponseLast low high) e = absurd (true≢false (sym e))
+unmade s e = refl
 
 abbrev Read : ring.View → List Move → Type 0
 Read f reads = HasRead f.stage f.shape f.ring.cons reads
 
 in_state_read : (s : FrontState) (f : ring.View) (reads : List Move) → may_enter s f ≡ true → Read f reads → Read (in_state s f) reads
-in_state_read (enter.Agreed order) f reads may has = unread f.stage _ _ reads (unmade f.stage (nat_le order f.shape.order) may)
+in_state_read (enter.Agreed order) f reads may has = unread f.stage _ _ reads (unmade f.stage (both_true (is_unmade f.stage) (nat_le order f.shape.order) (both_true _ _ may).0).0)
 in_state_read (enter.Connected offers) f reads may has = tt
 in_state_read enter.Closing f reads may has = has
 in_state_read enter.Leaving f reads may has = tt
@@ -231,16 +233,17 @@ news_caused before offers (Some n) f cause = by_test (may_enter (front_step.stat
     by_test false = tt
 
 -- the negotiation speaks
-says : (w : World) (before : List Line) (a : FrontAct) → IsFit w → HasRead w.rings.front.stage w.rings.front.shape w.rings.front.ring.cons (words_read before) → IsPlaced w.front.stage → front.speaks (front_asks w) ≡ true
-    → front_act w.rings.under (front.key_ask (front_asks w)) ≡ Some a → FrontGoes before a (front_step.spoken (frontend_of w) a.answer)
-says w before a fit has placed speaks e =
+tells : (w : World) (before : List Line) (a : FrontAct) → IsFit w → HasRead w.rings.front.stage w.rings.front.shape w.rings.front.ring.cons (words_read before) → IsPlaced w.front.stage
+    → front.speaks (bus_asks.ask_of w.front (front_view.is_unoccupied w.rings.front)) ≡ true → front_act w.rings.under (front.key_ask (bus_asks.ask_of w.front (front_view.is_unoccupied w.rings.front))) ≡ Some a
+    → FrontGoes before a (front_step.spoken (frontend_of w) a.answer)
+tells w before a fit has placed speaks e =
     let states : List FrontState = front_step.states_after (frontend_of w) a.answer in
     let n : Option FrontNews = front_step.news_of (frontend_of w) a.answer in
     let offers : Offers = front_step.offers_of (front_step.bus_after (frontend_of w) a.answer) in
     let idle : Bool = front_view.is_unoccupied w.rings.front in
     let quiet : (front_step.all_entered states w.rings.front).told ≡ None = all_told states w.rings.front ∙ fit.safe.front_told in
     let same : words_read (before ++ lines.Move a.shown ∷ []) ≡ words_read before =
-    words_one before (lines.Move a.shown) ∙ (ap (λ (l : List Move). words_read before ++ l) (spoken_unread w.rings.under (front_asks w) a speaks e) ∙ append-nil (words_read before)) in
+    words_one before (lines.Move a.shown) ∙ (ap (λ (l : List Move). words_read before ++ l) (spoken_unread w.rings.under (bus_asks.ask_of w.front idle) a speaks e) ∙ append-nil (words_read before)) in
     record {
       caused = subst (λ (t : Option Told). AreCausedFrom (before ++ lines.Move a.shown ∷ []) (front_lines t ++ news_lines (front_step.news_told offers n w.rings.front))) (sym quiet)
           (news_caused (before ++ lines.Move a.shown ∷ []) offers n w.rings.front
@@ -248,6 +251,12 @@ says w before a fit has placed speaks e =
       reads = subst (λ (reads : List Move). Read (front_step.all_entered states w.rings.front) reads) (sym same) (all_read states w.rings.front (words_read before) has);
       placed = told_placed w.front idle a.answer placed;
     }
+
+says : (w : World) (before : List Line) (a : FrontAct) → IsFit w → HasRead w.rings.front.stage w.rings.front.shape w.rings.front.ring.cons (words_read before) → IsPlaced w.front.stage → front.speaks (front_asks w) ≡ true
+    → front_act w.rings.under (front.key_ask (front_asks w)) ≡ Some a → FrontGoes before a (front_step.spoken (frontend_of w) a.answer)
+says w before a fit has placed =
+    asks_cases (λ (b : FrontBusAsk). front.speaks b ≡ true → front_act w.rings.under (front.key_ask b) ≡ Some a → FrontGoes before a (front_step.spoken (frontend_of w) a.answer)) w
+    (λ left speaks e. absurd (true≢false (sym speaks))) (λ none speaks e. tells w before a fit has placed speaks e)
 
 -- its end of the ring moves
 moved : (w : World) (before : List Line) (a : FrontAct) → IsFit w → HasRead w.rings.front.stage w.rings.front.shape w.rings.front.ring.cons (words_read before) → IsPlaced w.front.stage

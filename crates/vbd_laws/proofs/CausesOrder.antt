@@ -63,9 +63,10 @@ use Rattle.vbd_model.specs.Happening.{back_turn}
 use Rattle.vbd_laws.specs.Causes.{order_after, order_from, order_read}
 use Rattle.vbd_laws.proofs.MovesTurns.{back_asks, back_cases}
 
--- a line that is no read of a key by the back
+-- a line that neither is a read of a key by the back nor says that a new back begins
 abbrev pub is_silent : Line → Bool
 is_silent (lines.Move (moves.GetKey mover.Back path text)) = false
+is_silent lines.Epoch = false
 is_silent line = true
 
 abbrev pub AreSilent : List Line → Type 0
@@ -73,6 +74,7 @@ AreSilent ls = AllByRecursion (λ (line : Line). is_silent line ≡ true) ls
 
 silent_order : (line : Line) (order : ℕ) → is_silent line ≡ true → order_after order line ≡ order
 silent_order (lines.Move (moves.GetKey mover.Back path text)) order silent = absurd (true≢false (sym silent))
+silent_order lines.Epoch order silent = absurd (true≢false (sym silent))
 silent_order line order silent = refl
 
 silent_from : (ls : List Line) (order : ℕ) → AreSilent ls → order_from order ls ≡ order
@@ -85,6 +87,10 @@ from-append (line ∷ a) b order = from-append a b (order_after order line)
 
 pub order_same : (before ls : List Line) → AreSilent ls → order_read (before ++ ls) ≡ order_read before
 order_same before ls all = from-append before ls 0 ∙ silent_from ls (order_read before) all
+
+-- a new back
+pub order_anew : (before : List Line) → order_read (before ++ lines.Epoch ∷ []) ≡ 0
+order_anew before = from-append before (lines.Epoch ∷ []) 0
 
 pub order_move : (before more : List Line) (line : Line) → AreSilent more → order_read (before ++ line ∷ more) ≡ order_after (order_read before) line
 order_move before more line all = from-append before (line ∷ more) 0 ∙ silent_from more (order_after (order_read before) line) all

@@ -21,7 +21,7 @@ use Rattle.xenbus_state.specs.Tables as tables
 use Rattle.xenbus_state.specs.Programs.{IsFeature, IsFact, next_feature, next_fact, next_published}
 use Rattle.xenbus_state.specs.Reading.{count_read, fact_read}
 use Rattle.xenbus_state.specs.Causes.{IsBadBackKey}
-use Rattle.xenbus_state.specs.FrontView.{FrontView, closed, pages_of, ring_order, is_broken as is_broken_bus}
+use Rattle.xenbus_state.specs.FrontView.{FrontView, closed, pages_of, ring_order, suspended_at, suspended, is_broken as is_broken_bus}
 use Rattle.xenbus_state.specs.FrontAsk.{ask_of, due, leaving, closing_stage}
 use Rattle.xenbus_state.specs.FrontStep.{at, acted, feature_step, fact_step, after_feature, after_fact, after_published, after_grants, after_state, step_at, step_of}
 use Rattle.vbd_front.specs.View.{is_broken}
@@ -144,6 +144,15 @@ closed_placed v placed = by_test (v.closing || is_broken_bus v.stage)
     by_test : (b : Bool) → IsPlaced (if b then v else record v { closing = true }).stage
     by_test true = placed
     by_test false = placed
+
+-- a front that begins anew, or is closed or broken, reads no key
+pub suspended_placed : (v : FrontView) → IsPlaced v.stage → IsPlaced (suspended v).stage
+suspended_placed v placed = by_stage v.stage
+  where
+    by_stage : (s : FrontStage) → IsPlaced (suspended_at s v).stage
+    by_stage stage.Closed = placed
+    by_stage (stage.Broken word) = placed
+    by_stage s = tt
 
 -- such a key that isn't read as a number is malformed, or missing
 pub bad_feature : (k : BackKey) (text : Option (List ℕ)) → IsFeature k → count_read text ≡ None → IsBadBackKey k text

@@ -29,8 +29,9 @@ use Rattle.blk_front.specs.declared.told.Told.{Told}
 use Rattle.blk_front.specs.declared.told.Told.TheVariants as told
 use Rattle.blk_front.specs.Request.{has_data, words_in, is_indirect, naming_words, frame_at}
 use Rattle.blk_front.specs.View.{View, next_request, ring_frame, slot_frame, slot_word, reference_of}
+use Rattle.blk_front.specs.Suspend.{stage_after}
 use Rattle.blk_front.specs.Ask.{is_through, ask_at, loop_ask, revoke_ask, end_ask}
-use Rattle.blk_front.specs.Step.{at, broken, looked, begun, after_data, data_stage, page_stage, granted, loop_word, loop_step, issued, response_at, is_mapped, ended, revoked, sector_told, data_step, step_at}
+use Rattle.blk_front.specs.Step.{at, broken, looked, begun, after_data, data_stage, page_stage, granted, loop_word, loop_step, issued, response_at, is_mapped, ended, revoked, sector_told, data_step, left_step, step_at}
 use Rattle.split_model.proofs.SafeActs.{of_front, front_wait}
 use Rattle.vbd_laws.specs.Causes.{CausesBreak, entry_read, words_read}
 use Rattle.vbd_laws.proofs.CausesLines.{words_one}
@@ -50,6 +51,15 @@ pub unread : (s : Stage) (shape : Shape) (k : ℕ) (reads : List Move) → is_re
 unread (stage.ResponseHigh low) shape k reads e = absurd (true≢false e)
 unread (stage.ResponseLast low high) shape k reads e = absurd (true≢false e)
 unread s shape k reads e = tt
+
+-- after a suspend it reads no response
+still_anew : (s : Stage) → is_reading_on (stage_after s) ≡ false
+still_anew (stage.ReadData n) = refl
+still_anew (stage.LeftData n) = refl
+still_anew s = refl
+
+pub resumed_read : (v : View) (reads : List Move) → HasRead (stage_after v.stage) v.shape v.start reads
+resumed_read v reads = unread (stage_after v.stage) v.shape v.start reads (still_anew v.stage)
 
 -- the end of the ring after its move
 pub record RingGoes (before : List Line) (shown : Move) (x : View) : Type 0 where
@@ -206,6 +216,12 @@ data_goes before shown v None n word here quiet = stays before shown v (stage.Re
 data_goes before shown v (Some e) n word here quiet =
     either (nat_lt (n + 1) (words_in e.request)) before shown _ _ (λ more. calm before shown _ refl (sector_calm v e n _ quiet)) (λ none. calm before shown _ refl (sector_calm v e n _ quiet))
 
+-- the same where data are left after a suspend
+left_goes : (before : List Line) (shown : Move) (v : View) (e : Option Ending) (n word : ℕ) → v.stage ≡ stage.LeftData n → v.told ≡ None → RingGoes before shown (left_step e n word v)
+left_goes before shown v None n word here quiet = stays before shown v (stage.LeftData n) here quiet refl
+left_goes before shown v (Some e) n word here quiet =
+    either (nat_lt (n + 1) (words_in e.request)) before shown _ _ (λ more. calm before shown _ refl (sector_calm v e n _ quiet)) (λ none. calm before shown _ refl (sector_calm v e n _ quiet))
+
 revoke_goes : (before : List Line) (v : View) (ending : Option Ending) (place : ℕ) (h : Hypervisor) (a : FrontAct) → v.stage ≡ stage.GrantRead place → v.told ≡ None → front_act h (revoke_ask ending place) ≡ Some a
     → RingGoes before a.shown (step_at (stage.GrantRead place) v a.answer)
 revoke_goes before v None place h a here quiet e =
@@ -224,6 +240,10 @@ end_goes before v (Some e) place old h a here quiet acts =
 data_read_goes : (before : List Line) (v : View) (n : ℕ) (x : FrontAnswer) (shown : Move) → v.stage ≡ stage.ReadData n → v.told ≡ None → RingGoes before shown (step_at (stage.ReadData n) v x)
 data_read_goes before v n (answer.Word word) shown here quiet = data_goes before shown v v.ending n word here quiet
 data_read_goes before v n x shown here quiet = stays before shown v (stage.ReadData n) here quiet refl
+
+left_read_goes : (before : List Line) (v : View) (n : ℕ) (x : FrontAnswer) (shown : Move) → v.stage ≡ stage.LeftData n → v.told ≡ None → RingGoes before shown (step_at (stage.LeftData n) v x)
+left_read_goes before v n (answer.Word word) shown here quiet = left_goes before shown v v.ending n word here quiet
+left_read_goes before v n x shown here quiet = stays before shown v (stage.LeftData n) here quiet refl
 
 -- a move of the front's end of the ring
 pub ring_goes : (s : Stage) (v : View) (h : Hypervisor) (a : FrontAct) (before : List Line) → v.stage ≡ s → v.told ≡ None → HasRead s v.shape v.ring.cons (words_read before) → front_act h (ask_at s v) ≡ Some a
@@ -253,6 +273,7 @@ ring_goes (stage.ResponseLast low high) v h a before here quiet has e =
 ring_goes (stage.GrantRead place) v h a before here quiet has e = revoke_goes before v v.ending place h a here quiet e
 ring_goes (stage.GrantEnd place old) v h a before here quiet has e = end_goes before v v.ending place old h a here quiet e
 ring_goes (stage.ReadData n) v h a before here quiet has e = data_read_goes before v n a.answer a.shown here quiet
+ring_goes (stage.LeftData n) v h a before here quiet has e = left_read_goes before v n a.answer a.shown here quiet
 ring_goes stage.StoreEvent v h a before here quiet has e = goes_to before a.shown v _ quiet refl
 ring_goes stage.EventFence v h a before here quiet has e = goes_to before a.shown v _ quiet refl
 ring_goes stage.LookAgain v h a before here quiet has e =

@@ -1,16 +1,18 @@
 -- The machine is fit at the start and stays so.
-use Rattle.xenbus_state.specs.declared.keys.BackKey.{BackKey}
 use Rattle.split_model.specs.Keys.{front_path}
-use Rattle.vbd_laws.proofs.FitSaid.{said_kept, written_keeps}
-use Rattle.std.proofs.Common.{◌≡◌, ℕ, ◌+◌, ◌≤◌, Bool, true, false, true≢false, not, ◌&&◌, if◌then◌else◌, List, [], ◌∷◌, length, refl, sym, ap, ◌∙◌, subst}
-use Rattle.std.specs.Prelude.{Option, Some, None, Result, Err, nat_lt, nat_le, ◌==◌}
+use Rattle.vbd_laws.proofs.FitSaid.{LeavesBack, same_back, written_leaves, announced_kept, said_kept}
+use Rattle.vbd_laws.proofs.FitFrontReads.{reads_kept}
+use Rattle.vbd_laws.proofs.FitSuspended.{one_announced, fit_suspends}
+use Rattle.std.proofs.Common.{◌≡◌, ℕ, ◌+◌, ◌≤◌, Bool, true, false, true≢false, not, ◌&&◌, if◌then◌else◌, List, [], ◌∷◌, inl, inr, length, length-append, refl, sym, ap, ◌∙◌, subst, arith}
+use Rattle.std.specs.Prelude.{Option, Some, None, IsSome, Result, Err, nat_lt, nat_le, min, ◌==◌}
+use Rattle.std.proofs.lemmas.Bool.Decides.{nat_tests}
 use Rattle.blk_base.specs.Options.{Options}
 use Rattle.blk_base.specs.declared.config.Job.{Job}
 use Rattle.blk_base.specs.declared.parts.End.{End}
 use Rattle.blk_base.specs.declared.parts.End.TheVariants as end
 use Rattle.schedule_text.specs.declared.line.Line.{Line}
 use Rattle.segment_list.specs.declared.verdict.DiskInfo.{DiskInfo}
-use Rattle.key_directory.specs.Directory.{Directory, written}
+use Rattle.key_directory.specs.Directory.{written}
 use Rattle.hypervisor.specs.Hypervisor.{Hypervisor}
 use Rattle.xen_pages.specs.Pages.{with_word}
 use Rattle.hypervisor.specs.Act.{BackAct, Outcome, with_pages, with_keys}
@@ -22,7 +24,7 @@ use Rattle.blk_front.specs.Pool.{taking}
 use Rattle.blk_front.specs.Request.{is_write, named_of, frames_for}
 use Rattle.blk_front.specs.View.{View}
 use Rattle.blk_front.specs.Ask.{is_through}
-use Rattle.blk_front.specs.Submit.{is_ready, unfinished, most_segments, frames_taken, wish_of, submit_with, submit_one, submit_of}
+use Rattle.blk_front.specs.Submit.{is_ready, unfinished, most_segments, frames_taken, wish_of, request_with, submit_with, submit_one, submit_of}
 use Rattle.blk_back.specs.Step.{job_ask_of}
 use Rattle.blk_back.proofs.Hands.{job_step_info}
 use Rattle.vbd_front.specs.View.{is_broken}
@@ -39,23 +41,36 @@ use Rattle.xenbus_state.proofs.BackTurns.{back_starts}
 use Rattle.vbd_back.specs.View.{offer}
 use Rattle.split_model.proofs.Overwriting.{poke_cases, overwriting_cases}
 use Rattle.vbd_model.specs.World.{World, start_of}
-use Rattle.vbd_model.specs.Happening.{Happening, FrontMoves, BackMoves, JobMoves, Closes, Submits, Notifies, Pokes, OverwritesKey, Dumps, Looks, Settles, happens, after}
-use Rattle.vbd_model.specs.Fit.{FrontOrdered, IsUnbound, has_terms, IsOffered, SaysKey, IsFit}
+use Rattle.vbd_model.specs.Happening.{Happening, FrontMoves, BackMoves, JobMoves, Closes, Submits, Notifies, Pokes, OverwritesKey, Suspends, Dumps, Looks, Settles, happens, after}
+use Rattle.vbd_model.specs.Fit.{FrontRests, FrontGoesWith, IsAgreed, FrontOrdered, IsUnbound, has_terms, IsOffered, SaysKey, IsFit}
 use Rattle.vbd_laws.proofs.FitChannels.{IsUnported, job_leaves, notified}
 use Rattle.vbd_laws.proofs.FitFront.{fit_front_moves, fit_front_closes}
 use Rattle.vbd_laws.proofs.FitBackShares.{Terms, terms_in}
 use Rattle.vbd_laws.proofs.FitBack.{fit_back_moves, fit_back_closes}
+use Rattle.blk_front.specs.declared.stage.Stage.{Stage as Ring}
+use Rattle.blk_front.specs.declared.stage.Stage.TheVariants as ring_stage
+use Rattle.blk_front.specs.State.{is_bare}
+use Rattle.blk_front.specs.Suspend.{is_left}
+use Rattle.xenbus_state.specs.declared.state.BusState.{BusState}
+use Rattle.xenbus_state.specs.declared.state.BusState.TheVariants as state
+use Rattle.xenbus_state.specs.declared.stage.FrontStage.{FrontStage}
+use Rattle.xenbus_state.specs.declared.stage.FrontStage.TheVariants as stage
+use Rattle.xenbus_state.specs.FrontView.{FrontView}
+use Rattle.vbd_laws.proofs.FitFrontMoves.{with_port}
 
 pub fit_start : (config : Options) → config.indirect ≤ 960 → IsFit (start_of config)
 fit_start config few = record {
   safe = safe_start config;
   layout = refl;
-  ordered = refl;
+  ordered = inl refl;
+  room = omega arith;
   offers = refl;
   limited = few;
   published = record { barrier = refl; flush = refl; discard = refl; indirect = refl };
   said = tt;
-  front = (refl, refl, refl);
+  announced = one_announced _;
+  reads = tt;
+  front = (refl, inl refl, refl);
   closing = λ whole. refl;
   through = λ e. absurd (cc);
   back = (refl, refl);
@@ -82,17 +97,21 @@ record IsLike (w : World) (r : rings.World) : Type 0 where
   halted : r.back.halted ≡ w.rings.back.halted
   terms : terms_in r.back ≡ terms_in w.rings.back
   info : r.back.jobs.info ≡ w.rings.back.jobs.info
-  keys : (k : BackKey) → SaysKey w.rings.under.keys w.back.features w.back.disk k → SaysKey r.under.keys w.back.features w.back.disk k
+  keys : LeavesBack w.back.features w.back.disk w.rings.under.keys r.under.keys
+  room : unfinished r.front ≤ entries_of (min w.front.order 4)
 
 fit_rings : (w : World) (r : rings.World) → IsFit w → IsSafe r → IsLike w r → IsUnported r.under.channels → IsUnbound w.rings.back.stage r.under.channels → IsFit (with_rings w r)
 fit_rings w r fit safe like unported unbound = record {
   safe = safe;
   layout = ap (λ (s : Shape). s.abi) like.shape ∙ fit.layout;
   ordered = subst (λ (s : Shape). FrontOrdered w.front.stage w.front s.order) (sym like.shape) fit.ordered;
+  room = like.room;
   offers = fit.offers;
   limited = fit.limited;
   published = subst (λ (i : DiskInfo). IsOffered i w.back.features) (sym like.info) fit.published;
-  said = said_kept _ _ like.keys w.back.stage fit.said;
+  said = said_kept _ _ like.keys.says w.back.stage fit.said;
+  announced = announced_kept w.back.features w.back.disk w.rings.under.keys r.under.keys like.keys fit.announced;
+  reads = reads_kept (SaysKey w.rings.under.keys w.back.features w.back.disk) _ like.keys.says w.front.stage fit.reads;
   front = rw like.front fit.front;
   closing = λ whole. like.closing ∙ fit.closing (ap is_broken (sym like.front) ∙ whole);
   through = λ e whole. like.through (fit.through e (ap is_broken (sym like.front) ∙ whole));
@@ -113,7 +132,7 @@ fit_job : (w : World) (k : ℕ) (outcome : Outcome) (act : Option BackAct) → I
 fit_job w k outcome None fit e safe = fit
 fit_job w k outcome (Some a) fit e safe =
     let same = job_leaves w.rings.under k (job_ask_of w.rings.back k) outcome a (jobs_of w.rings.back k) e in
-    fit_rings w (ring.job_after w.rings k (Some a)) fit safe (record { front = refl; shape = refl; closing = refl; through = λ is. is; back = refl; halted = refl; terms = refl; info = job_step_info w.rings.back k a.answer; keys = λ k says. subst (λ (d : Directory). SaysKey d w.back.features w.back.disk k) (sym same.1) says }) (rw same.0 fit.unported) (rw same.0 fit.unbound)
+    fit_rings w (ring.job_after w.rings k (Some a)) fit safe (record { front = refl; shape = refl; closing = refl; through = λ is. is; back = refl; halted = refl; terms = refl; info = job_step_info w.rings.back k a.answer; keys = subst (LeavesBack w.back.features w.back.disk w.rings.under.keys) (sym same.1) (same_back w.back.features w.back.disk w.rings.under.keys); room = fit.room }) (rw same.0 fit.unported) (rw same.0 fit.unbound)
 
 -- a submission leaves whether the front closes, and one that closes takes none
 either_closing : (b c : Bool) (x y : Result ℕ Refusal × View) → x.1.closing ≡ c → y.1.closing ≡ c → (if b then x else y).1.closing ≡ c
@@ -145,15 +164,97 @@ through_submit v job through = by_test (v.last == 4294967295) v.closing (both_tr
     by_test false true closing = through
     by_test false false closing = absurd (true≢false (sym closing))
 
+-- a front that may take a request has agreed the order of its ring
+ready_rests : (own : BusState) (gone : Bool) (port : Option ℕ) (r : Ring) → FrontRests own gone port r → is_ready r ≡ true → IsSome port
+ready_rests state.Initialising gone port r rests ready = absurd (true≢false (sym ready ∙ ap is_ready rests.0))
+ready_rests state.Initialised gone port r rests ready = rests.1
+ready_rests state.Connected gone port r rests ready = rests.1
+ready_rests state.Closing false None r rests ready = absurd (true≢false (sym ready ∙ ap is_ready rests))
+ready_rests state.Closing false (Some port) r rests ready = refl
+ready_rests state.Closing true (Some port) r rests ready = refl
+ready_rests own gone port r rests ready = absurd rests
+
+broken_unready : (r : Ring) → is_broken r ≡ true → is_ready r ≡ true → ⊥
+broken_unready (ring_stage.Broken word) is ready = true≢false (sym ready)
+broken_unready r is ready = true≢false (sym is)
+
+ready_agreed : (b : FrontStage) (v : FrontView) (r : Ring) (n : ℕ) → FrontGoesWith b v r → FrontOrdered b v n → is_ready r ≡ true → IsAgreed v.order v.features.order n
+ready_agreed (stage.RingWord word) v r n goes ordered ready = ordered
+ready_agreed (stage.Grant page) v r n goes ordered ready = ordered
+ready_agreed stage.NewPort v r n goes ordered ready = ordered
+ready_agreed stage.Rest v r n goes ordered ready =
+    elim goes [ inl rests ↦ with_port v.port v.order v.features.order n (ready_rests v.state v.gone v.port r rests ready) ordered | inr is ↦ absurd (broken_unready r is ready) ]
+ready_agreed stage.ReadState v r n goes ordered ready = with_port v.port v.order v.features.order n (ready_rests v.state v.gone v.port r goes ready) ordered
+ready_agreed stage.Start v r n goes ordered ready = elim goes.1 [ inl is ↦ absurd (true≢false (sym ready ∙ ap is_ready is)) | inr left ↦ absurd (left_unready r left ready) ]
+  where
+    left_unready : (r : Ring) → is_left r ≡ true → is_ready r ≡ true → ⊥
+    left_unready (ring_stage.LeftData k) left ready = true≢false (sym ready)
+    left_unready r left ready = true≢false (sym left)
+ready_agreed (stage.ReadFeature key) v r n goes ordered ready = absurd (true≢false (sym ready ∙ ap is_ready goes.1))
+ready_agreed (stage.Publish key) v r n goes ordered ready = with_port v.port v.order v.features.order n goes.2 ordered
+ready_agreed (stage.ReadFact key) v r n goes ordered ready = with_port v.port v.order v.features.order n goes.2 ordered
+ready_agreed (stage.WriteState state.Initialised) v r n goes ordered ready = with_port v.port v.order v.features.order n goes.2 ordered
+ready_agreed (stage.WriteState state.Connected) v r n goes ordered ready = with_port v.port v.order v.features.order n goes.2 ordered
+ready_agreed (stage.WriteState state.Closed) v r n goes ordered ready = absurd (bare_unready r goes.1 ready)
+  where
+    bare_unready : (r : Ring) → is_bare r ≡ true → is_ready r ≡ true → ⊥
+    bare_unready (ring_stage.RingWord k) bare ready = true≢false (sym ready)
+    bare_unready ring_stage.Left bare ready = true≢false (sym ready)
+    bare_unready r bare ready = true≢false (sym bare)
+ready_agreed (stage.WriteState own) v r n goes ordered ready = absurd goes
+ready_agreed (stage.EndGrant page) v r n goes ordered ready = with_port v.port v.order v.features.order n goes.2 ordered
+ready_agreed stage.ClosePort v r n goes ordered ready = with_port v.port v.order v.features.order n goes.2 ordered
+ready_agreed stage.Closed v r n goes ordered ready = absurd (true≢false (sym ready ∙ ap is_ready goes.1))
+ready_agreed (stage.Broken word) v r n goes ordered ready = absurd (broken_unready r goes ready)
+ready_agreed b v r n goes ordered ready = absurd goes
+
+agreed_entries : (wished offered n : ℕ) → IsAgreed wished offered n → entries_of n ≤ entries_of (min wished 4)
+agreed_entries wished offered n agreed =
+    let same : entries_of n ≡ entries_of (min wished 4) = ap entries_of (agreed.0 ∙ ap (λ (o : ℕ). min wished o) agreed.1) in omega arith
+
+-- so no more are unfinished than its ring has entries
+either_room : (b : Bool) (most : ℕ) (x y : Result ℕ Refusal × View) → unfinished x.1 ≤ most → unfinished y.1 ≤ most → unfinished (if b then x else y).1 ≤ most
+either_room true most x y p q = p
+either_room false most x y p q = q
+
+room_with : (v : View) (wish : Wish) (taken : Option (List ℕ × List Bool)) (most : ℕ) → unfinished v + 1 ≤ most → unfinished (submit_with v wish taken).1 ≤ most
+room_with v wish None most room = omega arith
+room_with v wish (Some taken) most room = let longer = length-append v.requests (request_with v wish taken.0 ∷ []) in omega arith
+
+room_one : (v : View) (wish : Option Wish) (most : ℕ) → unfinished v ≤ most → entries_of v.shape.order ≤ most → unfinished (submit_one v wish).1 ≤ most
+room_one v None most was few = was
+room_one v (Some wish) most was few =
+    either_room (is_write wish.transfer && v.read_only) most _ _ was
+    (either_room (nat_lt v.sectors (wish.sector + named_of wish.transfer wish.count)) most _ _ was
+    (either_room (nat_lt (most_segments v.offers wish.transfer) (frames_for wish.count)) most _ _ was (by_test (nat_le (entries_of v.shape.order) (unfinished v)) refl)))
+  where
+    below : (count entries : ℕ) → nat_le entries count ≡ false → count + 1 ≤ entries
+    below count entries e = grind (arith, nat_tests)
+
+    by_test : (b : Bool) → nat_le (entries_of v.shape.order) (unfinished v) ≡ b
+        → unfinished (let x : Result ℕ Refusal × View = (if b then (Err refusal.Full, v) else submit_with v wish (taking (frames_taken wish.count) v.pool [])) in x.1) ≤ most
+    by_test true e = was
+    by_test false e = let less = below (unfinished v) (entries_of v.shape.order) e in room_with v wish (taking (frames_taken wish.count) v.pool []) most (omega arith)
+
+room_submit : (v : View) (job : Job) (most : ℕ) → unfinished v ≤ most → (is_ready v.stage ≡ true → entries_of v.shape.order ≤ most) → unfinished (submit_of v job).1 ≤ most
+room_submit v job most was few = either_room (v.last == 4294967295) most _ _ was (either_room v.closing most _ _ was (by_test (is_ready v.stage) refl))
+  where
+    by_test : (b : Bool) → is_ready v.stage ≡ b → unfinished (let x : Result ℕ Refusal × View = (if not b then (Err refusal.NotReady, v) else submit_one v (wish_of v.offers job)) in x.1) ≤ most
+    by_test true ready = room_one v (wish_of v.offers job) most was (few ready)
+    by_test false ready = was
+
 fit_submit : (w : World) (job : Job) → IsFit w → IsFit (happens w (Submits job))
 fit_submit w job fit =
+    let few : is_ready w.rings.front.stage ≡ true → entries_of w.rings.front.shape.order ≤ entries_of (min w.front.order 4) =
+    λ ready. agreed_entries w.front.order w.front.features.order w.rings.front.shape.order (ready_agreed w.front.stage w.front w.rings.front.stage w.rings.front.shape.order fit.front fit.ordered ready) in
+    let room = room_submit w.rings.front job (entries_of (min w.front.order 4)) fit.room few in
     fit_rings w (ring.happens w.rings (ring.Submits job)) fit (safe_happens w.rings (ring.Submits job) fit.safe)
-    (record { front = (submit_kept w.rings.front job).stage; shape = submit_shape w.rings.front job; closing = closing_submit w.rings.front job; through = through_submit w.rings.front job; back = refl; halted = refl; terms = refl; info = refl; keys = λ k says. says }) fit.unported fit.unbound
+    (record { front = (submit_kept w.rings.front job).stage; shape = submit_shape w.rings.front job; closing = closing_submit w.rings.front job; through = through_submit w.rings.front job; back = refl; halted = refl; terms = refl; info = refl; keys = same_back w.back.features w.back.disk w.rings.under.keys; room = room }) fit.unported fit.unbound
 
 fit_notify : (w : World) (at : End) → IsFit w → IsFit (happens w (Notifies at))
 fit_notify w at fit =
     let channels = notified at w.rings.back.stage w.rings.under.channels fit.unported fit.unbound in
-    fit_rings w (ring.happens w.rings (ring.Notifies at)) fit (safe_happens w.rings (ring.Notifies at) fit.safe) (record { front = refl; shape = refl; closing = refl; through = λ is. is; back = refl; halted = refl; terms = refl; info = refl; keys = λ k says. says }) channels.0 channels.1
+    fit_rings w (ring.happens w.rings (ring.Notifies at)) fit (safe_happens w.rings (ring.Notifies at) fit.safe) (record { front = refl; shape = refl; closing = refl; through = λ is. is; back = refl; halted = refl; terms = refl; info = refl; keys = same_back w.back.features w.back.disk w.rings.under.keys; room = fit.room }) channels.0 channels.1
 
 -- the rings over this
 abbrev with_under : rings.World → Hypervisor → rings.World
@@ -162,13 +263,13 @@ with_under r under = record { front = r.front; back = r.back; under = under }
 fit_poke : (w : World) (frame word value : ℕ) → IsFit w → IsFit (happens w (Pokes frame word value))
 fit_poke w frame word value fit =
     poke_cases (λ (under : Hypervisor) (shown : List Line). IsSafe (with_under w.rings under) → IsFit (with_rings w (with_under w.rings under))) w.rings.under frame word value
-    (λ framed worded safe. fit_rings w (with_under w.rings (with_pages w.rings.under (with_word w.rings.under.pages frame word value))) fit safe (record { front = refl; shape = refl; closing = refl; through = λ is. is; back = refl; halted = refl; terms = refl; info = refl; keys = λ k says. says }) fit.unported fit.unbound) (λ safe. fit) (safe_happens w.rings (ring.Pokes frame word value) fit.safe)
+    (λ framed worded safe. fit_rings w (with_under w.rings (with_pages w.rings.under (with_word w.rings.under.pages frame word value))) fit safe (record { front = refl; shape = refl; closing = refl; through = λ is. is; back = refl; halted = refl; terms = refl; info = refl; keys = same_back w.back.features w.back.disk w.rings.under.keys; room = fit.room }) fit.unported fit.unbound) (λ safe. fit) (safe_happens w.rings (ring.Pokes frame word value) fit.safe)
 
 -- a key of the front's is none of the back's
 fit_key : (w : World) (name text : List ℕ) → IsFit w → IsFit (happens w (OverwritesKey name text))
 fit_key w name text fit =
     overwriting_cases (λ (under : Hypervisor) (shown : List Line). IsSafe (with_under w.rings under) → IsFit (with_rings w (with_under w.rings under))) w.rings.under name text
-    (λ allowed safe. fit_rings w (with_under w.rings (with_keys w.rings.under (written w.rings.under.keys (front_path name) text))) fit safe (record { front = refl; shape = refl; closing = refl; through = λ is. is; back = refl; halted = refl; terms = refl; info = refl; keys = λ k says. written_keeps w.back.features w.back.disk w.rings.under.keys k name text says }) fit.unported fit.unbound) (λ safe. fit) (safe_happens w.rings (ring.OverwritesKey name text) fit.safe)
+    (λ allowed safe. fit_rings w (with_under w.rings (with_keys w.rings.under (written w.rings.under.keys (front_path name) text))) fit safe (record { front = refl; shape = refl; closing = refl; through = λ is. is; back = refl; halted = refl; terms = refl; info = refl; keys = written_leaves w.back.features w.back.disk w.rings.under.keys name text; room = fit.room }) fit.unported fit.unbound) (λ safe. fit) (safe_happens w.rings (ring.OverwritesKey name text) fit.safe)
 
 -- whatever happens
 pub fit_happens : (w : World) (h : Happening) → IsFit w → IsFit (happens w h)
@@ -182,6 +283,7 @@ fit_happens w (Submits job) fit = fit_submit w job fit
 fit_happens w (Notifies at) fit = fit_notify w at fit
 fit_happens w (Pokes frame word value) fit = fit_poke w frame word value fit
 fit_happens w (OverwritesKey name text) fit = fit_key w name text fit
+fit_happens w Suspends fit = fit_suspends w fit
 fit_happens w Dumps fit = fit
 fit_happens w (Looks quiet) fit = fit
 fit_happens w (Settles quiet) fit = fit

@@ -1,6 +1,6 @@
 -- The machine stays fit as the back moves, and as it is asked to close.
 use Rattle.std.proofs.Common.{◌≡◌, ◌≤◌, Bool, true, false, true≢false, ◌&&◌, List, [], ◌∷◌, if◌then◌else◌, refl, sym, ap, ◌∙◌, subst}
-use Rattle.std.specs.Prelude.{Option, Some, None}
+use Rattle.std.specs.Prelude.{Option, Some, None, min}
 use Rattle.line_text.proofs.Both.{both_true}
 use Rattle.blk_base.specs.declared.parts.End.TheVariants as end
 use Rattle.blk_base.specs.declared.ask.BackAsk.{BackAsk}
@@ -13,7 +13,9 @@ use Rattle.key_directory.specs.Directory.{Directory}
 use Rattle.hypervisor.specs.Act.{BackAct, Took, back_act}
 use Rattle.blk_back.specs.Ask as back_ring
 use Rattle.blk_back.specs.View as ends
+use Rattle.ring_words.specs.Shape.{entries_of}
 use Rattle.blk_front.specs.View as front_ends
+use Rattle.blk_front.specs.Submit.{unfinished}
 use Rattle.blk_back.specs.declared.stage.Stage.{Stage as Ring}
 use Rattle.blk_back.specs.Step.{giving_up}
 use Rattle.blk_back.proofs.Hands.{step_info}
@@ -46,11 +48,12 @@ use Rattle.vbd_back.specs.Ask as back
 use Rattle.vbd_back.specs.Step as back_step
 use Rattle.vbd_model.specs.World.{World, backend_of}
 use Rattle.vbd_model.specs.Happening.{back_key, back_does, back_turn, back_bus_after, halted_at, reasons_of, attaches, happens, BackMoves, Closes}
-use Rattle.vbd_model.specs.Fit.{FrontOrdered, BackGoesWith, IsUnbound, IsOffered, SaysKey, SaidBefore, SaidAt, IsFit}
+use Rattle.vbd_model.specs.Fit.{FrontOrdered, BackGoesWith, IsUnbound, IsOffered, SaysKey, SaidBefore, SaidAt, IsAnnounced, ReadsOffer, IsFit}
 use Rattle.vbd_laws.proofs.FitBackBus.{BackFits, BackShares, told_at, spoken_fits}
-use Rattle.vbd_laws.proofs.FitBackKept.{Facts, facts_in, is_publishing, facts_settled, facts_moved, facts_closed, past_settled, past_moved, stage_closed}
+use Rattle.vbd_laws.proofs.FitBackKept.{Facts, facts_in, is_publishing, HasSaid, facts_settled, facts_moved, facts_closed, said_settled, said_moved, stage_closed}
 use Rattle.vbd_laws.proofs.FitBackMoves.{ring_fits, wait_fits}
-use Rattle.vbd_laws.proofs.FitSaid.{watched_says, asked_keeps, said_kept, said_past, said_next, set_says}
+use Rattle.vbd_laws.proofs.FitSaid.{LeavesBack, same_back, watched_leaves, asked_keeps, said_kept, said_past, announced_kept, announced_asked, said_next, set_says}
+use Rattle.vbd_laws.proofs.FitFrontReads.{reads_kept}
 use Rattle.vbd_laws.proofs.KeysSet.{back_may_set}
 use Rattle.vbd_laws.proofs.FitBackShares.{spoken_shares, moved_shares, waited_shares, closed_shares}
 use Rattle.vbd_laws.proofs.MovesAttached.{halted_only, all_halt, asks_layout, not_led, taken}
@@ -76,6 +79,8 @@ record Offers (w : World) (r : rings.World) (u : BackView) : Type 0 where
   facts : facts_in u ≡ facts_in w.back
   info : r.back.jobs.info ≡ w.rings.back.jobs.info
   said : SaidAt (Says w r.under.keys) u.stage
+  says : (k : BackKey) → Says w w.rings.under.keys k → Says w r.under.keys k
+  announced : IsAnnounced (Says w r.under.keys) r.under.keys
 
 -- the back's negotiation was told something; the front stands as it did
 fit_back : (w : World) (r : rings.World) (u : BackView) → IsFit w → IsSafe r → Offers w r u → BackFits u r.back → BackShares u r.back → r.front ≡ w.rings.front
@@ -84,11 +89,16 @@ fit_back w r u fit safe offers fits shares same unported unbound = record {
   safe = safe;
   layout = ap (λ (f : front_ends.View). f.shape.abi) same ∙ fit.layout;
   ordered = subst (λ (f : front_ends.View). FrontOrdered w.front.stage w.front f.shape.order) (sym same) fit.ordered;
+  room = subst (λ (f : front_ends.View). unfinished f ≤ entries_of (min w.front.order 4)) (sym same) fit.room;
   offers = ap (λ (t : Facts). t.0) offers.facts ∙ (fit.offers ∙ sym (ap (λ (t : Facts). offer t.1.read_only t.0.indirect) offers.facts));
   limited = subst (λ (t : Facts). t.0.indirect ≤ 960) (sym offers.facts) fit.limited;
   published =
       subst (λ (t : Facts). IsOffered r.back.jobs.info t.0) (sym offers.facts) (subst (λ (i : DiskInfo). IsOffered i w.back.features) (sym offers.info) fit.published);
   said = subst (λ (t : Facts). SaidAt (SaysKey r.under.keys t.0 t.1) u.stage) (sym offers.facts) offers.said;
+  announced = subst (λ (t : Facts). IsAnnounced (SaysKey r.under.keys t.0 t.1) r.under.keys) (sym offers.facts) offers.announced;
+  reads =
+      subst (λ (t : Facts). ReadsOffer (SaysKey r.under.keys t.0 t.1) w.front.stage) (sym offers.facts)
+      (reads_kept (Says w w.rings.under.keys) (Says w r.under.keys) offers.says w.front.stage fit.reads);
   front = rw same fit.front;
   closing = rw same fit.closing;
   through = rw same fit.through;
@@ -129,7 +139,13 @@ fit_keys w reason u fit facts said fits shares =
     let halted = all_halt reason keyed in
     subst (λ (r : rings.World). IsFit (with_back w r u)) (sym halted)
     (fit_back w (record keyed { back = halted_only reason w.rings.back }) u fit
-    (subst (λ (r : rings.World). IsSafe r) halted (safe_after (back_says w (reasons_of reason)) w.rings fit.safe)) (record { facts = facts; info = halted_info reason w.rings.back; said = said }) fits shares refl fit.unported (halted_unbound reason w fit))
+    (subst (λ (r : rings.World). IsSafe r) halted (safe_after (back_says w (reasons_of reason)) w.rings fit.safe)) (record {
+      facts = facts;
+      info = halted_info reason w.rings.back;
+      said = said;
+      says = asked_keeps w.back w.rings.back.stage w.rings.under.keys;
+      announced = announced_asked w.back w.rings.back.stage w.rings.under.keys fit.said fit.announced;
+    }) fits shares refl fit.unported (halted_unbound reason w fit))
 
 -- what an answer makes of both where the end of the ring is led so
 abbrev Led : World → BackAct → Type 0
@@ -177,15 +193,15 @@ publish_says w a r k fit here allowed =
     subst (λ (b : BackStage). SaidAt (Says w (keys_after w)) b) (sym later) (said_next (Says w (keys_after w)) k said is)
 
 -- once all are published they stay said
-keys_said : (w : World) (u : BackView) → IsFit w → is_publishing w.back.stage ≡ false → is_publishing u.stage ≡ false → SaidAt (Says w (keys_after w)) u.stage
-keys_said w u fit past later = said_past (Says w w.rings.under.keys) (Says w (keys_after w)) (asked_keeps w.back w.rings.back.stage w.rings.under.keys) w.back.stage u.stage past later fit.said
+keys_said : (w : World) (u : BackView) → IsFit w → is_publishing w.back.stage ≡ false → ((said : Type 0) → HasSaid said w.back → HasSaid said u) → SaidAt (Says w (keys_after w)) u.stage
+keys_said w u fit past later = said_past (Says w w.rings.under.keys) (Says w (keys_after w)) (asked_keeps w.back w.rings.back.stage w.rings.under.keys) w.back u past later fit.said
 
 spoken_says : (w : World) (a : BackAct) (r : Ring) → IsFit w → IsAnswer (back_asks w) a.answer → SaidAt (Says w (keys_after w)) (let u : BackView = back_step.settled r (step_of w.back a.answer) in u.stage)
 spoken_says w a r fit allowed = by_stage w.back.stage refl
   where
     by_stage : (b : BackStage) → w.back.stage ≡ b → SaidAt (Says w (keys_after w)) (let u : BackView = back_step.settled r (step_of w.back a.answer) in u.stage)
     by_stage (stage.Publish k) here = publish_says w a r k fit here allowed
-    by_stage b here = let past = ap is_publishing here in keys_said w (back_step.settled r (step_of w.back a.answer)) fit past (past_settled r w.back a.answer past)
+    by_stage b here = keys_said w (back_step.settled r (step_of w.back a.answer)) fit (ap is_publishing here) (λ said. said_settled said r w.back a.answer)
 
 -- its negotiation doesn't publish where it leaves the move to its end of the ring
 quiet_past : (w : World) → IsFit w → back.bus_moves (back_asks w) w.rings.back.stage ≡ false → is_publishing w.back.stage ≡ false
@@ -227,15 +243,17 @@ fit_takes w a fit turn moves takes e =
     (record {
       facts = facts_settled y.stage w.back a.answer;
       info = ap (λ (t : ends.View). t.jobs.info) took.led;
-      said = said_past (Says w w.rings.under.keys) (Says w w.rings.under.keys) (λ k is. is) w.back.stage _ past (past_settled y.stage w.back a.answer past) fit.said;
+      said = said_past (Says w w.rings.under.keys) (Says w w.rings.under.keys) (λ k is. is) w.back (back_step.spoken (backend_of w) a.answer).bus past (λ said. said_settled said y.stage w.back a.answer) fit.said;
+      says = λ k is. is;
+      announced = fit.announced;
     }) both.0 both.1 refl fit.unported
     (subst (λ (t : ends.View). IsUnbound t.stage w.rings.under.channels) (sym took.led) (subst (λ (s : Ring). IsUnbound s w.rings.under.channels) waits fit.unbound)))
 
 -- its end of the ring moves, and asks for no key
-own_keys : (w : World) (a : BackAct) (k : BackKey) → Says w w.rings.under.keys k → back_act w.rings.under back_mover.Back (back_ring.ask_of w.rings.back) Took ≡ Some a → Says w a.under.keys k
-own_keys w a k is e =
-    back_stays (λ (d : Directory). Says w d k) (λ at d says. watched_says w.back.features w.back.disk k d at _ says) w.rings.under back_mover.Back (back_ring.ask_of w.rings.back) Took a
-    (backs_no_key (back_ring.ask_of w.rings.back) (backs_of w.rings.back)) is e
+own_keys : (w : World) (a : BackAct) → back_act w.rings.under back_mover.Back (back_ring.ask_of w.rings.back) Took ≡ Some a → LeavesBack w.back.features w.back.disk w.rings.under.keys a.under.keys
+own_keys w a e =
+    back_stays (LeavesBack w.back.features w.back.disk w.rings.under.keys) (λ at d is. watched_leaves w.back.features w.back.disk w.rings.under.keys d at _ is) w.rings.under back_mover.Back (back_ring.ask_of w.rings.back) Took a
+    (backs_no_key (back_ring.ask_of w.rings.back) (backs_of w.rings.back)) (same_back w.back.features w.back.disk w.rings.under.keys) e
 
 fit_moves : (w : World) (a : BackAct) → IsFit w → back.bus_moves (back_asks w) w.rings.back.stage ≡ false → back.ring_moves (back_asks w) w.rings.back.stage ≡ true
     → FitAfter w a (ring.BackMoves ∷ []) (back_ring.ask_of w.rings.back) (λ x. back_step.ring_step true (back_asks w) (backend_of w) x)
@@ -244,6 +262,7 @@ fit_moves w a fit quiet moves e =
     let v : back_view.View = back_step.ring_step true (back_asks w) (backend_of w) a.answer in
     let told = back_answered w.rings.under w.rings.back Took a e in
     let past = quiet_past w fit quiet in
+    let left = own_keys w a e in
     let fits = ring_fits w.back w.rings.back a.answer (back_fits w fit) (back_shares w fit) quiet moves told in
     let shares = moved_shares w.back w.rings.back a.answer (back_fits w fit) (back_shares w fit) moves told in
     subst (λ (r : rings.World). IsFit (with_back w r v.bus)) (sym moved)
@@ -251,7 +270,9 @@ fit_moves w a fit quiet moves e =
     (record {
       facts = facts_moved true (back_asks w) (backend_of w) a.answer;
       info = step_info w.rings.back a.answer;
-      said = said_past (Says w w.rings.under.keys) (Says w a.under.keys) (λ k is. own_keys w a k is e) w.back.stage _ past (past_moved true (back_asks w) (backend_of w) a.answer past) fit.said;
+      said = said_past (Says w w.rings.under.keys) (Says w a.under.keys) left.says w.back v.bus past (λ said. said_moved said true (back_asks w) (backend_of w) a.answer) fit.said;
+      says = left.says;
+      announced = announced_kept w.back.features w.back.disk w.rings.under.keys a.under.keys left fit.announced;
     }) (record { goes = fits.goes; held = fits.held; halted = fits.halted }) (record { pages = shares.pages; sound = shares.sound; terms = λ has on. let have = shares.terms has on in record { shape = have.shape; grefs = have.grefs; port = have.port } }) refl
     (unported_back w.rings.under (back_ring.ask_of w.rings.back) Took a (backs_of w.rings.back) fit.unported e)
     (unbound_back w.rings.back w.rings.under Took a fit.unbound e))
@@ -261,7 +282,7 @@ fit_waits : (w : World) (a : BackAct) → IsFit w → back.bus_moves (back_asks 
     → FitAfter w a (back_says w []) back_ask.Wait (λ x. back_step.ring_step false (back_asks w) (backend_of w) x)
 fit_waits w a fit quiet still e =
     fit_keys w None (back_step.waited (back_asks w) w.back a.answer) fit (facts_moved false (back_asks w) (backend_of w) a.answer)
-    (let past = quiet_past w fit quiet in keys_said w (back_step.waited (back_asks w) w.back a.answer) fit past (past_moved false (back_asks w) (backend_of w) a.answer past)) (wait_fits w.back w.rings.back a.answer (back_fits w fit) still) (waited_shares w.back w.rings.back a.answer (back_shares w fit))
+    (keys_said w (back_step.waited (back_asks w) w.back a.answer) fit (quiet_past w fit quiet) (λ said. said_moved said false (back_asks w) (backend_of w) a.answer)) (wait_fits w.back w.rings.back a.answer (back_fits w fit) still) (waited_shares w.back w.rings.back a.answer (back_shares w fit))
 
 fit_act : (w : World) (a : BackAct) → IsFit w → back_turn w ≡ Some a → IsFit (with_back w (ring.after (back_does w) w.rings) (back_bus_after w (Some a)))
 fit_act w a fit turn = back_cases (FitAfter w a) w (fit_says w a fit turn) (fit_takes w a fit turn) (fit_moves w a fit) (fit_waits w a fit) turn
@@ -275,7 +296,7 @@ fit_none w fit turn =
     back_cases (FitStill w) w (λ moves untaken e. absurd (back_speaks w.rings.under (back_asks w) (both_true (back.speaks (back_asks w)) (back.is_between w.rings.back.stage) moves).0 e))
     (λ moves takes e. absurd (back_speaks w.rings.under (back_asks w) (both_true (back.speaks (back_asks w)) (back.is_between w.rings.back.stage) moves).0 e))
     (λ quiet moves e. subst (λ (act : Option BackAct). IsFit (with_back w (ring.back_after w.rings act) w.back)) (sym e) fit)
-    (λ quiet still e. let past = quiet_past w fit quiet in fit_keys w None w.back fit refl (keys_said w w.back fit past past) (back_fits w fit) (back_shares w fit)) turn
+    (λ quiet still e. fit_keys w None w.back fit refl (keys_said w w.back fit (quiet_past w fit quiet) (λ said has. has)) (back_fits w fit) (back_shares w fit)) turn
 
 fit_turn : (w : World) (act : Option BackAct) → IsFit w → back_turn w ≡ act → IsFit (with_back w (ring.after (back_does w) w.rings) (back_bus_after w act))
 fit_turn w None fit e = fit_none w fit e
@@ -288,7 +309,7 @@ fit_back_moves w fit = fit_turn w (back_turn w) fit refl
 -- and a close
 pub fit_back_closes : (w : World) → IsFit w → IsFit (happens w (Closes end.Back))
 fit_back_closes w fit = fit_back w w.rings (unplugged w.back) fit fit.safe
-    (record { facts = facts_closed w.back; info = refl; said = subst (λ (b : BackStage). SaidAt (Says w w.rings.under.keys) b) (sym (stage_closed w.back)) fit.said }) (by_fits (is_halting w.back.stage)) (closed_shares w.back w.rings.back (back_shares w fit)) refl fit.unported fit.unbound
+    (record { facts = facts_closed w.back; info = refl; said = subst (λ (b : BackStage). SaidAt (Says w w.rings.under.keys) b) (sym (stage_closed w.back)) fit.said; says = λ k is. is; announced = fit.announced }) (by_fits (is_halting w.back.stage)) (closed_shares w.back w.rings.back (back_shares w fit)) refl fit.unported fit.unbound
   where
     by_fits : (c : Bool) → BackFits (let v : BackView = w.back in if c then v else record v { unplugged = true }) w.rings.back
     by_fits true = back_fits w fit

@@ -1,6 +1,6 @@
--- What is true of the back's negotiation through all that it is told, and a halt, is true after its move: so are its offer and its disk, and that it has published its features.
-use Rattle.std.proofs.Common.{◌≡◌, ◌∙◌, ap, Bool, true, false, true≢false, ◌+◌, if◌then◌else◌, List, [], ◌∷◌, refl}
-use Rattle.std.specs.Prelude.{Option, Some, None, nat_lt, length}
+-- What is true of the back's negotiation through all that it is told, and a halt, is true after its move: so are its offer and its disk, that it has published its features, and that it has halted.
+use Rattle.std.proofs.Common.{◌≡◌, ◌∙◌, ap, sym, subst, Bool, true, false, true≢false, ◌+◌, if◌then◌else◌, List, [], ◌∷◌, inl, inr, refl}
+use Rattle.std.specs.Prelude.{Option, Some, None, nat_lt, length, ◌⊎◌}
 use Rattle.blk_base.specs.declared.parts.Mapping.{Mapping}
 use Rattle.blk_base.specs.declared.ask.BackAnswer.{BackAnswer}
 use Rattle.blk_base.specs.declared.ask.BackAnswer.TheVariants as answer
@@ -190,7 +190,28 @@ past_stopped v past = by_test (is_halting v.stage)
     by_test true = past
     by_test false = refl
 
--- each part of a move keeps both
+-- this was said, once it has published all, or it has halted
+abbrev pub HasSaid : Type 0 → BackView → Type 0
+HasSaid said v = IsPast v × (said ⊎ (v.stage ≡ stage.Halted))
+
+over_told : (v : BackView) (x : BackAnswer) → v.stage ≡ stage.Halted → (let u : BackView = step_of v x in u.stage) ≡ stage.Halted
+over_told v x here = by_test (says_closing v)
+  where
+    by_test : (c : Bool) → (let u : BackView = if c then record v { state = state.Closing } else step_at v.stage v x in u.stage) ≡ stage.Halted
+    by_test true = here
+    by_test false = subst (λ (b : BackStage). (let u : BackView = step_at b v x in u.stage) ≡ stage.Halted) (sym here) here
+
+said_told : (said : Type 0) (v : BackView) (x : BackAnswer) → HasSaid said v → HasSaid said (step_of v x)
+said_told said v x has = (past_told v x has.0, elim has.1 [ inl is ↦ inl is | inr over ↦ inr (over_told v x over) ])
+
+said_stopped : (said : Type 0) (v : BackView) → HasSaid said v → HasSaid said (stopped v)
+said_stopped said v has = by_test (is_halting v.stage) refl
+  where
+    by_test : (c : Bool) → is_halting v.stage ≡ c → HasSaid said (if c then v else halted v)
+    by_test true e = has
+    by_test false e = (refl, elim has.1 [ inl is ↦ inl is | inr over ↦ absurd (true≢false (sym (ap is_halting over) ∙ e)) ])
+
+-- each part of a move keeps all three
 pub facts_settled : (s : BackRing) (v : BackView) (x : BackAnswer) → facts_in (back_step.settled s (step_of v x)) ≡ facts_in v
 facts_settled s v x = settled_is (HasFacts (facts_in v)) (facts_told (facts_in v)) (facts_stopped (facts_in v)) (let u : BackView = step_of v x in u.stage) s (step_of v x) (facts_told (facts_in v) v x refl)
 
@@ -203,7 +224,13 @@ past_settled s v x past = settled_is IsPast past_told past_stopped (let u : Back
 pub past_moved : (moves : Bool) (b : BackBusAsk) (x : View) (a : BackAnswer) → is_publishing x.bus.stage ≡ false → (let y : View = back_step.ring_step moves b x a in is_publishing y.bus.stage) ≡ false
 past_moved moves b x a past = ring_is IsPast past_told past_stopped moves b x a past
 
--- a close leaves both
+pub said_settled : (said : Type 0) (s : BackRing) (v : BackView) (x : BackAnswer) → HasSaid said v → HasSaid said (back_step.settled s (step_of v x))
+said_settled said s v x has = settled_is (HasSaid said) (said_told said) (said_stopped said) (let u : BackView = step_of v x in u.stage) s (step_of v x) (said_told said v x has)
+
+pub said_moved : (said : Type 0) (moves : Bool) (b : BackBusAsk) (x : View) (a : BackAnswer) → HasSaid said x.bus → (let y : View = back_step.ring_step moves b x a in HasSaid said y.bus)
+said_moved said moves b x a has = ring_is (HasSaid said) (said_told said) (said_stopped said) moves b x a has
+
+-- a close leaves them
 pub facts_closed : (v : BackView) → facts_in (unplugged v) ≡ facts_in v
 facts_closed v = by_test (is_halting v.stage)
   where

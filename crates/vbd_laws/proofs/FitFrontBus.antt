@@ -1,5 +1,5 @@
 -- The front's negotiation goes on with its end of the ring, as the other end's keys are read and its own are set, and the end of the ring enters the states that it comes to.
-use Rattle.std.proofs.Common.{◌≡◌, ℕ, ◌≤◌, Bool, true, false, true≢false, ◌&&◌, if◌then◌else◌, List, [], inl, refl, sym, ap, ◌∙◌, subst, arith}
+use Rattle.std.proofs.Common.{◌≡◌, ℕ, ◌≤◌, Bool, true, false, true≢false, ◌&&◌, if◌then◌else◌, List, [], inl, inr, refl, sym, ap, ◌∙◌, subst, arith}
 use Rattle.std.specs.Prelude.{Option, Some, None, IsSome, length, min, nat_le, ◌==◌}
 use Rattle.std.proofs.lemmas.Bool.Decides.{nat_tests}
 use Rattle.line_text.proofs.Both.{both_true}
@@ -8,6 +8,7 @@ use Rattle.blk_front.specs.declared.stage.Stage.{Stage as Ring}
 use Rattle.blk_front.specs.declared.stage.Stage.TheVariants as ring
 use Rattle.blk_front.specs.declared.state.FrontState.{FrontState}
 use Rattle.blk_front.specs.declared.state.FrontState.TheVariants as enter
+use Rattle.ring_words.specs.Shape.{entries_of}
 use Rattle.blk_front.specs.View as ends
 use Rattle.blk_front.specs.Ask.{is_through}
 use Rattle.blk_front.specs.Submit.{is_ready}
@@ -24,7 +25,7 @@ use Rattle.xenbus_state.specs.FrontStep.{at, after_grants, step_at}
 use Rattle.split_model.proofs.States.{enters_cases}
 use Rattle.vbd_front.specs.View.{is_still, is_unoccupied, is_broken}
 use Rattle.vbd_front.specs.Step.{settled_at, settled, states_due, all_entered}
-use Rattle.vbd_model.specs.Fit.{IsEndingPage, FrontRests, FrontGoesWith, OpenOrdered, FrontOrdered}
+use Rattle.vbd_model.specs.Fit.{IsEndingPage, FrontRests, FrontGoesWith, IsWished, PortOrdered, FrontOrdered}
 
 -- the negotiation goes with the end of the ring, closes with it, wrote Closing only with no request left, and knows the order of the ring
 pub record FrontFits (v : FrontView) (f : ends.View) : Type 0 where
@@ -149,19 +150,27 @@ settles_ending idle u f e fits =
     subst (λ (t : FrontView). FrontFits t (all_entered (states_due (ask_of t idle) (ring_order t)) f)) (sym same)
     (subst (λ (a : FrontBusAsk). FrontFits u (all_entered (states_due a (ring_order u)) f)) (sym e) fits)
 
--- the ring is begun: its order is agreed, which is no greater than the front wished
-no_greater : (order offered : ℕ) → nat_le (min order offered) order ≡ true
-no_greater order offered = let least : min order offered ≤ order = omega arith in grind (arith, nat_tests)
+-- the ring is begun: its order is agreed, which is no greater than that of the front's end, with an entry for each request
+no_greater : (wished offered order : ℕ) → IsWished wished offered order → nat_le (min wished offered) order ≡ true
+no_greater wished offered order (inl is) = let least : min wished offered ≤ order = omega arith in grind (arith, nat_tests)
+no_greater wished offered order (inr is) = let same = is.0 in let least : min wished offered ≤ order = omega arith in grind (arith, nat_tests)
 
-pub settles_begun : (u : FrontView) (f : ends.View) → u.stage ≡ stage.RingWord 0 → u.state ≡ state.Initialising → u.port ≡ None → f.stage ≡ ring.RingWord 0 → f.shape.order ≡ u.order
-    → (is_broken f.stage ≡ false → f.closing ≡ u.closing) → FrontFits u (enters (enter.Agreed (ring_order u)) f)
-settles_begun u f here own port at_stage wished closing =
-    let agreed : enters (enter.Agreed (ring_order u)) f ≡ in_state (enter.Agreed (ring_order u)) f = rw (at_stage, wished, no_greater u.order u.features.order) refl in
+fits_all : (count entries : ℕ) → count ≤ entries → nat_le count entries ≡ true
+fits_all count entries few = grind (arith, nat_tests)
+
+enough : (wished offered count : ℕ) → offered ≡ 4 → count ≤ entries_of (min wished 4) → nat_le count (entries_of (min wished offered)) ≡ true
+enough wished offered count four few = subst (λ (n : ℕ). nat_le count (entries_of (min wished n)) ≡ true) (sym four) (fits_all count (entries_of (min wished 4)) few)
+
+pub settles_begun : (u : FrontView) (f : ends.View) → u.stage ≡ stage.RingWord 0 → u.state ≡ state.Initialising → u.port ≡ None → f.stage ≡ ring.RingWord 0 → u.features.order ≡ 4 → IsWished u.order u.features.order f.shape.order
+    → length f.requests ≤ entries_of (min u.order 4) → (is_broken f.stage ≡ false → f.closing ≡ u.closing) → FrontFits u (enters (enter.Agreed (ring_order u)) f)
+settles_begun u f here own port at_stage four wished few closing =
+    let agreed : enters (enter.Agreed (ring_order u)) f ≡ in_state (enter.Agreed (ring_order u)) f =
+    rw (at_stage, no_greater u.order u.features.order f.shape.order wished, enough u.order u.features.order (length f.requests) four few) refl in
     subst (λ (x : ends.View). FrontFits u x) (sym agreed) (record {
       goes = rw here (own, omega arith, at_stage, port);
       closing = closing;
       through = λ e. let none : state.Initialising ≡ state.Closing = sym own ∙ e in absurd (cc);
-      ordered = rw here refl;
+      ordered = rw here (refl, four);
     })
 
 pub rests_due : (u : FrontView) (idle c : Bool) → u.stage ≡ stage.Rest → (u.closing && idle) ≡ c → due u idle ≡ (if c then closing_stage u.state u else stage.Rest)
@@ -192,7 +201,7 @@ settles_rest idle u f here still rests fits = by_test (u.closing && idle) refl
 
 -- a front that wrote Closing, and reads now that the back is gone or read it before
 pub settles_closing : (idle : Bool) (u : FrontView) (f : ends.View) → u.stage ≡ stage.Rest → u.state ≡ state.Closing → u.closing ≡ true → idle ≡ true → IsUnoccupied f → f.closing ≡ true
-    → OpenOrdered u.port (ring_order u) f.shape.order → FrontRests state.Closing false u.port f.stage → Settles idle u f
+    → PortOrdered u.port u.order u.features.order f.shape.order → FrontRests state.Closing false u.port f.stage → Settles idle u f
 settles_closing idle u f here own closing is_idle free closes ordered rests = by_gone u.gone u.port refl refl rests
   where
     through : is_through f ≡ true
@@ -205,7 +214,7 @@ settles_closing idle u f here own closing is_idle free closes ordered rests = by
     fits t x goes t_closing x_closing x_through t_ordered = record { goes = goes; closing = λ whole. x_closing ∙ sym t_closing; through = λ e whole. x_through; ordered = t_ordered }
 
     rest_ordered : FrontOrdered u.stage u f.shape.order
-    rest_ordered = rw (here, own) ordered
+    rest_ordered = rw here ordered
 
     by_gone : (gone : Bool) (port : Option ℕ) → u.gone ≡ gone → u.port ≡ port → FrontRests state.Closing false port f.stage → Settles idle u f
     by_gone false port g p rests = settles_plain idle u f (ap (λ (d : FrontStage). leads (ask_at d u)) (asks false port g p)) (fits u f (rw here (inl (rw (own, g, p) rests))) closing closes through rest_ordered)

@@ -5,6 +5,7 @@ use Rattle.blk_front.specs.declared.stage.Stage.TheVariants as ring
 use Rattle.blk_front.specs.declared.state.FrontState.TheVariants as enter
 use Rattle.blk_front.specs.View as ends
 use Rattle.blk_front.specs.State.{is_open, is_bare, may_enter, enters}
+use Rattle.blk_front.specs.Suspend.{is_left}
 use Rattle.xenbus_state.specs.declared.state.BusState.TheVariants as state
 use Rattle.xenbus_state.specs.declared.stage.FrontStage.{FrontStage}
 use Rattle.xenbus_state.specs.declared.stage.FrontStage.TheVariants as stage
@@ -31,8 +32,12 @@ bare_open (ring.RingWord k) bare = refl
 bare_open ring.Left bare = refl
 bare_open r bare = absurd (true≢false (sym bare))
 
+left_open : (r : Ring) → is_left r ≡ true → is_open r ≡ true
+left_open (ring.LeftData n) is = refl
+left_open r is = absurd (true≢false (sym is))
+
 goes_open : (b : FrontStage) (v : FrontView) (r : Ring) → FrontGoesWith b v r → v.closing ≡ false → is_broken r ≡ false → is_open r ≡ true
-goes_open stage.Start v r goes closing whole = ap is_open goes.1
+goes_open stage.Start v r goes closing whole = elim goes.1 [ inl is ↦ ap is_open is | inr is ↦ left_open r is ]
 goes_open stage.Rest v r goes closing whole = elim goes [ inl rests ↦ rests_open v.state v.gone v.port r rests | inr is ↦ absurd (true≢false (sym is ∙ whole)) ]
 goes_open stage.ReadState v r goes closing whole = rests_open v.state v.gone v.port r goes
 goes_open (stage.ReadFeature key) v r goes closing whole = ap is_open goes.1
@@ -61,13 +66,9 @@ goes_closing (stage.WriteState own) v r goes = absurd goes
 goes_closing b v r goes = goes
 
 ordered_closing : (b : FrontStage) (v : FrontView) (n : ℕ) → FrontOrdered b v n → FrontOrdered b (record v { closing = true }) n
-ordered_closing stage.Start v n ordered = ordered
-ordered_closing (stage.ReadFeature key) v n ordered = ordered
 ordered_closing (stage.RingWord word) v n ordered = ordered
 ordered_closing (stage.Grant page) v n ordered = ordered
 ordered_closing stage.NewPort v n ordered = ordered
-ordered_closing stage.Rest v n ordered = ordered
-ordered_closing stage.ReadState v n ordered = ordered
 ordered_closing b v n ordered = ordered
 
 unopened : (r : Ring) → is_broken r ≡ true → is_open r ≡ false

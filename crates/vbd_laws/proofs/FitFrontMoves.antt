@@ -1,6 +1,6 @@
 -- The front's negotiation goes on with its end of the ring, as that moves.
 use Rattle.std.proofs.Common.{◌≡◌, ℕ, ◌+◌, ◌^◌, ◌<◌, Bool, true, false, true≢false, ◌||◌, ◌&&◌, if◌then◌else◌, List, [], ◌∷◌, inl, inr, refl, sym, ap, ◌∙◌, subst, arith}
-use Rattle.std.specs.Prelude.{Option, Some, None, IsSome, ◌-◌, ◌==◌, ◌⊎◌, nat_lt, length, slice_get}
+use Rattle.std.specs.Prelude.{Option, Some, None, IsSome, ◌-◌, ◌%◌, ◌==◌, ◌⊎◌, nat_lt, length, slice_get, slice_set}
 use Rattle.std.proofs.lemmas.Bool.Decides.{nat_tests}
 use Rattle.line_text.proofs.Both.{both_true}
 use Rattle.blk_base.specs.declared.ask.FrontAsk.{FrontAsk}
@@ -8,15 +8,18 @@ use Rattle.blk_base.specs.declared.ask.FrontAsk.TheVariants as front_ask
 use Rattle.blk_base.specs.declared.ask.FrontAnswer.{FrontAnswer}
 use Rattle.blk_base.specs.declared.ask.FrontAnswer.TheVariants as answer
 use Rattle.blk_front.specs.declared.request.Request.{Request}
+use Rattle.blk_front.specs.declared.stage.Ending.{Ending}
+use Rattle.blk_front.specs.Request.{words_in}
 use Rattle.blk_front.specs.declared.stage.Stage.{Stage as Ring}
 use Rattle.blk_front.specs.declared.stage.Stage.TheVariants as ring
 use Rattle.blk_front.specs.View as ends
 use Rattle.ring_words.specs.Shape.{Shape}
 use Rattle.split_model.proofs.Shapes.{step_shape}
 use Rattle.blk_front.specs.Ask.{is_through, loop_ask, ask_at as ring_ask_at, IsAnswer}
-use Rattle.blk_front.specs.Step.{at as ring_at, broken as ring_broken, loop_step, is_mapped, ring_left, step_at as ring_step_at, step_of as ring_step_of}
+use Rattle.blk_front.specs.Step.{at as ring_at, broken as ring_broken, loop_step, is_mapped, ring_left, sector_told, finished, left_step, step_at as ring_step_at, step_of as ring_step_of}
 use Rattle.blk_front.specs.Submit.{ending_of, is_ready, is_connected}
-use Rattle.blk_front.specs.State.{is_made}
+use Rattle.blk_front.specs.State.{is_made, is_bare}
+use Rattle.blk_front.specs.Suspend.{is_left}
 use Rattle.xenbus_state.specs.declared.state.BusState.{BusState}
 use Rattle.xenbus_state.specs.declared.state.BusState.TheVariants as state
 use Rattle.xenbus_state.specs.declared.stage.FrontStage.{FrontStage}
@@ -28,7 +31,7 @@ use Rattle.xenbus_state.specs.FrontStep.{at, step_at}
 use Rattle.vbd_front.specs.View.{is_still, is_unoccupied, is_broken}
 use Rattle.vbd_front.specs.Ask.{speaks, ring_moves}
 use Rattle.vbd_front.specs.Step.{settled, bus_told, woken, followed, waited}
-use Rattle.vbd_model.specs.Fit.{IsEndingPage, FrontRests, IsGranting, FrontGoesWith, OpenOrdered, RestsOrdered, FrontOrdered}
+use Rattle.vbd_model.specs.Fit.{IsEndingPage, FrontRests, IsGranting, IsUnbegun, FrontGoesWith, IsAgreed, PortOrdered, FrontOrdered}
 use Rattle.vbd_laws.proofs.FitFrontRing.{up_step, closing_step, through_step, broken_step}
 use Rattle.vbd_laws.proofs.FitFrontBus.{FrontFits, unoccupied, due_cases, closing_cases, rests_due}
 use Rattle.vbd_laws.proofs.FitFrontSpoken.{fits_at, whole_rests, whole_ordered}
@@ -64,7 +67,7 @@ told_at : (d : FrontStage) (v : FrontView) (idle : Bool) (x : FrontAnswer) → d
 told_at d v idle x e = ap (λ (s : FrontStage). settled idle (step_at s (at s v) idle x)) e
 
 -- a watch that is taken has a front that rests read the other end's state
-woken_follows : (broken : Bool) (v : FrontView) (idle : Bool) (x : FrontAnswer) (r : Ring) (n : ℕ) → v.stage ≡ stage.Rest → due v idle ≡ stage.Rest → RestsOrdered v.state v.port v.order (ring_order v) n
+woken_follows : (broken : Bool) (v : FrontView) (idle : Bool) (x : FrontAnswer) (r : Ring) (n : ℕ) → v.stage ≡ stage.Rest → due v idle ≡ stage.Rest → PortOrdered v.port v.order v.features.order n
     → FrontRests v.state v.gone v.port r ⊎ (is_broken r ≡ true) → (broken ≡ false → is_broken r ≡ false) → Follows v (woken broken idle v x) r n
 woken_follows broken v idle x r n here e ordered rests whole = by_answer broken x rests whole
   where
@@ -81,7 +84,7 @@ woken_follows broken v idle x r n here e ordered rests whole = by_answer broken 
     by_answer true x rests whole = still rests
 
 -- a word of the ring was written: the next one is, or its first page is granted
-word_follows : (word : ℕ) (v : FrontView) (idle : Bool) (f : ends.View) (x : FrontAnswer) → due v idle ≡ stage.RingWord word → v.state ≡ state.Initialising → word < 16 → v.port ≡ None → f.shape.order ≡ ring_order v
+word_follows : (word : ℕ) (v : FrontView) (idle : Bool) (f : ends.View) (x : FrontAnswer) → due v idle ≡ stage.RingWord word → v.state ≡ state.Initialising → word < 16 → v.port ≡ None → IsAgreed v.order v.features.order f.shape.order
     → IsAnswer (ring_ask_at (ring.RingWord word) f) x → Follows v (bus_told idle v x) (ring_step_at (ring.RingWord word) f x).stage f.shape.order
 word_follows word v idle f answer.Done e own low port agreed allowed = subst (FollowsTo v _ _) (sym (told_at (stage.RingWord word) v idle answer.Done e)) (by_test (word == 15) refl)
   where
@@ -93,7 +96,7 @@ word_follows word v idle f x e own low port agreed allowed = absurd allowed
 
 -- three moves make a page's grant: then the next one is granted, or the port is made
 grant_follows : (page : ℕ) (s : Ring) (v : FrontView) (idle : Bool) (f : ends.View) (x : FrontAnswer) → v.stage ≡ stage.Grant page → due v idle ≡ stage.Grant page → v.state ≡ state.Initialising → v.port ≡ None
-    → f.shape.order ≡ ring_order v → IsGranting page s → IsAnswer (ring_ask_at s f) x → Follows v (followed (ask.Grant page) (ring_step_at s f x).stage idle v x) (ring_step_at s f x).stage f.shape.order
+    → IsAgreed v.order v.features.order f.shape.order → IsGranting page s → IsAnswer (ring_ask_at s f) x → Follows v (followed (ask.Grant page) (ring_step_at s f x).stage idle v x) (ring_step_at s f x).stage f.shape.order
 grant_follows page (ring.RingFrame k) v idle f x here e own port agreed is allowed = record { goes = rw here (own, is, port); closing = refl; own = refl; ordered = rw here agreed }
 grant_follows page (ring.RingFence k) v idle f x here e own port agreed is allowed = record { goes = rw here (own, is, port); closing = refl; own = refl; ordered = rw here agreed }
 grant_follows page (ring.RingFlags k) v idle f answer.Done here e own port agreed is allowed = by_test (nat_lt (k + 1) (2 ^ f.shape.order)) refl
@@ -101,7 +104,7 @@ grant_follows page (ring.RingFlags k) v idle f answer.Done here e own port agree
     told : (more : Bool) → nat_lt (k + 1) (2 ^ f.shape.order) ≡ more → bus_told idle v answer.Done ≡ settled idle (at (if more then stage.Grant (page + 1) else stage.NewPort) v)
     told more m =
         told_at (stage.Grant page) v idle answer.Done e
-        ∙ ap (λ (b : Bool). settled idle (at (if b then stage.Grant (page + 1) else stage.NewPort) v)) (sym (ap (λ (n : ℕ). nat_lt (n + 1) (2 ^ ring_order v)) is) ∙ (sym (ap (λ (n : ℕ). nat_lt (k + 1) (2 ^ n)) agreed) ∙ m))
+        ∙ ap (λ (b : Bool). settled idle (at (if b then stage.Grant (page + 1) else stage.NewPort) v)) (sym (ap (λ (n : ℕ). nat_lt (n + 1) (2 ^ ring_order v)) is) ∙ (sym (ap (λ (n : ℕ). nat_lt (k + 1) (2 ^ n)) agreed.0) ∙ m))
 
     by_test : (more : Bool) → nat_lt (k + 1) (2 ^ f.shape.order) ≡ more
         → let s : Ring = (if more then ring.RingFrame (k + 1) else ring.NewPort) in Follows v (followed (ask.Grant page) s idle v answer.Done) s f.shape.order
@@ -111,14 +114,14 @@ grant_follows page (ring.RingFlags k) v idle f x here e own port agreed is allow
 grant_follows page s v idle f x here e own port agreed is allowed = absurd is
 
 -- the port was made: the terms are published
-port_follows : (v : FrontView) (idle : Bool) (f : ends.View) (x : FrontAnswer) → due v idle ≡ stage.NewPort → v.state ≡ state.Initialising → f.shape.order ≡ ring_order v → IsAnswer (ring_ask_at ring.NewPort f) x
+port_follows : (v : FrontView) (idle : Bool) (f : ends.View) (x : FrontAnswer) → due v idle ≡ stage.NewPort → v.state ≡ state.Initialising → IsAgreed v.order v.features.order f.shape.order → IsAnswer (ring_ask_at ring.NewPort f) x
     → Follows v (bus_told idle v x) ring.Initialised f.shape.order
 port_follows v idle f (answer.Port port) e own agreed allowed =
     subst (FollowsTo v ring.Initialised _) (sym (told_at stage.NewPort v idle (answer.Port port) e)) (record { goes = (own, refl, refl); closing = refl; own = refl; ordered = agreed })
 port_follows v idle f x e own agreed allowed = absurd allowed
 
 -- a page's grant is ended in two moves, or the ring breaks: then the next one's is, or the port is closed
-end_follows : (page : ℕ) (s : Ring) (v : FrontView) (idle : Bool) (f : ends.View) (x : FrontAnswer) (p : ℕ) → due v idle ≡ stage.EndGrant page → v.state ≡ state.Closing → v.port ≡ Some p → f.shape.order ≡ ring_order v
+end_follows : (page : ℕ) (s : Ring) (v : FrontView) (idle : Bool) (f : ends.View) (x : FrontAnswer) (p : ℕ) → due v idle ≡ stage.EndGrant page → v.state ≡ state.Closing → v.port ≡ Some p → IsAgreed v.order v.features.order f.shape.order
     → FrontOrdered v.stage v f.shape.order → ((r : Ring) → IsEndingPage page r ⊎ (is_broken r ≡ true) → FrontGoesWith v.stage v r)
     → IsEndingPage page s → IsAnswer (ring_ask_at s f) x → Follows v (followed (ask.EndGrant page) (ring_step_at s f x).stage idle v x) (ring_step_at s f x).stage f.shape.order
 end_follows page (ring.RingRead k) v idle f (answer.Word word) p e own port agreed ordered still is allowed = by_test (is_mapped word)
@@ -131,7 +134,7 @@ end_follows page (ring.RingEnd k seen) v idle f (answer.Word word) p e own port 
     told : (more : Bool) → nat_lt (k + 1) (2 ^ f.shape.order) ≡ more → bus_told idle v answer.Done ≡ settled idle (at (if more then stage.EndGrant (page + 1) else stage.EndOtherGrants) v)
     told more m =
         told_at (stage.EndGrant page) v idle answer.Done e
-        ∙ ap (λ (b : Bool). settled idle (at (if b then stage.EndGrant (page + 1) else stage.EndOtherGrants) v)) (sym (ap (λ (n : ℕ). nat_lt (n + 1) (2 ^ ring_order v)) is) ∙ (sym (ap (λ (n : ℕ). nat_lt (k + 1) (2 ^ n)) agreed) ∙ m))
+        ∙ ap (λ (b : Bool). settled idle (at (if b then stage.EndGrant (page + 1) else stage.EndOtherGrants) v)) (sym (ap (λ (n : ℕ). nat_lt (n + 1) (2 ^ ring_order v)) is) ∙ (sym (ap (λ (n : ℕ). nat_lt (k + 1) (2 ^ n)) agreed.0) ∙ m))
 
     left : (more : Bool) → nat_lt (k + 1) (2 ^ f.shape.order) ≡ more
         → let s : Ring = (if more then ring.RingRead (k + 1) else ring.ClosePort) in Follows v (followed (ask.EndGrant page) s idle v (answer.Word word)) s f.shape.order
@@ -154,12 +157,17 @@ broken_ends page (ring.Broken word) v idle f x here at_stage own port ordered is
     rw at_stage (record { goes = rw here (own, inr refl, port); closing = refl; own = refl; ordered = ordered })
 broken_ends page s v idle f x here at_stage own port ordered is = absurd (true≢false (sym is))
 
+-- one that has its port has agreed the order of its ring
+pub with_port : (port : Option ℕ) (wished offered n : ℕ) → IsSome port → PortOrdered port wished offered n → IsAgreed wished offered n
+with_port None wished offered n some ordered = absurd (true≢false (sym some))
+with_port (Some port) wished offered n some ordered = ordered
+
 -- the port was closed
-closed_follows : (v : FrontView) (idle : Bool) (f : ends.View) (x : FrontAnswer) → due v idle ≡ stage.ClosePort → v.state ≡ state.Closing → IsAnswer (ring_ask_at ring.ClosePort f) x
+closed_follows : (v : FrontView) (idle : Bool) (f : ends.View) (x : FrontAnswer) → due v idle ≡ stage.ClosePort → v.state ≡ state.Closing → IsAgreed v.order v.features.order f.shape.order → IsAnswer (ring_ask_at ring.ClosePort f) x
     → Follows v (bus_told idle v x) ring.Left f.shape.order
-closed_follows v idle f answer.Done e own allowed =
-    subst (FollowsTo v ring.Left _) (sym (told_at stage.ClosePort v idle answer.Done e)) (record { goes = (own, refl, refl); closing = refl; own = refl; ordered = tt })
-closed_follows v idle f x e own allowed = absurd allowed
+closed_follows v idle f answer.Done e own agreed allowed =
+    subst (FollowsTo v ring.Left _) (sym (told_at stage.ClosePort v idle answer.Done e)) (record { goes = (own, refl, refl); closing = refl; own = refl; ordered = inr agreed })
+closed_follows v idle f x e own agreed allowed = absurd allowed
 
 -- a front that is through waits in its loop
 through_loops : (f : ends.View) (r : Option Request) (x : FrontAnswer) → is_through f ≡ true → f.stage ≡ ring.Loop → r ≡ None → IsAnswer (loop_ask f r) x → (loop_step f r x).stage ≡ ring.Loop
@@ -267,13 +275,13 @@ begun_follows (stage.Grant page) s v idle f x here at_stage e ordered goes rests
 begun_follows stage.NewPort s v idle f x here at_stage e ordered goes rests quiet moves allowed = rw goes.1 (port_follows v idle f x e goes.0 ordered (rw goes.1 at allowed))
 begun_follows (stage.EndGrant page) s v idle f x here at_stage e ordered goes rests quiet moves allowed = by_port v.port refl goes.2 ordered goes.1
   where
-    by_port : (port : Option ℕ) → v.port ≡ port → IsSome port → OpenOrdered port (ring_order v) f.shape.order → IsEndingPage page s ⊎ (is_broken s ≡ true)
+    by_port : (port : Option ℕ) → v.port ≡ port → IsSome port → PortOrdered port v.order v.features.order f.shape.order → IsEndingPage page s ⊎ (is_broken s ≡ true)
         → Follows v (followed (ask.EndGrant page) (ring_step_at s f x).stage idle v x) (ring_step_at s f x).stage f.shape.order
     by_port None p some agreed ending = absurd (true≢false (sym some))
     by_port (Some n) p some agreed (inl is) =
         end_follows page s v idle f x n e goes.0 p agreed (rw (here, p) agreed) (λ r ending. let next : FrontGoesWith (stage.EndGrant page) v r = (goes.0, ending, goes.2) in rw here next) is allowed
     by_port (Some n) p some agreed (inr is) = broken_ends page s v idle f x here at_stage goes.0 goes.2 (rw (here, p) agreed) is
-begun_follows stage.ClosePort s v idle f x here at_stage e ordered goes rests quiet moves allowed = rw goes.1 (closed_follows v idle f x e goes.0 (rw goes.1 at allowed))
+begun_follows stage.ClosePort s v idle f x here at_stage e ordered goes rests quiet moves allowed = rw goes.1 (closed_follows v idle f x e goes.0 (with_port v.port v.order v.features.order f.shape.order goes.2 ordered) (rw goes.1 at allowed))
 begun_follows stage.Closed s v idle f x here at_stage e ordered goes rests quiet moves allowed =
     rw goes.1 (over_follows stage.Closed (is_broken f.stage) v idle x f.stage f.shape.order here e (λ path. refl)
     (record { goes = rw here (goes.0, at_stage ∙ goes.1, goes.2); closing = refl; own = refl; ordered = rw here ordered }))
@@ -287,6 +295,80 @@ begun_follows (stage.Publish key) s v idle f x here at_stage e ordered goes rest
 begun_follows (stage.ReadFact key) s v idle f x here at_stage e ordered goes rests quiet moves allowed = absurd (true≢false quiet)
 begun_follows (stage.WriteState own) s v idle f x here at_stage e ordered goes rests quiet moves allowed = absurd (true≢false quiet)
 begun_follows b s v idle f x here at_stage e ordered goes rests quiet moves allowed = absurd goes
+
+-- data are left after a suspend only where the negotiation begins anew
+ending_none : (page : ℕ) (r : Ring) → IsEndingPage page r → is_left r ≡ true → ⊥
+ending_none page (ring.LeftData n) ending left = ending
+ending_none page r ending left = true≢false (sym left)
+
+rests_none : (own : BusState) (gone : Bool) (port : Option ℕ) (r : Ring) → FrontRests own gone port r → is_left r ≡ true → ⊥
+rests_none state.Initialising gone port r rests left = true≢false (sym left ∙ ap is_left rests.0)
+rests_none state.Initialised gone port r rests left = true≢false (sym left ∙ ap is_left rests.0)
+rests_none state.Connected gone port r rests left = ready_none r rests.0 left
+  where
+    ready_none : (r : Ring) → is_ready r ≡ true → is_left r ≡ true → ⊥
+    ready_none (ring.LeftData n) ready left = true≢false (sym ready)
+    ready_none r ready left = true≢false (sym left)
+rests_none state.Closing false None r rests left = true≢false (sym left ∙ ap is_left rests)
+rests_none state.Closing false (Some port) r rests left = made_none r rests left
+  where
+    made_none : (r : Ring) → is_made r ≡ true → is_left r ≡ true → ⊥
+    made_none (ring.LeftData n) made left = true≢false (sym made)
+    made_none r made left = true≢false (sym left)
+rests_none state.Closing true (Some port) r rests left = ending_none 0 r rests left
+rests_none own gone port r rests left = rests
+
+granting_none : (page : ℕ) (r : Ring) → IsGranting page r → is_left r ≡ true → ⊥
+granting_none page (ring.LeftData n) granting left = granting
+granting_none page r granting left = true≢false (sym left)
+
+broken_none : (r : Ring) → is_broken r ≡ true → is_left r ≡ true → ⊥
+broken_none (ring.LeftData n) is left = true≢false (sym is)
+broken_none r is left = true≢false (sym left)
+
+bare_none : (r : Ring) → is_bare r ≡ true → is_left r ≡ true → ⊥
+bare_none (ring.LeftData n) bare left = true≢false (sym bare)
+bare_none r bare left = true≢false (sym left)
+
+pub left_starts : (b : FrontStage) (v : FrontView) (r : Ring) → FrontGoesWith b v r → is_left r ≡ true → b ≡ stage.Start
+left_starts stage.Start v r goes left = refl
+left_starts stage.Rest v r goes left = elim goes [ inl rests ↦ absurd (rests_none v.state v.gone v.port r rests left) | inr is ↦ absurd (broken_none r is left) ]
+left_starts stage.ReadState v r goes left = absurd (rests_none v.state v.gone v.port r goes left)
+left_starts (stage.ReadFeature key) v r goes left = absurd (true≢false (sym left ∙ ap is_left goes.1))
+left_starts (stage.RingWord word) v r goes left = absurd (true≢false (sym left ∙ ap is_left goes.2))
+left_starts (stage.Grant page) v r goes left = absurd (granting_none page r goes.1 left)
+left_starts stage.NewPort v r goes left = absurd (true≢false (sym left ∙ ap is_left goes.1))
+left_starts (stage.Publish key) v r goes left = absurd (true≢false (sym left ∙ ap is_left goes.1))
+left_starts (stage.ReadFact key) v r goes left = absurd (true≢false (sym left ∙ ap is_left goes.1))
+left_starts (stage.WriteState state.Initialised) v r goes left = absurd (true≢false (sym left ∙ ap is_left goes.1))
+left_starts (stage.WriteState state.Connected) v r goes left = absurd (true≢false (sym left ∙ ap is_left goes.1))
+left_starts (stage.WriteState state.Closed) v r goes left = absurd (bare_none r goes.1 left)
+left_starts (stage.WriteState own) v r goes left = absurd goes
+left_starts (stage.EndGrant page) v r goes left = elim goes.1 [ inl is ↦ absurd (ending_none page r is left) | inr is ↦ absurd (broken_none r is left) ]
+left_starts stage.ClosePort v r goes left = absurd (true≢false (sym left ∙ ap is_left goes.1))
+left_starts stage.Closed v r goes left = absurd (true≢false (sym left ∙ ap is_left goes.1))
+left_starts (stage.Broken word) v r goes left = absurd (broken_none r goes left)
+left_starts b v r goes left = absurd goes
+
+pub none_left : (b : FrontStage) (v : FrontView) (r : Ring) → FrontGoesWith b v r → (b ≡ stage.Start → ⊥) → is_left r ≡ false
+none_left b v r goes other = by_test (is_left r) refl
+  where
+    by_test : (c : Bool) → is_left r ≡ c → c ≡ false
+    by_test true left = absurd (other (left_starts b v r goes left))
+    by_test false none = refl
+
+-- else the end of the ring of a negotiation that waits has the move once it is connected
+pub connected_moves : (r : Ring) → is_left r ≡ false → ring_moves ask.Wait r ≡ true → is_connected r ≡ true
+connected_moves (ring.LeftData n) none moves = absurd (true≢false none)
+connected_moves r none moves = moves
+
+pub left_moves : (r : Ring) → is_left r ≡ true → ring_moves ask.Wait r ≡ true
+left_moves (ring.LeftData n) left = refl
+left_moves r left = absurd (true≢false (sym left))
+
+pub connected_still : (r : Ring) → ring_moves ask.Wait r ≡ false → is_connected r ≡ false
+connected_still (ring.LeftData n) still = refl
+connected_still r still = still
 
 -- a move of the ring's end, which its negotiation leaves it
 pub ring_fits : (v : FrontView) (f : ends.View) (x : FrontAnswer) → FrontFits v f → speaks (ask_of v (is_unoccupied f)) ≡ false → ring_moves (ask_of v (is_unoccupied f)) f.stage ≡ true
@@ -306,15 +388,18 @@ ring_fits v f x h quiet moves allowed =
     Moves : FrontStage → Type 0
     Moves d = speaks (ask_at d v) ≡ false → ring_moves (ask_at d v) f.stage ≡ true → Follows v (followed (ask_at d v) (ring_step_of f x).stage idle v x) (ring_step_of f x).stage f.shape.order
 
+    none : v.stage ≡ stage.Rest → is_left f.stage ≡ false
+    none here = none_left v.stage v f.stage h.goes (λ begins. let same : stage.Rest ≡ stage.Start = sym here ∙ begins in cc)
+
     rests : v.stage ≡ stage.Rest → ring_moves (ask_at v.stage v) f.stage ≡ true → is_connected f.stage ≡ true
-    rests here moves = rw here at moves
+    rests here moves = connected_moves f.stage (none here) (rw here at moves)
 
     leaves : v.stage ≡ stage.Rest → v.state ≡ state.Closing → is_broken f.stage ≡ false → (gone : Bool) (port : Option ℕ) → v.gone ≡ gone → v.port ≡ port → FrontRests state.Closing gone port f.stage
         → due v idle ≡ leaving gone port → Moves (leaving gone port)
-    leaves here own whole false port g p ending e quiet moves = rest_follows v f x here e h moves allowed
+    leaves here own whole false port g p ending e quiet moves = rest_follows v f x here e h (connected_moves f.stage (none here) moves) allowed
     leaves here own whole true None g p ending e quiet moves = absurd ending
     leaves here own whole true (Some n) g p ending e quiet moves =
-        let agreed = whole_ordered v f here whole h in end_follows 0 f.stage v idle f x n e own p (rw p at agreed) h.ordered rested ending allowed
+        let agreed = whole_ordered v f here h in end_follows 0 f.stage v idle f x n e own p (rw p at agreed) h.ordered rested ending allowed
       where
         rested : (r : Ring) → IsEndingPage 0 r ⊎ (is_broken r ≡ true) → FrontGoesWith v.stage v r
         rested r (inl is) = rw here (inl (rw (own, g, p) is))
@@ -350,12 +435,40 @@ wait_fits v f x h quiet still =
     rests here e still = let is = whole f.stage still in woken_follows false v idle x f.stage f.shape.order here e (rw here at h.ordered) (inl (whole_rests v f here is h)) (λ none. is)
 
     begun : (b : FrontStage) → v.stage ≡ b → due v idle ≡ b → FrontGoesWith b v f.stage → Waits b
-    begun stage.Rest here e goes quiet still = rests here e still
+    begun stage.Rest here e goes quiet still = rests here e (connected_still f.stage still)
     begun stage.Closed here e goes quiet still = over_follows stage.Closed false v idle x f.stage f.shape.order here e (λ path. refl) unmoved
     begun (stage.Broken word) here e goes quiet still = over_follows (stage.Broken word) false v idle x f.stage f.shape.order here e (λ path. refl) unmoved
     begun b here e goes quiet still = unmoved
 
     leaves : v.stage ≡ stage.Rest → (gone : Bool) (port : Option ℕ) → due v idle ≡ leaving gone port → Waits (leaving gone port)
-    leaves here false port e quiet still = rests here e still
+    leaves here false port e quiet still = rests here e (connected_still f.stage still)
     leaves here true None e quiet still = unmoved
     leaves here true (Some n) e quiet still = unmoved
+
+-- data that are left are told while the negotiation waits
+left_goes : (r : Ring) (f : ends.View) (x : FrontAnswer) → f.stage ≡ r → is_left r ≡ true → IsUnbegun (ring_step_at r f x).stage
+left_goes (ring.LeftData n) f (answer.Word word) here left = by_ending f.ending
+  where
+    by_ending : (o : Option Ending) → IsUnbegun (left_step o n word f).stage
+    by_ending None = inr (ap is_left here)
+    by_ending (Some e) = by_more (nat_lt (n + 1) (words_in e.request))
+      where
+        by_more : (more : Bool) → IsUnbegun (if more then ring_at (ring.LeftData (n + 1)) (sector_told e n (slice_set f.words (n % 128) word) f) else ring_at (ring.RingWord 0) (finished e (sector_told e n (slice_set f.words (n % 128) word) f))).stage
+        by_more true = inr refl
+        by_more false = inl refl
+left_goes (ring.LeftData n) f x here left = inr (ap is_left here)
+left_goes r f x here left = absurd (true≢false (sym left))
+
+pub left_fits : (v : FrontView) (f : ends.View) (x : FrontAnswer) → FrontFits v f → is_left f.stage ≡ true
+    → FrontFits (followed ask.Wait (ring_step_of f x).stage (is_unoccupied f) v x) (ring_step_of f x)
+left_fits v f x h left =
+    follows_fit v _ f x h (over_follows stage.Start (is_broken (ring_step_of f x).stage) v (is_unoccupied f) x (ring_step_of f x).stage f.shape.order here (rw here refl) (λ path. refl) unmoved)
+  where
+    here : v.stage ≡ stage.Start
+    here = left_starts v.stage v f.stage h.goes left
+
+    goes : FrontGoesWith stage.Start v f.stage
+    goes = rw here at h.goes
+
+    unmoved : Follows v v (ring_step_of f x).stage f.shape.order
+    unmoved = record { goes = rw here (goes.0, left_goes f.stage f x refl left, goes.2); closing = refl; own = refl; ordered = h.ordered }

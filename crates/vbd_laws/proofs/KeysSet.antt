@@ -40,6 +40,7 @@ use Rattle.vbd_back.specs.Ask as back
 use Rattle.vbd_back.specs.View.{offer}
 use Rattle.vbd_front.specs.View.{is_unoccupied, is_broken}
 use Rattle.vbd_model.specs.Fit.{IsEndingPage, FrontRests, IsGranting, FrontGoesWith, IsGivingUp, IsUnmapping, BackGoesWith, IsUnbound}
+use Rattle.vbd_laws.proofs.FitFrontMoves.{connected_still}
 use Rattle.vbd_laws.proofs.FitFrontBus.{FrontFits, unoccupied, due_cases, closing_cases}
 use Rattle.vbd_laws.proofs.FitFrontSpoken.{whole_rests}
 use Rattle.vbd_laws.proofs.FitBackRing.{is_past}
@@ -125,9 +126,9 @@ ending_moves page r (inl is) = absurd is
 ending_moves page r (inr is) = absurd (true≢false (sym is))
 
 unconnected_at : (b : FrontStage) (v : FrontView) (r : FrontRing) → FrontGoesWith b v r → front.speaks (front_bus.ask_at b v) ≡ false → front.ring_moves (front_bus.ask_at b v) r ≡ false → is_connected r ≡ false
-unconnected_at front_stage.Rest v r goes quiet still = still
-unconnected_at front_stage.Closed v r goes quiet still = still
-unconnected_at (front_stage.Broken word) v r goes quiet still = still
+unconnected_at front_stage.Rest v r goes quiet still = connected_still r still
+unconnected_at front_stage.Closed v r goes quiet still = connected_still r still
+unconnected_at (front_stage.Broken word) v r goes quiet still = connected_still r still
 unconnected_at (front_stage.RingWord word) v r goes quiet still = ap is_connected goes.2
 unconnected_at (front_stage.Grant page) v r goes quiet still = granting page r goes.1
 unconnected_at front_stage.NewPort v r goes quiet still = ap is_connected goes.1
@@ -144,7 +145,7 @@ unconnected_at b v r goes quiet still = absurd goes
 -- one that leaves moves to end its grant
 unconnected_leaving : (gone : Bool) (port : Option ℕ) (v : FrontView) (r : FrontRing) → FrontRests state.Closing gone port r → front.speaks (front_bus.ask_at (front_bus.leaving gone port) v) ≡ false
     → front.ring_moves (front_bus.ask_at (front_bus.leaving gone port) v) r ≡ false → is_connected r ≡ false
-unconnected_leaving false port v r rests quiet still = still
+unconnected_leaving false port v r rests quiet still = connected_still r still
 unconnected_leaving true None v r rests quiet still = absurd rests
 unconnected_leaving true (Some p) v r rests quiet still = absurd (true≢false (sym (ending_moves 0 r (inl rests)) ∙ still))
 
@@ -159,6 +160,7 @@ unconnected v f fits =
     Waits d = front.speaks (front_bus.ask_at d v) ≡ false → front.ring_moves (front_bus.ask_at d v) f.stage ≡ false → is_connected f.stage ≡ false
 
 unported : (r : FrontRing) (c : ChannelState) → is_connected r ≡ false → IsPorted r c → c.ports ≡ []
+unported (front_ring.LeftData n) c unmade ported = ported.1
 unported (front_ring.RingWord k) c unmade ported = ported.1
 unported (front_ring.RingFrame page) c unmade ported = ported.1
 unported (front_ring.RingFence page) c unmade ported = ported.1

@@ -13,9 +13,11 @@ pub mod FitChannels
 pub mod MovesTurns
 pub mod KeysSet
 pub mod FitSaid
+pub mod FitFrontReads
 pub mod MovesAttached
 pub mod FitFront
 pub mod FitBack
+pub mod FitSuspended
 pub mod Fit
 pub mod MovesMay
 pub mod MovesFront
@@ -34,6 +36,7 @@ pub mod NegotiatedMaps
 pub mod ServedBack
 pub mod Offered
 pub mod ServedPossible
+pub mod ServedFirst
 pub mod ServedHonest
 pub mod Served
 pub mod Quiet

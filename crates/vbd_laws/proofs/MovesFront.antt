@@ -46,7 +46,8 @@ use Rattle.vbd_model.specs.Happening.{FrontMoves, front_key, entered_at, front_d
 use Rattle.vbd_model.specs.News.{news_line, news_lines}
 use Rattle.vbd_model.specs.Fit.{IsFit}
 use Rattle.vbd_laws.specs.Moves.{IsFrontMove, IsClose, IsNoMove}
-use Rattle.vbd_laws.proofs.FitFront.{front_fits, all_enter}
+use Rattle.vbd_laws.proofs.FitFrontMoves.{left_moves}
+use Rattle.vbd_laws.proofs.FitFront.{asks_cases, front_fits, all_enter}
 use Rattle.vbd_laws.proofs.KeysSet.{FrontMaySet, front_state_set, front_sets, front_unpending}
 use Rattle.vbd_laws.proofs.MovesTurns.{front_asks, front_says, front_cases, quiet_front, front_speaks}
 
@@ -166,7 +167,10 @@ takes w a (Some path) told first e =
 
 -- no event is pending there
 pub front_waits : (w : World) → IsFit w → front.speaks (front_asks w) ≡ false → front.ring_moves (front_asks w) w.rings.front.stage ≡ false → w.rings.under.channels.front_pending ≡ false
-front_waits w fit quiet still = front_unpending w.front w.rings.front w.rings.under.channels (front_fits w fit) fit.safe.ported fit.unported quiet still
+front_waits w fit =
+    asks_cases (λ (b : FrontBusAsk). front.speaks b ≡ false → front.ring_moves b w.rings.front.stage ≡ false → w.rings.under.channels.front_pending ≡ false) w
+    (λ left quiet still. absurd (true≢false (sym (left_moves w.rings.front.stage left) ∙ still)))
+    (λ none quiet still. front_unpending w.front w.rings.front w.rings.under.channels (front_fits w fit) fit.safe.ported fit.unported quiet still)
 
 waits_watched : (h : Hypervisor) (act : Option FrontAct) → h.channels.front_pending ≡ false → front_act h front_ask.Wait ≡ act → front_watched h (watch_next h end.Front) ≡ act
 waits_watched h act none e = subst (λ (b : Bool). (if b then Some (front_event h) else front_watched h (watch_next h end.Front)) ≡ act) none e
@@ -179,7 +183,7 @@ waited w a fit quiet still e =
 
 -- each key that the negotiation sets it may set
 pub front_sets_asked : (w : World) → IsFit w → FrontMaySet (front_asks w)
-front_sets_asked w fit = front_sets w.front (front_view.is_unoccupied w.rings.front)
+front_sets_asked w fit = asks_cases FrontMaySet w (λ left. tt) (λ none. front_sets w.front (front_view.is_unoccupied w.rings.front))
 
 goes : (w : World) (a : FrontAct) → IsFit w → front_turn w ≡ Some a → Moved w a (front_does w) (front_step.step_of (frontend_of w) a.answer)
 goes w a fit turn =

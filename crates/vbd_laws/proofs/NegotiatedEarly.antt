@@ -1,14 +1,17 @@
--- Until the back has mapped the ring and has its terms the negotiation is a run of its own, and from then on the front's ring and port are made, or the back has halted: so it stays as the front moves, and as an end is asked to close.
-use Rattle.std.proofs.Common.{◌⊎◌, inl, inr, ◌≡◌, ◌∙◌, ap, sym, subst, ◌+◌, ◌==◌, ◌^◌, ◌||◌, Bool, true, false, true≢false, List, [], ◌∷◌, refl, if◌then◌else◌}
-use Rattle.std.specs.Prelude.{Option, Some, None, is_some, nat_lt}
+-- Until the back has mapped the ring and has its terms the negotiation is a run of its own, in each epoch, and from then on the front's ring and port are made, or the back has halted: so it stays as the front moves, and as an end is asked to close.
+use Rattle.std.proofs.Common.{◌⊎◌, inl, inr, ◌≡◌, ◌∙◌, ap, sym, subst, ℕ, ◌+◌, ◌%◌, ◌==◌, ◌^◌, Bool, true, false, true≢false, List, [], ◌∷◌, map, refl, if◌then◌else◌}
+use Rattle.std.specs.Prelude.{Option, Some, None, is_some, nat_lt, slice_set}
 use Rattle.std.specs.List.{AllByRecursion}
 use Rattle.blk_base.specs.declared.parts.End.{End}
 use Rattle.blk_base.specs.declared.parts.End.TheVariants as end
 use Rattle.blk_base.specs.declared.ask.FrontAnswer.{FrontAnswer}
+use Rattle.blk_base.specs.declared.ask.FrontAnswer.TheVariants as front_answer
 use Rattle.schedule_text.specs.declared.line.Line.{Line}
 use Rattle.hypervisor.specs.Act.{FrontAct, front_act}
 use Rattle.blk_front.specs.declared.stage.Stage.{Stage as FrontRing}
 use Rattle.blk_front.specs.declared.stage.Stage.TheVariants as front_ring
+use Rattle.blk_front.specs.declared.stage.Ending.{Ending}
+use Rattle.blk_front.specs.Request.{words_in}
 use Rattle.blk_front.specs.declared.state.FrontState.{FrontState}
 use Rattle.blk_front.specs.declared.state.FrontState.TheVariants as entered
 use Rattle.blk_front.specs.State.{in_state, enters}
@@ -24,25 +27,24 @@ use Rattle.xenbus_state.specs.declared.stage.BackStage.{BackStage}
 use Rattle.xenbus_state.specs.declared.stage.BackStage.TheVariants as bus
 use Rattle.xenbus_state.specs.declared.keys.FrontKey.TheVariants as key
 use Rattle.xenbus_state.specs.Tables.{is_connected as bus_connected}
-use Rattle.xenbus_state.specs.FrontView.{FrontView, closed}
-use Rattle.xenbus_state.specs.FrontView as bus_front
 use Rattle.xenbus_state.specs.BackView.{BackView, is_halting, unplugged}
 use Rattle.split_model.proofs.States.{is_unbound, enters_cases}
+use Rattle.split_model.specs.Happening as ring_happening
+use Rattle.machine_pipeline.proofs.Unsuspended.{AreUnsuspended}
 use Rattle.machine_pipeline.proofs.Connected.{connected_after}
 use Rattle.negotiation_laws.specs.Negotiation.{Negotiation}
 use Rattle.negotiation_laws.specs.Laws.{IsHalted}
 use Rattle.vbd_front.specs.View as front_view
 use Rattle.vbd_front.specs.Step as front_step
 use Rattle.vbd_model.specs.World.{World, frontend_of}
-use Rattle.vbd_model.specs.Happening.{FrontMoves, Closes, front_turn, front_bus_after, does, happens}
+use Rattle.vbd_model.specs.Happening.{FrontMoves, Closes, front_turn, entered_at, does, happens}
 use Rattle.vbd_model.specs.Fit.{BackGoesWith, BackRests, BackReads, IsGivingUp, IsUnmapping, is_serving, IsFit}
 use Rattle.vbd_laws.specs.Moves.{IsNoMove, IsFrontMove}
 use Rattle.vbd_laws.proofs.FitBackRing.{is_past}
 use Rattle.vbd_laws.proofs.MovesTurns.{front_cases}
 use Rattle.vbd_laws.proofs.MovesFront.{front_move_is, front_move_none}
 use Rattle.vbd_laws.proofs.NegotiatedRun.{Joined, negotiation_of, reached_as}
-use Rattle.vbd_laws.proofs.NegotiatedFront.{front_goes}
-use Rattle.vbd_laws.proofs.NegotiatedAgreed.{IsLate, front_late}
+use Rattle.vbd_laws.proofs.NegotiatedFront.{HasInHand, front_goes}
 use Rattle.vbd_laws.proofs.NegotiatedRests.{Rests, same_rests, closes_joined}
 use Rattle.vbd_laws.proofs.NegotiatedKept.{IsTimely, states_timely}
 
@@ -54,6 +56,7 @@ is_early (front_ring.RingFence page) = true
 is_early (front_ring.RingFlags page) = true
 is_early front_ring.NewPort = true
 is_early front_ring.Initialised = true
+is_early (front_ring.LeftData n) = true
 is_early front_ring.Closed = true
 is_early s = false
 
@@ -67,41 +70,36 @@ pub record Before (w : World) : Type 0 where
   pub ring : is_unbound w.rings.back.stage ≡ true
   pub early : is_early w.rings.front.stage ≡ true
 
--- then it has mapped the ring and binds the port; or it has halted, and the front wrote that it closes; or it is past that, and the front's ring and port are made
+-- then it has mapped the ring and binds the port; or it has halted; or it is past that, and the front's ring and port are made
 pub record Bound (r : ring_view.View) (v : BackView) (connected : Bool) : Type 0 where
   pub ring : r.stage ≡ ring.Bind
   pub stage : v.stage ≡ bus.Bind
-  pub port : v.terms.port ≡ 1
   pub made : connected ≡ true
 
-pub record Halted (r : ring_view.View) (f : FrontView) : Type 0 where
+pub record Halted (r : ring_view.View) : Type 0 where
   pub ring : r.stage ≡ ring.Halted
   pub halted : is_some r.halted ≡ true
-  pub late : IsLate f
 
 pub record Past (r : ring_view.View) (connected : Bool) : Type 0 where
   pub past : is_past r.stage ≡ true
   pub made : connected ≡ true
 
-abbrev pub After : ring_view.View → BackView → FrontView → Bool → Type 0
-After r v f connected = Bound r v connected ⊎ Halted r f ⊎ Past r connected
+abbrev pub After : ring_view.View → BackView → Bool → Type 0
+After r v connected = Bound r v connected ⊎ Halted r ⊎ Past r connected
 
 abbrev pub IsOnItsWay : World → Type 0
-IsOnItsWay w = Before w ⊎ After w.rings.back w.back w.front (is_connected w.rings.front.stage)
+IsOnItsWay w = Before w ⊎ After w.rings.back w.back (is_connected w.rings.front.stage)
 
-pub after_at : (r s : ring_view.View) (u v : BackView) (f g : FrontView) (c d : Bool) → s.stage ≡ r.stage → s.halted ≡ r.halted → v.stage ≡ u.stage → v.terms.port ≡ u.terms.port → (IsLate f → IsLate g) → (c ≡ true → d ≡ true)
-    → After r u f c → After s v g d
-after_at r s u v f g c d at halt stage port late made (inl b) = inl (record { ring = at ∙ b.ring; stage = stage ∙ b.stage; port = port ∙ b.port; made = made b.made })
-after_at r s u v f g c d at halt stage port late made (inr (inl h)) = inr (inl (record { ring = at ∙ h.ring; halted = ap is_some halt ∙ h.halted; late = late h.late }))
-after_at r s u v f g c d at halt stage port late made (inr (inr p)) = inr (inr (record { past = ap is_past at ∙ p.past; made = made p.made }))
+pub after_at : (r s : ring_view.View) (u v : BackView) (c d : Bool) → s.stage ≡ r.stage → s.halted ≡ r.halted → v.stage ≡ u.stage → (c ≡ true → d ≡ true) → After r u c → After s v d
+after_at r s u v c d at halt stage made (inl b) = inl (record { ring = at ∙ b.ring; stage = stage ∙ b.stage; made = made b.made })
+after_at r s u v c d at halt stage made (inr (inl h)) = inr (inl (record { ring = at ∙ h.ring; halted = ap is_some halt ∙ h.halted }))
+after_at r s u v c d at halt stage made (inr (inr p)) = inr (inr (record { past = ap is_past at ∙ p.past; made = made p.made }))
 
 pub rests_way : (v w : World) → Rests v w → IsOnItsWay w → IsOnItsWay v
 rests_way v w same (inl b) = inl (record { joined = reached_as (negotiation_of w) (negotiation_of v) same.bus b.joined; ring = ap is_unbound same.back ∙ b.ring; early = ap is_early same.front ∙ b.early })
 rests_way v w same (inr a) =
-    let bus : v.back ≡ w.back = ap (λ (n : Negotiation). n.back) same.bus in
-    let front : w.front ≡ v.front = sym (ap (λ (n : Negotiation). n.front) same.bus) in
-    inr (after_at w.rings.back v.rings.back w.back v.back w.front v.front (is_connected w.rings.front.stage) (is_connected v.rings.front.stage) same.back same.halted (ap (λ (u : BackView). u.stage) bus)
-    (ap (λ (u : BackView). u.terms.port) bus) (subst IsLate front) (λ made. ap is_connected same.front ∙ made) a)
+    inr (after_at w.rings.back v.rings.back w.back v.back (is_connected w.rings.front.stage) (is_connected v.rings.front.stage) same.back same.halted (ap (λ (n : Negotiation). n.back.stage) same.bus)
+    (λ made. ap is_connected same.front ∙ made) a)
 
 -- while the back hasn't mapped the ring its front enters no state but that it closes, and that it is closed
 elsewhere : {A : Type 0} (r s : BackRing) → is_unbound r ≡ true → is_unbound s ≡ false → r ≡ s → A
@@ -176,12 +174,25 @@ either_early : (b : Bool) (s t : FrontRing) → is_early s ≡ true → is_early
 either_early true s t p q = p
 either_early false s t p q = q
 
+left_early : (ending : Option Ending) (n word : ℕ) (r : front_ends.View) → r.stage ≡ front_ring.LeftData n → is_early (front_ring_step.left_step ending n word r).stage ≡ true
+left_early None n word r here = ap is_early here
+left_early (Some e) n word r here = by_more (nat_lt (n + 1) (words_in e.request))
+  where
+    told : front_ends.View
+    told = front_ring_step.sector_told e n (slice_set r.words (n % 128) word) r
+
+    by_more : (more : Bool) → (let v : front_ends.View = (if more then front_ring_step.at (front_ring.LeftData (n + 1)) told else front_ring_step.at (front_ring.RingWord 0) (front_ring_step.finished e told)) in is_early v.stage ≡ true)
+    by_more true = refl
+    by_more false = refl
+
 step_early : (s : FrontRing) (r : front_ends.View) (x : FrontAnswer) → r.stage ≡ s → is_early s ≡ true → is_early (front_ring_step.step_at s r x).stage ≡ true
 step_early (front_ring.RingWord k) r x here early = either_early (k == 15) (front_ring.RingFrame 0) (front_ring.RingWord (k + 1)) refl refl
 step_early (front_ring.RingFrame page) r x here early = refl
 step_early (front_ring.RingFence page) r x here early = refl
 step_early (front_ring.RingFlags page) r x here early = either_early (nat_lt (page + 1) (2 ^ r.shape.order)) (front_ring.RingFrame (page + 1)) front_ring.NewPort refl refl
 step_early front_ring.NewPort r x here early = refl
+step_early (front_ring.LeftData n) r (front_answer.Word word) here early = left_early r.ending n word r here
+step_early (front_ring.LeftData n) r x here early = ap is_early here
 step_early front_ring.Initialised r x here early = ap is_early here
 step_early front_ring.Closed r x here early = ap is_early here
 step_early s r x here early = absurd (true≢false (sym early))
@@ -190,11 +201,11 @@ step_early s r x here early = absurd (true≢false (sym early))
 abbrev front_to : World → FrontAct → front_view.View → World
 front_to w a x = record { rings = record { front = (front_view.heard x).ring; back = w.rings.back; under = a.under }; front = x.bus; back = w.back }
 
-before_front : (w : World) (a : FrontAct) → IsFit w → front_turn w ≡ Some a → Before w → Before (front_to w a (front_step.step_of (frontend_of w) a.answer))
-before_front w a fit turn b =
+before_front : (w : World) (a : FrontAct) → IsFit w → HasInHand w.rings.front.stage w.rings.front.ending → front_turn w ≡ Some a → Before w → Before (front_to w a (front_step.step_of (frontend_of w) a.answer))
+before_front w a fit hand turn b =
     let whole = early_whole w.rings.front.stage b.early in
     record {
-      joined = front_goes w a fit whole b.joined turn;
+      joined = front_goes w a fit whole hand b.joined turn;
       ring = b.ring;
       early =
           front_cases (λ does asked step. front_act w.rings.under asked ≡ Some a → is_early (step a.answer).ring.stage ≡ true) w
@@ -202,35 +213,35 @@ before_front w a fit turn b =
           (λ quiet moves e. step_early w.rings.front.stage w.rings.front a.answer refl b.early) (λ quiet still e. b.early) turn;
     }
 
-pub front_way : (w : World) → IsFit w → IsOnItsWay w → IsOnItsWay (happens w FrontMoves)
-front_way w fit way = by_act (front_turn w) refl
+-- no suspend is part of its move
+enters_unsuspended : (states : List FrontState) → AreUnsuspended (map ring_happening.FrontEnters states)
+enters_unsuspended [] = tt
+enters_unsuspended (s ∷ states) = (tt, enters_unsuspended states)
+
+front_unsuspended : (w : World) → AreUnsuspended (does w FrontMoves)
+front_unsuspended w = front_cases (λ does asked step. AreUnsuspended does) w (λ says. (tt, enters_unsuspended (entered_at w (front_turn w)))) (λ quiet moves. (tt, tt)) (λ quiet still. (tt, tt))
+
+pub front_way : (w : World) → IsFit w → HasInHand w.rings.front.stage w.rings.front.ending → IsOnItsWay w → IsOnItsWay (happens w FrontMoves)
+front_way w fit hand way = by_act (front_turn w) refl
   where
     by_way : (a : FrontAct) → front_turn w ≡ Some a → happens w FrontMoves ≡ front_to w a (front_step.step_of (frontend_of w) a.answer) → IsOnItsWay w
         → IsOnItsWay (front_to w a (front_step.step_of (frontend_of w) a.answer))
-    by_way a e world (inl b) = inl (before_front w a fit e b)
+    by_way a e world (inl b) = inl (before_front w a fit hand e b)
     by_way a e world (inr x) =
-        inr (after_at w.rings.back w.rings.back w.back w.back w.front (front_step.step_of (frontend_of w) a.answer).bus (is_connected w.rings.front.stage) _ refl refl refl refl
-        (λ late. subst (λ (act : Option FrontAct). IsLate (front_bus_after w act)) e (front_late w fit late))
-        (λ made. subst (λ (v : World). is_connected v.rings.front.stage ≡ true) world (connected_after (does w FrontMoves) w.rings made)) x)
+        inr (after_at w.rings.back w.rings.back w.back w.back (is_connected w.rings.front.stage) _ refl refl refl
+        (λ made. subst (λ (v : World). is_connected v.rings.front.stage ≡ true) world (connected_after (does w FrontMoves) w.rings (front_unsuspended w) made)) x)
 
     by_act : (act : Option FrontAct) → front_turn w ≡ act → IsOnItsWay (happens w FrontMoves)
     by_act None e = let still : IsNoMove w FrontMoves = front_move_none w fit e in rests_way (happens w FrontMoves) w (same_rests (happens w FrontMoves) w still.world) way
     by_act (Some a) e = let moved : IsFrontMove w a = front_move_is w a fit e in subst IsOnItsWay (sym moved.world) (by_way a e moved.world way)
 
 -- an end is asked to close
-unplugged_same : (v : BackView) → ((unplugged v).stage ≡ v.stage) × ((unplugged v).terms.port ≡ v.terms.port)
+unplugged_same : (v : BackView) → (unplugged v).stage ≡ v.stage
 unplugged_same v = by_test (is_halting v.stage)
   where
-    by_test : (b : Bool) → (let u : BackView = if b then v else record v { unplugged = true } in (u.stage ≡ v.stage) × (u.terms.port ≡ v.terms.port))
-    by_test true = (refl, refl)
-    by_test false = (refl, refl)
-
-closed_late : (v : FrontView) → IsLate v → IsLate (closed v)
-closed_late v late = by_test (v.closing || bus_front.is_broken v.stage)
-  where
-    by_test : (b : Bool) → IsLate (if b then v else record v { closing = true })
-    by_test true = late
-    by_test false = late
+    by_test : (b : Bool) → (let u : BackView = if b then v else record v { unplugged = true } in u.stage ≡ v.stage)
+    by_test true = refl
+    by_test false = refl
 
 pub close_way : (w : World) (at : End) → IsOnItsWay w → IsOnItsWay (happens w (Closes at))
 close_way w end.Front (inl b) =
@@ -240,8 +251,5 @@ close_way w end.Front (inl b) =
       early = enters_cases (λ (v : front_ends.View) (shown : List Line). is_early v.stage ≡ true) entered.Closing w.rings.front (λ may. b.early) b.early;
     })
 close_way w end.Back (inl b) = inl (record { joined = closes_joined w end.Back b.joined; ring = b.ring; early = b.early })
-close_way w end.Front (inr x) =
-    inr (after_at w.rings.back w.rings.back w.back w.back w.front (closed w.front) (is_connected w.rings.front.stage) _ refl refl refl refl (closed_late w.front) (connected_after (does w (Closes end.Front)) w.rings) x)
-close_way w end.Back (inr x) =
-    let same = unplugged_same w.back in
-    inr (after_at w.rings.back w.rings.back w.back (unplugged w.back) w.front w.front (is_connected w.rings.front.stage) _ refl refl same.0 same.1 (λ late. late) (λ made. made) x)
+close_way w end.Front (inr x) = inr (after_at w.rings.back w.rings.back w.back w.back (is_connected w.rings.front.stage) _ refl refl refl (connected_after (does w (Closes end.Front)) w.rings (tt, tt)) x)
+close_way w end.Back (inr x) = inr (after_at w.rings.back w.rings.back w.back (unplugged w.back) (is_connected w.rings.front.stage) _ refl refl (unplugged_same w.back) (λ made. made) x)

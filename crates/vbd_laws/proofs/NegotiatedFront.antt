@@ -1,6 +1,6 @@
 -- A move of the front is a move of the negotiation, or two, or none.
-use Rattle.std.proofs.Common.{◌⊎◌, inl, inr, ◌≡◌, ◌∙◌, ap, sym, subst, ℕ, ◌+◌, ◌^◌, ◌≤◌, Bool, true, false, true≢false, ◌&&◌, if◌then◌else◌, List, refl, arith}
-use Rattle.std.specs.Prelude.{Option, Some, None, nat_lt, ◌==◌, length}
+use Rattle.std.proofs.Common.{◌⊎◌, inl, inr, ◌≡◌, ◌∙◌, ap, sym, subst, ℕ, ◌+◌, ◌^◌, ◌<◌, Bool, true, false, true≢false, ◌&&◌, if◌then◌else◌, List, refl, arith}
+use Rattle.std.specs.Prelude.{Option, Some, None, IsSome, nat_lt, ◌==◌, length}
 use Rattle.std.proofs.lemmas.Bool.Decides.{nat_tests}
 use Rattle.blk_base.specs.declared.parts.End.TheVariants as end
 use Rattle.blk_base.specs.declared.ask.FrontAsk.{FrontAsk}
@@ -13,6 +13,8 @@ use Rattle.hypervisor.specs.Hypervisor.{Hypervisor}
 use Rattle.hypervisor.specs.Act.{FrontAct, front_act}
 use Rattle.blk_front.specs.declared.stage.Stage.{Stage}
 use Rattle.blk_front.specs.declared.stage.Stage.TheVariants as ring_stage
+use Rattle.blk_front.specs.declared.stage.Ending.{Ending}
+use Rattle.blk_front.specs.Suspend.{is_left}
 use Rattle.ring_words.specs.Shape.{entry_words_of}
 use Rattle.blk_front.specs.View as ring
 use Rattle.blk_front.specs.Ask as ring_ask
@@ -50,10 +52,12 @@ use Rattle.split_model.proofs.SafeActs.{of_front, front_takes}
 use Rattle.split_model.proofs.SafeAnswers.{AsksNoKey, fronts_no_key}
 use Rattle.negotiation_laws.specs.Negotiation.{Negotiation, front_woken, front_answered, front_done, front_moved}
 use Rattle.vbd_front.specs.View.{View, is_broken, is_still, is_unoccupied}
-use Rattle.vbd_front.specs.Ask.{bus_ask_of, speaks, key_ask, ring_moves}
+use Rattle.vbd_front.specs.Ask.{speaks, key_ask, ring_moves}
 use Rattle.vbd_front.specs.Ask as frontend_ask
 use Rattle.vbd_front.specs.Step as frontend_step
 use Rattle.vbd_model.specs.Happening.{front_turn}
+use Rattle.vbd_laws.proofs.FitFrontMoves.{left_moves}
+use Rattle.vbd_laws.proofs.FitFront.{asks_cases}
 use Rattle.vbd_front.specs.Step.{settled_at, settled, bus_told, bus_after, woken, followed, waited}
 
 -- the negotiation with this front, over these keys
@@ -64,9 +68,9 @@ with_front n v keys = record { front = v; back = n.back; keys = keys }
 abbrev pub settled_now : (idle : Bool) → Negotiation → Negotiation
 settled_now idle n = with_front n (settled idle n.front) n.keys
 
--- nothing, or a move, settled; the front's only port is 1
+-- nothing, or a move, settled
 abbrev pub Goes : (idle : Bool) (n m : Negotiation) → Type 0
-Goes idle n m = (m ≡ n) ⊎ ((port : ℕ) × (port ≤ 1) × (m ≡ settled_now idle (front_moved idle port n)))
+Goes idle n m = (m ≡ n) ⊎ ((port : ℕ) × (port < 2 ^ 32) × (m ≡ settled_now idle (front_moved idle port n)))
 
 -- the frontend is told what its negotiation asked for
 pub record Told (b : FrontBusAsk) (port : ℕ) (keys : Directory) (a : FrontAct) : Type 0 where
@@ -74,7 +78,7 @@ pub record Told (b : FrontBusAsk) (port : ℕ) (keys : Directory) (a : FrontAct)
   pub keys_after : a.under.keys ≡ front_done b keys
 
 -- so the negotiation moves
-told_goes : (f : View) (n : Negotiation) (x : FrontAnswer) (later : Directory) (b : FrontBusAsk) (port : ℕ) → port ≤ 1 → n.front ≡ f.bus → bus_ask_of f ≡ b → x ≡ front_answered b port n.keys → later ≡ front_done b n.keys
+told_goes : (f : View) (n : Negotiation) (x : FrontAnswer) (later : Directory) (b : FrontBusAsk) (port : ℕ) → port < 2 ^ 32 → n.front ≡ f.bus → ask_of f.bus (is_unoccupied f.ring) ≡ b → x ≡ front_answered b port n.keys → later ≡ front_done b n.keys
     → Goes (is_unoccupied f.ring) n (with_front n (bus_after f x) later)
 told_goes f n x later b port within same asks answer after =
     let idle : Bool = is_unoccupied f.ring in
@@ -192,7 +196,7 @@ still_goes n h v idle keys same kept left =
     inl (ap (λ (x : FrontView). with_front n x keys) (sym same) ∙ ap (λ (d : Directory). with_front n n.front d) (left ∙ sym kept))
 
 -- its end of the ring moves, or waits with it: the negotiation waits
-waits_goes : (f : View) (n : Negotiation) (h : Hypervisor) (asked : FrontAsk) (a : FrontAct) (later : Stage) → n.front ≡ f.bus → n.keys ≡ h.keys → bus_ask_of f ≡ bus_ask.Wait → Leaves h a ⊎ Takes h asked a
+waits_goes : (f : View) (n : Negotiation) (h : Hypervisor) (asked : FrontAsk) (a : FrontAct) (later : Stage) → n.front ≡ f.bus → n.keys ≡ h.keys → ask_of f.bus (is_unoccupied f.ring) ≡ bus_ask.Wait → Leaves h a ⊎ Takes h asked a
     → ((path : List ℕ) → a.answer ≡ answer.Watched path → is_broken later ≡ false)
     → Goes (is_unoccupied f.ring) n (with_front n (woken (is_broken later) (is_unoccupied f.ring) f.bus a.answer) a.under.keys)
 waits_goes f n h asked a later same kept asks (inl leaves) whole =
@@ -212,19 +216,19 @@ abbrev RingGoes : View → Negotiation → FrontBusAsk → Stage → FrontAct �
 RingGoes f n b s x = Goes (is_unoccupied f.ring) n (with_front n (followed b (ring_step.step_at s f.ring x.answer).stage (is_unoccupied f.ring) f.bus x.answer) x.under.keys)
 
 module _ (f : View) (n : Negotiation) (h : Hypervisor) (a : FrontAct) (same : n.front ≡ f.bus) (kept : n.keys ≡ h.keys) where
-  told_done : (b : FrontBusAsk) (x : FrontAnswer) (port : ℕ) → port ≤ 1 → bus_ask_of f ≡ b → x ≡ front_answered b port n.keys → front_done b n.keys ≡ n.keys
+  told_done : (b : FrontBusAsk) (x : FrontAnswer) (port : ℕ) → port < 2 ^ 32 → ask_of f.bus (is_unoccupied f.ring) ≡ b → x ≡ front_answered b port n.keys → front_done b n.keys ≡ n.keys
       → Goes (is_unoccupied f.ring) n (with_front n (bus_after f x) h.keys)
   told_done b x port within asks heard done = told_goes f n x h.keys b port within same asks heard (sym kept ∙ sym done)
 
   still : Goes (is_unoccupied f.ring) n (with_front n f.bus h.keys)
   still = still_goes n h f.bus (is_unoccupied f.ring) h.keys same kept refl
 
-  left_goes : (more : Bool) (k page : ℕ) (x : FrontAnswer) → bus_ask_of f ≡ bus_ask.EndGrant page
+  left_goes : (more : Bool) (k page : ℕ) (x : FrontAnswer) → ask_of f.bus (is_unoccupied f.ring) ≡ bus_ask.EndGrant page
       → Goes (is_unoccupied f.ring) n (with_front n (followed (bus_ask.EndGrant page) (if more then ring_stage.RingRead (k + 1) else ring_stage.ClosePort) (is_unoccupied f.ring) f.bus x) h.keys)
   left_goes true k page x asks = told_done (bus_ask.EndGrant page) answer.Done 0 (omega arith) asks refl refl
   left_goes false k page x asks = told_done (bus_ask.EndGrant page) answer.Done 0 (omega arith) asks refl refl
 
-  ended_goes : (b : Bool) (word k page : ℕ) (x : FrontAnswer) → bus_ask_of f ≡ bus_ask.EndGrant page
+  ended_goes : (b : Bool) (word k page : ℕ) (x : FrontAnswer) → ask_of f.bus (is_unoccupied f.ring) ≡ bus_ask.EndGrant page
       → let r : ring.View = (if b then ring_step.at (ring_step.ring_left f.ring k) f.ring else ring_step.broken word f.ring) in
       Goes (is_unoccupied f.ring) n (with_front n (followed (bus_ask.EndGrant page) r.stage (is_unoccupied f.ring) f.bus x) h.keys)
   ended_goes true word k page x asks = left_goes (nat_lt (k + 1) (2 ^ f.ring.shape.order)) k page x asks
@@ -236,12 +240,12 @@ module _ (f : View) (n : Negotiation) (h : Hypervisor) (a : FrontAct) (same : n.
   read_goes true word k page x = still
   read_goes false word k page x = still
 
-  granted_goes : (more : Bool) (k page : ℕ) → bus_ask_of f ≡ bus_ask.Grant page
+  granted_goes : (more : Bool) (k page : ℕ) → ask_of f.bus (is_unoccupied f.ring) ≡ bus_ask.Grant page
       → Goes (is_unoccupied f.ring) n (with_front n (followed (bus_ask.Grant page) (if more then ring_stage.RingFrame (k + 1) else ring_stage.NewPort) (is_unoccupied f.ring) f.bus answer.Done) h.keys)
   granted_goes true k page asks = told_done (bus_ask.Grant page) answer.Done 0 (omega arith) asks refl refl
   granted_goes false k page asks = told_done (bus_ask.Grant page) answer.Done 0 (omega arith) asks refl refl
 
-  ring_goes : (b : FrontBusAsk) (s : Stage) → bus_ask_of f ≡ b → f.ring.stage ≡ s → speaks b ≡ false → ring_moves b s ≡ true → is_broken s ≡ false → (b ≡ bus_ask.EndOtherGrants → ⊥) → (s ≡ ring_stage.NewPort → h.channels.made ≡ 0) → AsksNoKey (ring_ask.ask_at s f.ring)
+  ring_goes : (b : FrontBusAsk) (s : Stage) → ask_of f.bus (is_unoccupied f.ring) ≡ b → f.ring.stage ≡ s → speaks b ≡ false → ring_moves b s ≡ true → is_broken s ≡ false → (b ≡ bus_ask.EndOtherGrants → ⊥) → (s ≡ ring_stage.NewPort → h.channels.made < 4294967295) → AsksNoKey (ring_ask.ask_at s f.ring)
       → front_act h (ring_ask.ask_at s f.ring) ≡ Some a → RingGoes f n b s a
   ring_goes bus_ask.Wait s asks here quiet moves whole keeps unmade own e =
       waits_goes f n h (ring_ask.ask_at s f.ring) a (ring_step.step_at s f.ring a.answer).stage same kept asks (quiet_act h (ring_ask.ask_at s f.ring) a own e)
@@ -255,7 +259,7 @@ module _ (f : View) (n : Negotiation) (h : Hypervisor) (a : FrontAct) (same : n.
   ring_goes (bus_ask.Grant page) (ring_stage.RingFlags k) asks here quiet moves whole keeps unmade own e =
       of_front (RingGoes f n (bus_ask.Grant page) (ring_stage.RingFlags k)) _ a (granted_goes (nat_lt (k + 1) (2 ^ f.ring.shape.order)) k page asks) e
   ring_goes bus_ask.NewPort ring_stage.NewPort asks here quiet moves whole keeps unmade own e =
-      of_front (RingGoes f n bus_ask.NewPort ring_stage.NewPort) _ a (told_done bus_ask.NewPort (answer.Port (h.channels.made + 1)) (h.channels.made + 1) (let none = unmade refl in omega arith) asks refl refl) e
+      of_front (RingGoes f n bus_ask.NewPort ring_stage.NewPort) _ a (told_done bus_ask.NewPort (answer.Port (h.channels.made + 1)) (h.channels.made + 1) (let few = unmade refl in omega arith) asks refl refl) e
   ring_goes (bus_ask.EndGrant page) (ring_stage.RingRead k) asks here quiet moves whole keeps unmade own e =
       let word : ℕ = word_of h.pages (ring.entry_frame (ring.ring_page_frame k)) (ring.entry_word (ring.ring_page_frame k)) in
       of_front (RingGoes f n (bus_ask.EndGrant page) (ring_stage.RingRead k)) _ a (read_goes (ring_step.is_mapped word) word k page (answer.Word word)) e
@@ -462,7 +466,7 @@ module _ (idle : Bool) where
   reach n m served later (inr moved) j =
       let port : ℕ = moved.0 in
       let next : Negotiation = front_moved idle port n in
-      let within : port ≤ 1 = moved.1 in
+      let within : port < 2 ^ 32 = moved.1 in
       reached_as (settled_now idle next) m moved.2 (settles (ask_of next.front idle) next refl (later port) (reached_one n (FrontMoves idle port) (omega arith) served j))
 
 later_served : (w : World) (idle : Bool) → (w.front.state ≡ state.Closing → idle ≡ true) → FrontGoesWith w.front.stage w.front w.rings.front.stage → (port : ℕ)
@@ -477,22 +481,53 @@ later_served w false served fits port = by_kept (step_keeps (due_at w.front.stag
     by_kept (inl same) e = served (sym same ∙ e)
     by_kept (inr wrote) e = absurd (writes_not w.front.stage w.front w.rings.front.stage wrote.0 fits wrote.1 (sym wrote.2 ∙ e))
 
--- before it has made its port the front has none
-unmade : (s : Stage) (c : ChannelState) → IsPorted s c → s ≡ ring_stage.NewPort → c.made ≡ 0
+-- before it has made its port one may be made
+unmade : (s : Stage) (c : ChannelState) → IsPorted s c → s ≡ ring_stage.NewPort → c.made < 4294967295
 unmade s c p e = let none : IsPorted ring_stage.NewPort c = subst (λ (x : Stage). IsPorted x c) e p in none.0
 
 -- what the front's move makes of the negotiation
 abbrev Moves : World → FrontAct → FrontAsk → View → Type 0
 Moves w a asked after = front_act w.rings.under asked ≡ Some a → Goes (is_unoccupied w.rings.front) (negotiation_of w) (with_front (negotiation_of w) after.bus a.under.keys)
 
-front_moves : (w : World) (a : FrontAct) → IsFit w → is_broken w.rings.front.stage ≡ false → Moves w a (frontend_ask.ask_of (frontend_of w)) (frontend_step.step_of (frontend_of w) a.answer)
-front_moves w a fit whole = by_speaks (speaks b) refl
+-- where data are left after a suspend they are in hand
+abbrev pub HasInHand : Stage → Option Ending → Type 0
+HasInHand (ring_stage.LeftData n) ending = IsSome ending
+HasInHand s ending = Unit {0}
+
+pub none_in_hand : (s : Stage) (ending : Option Ending) → is_left s ≡ false → HasInHand s ending
+none_in_hand (ring_stage.LeftData n) ending none = absurd (true≢false none)
+none_in_hand s ending none = tt
+
+-- they are read: the negotiation and the keys stay
+left_leaves : (s : Stage) (r : ring.View) (h : Hypervisor) (a : FrontAct) → is_left s ≡ true → HasInHand s r.ending → front_act h (ring_ask.ask_at s r) ≡ Some a → Leaves h a
+left_leaves (ring_stage.LeftData n) r h a left hand e = by_ending r.ending hand e
+  where
+    by_ending : (ending : Option Ending) → IsSome ending → front_act h (ring_ask.read_ask ending n) ≡ Some a → Leaves h a
+    by_ending None some e = absurd (true≢false (sym some))
+    by_ending (Some ending) some e = of_front (Leaves h) _ a (record { unwatched = tt; keys = refl }) e
+left_leaves s r h a left hand e = absurd (true≢false (sym left))
+
+left_still : (w : World) (a : FrontAct) → is_left w.rings.front.stage ≡ true → HasInHand w.rings.front.stage w.rings.front.ending
+    → Moves w a (frontend_ask.ask_at bus_ask.Wait (frontend_of w)) (frontend_step.step_at bus_ask.Wait (frontend_of w) a.answer)
+left_still w a left hand =
+    let idle : Bool = is_unoccupied w.rings.front in
+    subst (λ (m : Bool). Moves w a (frontend_ask.ring_ask m (frontend_of w)) (frontend_step.ring_step m bus_ask.Wait (frontend_of w) a.answer)) (sym (left_moves w.rings.front.stage left))
+    (λ e.
+    let leaves = left_leaves w.rings.front.stage w.rings.front w.rings.under a left hand e in
+    let later : ring.View = ring_step.step_of w.rings.front a.answer in
+    subst (λ (v : FrontView). Goes idle (negotiation_of w) (with_front (negotiation_of w) v a.under.keys)) (sym (unwoken (is_broken later.stage) idle w.front a.answer leaves.unwatched))
+    (still_goes (negotiation_of w) w.rings.under w.front idle a.under.keys refl refl leaves.keys))
+
+front_moves : (w : World) (a : FrontAct) → IsFit w → is_broken w.rings.front.stage ≡ false → HasInHand w.rings.front.stage w.rings.front.ending
+    → Moves w a (frontend_ask.ask_of (frontend_of w)) (frontend_step.step_of (frontend_of w) a.answer)
+front_moves w a fit whole hand =
+    asks_cases (λ (c : FrontBusAsk). Moves w a (frontend_ask.ask_at c f) (frontend_step.step_at c f a.answer)) w (λ left. left_still w a left hand) (λ none. by_speaks (speaks b) refl)
   where
     f : View
     f = frontend_of w
 
     b : FrontBusAsk
-    b = bus_ask_of f
+    b = ask_of w.front (is_unoccupied w.rings.front)
 
     quiet : Quiet b w.rings.front.stage
     quiet = quiet_at w.front.stage w.front w.rings.front.stage (is_unoccupied w.rings.front) fit.front whole
@@ -512,8 +547,8 @@ front_moves w a fit whole = by_speaks (speaks b) refl
     by_speaks false says e = by_moves (ring_moves b w.rings.front.stage) refl says e
 
 -- so its negotiation goes on as a run
-pub front_goes : (w : World) (a : FrontAct) → IsFit w → is_broken w.rings.front.stage ≡ false → Joined w → front_turn w ≡ Some a
+pub front_goes : (w : World) (a : FrontAct) → IsFit w → is_broken w.rings.front.stage ≡ false → HasInHand w.rings.front.stage w.rings.front.ending → Joined w → front_turn w ≡ Some a
     → Reached (record { front = (frontend_step.step_of (frontend_of w) a.answer).bus; back = w.back; keys = a.under.keys })
-front_goes w a fit whole j e =
+front_goes w a fit whole hand j e =
     let served = closing_unoccupied w fit whole in
-    reach (is_unoccupied w.rings.front) (negotiation_of w) _ served (later_served w (is_unoccupied w.rings.front) served fit.front) (front_moves w a fit whole e) j
+    reach (is_unoccupied w.rings.front) (negotiation_of w) _ served (later_served w (is_unoccupied w.rings.front) served fit.front) (front_moves w a fit whole hand e) j

@@ -13,6 +13,7 @@ use Rattle.blk_front.specs.declared.state.FrontState.TheVariants as entered
 use Rattle.blk_front.specs.declared.state.Offers.{Offers}
 use Rattle.blk_front.specs.Submit.{is_connected, is_ready}
 use Rattle.blk_front.specs.State.{is_made}
+use Rattle.blk_front.specs.Suspend.{is_left}
 use Rattle.xenbus_state.specs.declared.state.BusState.{BusState}
 use Rattle.xenbus_state.specs.declared.state.BusState.TheVariants as state
 use Rattle.xenbus_state.specs.declared.stage.FrontStage.{FrontStage}
@@ -41,24 +42,25 @@ use Rattle.vbd_model.specs.World.{World, frontend_of}
 use Rattle.vbd_model.specs.Happening.{front_turn}
 use Rattle.vbd_model.specs.Fit.{IsEndingPage, FrontRests, FrontGoesWith, IsFit}
 use Rattle.vbd_laws.proofs.FitFrontTerms.{features_told}
-use Rattle.vbd_laws.proofs.ServedFront as fronts
+use Rattle.vbd_laws.proofs.FitFront.{asks_cases}
 use Rattle.vbd_laws.proofs.ServedFront.{IsNewsAt, news_is}
 use Rattle.vbd_laws.proofs.NegotiatedRun.{Reached, Joined, negotiation_of, breaks_at, leaves_at}
-use Rattle.vbd_laws.proofs.NegotiatedFront.{front_goes, Told, keys_told, closing_unoccupied}
+use Rattle.vbd_laws.proofs.NegotiatedFront.{none_in_hand, front_goes, Told, keys_told, closing_unoccupied}
 use Rattle.vbd_laws.proofs.NegotiatedAgreed.{connects_knowing}
 
 -- a ring that passed a test which none fails to pass that is being made is made
 connected_by : (test : FrontRing → Bool) → ((k : ℕ) → test (front_ring.RingWord k) ≡ false) → ((page : ℕ) → test (front_ring.RingFrame page) ≡ false) → ((page : ℕ) → test (front_ring.RingFence page) ≡ false)
-    → ((page : ℕ) → test (front_ring.RingFlags page) ≡ false) → test front_ring.NewPort ≡ false → (r : FrontRing) → test r ≡ true → is_connected r ≡ true
-connected_by test words frame fence flags port (front_ring.RingWord k) is = absurd (true≢false (sym is ∙ words k))
-connected_by test words frame fence flags port (front_ring.RingFrame page) is = absurd (true≢false (sym is ∙ frame page))
-connected_by test words frame fence flags port (front_ring.RingFence page) is = absurd (true≢false (sym is ∙ fence page))
-connected_by test words frame fence flags port (front_ring.RingFlags page) is = absurd (true≢false (sym is ∙ flags page))
-connected_by test words frame fence flags port front_ring.NewPort is = absurd (true≢false (sym is ∙ port))
-connected_by test words frame fence flags port r is = refl
+    → ((page : ℕ) → test (front_ring.RingFlags page) ≡ false) → test front_ring.NewPort ≡ false → ((n : ℕ) → test (front_ring.LeftData n) ≡ false) → (r : FrontRing) → test r ≡ true → is_connected r ≡ true
+connected_by test words frame fence flags port left (front_ring.RingWord k) is = absurd (true≢false (sym is ∙ words k))
+connected_by test words frame fence flags port left (front_ring.RingFrame page) is = absurd (true≢false (sym is ∙ frame page))
+connected_by test words frame fence flags port left (front_ring.RingFence page) is = absurd (true≢false (sym is ∙ fence page))
+connected_by test words frame fence flags port left (front_ring.RingFlags page) is = absurd (true≢false (sym is ∙ flags page))
+connected_by test words frame fence flags port left front_ring.NewPort is = absurd (true≢false (sym is ∙ port))
+connected_by test words frame fence flags port left (front_ring.LeftData n) is = absurd (true≢false (sym is ∙ left n))
+connected_by test words frame fence flags port left r is = refl
 
 broken_connected : (r : FrontRing) → front_view.is_broken r ≡ true → is_connected r ≡ true
-broken_connected r is = connected_by front_view.is_broken (λ k. refl) (λ page. refl) (λ page. refl) (λ page. refl) refl r is
+broken_connected r is = connected_by front_view.is_broken (λ k. refl) (λ page. refl) (λ page. refl) (λ page. refl) refl (λ n. refl) r is
 
 -- and so is one whose grants are being ended
 ending_connected : (page : ℕ) (r : FrontRing) → IsEndingPage page r → is_connected r ≡ true
@@ -77,9 +79,9 @@ unported port none some = absurd (true≢false (sym some ∙ ap is_some none))
 port_rests : (own : BusState) (gone : Bool) (port : Option ℕ) (r : FrontRing) → FrontRests own gone port r → IsSome port → is_connected r ≡ true
 port_rests state.Initialising gone port r fits some = unported port fits.1 some
 port_rests state.Initialised gone port r fits some = ap is_connected fits.0
-port_rests state.Connected gone port r fits some = connected_by is_ready (λ k. refl) (λ page. refl) (λ page. refl) (λ page. refl) refl r fits.0
+port_rests state.Connected gone port r fits some = connected_by is_ready (λ k. refl) (λ page. refl) (λ page. refl) (λ page. refl) refl (λ n. refl) r fits.0
 port_rests state.Closing false None r fits some = absurd (true≢false (sym some))
-port_rests state.Closing false (Some p) r fits some = connected_by is_made (λ k. refl) (λ page. refl) (λ page. refl) (λ page. refl) refl r fits
+port_rests state.Closing false (Some p) r fits some = connected_by is_made (λ k. refl) (λ page. refl) (λ page. refl) (λ page. refl) refl (λ n. refl) r fits
 port_rests state.Closing true (Some p) r fits some = ending_connected 0 r fits
 port_rests state.Closing true None r fits some = absurd fits
 port_rests own gone port r fits some = absurd fits
@@ -140,20 +142,13 @@ asks_bind v port e = by_test (says_closing v) e
     by_test true e = absurd (cc)
     by_test false e = binds_at v.stage v port e
 
--- what the back finds as it maps: the front's first port; and the front has made its ring and its port
-pub record Finds (w : World) (gref : ℕ) : Type 0 where
-  pub port : w.back.terms.port ≡ 1
-  pub made : is_connected w.rings.front.stage ≡ true
-
-pub finds_now : (w : World) (gref : ℕ) → IsFit w → fronts.Speaks w.front → Joined w → ask_of w.back ≡ bus_ask.Map gref → Finds w gref
-finds_now w gref fit speaks j asks =
+-- as the back maps the front has made its ring and its port
+pub made_now : (w : World) (gref : ℕ) → IsFit w → Joined w → ask_of w.back ≡ bus_ask.Map gref → is_connected w.rings.front.stage ≡ true
+made_now w gref fit j asks =
     let before = subst (λ (n : Negotiation). ask_of n.back ≡ bus_ask.Map gref) (sym j.stands) asks in
     let maps = maps_after_grants j.run gref before in
     let port = subst (λ (n : Negotiation). n.front.port ≡ Some n.back.terms.port) j.stands maps.port in
-    record {
-      port = subst fronts.IsFirstPort port speaks.port;
-      made = port_connected w.front.stage w.front w.rings.front.stage fit.front (subst (λ (p : Option ℕ). IsSome p) (sym port) refl);
-    }
+    port_connected w.front.stage w.front w.rings.front.stage fit.front (subst (λ (p : Option ℕ). IsSome p) (sym port) refl)
 
 -- what the front takes a back of these features to serve
 abbrev pub offered : Features → Offers
@@ -177,15 +172,22 @@ both_all : {A : Type 0} (P : A → Type 0) (xs ys : List A) → AllByRecursion P
 both_all P [] ys p q = q
 both_all P (x ∷ xs) ys p q = (p.0, both_all P xs ys p.1 q)
 
-module _ (w : World) (a : FrontAct) (fit : IsFit w) (whole : front_view.is_broken w.rings.front.stage ≡ false) (j : Joined w) (turn : front_turn w ≡ Some a) (says : front.speaks (front.bus_ask_of (frontend_of w)) ≡ true) where
+module _ (w : World) (a : FrontAct) (fit : IsFit w) (whole : front_view.is_broken w.rings.front.stage ≡ false) (j : Joined w) (turn : front_turn w ≡ Some a)
+    (none : is_left w.rings.front.stage ≡ false) (says : front.speaks (front_asks.ask_of w.front (front_view.is_unoccupied w.rings.front)) ≡ true) where
   abbrev idle : Bool
   idle = front_view.is_unoccupied w.rings.front
 
   abbrev b : FrontBusAsk
-  b = front.bus_ask_of (frontend_of w)
+  b = front_asks.ask_of w.front idle
+
+  asks : front.bus_ask_of (frontend_of w) ≡ b
+  asks = ap (λ (left : Bool). if left then front_ask.Wait else b) none
 
   told : Told b 0 w.rings.under.keys a
-  told = keys_told b w.rings.under a says (subst (λ (s : Bool). front_act w.rings.under (if s then front.key_ask b else front.ring_ask (front.ring_moves b w.rings.front.stage) (frontend_of w)) ≡ Some a) says turn)
+  told =
+      keys_told b w.rings.under a says
+      (subst (λ (s : Bool). front_act w.rings.under (if s then front.key_ask b else front.ring_ask (front.ring_moves b w.rings.front.stage) (frontend_of w)) ≡ Some a) says
+      (subst (λ (c : FrontBusAsk). front_act w.rings.under (front.ask_at c (frontend_of w)) ≡ Some a) asks turn))
 
   breaks_not : (word : ℕ) → news_of w.front idle a.answer ≡ Some (news.Broken word) → ⊥
   breaks_not word e =
@@ -211,14 +213,22 @@ module _ (w : World) (a : FrontAct) (fit : IsFit w) (whole : front_view.is_broke
   reached : Reached (record { front = after; back = w.back; keys = a.under.keys })
   reached =
       subst (λ (s : Bool). Reached (record { front = (if s then front_step.spoken (frontend_of w) a.answer else front_step.ring_step (front.ring_moves b w.rings.front.stage) b (frontend_of w) a.answer).bus; back = w.back; keys = a.under.keys })) says
-      (front_goes w a fit whole j turn)
+      (subst (λ (c : FrontBusAsk). Reached (record { front = (front_step.step_at c (frontend_of w) a.answer).bus; back = w.back; keys = a.under.keys })) asks
+      (front_goes w a fit whole (none_in_hand w.rings.front.stage w.rings.front.ending none) j turn))
 
   due_timely : (c : FrontBusAsk) (order : ℕ) → front_asks.ask_of after idle ≡ c → AllByRecursion (IsTimely w) (front_step.states_due c order)
   due_timely (front_ask.WriteRingWord word) order e = (tt, tt)
   due_timely (front_ask.EndGrant page) order e = (leaves_at (record { front = after; back = w.back; keys = a.under.keys }) idle reached (subst IsLeaving (sym e) tt), tt)
   due_timely c order e = tt
 
-  pub states_timely : AllByRecursion (IsTimely w) (front_step.states_after (frontend_of w) a.answer)
-  states_timely =
+  says_timely : AllByRecursion (IsTimely w) (front_step.states_after (frontend_of w) a.answer)
+  says_timely =
       both_all (IsTimely w) (front_step.states_of_news (front_step.offers_of after) (news_of w.front idle a.answer)) (front_step.states_due (front_asks.ask_of after idle) (ring_order after))
       (news_timely (news_of w.front idle a.answer) refl (news_is w.front idle a.answer)) (due_timely (front_asks.ask_of after idle) (ring_order after) refl)
+
+-- so are the states that it enters as it speaks
+pub states_timely : (w : World) (a : FrontAct) → IsFit w → front_view.is_broken w.rings.front.stage ≡ false → Joined w → front_turn w ≡ Some a → front.speaks (front.bus_ask_of (frontend_of w)) ≡ true
+    → AllByRecursion (IsTimely w) (front_step.states_after (frontend_of w) a.answer)
+states_timely w a fit whole j turn =
+    asks_cases (λ (c : FrontBusAsk). front.speaks c ≡ true → AllByRecursion (IsTimely w) (front_step.states_after (frontend_of w) a.answer)) w (λ left says. absurd (true≢false (sym says)))
+    (λ none says. says_timely w a fit whole j turn none says)

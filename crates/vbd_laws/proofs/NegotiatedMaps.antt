@@ -19,8 +19,7 @@ use Rattle.xenbus_state.specs.BackSound.{IsPlaced}
 use Rattle.vbd_model.specs.World.{World}
 use Rattle.vbd_model.specs.Fit.{BackGoesWith, HaveTerms, has_terms, IsFit}
 use Rattle.vbd_laws.specs.Served.{GoesByTheTerms, IsMadeFirst}
-use Rattle.vbd_laws.proofs.ServedFront as fronts
-use Rattle.vbd_laws.proofs.NegotiatedKept.{finds_now, asks_map, asks_bind}
+use Rattle.vbd_laws.proofs.NegotiatedKept.{made_now, asks_map, asks_bind}
 use Rattle.vbd_laws.proofs.NegotiatedEarly.{IsOnItsWay}
 
 -- a reference that is there is read alike with a default
@@ -41,7 +40,7 @@ next_same v gref here asks = by_test (says_closing v) asks
 halted_not : {A : Type 0} (r : BackRing) → r ≡ ring.Halted → r ≡ ring.MapRing → A
 halted_not r e f = absurd (cc)
 
-module _ (w : World) (fit : IsFit w) (speaks : fronts.Speaks w.front) where
+module _ (w : World) (fit : IsFit w) where
   -- as the ring's end stands there
   map_goes : (gref : ℕ) → ask_of w.back ≡ bus_ask.Map gref → w.rings.back.stage ≡ ring.MapRing
   map_goes gref asks = (subst (λ (s : BackStage). BackGoesWith s w.back.state w.rings.back.stage) (asks_map w.back gref asks) fit.back).1
@@ -75,7 +74,7 @@ module _ (w : World) (fit : IsFit w) (speaks : fronts.Speaks w.front) where
 
   -- and the front has made it
   made_so : IsOnItsWay w → (gref : ℕ) → ask_of w.back ≡ bus_ask.Map gref → is_connected w.rings.front.stage ≡ true
-  made_so (inl b) gref asks = (finds_now w gref fit speaks b.joined asks).made
+  made_so (inl b) gref asks = made_now w gref fit b.joined asks
   made_so (inr (inl b)) gref asks = b.made
   made_so (inr (inr (inl h))) gref asks = halted_not w.rings.back.stage h.ring (map_goes gref asks)
   made_so (inr (inr (inr p))) gref asks = p.made
@@ -84,4 +83,4 @@ module _ (w : World) (fit : IsFit w) (speaks : fronts.Speaks w.front) where
   goes_by_terms = record { maps = maps_so; binds = binds_so }
 
   pub is_made_first : IsOnItsWay w → IsMadeFirst w
-  is_made_first way = record { mapped = made_so way; moved = ring_made_now w fit speaks way }
+  is_made_first way = record { mapped = made_so way; moved = ring_made_now w fit way }

@@ -12,7 +12,7 @@ use Rattle.split_model.proofs.Overwriting.{poke_cases}
 use Rattle.split_model.proofs.SafeFront.{submit_kept}
 use Rattle.negotiation_laws.specs.Happening as negotiated
 use Rattle.vbd_model.specs.World.{World}
-use Rattle.vbd_model.specs.Happening.{Happening, FrontMoves, BackMoves, JobMoves, Closes, Submits, Pokes, OverwritesKey, happens}
+use Rattle.vbd_model.specs.Happening.{Happening, FrontMoves, BackMoves, JobMoves, Closes, Submits, Pokes, OverwritesKey, Suspends, happens}
 use Rattle.blk_back.specs.Step.{job_ask_of}
 use Rattle.split_model.proofs.SafeAnswers.{jobs_of}
 use Rattle.vbd_laws.proofs.FitChannels.{job_leaves}
@@ -46,12 +46,13 @@ job_rests w k o (Some a) e =
 poke_keys : (h : Hypervisor) (frame word value : ℕ) → (let x : Hypervisor = overwritten h frame word value in x.keys ≡ h.keys)
 poke_keys h frame word value = poke_cases (λ x shown. x.keys ≡ h.keys) h frame word value (λ framed worded. refl) refl
 
--- neither a move of an end nor a close, and no key is overwritten
+-- neither a move of an end nor a close, no key is overwritten, and the domain isn't suspended
 abbrev pub IsApart : Happening → Type 0
 IsApart FrontMoves = ⊥
 IsApart BackMoves = ⊥
 IsApart (Closes at) = ⊥
 IsApart (OverwritesKey name text) = ⊥
+IsApart Suspends = ⊥
 IsApart h = Unit {0}
 
 pub apart_rests : (w : World) (h : Happening) → IsApart h → Rests (happens w h) w
@@ -59,6 +60,7 @@ apart_rests w FrontMoves apart = absurd apart
 apart_rests w BackMoves apart = absurd apart
 apart_rests w (Closes at) apart = absurd apart
 apart_rests w (OverwritesKey name text) apart = absurd apart
+apart_rests w Suspends apart = absurd apart
 apart_rests w (JobMoves number outcome) apart = job_rests w number outcome (job_turn w.rings number outcome) refl
 apart_rests w (Submits job) apart = record { bus = refl; back = refl; halted = refl; front = (submit_kept w.rings.front job).stage }
 apart_rests w (Pokes frame word value) apart = record { bus = ap (λ (d : Directory). record { front = w.front; back = w.back; keys = d }) (poke_keys w.rings.under frame word value); back = refl; halted = refl; front = refl }

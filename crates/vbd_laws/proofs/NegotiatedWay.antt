@@ -1,7 +1,7 @@
--- The back maps what the front granted: so the machine stays on its way as the back moves, and whatever happens.
+-- The back maps what the front granted: so the machine stays on its way as the back moves, over a suspend, and whatever happens.
 use Rattle.vbd_laws.specs.Served.{KeepsKeys}
-use Rattle.std.proofs.Common.{◌⊎◌, inl, inr, ◌≡◌, ◌∙◌, ap, sym, subst, ℕ, ◌+◌, ◌&&◌, Bool, true, false, true≢false, List, [], ◌∷◌, ◌++◌, length, refl, arith, if◌then◌else◌}
-use Rattle.std.specs.Prelude.{Option, Some, None, is_some, nat_lt}
+use Rattle.std.proofs.Common.{◌⊎◌, inl, inr, ◌≡◌, ◌∙◌, ap, sym, subst, ℕ, ◌+◌, ◌<◌, ◌^◌, ◌&&◌, Bool, true, false, true≢false, List, [], ◌∷◌, ◌++◌, length, refl, arith, if◌then◌else◌}
+use Rattle.std.specs.Prelude.{Option, Some, None, is_some, nat_lt, codes}
 use Rattle.blk_base.specs.declared.parts.End.TheVariants as end
 use Rattle.blk_base.specs.declared.parts.Mapping.{Mapping}
 use Rattle.blk_base.specs.declared.moves.BackMover.TheVariants as back_mover
@@ -11,6 +11,12 @@ use Rattle.blk_base.specs.declared.ask.BackAnswer.{BackAnswer}
 use Rattle.blk_base.specs.declared.ask.BackAnswer.TheVariants as answer
 use Rattle.hypervisor.specs.Hypervisor.{Hypervisor}
 use Rattle.hypervisor.specs.Act.{BackAct, Took, back_act, is_own_path}
+use Rattle.key_directory.specs.Directory.{Directory, fresh_directory}
+use Rattle.hypervisor.specs.Suspend.{suspended as under_suspended}
+use Rattle.blk_front.specs.declared.stage.Stage.{Stage as FrontRing}
+use Rattle.blk_front.specs.declared.stage.Stage.TheVariants as front_ring
+use Rattle.blk_front.specs.State.{is_open}
+use Rattle.blk_front.specs.Suspend.{stage_after, resumed}
 use Rattle.blk_front.specs.Submit.{is_connected}
 use Rattle.back_jobs.specs.Jobs.{first_mapping}
 use Rattle.blk_back.specs.declared.stage.Stage.{Stage as BackRing}
@@ -28,12 +34,16 @@ use Rattle.xenbus_state.specs.declared.table.BackHalt.TheVariants as bus_halt
 use Rattle.xenbus_state.specs.declared.back.BackBusAsk.{BackBusAsk}
 use Rattle.xenbus_state.specs.declared.back.BackBusAsk.TheVariants as bus_ask
 use Rattle.xenbus_state.specs.Keys.{back_name, path_under}
-use Rattle.xenbus_state.specs.BackView.{BackView, is_halting}
-use Rattle.xenbus_state.specs.FrontView.{FrontView}
+use Rattle.xenbus_state.specs.BackView.{BackView, start_of, is_halting}
+use Rattle.xenbus_state.specs.FrontView.{FrontView, suspended as front_suspended}
+use Rattle.xenbus_state.specs.declared.offer.Features.{Features}
 use Rattle.xenbus_state.specs.BackAsk.{says_closing, ask_at, ask_of}
 use Rattle.xenbus_state.specs.BackSound.{IsPlaced}
 use Rattle.xenbus_state.specs.BackStep as bus_step
+use Rattle.split_model.specs.World as rings
 use Rattle.split_model.specs.Happening as ring_happening
+use Rattle.split_model.proofs.Suspending.{begun_back}
+use Rattle.negotiation_laws.specs.Negotiation as negotiated
 use Rattle.split_model.proofs.SafeActs.{of_back, back_test, back_wait}
 use Rattle.split_model.proofs.SafeAnswers.{back_answered}
 use Rattle.split_model.proofs.Shapes.{attaches_waiting}
@@ -43,20 +53,21 @@ use Rattle.vbd_back.specs.View as back_view
 use Rattle.vbd_back.specs.Ask as back
 use Rattle.vbd_back.specs.Step as back_step
 use Rattle.vbd_model.specs.World.{World, backend_of}
-use Rattle.vbd_model.specs.Happening.{Happening, FrontMoves, BackMoves, Closes, back_turn, is_backs_ring, happens, OverwritesKey}
+use Rattle.vbd_model.specs.Happening.{Happening, FrontMoves, BackMoves, Closes, OverwritesKey, Suspends, back_turn, is_backs_ring, renewed_bus, happens}
 use Rattle.vbd_model.specs.Fit.{BackGoesWith, BackReads, BackHolds, has_terms, HaveTerms, IsFit}
 use Rattle.vbd_laws.specs.Moves.{IsNoMove, IsBackMove}
 use Rattle.vbd_laws.proofs.FitBackRing.{is_past, given, gives_past, unbound_past, past_step}
-use Rattle.vbd_laws.proofs.FitBack.{fit_back_moves}
 use Rattle.vbd_laws.proofs.MovesTurns.{back_asks, back_cases}
 use Rattle.vbd_laws.proofs.MovesAttached.{halted_only, not_led, taken}
 use Rattle.vbd_laws.proofs.MovesBack.{back_move_is, back_move_none}
 use Rattle.vbd_laws.proofs.ServedFront as fronts
-use Rattle.vbd_laws.proofs.NegotiatedRun.{Reached, late_at}
+use Rattle.vbd_laws.proofs.NegotiatedRun.{Reached, reached_as}
 use Rattle.vbd_laws.proofs.NegotiatedBack.{IsGiven, back_goes}
 use Rattle.vbd_laws.proofs.NegotiatedRests.{same_rests, apart_rests}
-use Rattle.vbd_laws.proofs.NegotiatedKept.{finds_now, asks_map}
-use Rattle.vbd_laws.proofs.NegotiatedEarly.{Before, Bound, Halted, Past, After, IsOnItsWay, rests_way, front_way, close_way}
+use Rattle.vbd_laws.proofs.NegotiatedKept.{made_now, asks_map}
+use Rattle.vbd_laws.proofs.NegotiatedFront.{HasInHand}
+use Rattle.vbd_laws.proofs.FitSuspended.{anew_at}
+use Rattle.vbd_laws.proofs.NegotiatedEarly.{Before, Bound, Halted, Past, After, is_early, IsOnItsWay, rests_way, front_way, close_way}
 
 -- a halt for what the negotiation read
 halt_may : (why : BackHalt) → ring_step.may_halt (back_step.ring_halt why) ≡ true
@@ -112,18 +123,18 @@ led_past None true u r p = by_test (ring_step.may_attach (back_step.shape_read u
     by_test false may = p
 led_past None false u r p = p
 
-led_halted : (why : Option BackHalt) (reads : Bool) (u : BackView) (r : ring_view.View) (f : FrontView) → Halted r f → Halted (back_step.ring_led why reads u r) f
-led_halted (Some why) reads u r f h =
-    halts_cases (λ (y : ring_view.View). Halted y f) (back_step.ring_halt why) r (λ e. absurd (true≢false (sym e ∙ ap is_unbound h.ring))) (λ e. not_both r.stage e h.ring) h
+led_halted : (why : Option BackHalt) (reads : Bool) (u : BackView) (r : ring_view.View) → Halted r → Halted (back_step.ring_led why reads u r)
+led_halted (Some why) reads u r h =
+    halts_cases (λ (y : ring_view.View). Halted y) (back_step.ring_halt why) r (λ e. absurd (true≢false (sym e ∙ ap is_unbound h.ring))) (λ e. not_both r.stage e h.ring) h
   where
     not_both : {A : Type 0} (s : BackRing) → s ≡ ring.Loop → s ≡ ring.Halted → A
     not_both s e f = absurd (cc)
-led_halted None true u r f h = by_test (ring_step.may_attach (back_step.shape_read u) u.grefs r) refl
+led_halted None true u r h = by_test (ring_step.may_attach (back_step.shape_read u) u.grefs r) refl
   where
-    by_test : (may : Bool) → ring_step.may_attach (back_step.shape_read u) u.grefs r ≡ may → Halted (if may then ring_step.attached (back_step.shape_read u) u.grefs u.terms.port r else r) f
+    by_test : (may : Bool) → ring_step.may_attach (back_step.shape_read u) u.grefs r ≡ may → Halted (if may then ring_step.attached (back_step.shape_read u) u.grefs u.terms.port r else r)
     by_test true may = absurd (true≢false (sym (ap is_past h.ring) ∙ ap is_past (attaches_waiting (back_step.shape_read u) u.grefs r may)))
     by_test false may = h
-led_halted None false u r f h = h
+led_halted None false u r h = h
 
 -- the machine after a move of the back that made this of it
 abbrev back_to : World → BackAct → back_view.View → World
@@ -164,9 +175,9 @@ told_map v m here = rw here (by_test v.unplugged)
 abbrev Maps : ring_view.View → BackAnswer → Bool → ring_view.View → BackView → Type 0
 Maps r x c y u = ((is_unbound y.stage ≡ true) × (y.halted ≡ r.halted) × IsGiven x) ⊎ Bound y (back_step.caught_up y u) c ⊎ Past y c
 
-map_after : (r : ring_view.View) (v : BackView) (x : BackAnswer) (c : Bool) → r.stage ≡ ring.MapRing → r.halted ≡ None → v.stage ≡ bus.MapPage → v.terms.port ≡ 1 → r.pages ≡ v.pages → r.grefs ≡ v.grefs → c ≡ true
+map_after : (r : ring_view.View) (v : BackView) (x : BackAnswer) (c : Bool) → r.stage ≡ ring.MapRing → r.halted ≡ None → v.stage ≡ bus.MapPage → r.pages ≡ v.pages → r.grefs ≡ v.grefs → c ≡ true
     → ring_ask.IsAnswer (ring_ask.ask_of r) x → (let y : ring_view.View = ring_step.step_of r x in Maps r x c y (bus_step.step_of v x))
-map_after r v x c here unhalted stage port pages grefs made allowed =
+map_after r v x c here unhalted stage pages grefs made allowed =
     subst (λ (s : BackRing). let y : ring_view.View = ring_step.step_at s r x in Maps r x c y (bus_step.step_of v x)) (sym here)
     (by_answer x (subst (λ (s : BackRing). ring_ask.IsAnswer (ring_ask.ask_at s r) x) here allowed))
   where
@@ -181,7 +192,7 @@ map_after r v x c here unhalted stage port pages grefs made allowed =
         let last : u.stage ≡ bus.Bind = ap (λ (more : Bool). if more then bus.MapPage else bus.Bind) e in
         let same : back_step.caught_up (to_ring m false) u ≡ u =
         ap (λ (why : Option Halt). back_step.settled ring.Bind (back_step.bus_halted why u)) unhalted ∙ ap (λ (s : BackStage). back_step.settled_at s ring.Bind u) last in
-        inr (inl (record { ring = refl; stage = ap (λ (y : BackView). y.stage) same ∙ last; port = ap (λ (y : BackView). y.terms.port) same ∙ port; made = made }))
+        inr (inl (record { ring = refl; stage = ap (λ (y : BackView). y.stage) same ∙ last; made = made }))
 
     by_answer : (y : BackAnswer) → ring_ask.IsAnswer (ring_ask.ask_at ring.MapRing r) y
         → (let z : ring_view.View = ring_step.step_at ring.MapRing r y in Maps r y c z (bus_step.step_of v y))
@@ -199,19 +210,16 @@ unhalted_map : (halted : Option Halt) (s : BackStage) → is_some halted ≡ is_
 unhalted_map None s e here = refl
 unhalted_map (Some why) s e here = absurd (true≢false (e ∙ ap is_halting here))
 
-module _ (w : World) (a : BackAct) (fit : IsFit w) (speaks : fronts.Speaks w.front) (b : Before w) (turn : back_turn w ≡ Some a) where
+module _ (w : World) (a : BackAct) (fit : IsFit w) (b : Before w) (turn : back_turn w ≡ Some a) where
   abbrev ReachedBy : back_view.View → Type 0
   ReachedBy x = Reached (record { front = w.front; back = x.bus; keys = a.under.keys })
 
-  -- the negotiation was reached, but where its end of the ring moved; and it halts with that
+  -- the negotiation was reached, but where its end of the ring moved
   abbrev ToReach : (BackAnswer → back_view.View) → Type 0
   ToReach step = is_backs_ring w ≡ false → IsGiven a.answer → ReachedBy (step a.answer)
 
-  abbrev HaltsWith : back_view.View → Type 0
-  HaltsWith x = is_some x.ring.halted ≡ is_halting x.bus.stage
-
   abbrev Goes : List ring_happening.Happening → BackAsk → (BackAnswer → back_view.View) → Type 0
-  Goes does asked step = ToReach step → HaltsWith (step a.answer) → back_act w.rings.under back_mover.Back asked Took ≡ Some a → IsOnItsWay (back_to w a (step a.answer))
+  Goes does asked step = ToReach step → back_act w.rings.under back_mover.Back asked Took ≡ Some a → IsOnItsWay (back_to w a (step a.answer))
 
   abbrev to_led : ring_view.View → back_view.View
   to_led y = back_step.heard_by y (backend_of w) a.answer
@@ -226,21 +234,21 @@ module _ (w : World) (a : BackAct) (fit : IsFit w) (speaks : fronts.Speaks w.fro
           (sym (ap (λ (c : Bool). if c then None else bus_step.halt_at w.back.stage w.back a.answer) is) ∙ e) fit.back b.ring fit.held fit.sound.placed
 
   led_way : (why : Option BackHalt) → back_step.halt_of (backend_of w) a.answer ≡ why → back.speaks (back_asks w) ≡ true
-      → ReachedBy (to_led (halted_only why w.rings.back)) → HaltsWith (to_led (halted_only why w.rings.back)) → IsOnItsWay (back_to w a (to_led (halted_only why w.rings.back)))
-  led_way None e says j halts = inl (record { joined = j; ring = b.ring; early = b.early })
-  led_way (Some why) e says j halts =
+      → ReachedBy (to_led (halted_only why w.rings.back)) → IsOnItsWay (back_to w a (to_led (halted_only why w.rings.back)))
+  led_way None e says j = inl (record { joined = j; ring = b.ring; early = b.early })
+  led_way (Some why) e says j =
       let h = halts_early why w.rings.back b.ring (halt_known why says e) in
-      inr (inr (inl (record { ring = h.0; halted = h.1; late = late_at _ j (sym halts ∙ h.1) })))
+      inr (inr (inl (record { ring = h.0; halted = h.1 })))
 
   map_way : back.bus_moves (back_asks w) w.rings.back.stage ≡ false → back.ring_moves (back_asks w) w.rings.back.stage ≡ true → back_act w.rings.under back_mover.Back (ring_ask.ask_of w.rings.back) Took ≡ Some a
       → IsOnItsWay (back_to w a (back_step.ring_step true (back_asks w) (backend_of w) a.answer))
   map_way quiet moves e =
       let next = maps_next (back_asks w) w.rings.back.stage b.ring moves in
-      let finds = finds_now w next.1 fit speaks b.joined next.2 in
+      let made = made_now w next.1 fit b.joined next.2 in
       let stage = asks_map w.back next.1 next.2 in
       let have : HaveTerms w.rings.back w.back = fit.terms (ap has_terms next.0) (ap is_halting stage) in
       by_map (subst (λ (c : BackBusAsk). Maps w.rings.back a.answer (is_connected w.rings.front.stage) (ring_step.step_of w.rings.back a.answer) (back_step.followed c w.back a.answer)) (sym next.2)
-      (map_after w.rings.back w.back a.answer (is_connected w.rings.front.stage) next.0 (unhalted_map w.rings.back.halted w.back.stage fit.halted stage) stage finds.port fit.pages have.grefs finds.made (back_answered w.rings.under w.rings.back Took a e)))
+      (map_after w.rings.back w.back a.answer (is_connected w.rings.front.stage) next.0 (unhalted_map w.rings.back.halted w.back.stage fit.halted stage) stage fit.pages have.grefs made (back_answered w.rings.under w.rings.back Took a e)))
     where
       moved_bus : ReachedBy (back_step.step_of (backend_of w) a.answer) → ReachedBy (back_step.ring_step true (back_asks w) (backend_of w) a.answer)
       moved_bus j =
@@ -250,25 +258,25 @@ module _ (w : World) (a : BackAct) (fit : IsFit w) (speaks : fronts.Speaks w.fro
       by_map : Maps w.rings.back a.answer (is_connected w.rings.front.stage) (ring_step.step_of w.rings.back a.answer) (back_step.followed (back_asks w) w.back a.answer)
           → IsOnItsWay (back_to w a (back_step.ring_step true (back_asks w) (backend_of w) a.answer))
       by_map (inl on) = inl (record { joined = moved_bus (back_goes w a fit b.joined turn on.2 (λ mine. on.1)); ring = on.0; early = b.early })
-      by_map (inr (inl bound)) = inr (inl (record { ring = bound.ring; stage = bound.stage; port = bound.port; made = bound.made }))
+      by_map (inr (inl bound)) = inr (inl (record { ring = bound.ring; stage = bound.stage; made = bound.made }))
       by_map (inr (inr past)) = inr (inr (inr (record { past = past.past; made = past.made })))
 
-  before_back : HaltsWith (back_step.step_of (backend_of w) a.answer) → IsOnItsWay (back_to w a (back_step.step_of (backend_of w) a.answer))
-  before_back halts =
+  before_back : IsOnItsWay (back_to w a (back_step.step_of (backend_of w) a.answer))
+  before_back =
       back_cases Goes w
-      (λ says untaken reach halts e.
+      (λ says untaken reach e.
       let plain = not_led w a fit (record { turn = turn; moves = says }) untaken in
       let reached = reach (rw says refl) (key_given w.rings.under (back_asks w) a e) in
       let spoken = (both_true (back.speaks (back_asks w)) (back.is_between w.rings.back.stage) says).0 in
       subst (λ (y : ring_view.View). IsOnItsWay (back_to w a (to_led y))) (sym plain)
       (led_way (back_step.halt_of (backend_of w) a.answer) refl spoken
-      (subst (λ (y : ring_view.View). ReachedBy (to_led y)) plain reached) (subst (λ (y : ring_view.View). HaltsWith (to_led y)) plain halts)))
-      (λ says takes reach halts e.
+      (subst (λ (y : ring_view.View). ReachedBy (to_led y)) plain reached)))
+      (λ says takes reach e.
       let took = taken w a (record { turn = turn; moves = says }) takes in
       inl (record { joined = reach (rw says refl) (key_given w.rings.under (back_asks w) a e); ring = ap (λ (y : ring_view.View). is_unbound y.stage) took.led; early = b.early }))
-      (λ quiet moves reach halts e. map_way quiet moves e)
-      (λ quiet still reach halts e. inl (record { joined = reach (rw (quiet, still) refl) (wait_given w.rings.under a e); ring = b.ring; early = b.early }))
-      (λ e given. back_goes w a fit b.joined turn given (λ mine. absurd (true≢false (sym mine ∙ e)))) halts turn
+      (λ quiet moves reach e. map_way quiet moves e)
+      (λ quiet still reach e. inl (record { joined = reach (rw (quiet, still) refl) (wait_given w.rings.under a e); ring = b.ring; early = b.early }))
+      (λ e given. back_goes w a fit b.joined turn given (λ mine. absurd (true≢false (sym mine ∙ e)))) turn
 
 -- once it has mapped the ring
 binds_port : (v : BackView) → v.stage ≡ bus.Bind → ask_of v ≡ bus_ask.Bind v.terms.port
@@ -294,7 +302,7 @@ module _ (w : World) (a : BackAct) (turn : back_turn w ≡ Some a) where
   IsPastNow r = is_past r.stage ≡ true
 
   abbrev IsHaltedNow : ring_view.View → Type 0
-  IsHaltedNow r = Halted r w.front
+  IsHaltedNow r = Halted r
 
   bound_back : Bound w.rings.back w.back (is_connected w.rings.front.stage) → IsPastNow (back_step.step_of (backend_of w) a.answer).ring
   bound_back b =
@@ -305,13 +313,13 @@ module _ (w : World) (a : BackAct) (turn : back_turn w ≡ Some a) where
       (λ quiet moves e. bind_past w.rings.back a.answer b.ring (back_answered w.rings.under w.rings.back Took a e))
       (λ quiet still e. absurd (true≢false (sym (ap (λ (c : BackBusAsk). back.ring_moves c ring.Bind) asks) ∙ subst (λ (s : BackRing). back.ring_moves (back_asks w) s ≡ false) b.ring still))) turn
 
-  halted_back : Halted w.rings.back w.front → Halted (back_step.step_of (backend_of w) a.answer).ring w.front
+  halted_back : Halted w.rings.back → Halted (back_step.step_of (backend_of w) a.answer).ring
   halted_back h =
       back_cases (Keeps IsHaltedNow) w (λ says untaken e. led h) (λ says takes e. led h)
       (λ quiet moves e. subst (λ (s : BackRing). IsHaltedNow (ring_step.step_at s w.rings.back a.answer)) (sym h.ring) h) (λ quiet still e. h) turn
     where
-      led : Halted w.rings.back w.front → IsHaltedNow (back_step.spoken (backend_of w) a.answer).ring
-      led h = led_halted (back_step.halt_of (backend_of w) a.answer) (back_step.reads_layout (back_asks w)) (bus_step.step_of w.back a.answer) w.rings.back w.front h
+      led : Halted w.rings.back → IsHaltedNow (back_step.spoken (backend_of w) a.answer).ring
+      led h = led_halted (back_step.halt_of (backend_of w) a.answer) (back_step.reads_layout (back_asks w)) (bus_step.step_of w.back a.answer) w.rings.back h
 
   past_back : is_past w.rings.back.stage ≡ true → IsPastNow (back_step.step_of (backend_of w) a.answer).ring
   past_back p =
@@ -321,36 +329,86 @@ module _ (w : World) (a : BackAct) (turn : back_turn w ≡ Some a) where
       led : is_past w.rings.back.stage ≡ true → IsPastNow (back_step.spoken (backend_of w) a.answer).ring
       led p = led_past (back_step.halt_of (backend_of w) a.answer) (back_step.reads_layout (back_asks w)) (bus_step.step_of w.back a.answer) w.rings.back p
 
-  after_back : After w.rings.back w.back w.front (is_connected w.rings.front.stage)
-      → (let v : World = back_to w a (back_step.step_of (backend_of w) a.answer) in After v.rings.back v.back v.front (is_connected v.rings.front.stage))
+  after_back : After w.rings.back w.back (is_connected w.rings.front.stage)
+      → (let v : World = back_to w a (back_step.step_of (backend_of w) a.answer) in After v.rings.back v.back (is_connected v.rings.front.stage))
   after_back (inl b) = inr (inr (record { past = bound_back b; made = b.made }))
-  after_back (inr (inl h)) = let now = halted_back h in inr (inl (record { ring = now.ring; halted = now.halted; late = now.late }))
+  after_back (inr (inl h)) = let now = halted_back h in inr (inl (record { ring = now.ring; halted = now.halted }))
   after_back (inr (inr p)) = inr (inr (record { past = past_back p.past; made = p.made }))
 
-back_way : (w : World) → IsFit w → fronts.Speaks w.front → IsOnItsWay w → IsOnItsWay (happens w BackMoves)
-back_way w fit speaks way = by_act (back_turn w) refl
+back_way : (w : World) → IsFit w → IsOnItsWay w → IsOnItsWay (happens w BackMoves)
+back_way w fit way = by_act (back_turn w) refl
   where
-    by_way : (a : BackAct) → back_turn w ≡ Some a → IsFit (back_to w a (back_step.step_of (backend_of w) a.answer)) → IsOnItsWay w → IsOnItsWay (back_to w a (back_step.step_of (backend_of w) a.answer))
-    by_way a e next (inl b) = before_back w a fit speaks b e next.halted
-    by_way a e next (inr x) = inr (after_back w a e x)
+    by_way : (a : BackAct) → back_turn w ≡ Some a → IsOnItsWay w → IsOnItsWay (back_to w a (back_step.step_of (backend_of w) a.answer))
+    by_way a e (inl b) = before_back w a fit b e
+    by_way a e (inr x) = inr (after_back w a e x)
 
     by_act : (act : Option BackAct) → back_turn w ≡ act → IsOnItsWay (happens w BackMoves)
     by_act None e = let still : IsNoMove w BackMoves = back_move_none w fit e in rests_way (happens w BackMoves) w (same_rests (happens w BackMoves) w still.world) way
-    by_act (Some a) e = let moved : IsBackMove w a = back_move_is w a fit e in subst IsOnItsWay (sym moved.world) (by_way a e (subst IsFit moved.world (fit_back_moves w fit)) way)
+    by_act (Some a) e = let moved : IsBackMove w a = back_move_is w a fit e in subst IsOnItsWay (sym moved.world) (by_way a e way)
+
+-- after a suspend the front makes its ring anew, or the new back has halted
+early_anew : (s : FrontRing) → is_early (stage_after s) ≡ true
+early_anew (front_ring.ReadData n) = refl
+early_anew (front_ring.LeftData n) = refl
+early_anew s = refl
+
+-- and the negotiation begins anew
+begins_joined : (w : World) (keys : Directory) → IsFit w → fronts.Speaks w.front → w.back.disk.sectors < 2 ^ 64 → is_open w.rings.front.stage ≡ true → keys ≡ fresh_directory (codes "1")
+    → Reached (record { front = front_suspended w.front; back = start_of w.back.features w.back.disk; keys = keys })
+begins_joined w keys fit speaks sectors opened fresh =
+    reached_as (negotiated.start_of w.front w.back.features w.back.disk) (record { front = front_suspended w.front; back = start_of w.back.features w.back.disk; keys = keys })
+    (ap (λ (v : FrontView). record { front = v; back = start_of w.back.features w.back.disk; keys = keys }) (anew_at w.front.stage w.front w.rings.front.stage fit.front opened)
+    ∙ ap (λ (d : Directory). record { front = negotiated.new_epoch w.front; back = start_of w.back.features w.back.disk; keys = d }) fresh)
+    (record {
+      run = record {
+        front = w.front;
+        offer = w.back.features;
+        facts = w.back.disk;
+        happenings = [];
+        within = record { order = speaks.order; indirect = let few = fit.limited in omega arith; offered = let four : w.back.features.order ≡ 4 = ap (λ (f : Features). f.order) fit.offers in omega arith; sectors = sectors };
+        ports = tt;
+      };
+      served = tt;
+      stands = refl;
+    })
+
+suspend_way : (w : World) → IsFit w → fronts.Speaks w.front → w.back.disk.sectors < 2 ^ 64 → IsOnItsWay w → IsOnItsWay (happens w Suspends)
+suspend_way w fit speaks sectors way = by_may (rings.may_suspend w.rings)
+  where
+    by_open : (opened : Bool) → is_open w.rings.front.stage ≡ opened → IsOnItsWay (record {
+      rings = record {
+        front = if opened then resumed w.rings.front else w.rings.front;
+        back = rings.back_for opened (begun_back w.rings);
+        under = under_suspended (rings.state_after opened) w.rings.under;
+      };
+      front = if opened then front_suspended w.front else w.front;
+      back = renewed_bus opened w.back;
+    })
+    by_open true e = inl (record { joined = begins_joined w _ fit speaks sectors e refl; ring = refl; early = early_anew w.rings.front.stage })
+    by_open false e = inr (inr (inl (record { ring = refl; halted = refl })))
+
+    by_may : (may : Bool) → IsOnItsWay (record {
+      rings = if may then rings.suspended w.rings else w.rings;
+      front = if may && is_open w.rings.front.stage then front_suspended w.front else w.front;
+      back = if may then renewed_bus (is_open w.rings.front.stage) w.back else w.back;
+    })
+    by_may true = by_open (is_open w.rings.front.stage) refl
+    by_may false = way
 
 -- whatever happens, but that a hostile hand overwrites a key
-pub on_its_way : (w : World) (h : Happening) → KeepsKeys h → IsFit w → fronts.Speaks w.front → IsOnItsWay w → IsOnItsWay (happens w h)
-on_its_way w FrontMoves keeps fit speaks way = front_way w fit way
-on_its_way w BackMoves keeps fit speaks way = back_way w fit speaks way
-on_its_way w (Closes at) keeps fit speaks way = close_way w at way
-on_its_way w (OverwritesKey name text) keeps fit speaks way = absurd keeps
-on_its_way w h keeps fit speaks way = rests_way (happens w h) w (apart_rests w h tt) way
+pub on_its_way : (w : World) (h : Happening) → KeepsKeys h → IsFit w → fronts.Speaks w.front → w.back.disk.sectors < 2 ^ 64 → HasInHand w.rings.front.stage w.rings.front.ending → IsOnItsWay w → IsOnItsWay (happens w h)
+on_its_way w FrontMoves keeps fit speaks sectors hand way = front_way w fit hand way
+on_its_way w BackMoves keeps fit speaks sectors hand way = back_way w fit way
+on_its_way w (Closes at) keeps fit speaks sectors hand way = close_way w at way
+on_its_way w (OverwritesKey name text) keeps fit speaks sectors hand way = absurd keeps
+on_its_way w Suspends keeps fit speaks sectors hand way = suspend_way w fit speaks sectors way
+on_its_way w h keeps fit speaks sectors hand way = rests_way (happens w h) w (apart_rests w h tt) way
 
 -- the front's ring and port are made as the back's end moves, or the back has halted
-pub ring_made_now : (w : World) → IsFit w → fronts.Speaks w.front → IsOnItsWay w → back.ring_moves (back_asks w) w.rings.back.stage ≡ true → is_some w.rings.back.halted ≡ false → is_connected w.rings.front.stage ≡ true
-ring_made_now w fit speaks (inl b) moves unhalted =
+pub ring_made_now : (w : World) → IsFit w → IsOnItsWay w → back.ring_moves (back_asks w) w.rings.back.stage ≡ true → is_some w.rings.back.halted ≡ false → is_connected w.rings.front.stage ≡ true
+ring_made_now w fit (inl b) moves unhalted =
     let next = maps_next (back_asks w) w.rings.back.stage b.ring moves in
-    (finds_now w next.1 fit speaks b.joined next.2).made
-ring_made_now w fit speaks (inr (inl b)) moves unhalted = b.made
-ring_made_now w fit speaks (inr (inr (inl h))) moves unhalted = absurd (true≢false (sym h.halted ∙ unhalted))
-ring_made_now w fit speaks (inr (inr (inr p))) moves unhalted = p.made
+    made_now w next.1 fit b.joined next.2
+ring_made_now w fit (inr (inl b)) moves unhalted = b.made
+ring_made_now w fit (inr (inr (inl h))) moves unhalted = absurd (true≢false (sym h.halted ∙ unhalted))
+ring_made_now w fit (inr (inr (inr p))) moves unhalted = p.made

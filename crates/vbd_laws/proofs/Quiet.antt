@@ -27,7 +27,7 @@ use Rattle.vbd_front.specs.View as front_view
 use Rattle.vbd_front.specs.Ask as front
 use Rattle.vbd_back.specs.Ask as back
 use Rattle.vbd_model.specs.World.{World, start_of, is_quiet}
-use Rattle.vbd_model.specs.Happening.{Happening, FrontMoves, BackMoves, Closes, Looks, Settles, front_turn, back_turn, entered_at, halted_at, front_key, back_key, closes_does, is_fronts_ring, is_backs_ring, attaches, back_negotiates, does, after}
+use Rattle.vbd_model.specs.Happening.{Happening, FrontMoves, BackMoves, Closes, Suspends, Looks, Settles, front_turn, back_turn, entered_at, halted_at, front_key, back_key, closes_does, is_fronts_ring, is_backs_ring, attaches, back_negotiates, does, after}
 use Rattle.vbd_model.specs.Fit.{FrontRests, FrontGoesWith, IsFit}
 use Rattle.vbd_model.specs.Possible.{IsPossible}
 use Rattle.vbd_laws.specs.Quiet.{IsUntouched, HaveBoth, StatesAgree, StatesAgreeAtQuiet, RingsAgreed}
@@ -158,16 +158,18 @@ agreed_at : (config : Options) (w : World) (h : Happening) → IsUntouched h →
 agreed_at config w FrontMoves untouched honest is =
     move_agreed (is_fronts_ring w) (front.speaks (front_asks w)) ring.FrontMoves end.Front (front_key (front_asks w)) ring.FrontEnters (entered_at w (front_turn w)) w.rings tt (λ s u. tt)
 agreed_at config w BackMoves untouched honest is = back_agreed w (is_backs_ring w) (attaches w (back_learns w))
+agreed_at config w Suspends untouched honest is = absurd untouched
 agreed_at config w (Closes at) untouched honest is = closes_agreed at w.rings
 agreed_at config w (Looks quiet) untouched honest is = (λ e. alike w (quiet_agrees config w honest (is e)), tt)
 agreed_at config w (Settles quiet) untouched honest is = (λ e. alike w (quiet_agrees config w honest (is e)), tt)
 agreed_at config w h untouched honest is = (tt, tt)
 
--- all of it, up to the first word or key that is overwritten
+-- all of it, up to the first word or key that is overwritten, or the first suspend
 agreed_then : (hs rest : List ring.Happening) (w : rings.World) → AreAgreed hs w → AreAgreed (honest_history rest) (ring.after hs w) → AreAgreed (honest_history (hs ++ rest)) w
 agreed_then [] rest w are later = later
 agreed_then (ring.Pokes frame word value ∷ hs) rest w are later = tt
 agreed_then (ring.OverwritesKey name text ∷ hs) rest w are later = tt
+agreed_then (ring.Suspends ∷ hs) rest w are later = tt
 agreed_then (h ∷ hs) rest w are later = (are.0, agreed_then hs rest (ring.happens w h) are.1 later)
 
 pub rings_agreed : RingsAgreed

@@ -42,7 +42,7 @@ use Rattle.vbd_back.specs.View.{offer}
 use Rattle.vbd_back.specs.Ask as back
 use Rattle.vbd_back.specs.Step as back_step
 use Rattle.vbd_model.specs.World.{World, backend_of}
-use Rattle.vbd_model.specs.Happening.{back_key as key_move, back_turn, back_bus_after}
+use Rattle.vbd_model.specs.Happening.{back_key as key_move, back_turn, back_bus_after, renewed_bus}
 use Rattle.vbd_laws.proofs.FitBackKept.{step_is}
 use Rattle.vbd_laws.proofs.NegotiatedBack.{IsGiven}
 use Rattle.vbd_laws.proofs.ServedTexts.{few_states, page_name, state_name, ring_name, order_name, port_name, layout_name, persistent_name, number_text, page_path, front_state_path, back_state_path, back_path, ring_path, order_path, port_path, layout_path, persistent_path, flag_text, state_text}
@@ -226,6 +226,11 @@ unplugged_speaks v h = by_test (is_halting v.stage)
     by_test : (b : Bool) → Speaks (if b then v else record v { unplugged = true })
     by_test true = h
     by_test false = record { sectors = h.sectors; order = h.order; grefs = h.grefs; port = h.port; stage = h.stage }
+
+-- a new back
+pub renewed_speaks : (opened : Bool) (v : BackView) → Speaks v → Speaks (renewed_bus opened v)
+renewed_speaks true v h = record { sectors = h.sectors; order = omega arith; grefs = tt; port = omega arith; stage = tt }
+renewed_speaks false v h = record { sectors = h.sectors; order = omega arith; grefs = tt; port = omega arith; stage = tt }
 
 -- what it does with the keys
 info_text : (read_only : Bool) → (if read_only then 4 else 0) < 2 ^ 64

@@ -1,4 +1,4 @@
--- What the front's negotiation says is of the grammar: its port is the first, and its ring has at most 16 pages.
+-- What the front's negotiation says is of the grammar: its port is a number, the first where only one is made, and its ring has at most 16 pages.
 use Rattle.std.proofs.Common.{◌≡◌, refl, ℕ, ◌+◌, ◌^◌, ◌<◌, ◌≤◌, ◌==◌, ◌&&◌, ◌||◌, Bool, true, false, List, arith, if◌then◌else◌}
 use Rattle.std.specs.Prelude.{Option, Some, None, nat_lt, unwrap_or}
 use Rattle.std.proofs.Math.Nat.{pow-le-pow_right}
@@ -28,11 +28,9 @@ use Rattle.xenbus_state.specs.States.{state_read}
 use Rattle.xenbus_state.specs.Tables.{front_action, on_offer, on_connected, on_closing, on_gone}
 use Rattle.xenbus_state.specs.Programs.{next_feature, next_fact, first_published, after_page, next_published}
 use Rattle.xenbus_state.specs.Reading.{count_read, fact_read}
-use Rattle.xenbus_state.specs.FrontView.{FrontView, ring_order, pages_of, is_broken, closed}
+use Rattle.xenbus_state.specs.FrontView.{FrontView, ring_order, pages_of, is_broken, closed, suspended_at, suspended}
 use Rattle.xenbus_state.specs.FrontAsk.{due, due_at, leaving, closing_stage, ask_at, ask_of}
 use Rattle.xenbus_state.specs.FrontStep.{at, acted, feature_step, fact_step, after, after_feature, after_fact, after_published, after_grants, after_state, closing_news, action_news, read_news, written_news, news_at, news_of, step_at, step_of}
-use Rattle.blk_front.specs.declared.stage.Stage.{Stage as FrontRing}
-use Rattle.blk_front.specs.declared.stage.Stage.TheVariants as ring
 use Rattle.split_model.proofs.SafeAnswers.{IsFronts, fronts_at}
 use Rattle.machine_pipeline.specs.Allowed.{IsSpelled}
 use Rattle.vbd_front.specs.View.{View}
@@ -42,26 +40,34 @@ use Rattle.vbd_front.specs.Step as front_step
 use Rattle.vbd_model.specs.World.{World, frontend_of}
 use Rattle.vbd_model.specs.Happening.{front_key, front_turn, front_bus_after}
 use Rattle.vbd_model.specs.Fit.{IsFit}
+use Rattle.vbd_laws.proofs.FitFront.{asks_cases}
+use Rattle.vbd_laws.proofs.FitFrontReads.{step_is}
 use Rattle.vbd_laws.proofs.ServedTexts.{number_text, front_state_path, back_state_path, back_path, ring_path, order_path, page_path, port_path, layout_path, persistent_path, layout_text, flag_text, state_text}
 
--- its port is the first that was made, and it publishes at most 16 pages
-abbrev pub IsFirstPort : Option ℕ → Type 0
-IsFirstPort None = Unit {0}
-IsFirstPort (Some port) = port ≡ 1
+-- its port fits, and it publishes at most 16 pages
+abbrev pub IsPort : (Fits : ℕ → Type 0) → Option ℕ → Type 0
+IsPort Fits None = Unit {0}
+IsPort Fits (Some port) = Fits port
 
 abbrev pub IsPlain : FrontStage → Type 0
 IsPlain (bus.Publish (key.RingRefOf page)) = page < 16
 IsPlain s = Unit {0}
 
-pub record Speaks (v : FrontView) : Type 0 where
+pub record SpeaksWith (Fits : ℕ → Type 0) (v : FrontView) : Type 0 where
   pub order : v.order ≤ 4
-  pub port : IsFirstPort v.port
+  pub port : IsPort Fits v.port
   pub stage : IsPlain v.stage
 
--- a port that it is told is the first
-abbrev pub TellsFirst : FrontAnswer → Type 0
-TellsFirst (answer.Port port) = port ≡ 1
-TellsFirst a = Unit {0}
+-- a port is a number of 32 bits
+abbrev pub IsNumber : ℕ → Type 0
+IsNumber port = port < 2 ^ 32
+
+abbrev pub Speaks : FrontView → Type 0
+Speaks v = SpeaksWith IsNumber v
+
+-- where only one is made it is the first
+abbrev pub IsFirst : ℕ → Type 0
+IsFirst port = port ≡ 1
 
 either_plain : (b : Bool) (s t : FrontStage) → IsPlain s → IsPlain t → IsPlain (if b then s else t)
 either_plain true s t p q = p
@@ -80,30 +86,13 @@ due_plain : (s : FrontStage) (v : FrontView) (idle : Bool) → IsPlain s → IsP
 due_plain bus.Rest v idle p = either_plain (v.closing && idle) (closing_stage v.state v) bus.Rest (closing_plain v.state v) tt
 due_plain s v idle p = p
 
-acted_speaks : (act : FrontAction) (v : FrontView) → v.order ≤ 4 → IsFirstPort v.port → Speaks (acted act v)
-acted_speaks action.Nothing v o p = record { order = o; port = p; stage = tt }
-acted_speaks action.Publish v o p = record { order = o; port = p; stage = tt }
-acted_speaks action.Connect v o p = record { order = o; port = p; stage = tt }
-acted_speaks action.Close v o p = record { order = o; port = p; stage = tt }
-acted_speaks action.CloseAndConnect v o p = record { order = o; port = p; stage = tt }
-acted_speaks action.Leave v o p = record { order = o; port = p; stage = tt }
-acted_speaks (action.Break word) v o p = record { order = o; port = p; stage = tt }
-
 feature_plain : (k : Option BackKey) → IsPlain (after_feature k)
 feature_plain None = tt
 feature_plain (Some k) = tt
 
-feature_speaks : (k : BackKey) (n : Option ℕ) (v : FrontView) → v.order ≤ 4 → IsFirstPort v.port → Speaks (feature_step k n v)
-feature_speaks k None v o p = record { order = o; port = p; stage = tt }
-feature_speaks k (Some n) v o p = record { order = o; port = p; stage = feature_plain (next_feature k) }
-
 fact_plain : (k : Option BackKey) → IsPlain (after_fact k)
 fact_plain None = tt
 fact_plain (Some k) = tt
-
-fact_speaks : (k : BackKey) (n : Option ℕ) (v : FrontView) → v.order ≤ 4 → IsFirstPort v.port → Speaks (fact_step k n v)
-fact_speaks k None v o p = record { order = o; port = p; stage = tt }
-fact_speaks k (Some n) v o p = record { order = o; port = p; stage = fact_plain (next_fact k) }
 
 grants_plain : (port : Option ℕ) → IsPlain (after_grants port)
 grants_plain None = tt
@@ -151,135 +140,144 @@ after_plain (bus.EndGrant page) v o p = either_plain (nat_lt (page + 1) (pages_o
 after_plain bus.EndOtherGrants v o p = grants_plain v.port
 after_plain s v o p = p
 
-step_speaks : (s : FrontStage) (v : FrontView) (idle : Bool) (a : FrontAnswer) → TellsFirst a → v.order ≤ 4 → IsFirstPort v.port → IsPlain s → Speaks (step_at s (at s v) idle a)
-step_speaks bus.Rest v idle (answer.Watched path) told o p q = record { order = o; port = p; stage = tt }
-step_speaks bus.ReadState v idle (answer.Key text) told o p q = acted_speaks (front_action v.state v.closing idle (state_read text)) (at bus.ReadState v) o p
-step_speaks (bus.ReadFeature k) v idle (answer.Key text) told o p q = feature_speaks k (count_read text) (at (bus.ReadFeature k) v) o p
-step_speaks bus.NewPort v idle (answer.Port port) told o p q = record { order = o; port = told; stage = first_plain (ring_order v) }
-step_speaks (bus.ReadFact k) v idle (answer.Key text) told o p q = fact_speaks k (fact_read k text) (at (bus.ReadFact k) v) o p
-step_speaks (bus.WriteState s) v idle answer.Done told o p q = record { order = o; port = p; stage = state_plain s }
-step_speaks bus.ClosePort v idle answer.Done told o p q = record { order = o; port = tt; stage = tt }
-step_speaks s v idle answer.Done told o p q = record { order = o; port = p; stage = after_plain s (at s v) o q }
-step_speaks s v idle a told o p q = record { order = o; port = p; stage = q }
+module _ (Fits : ℕ → Type 0) where
+  -- a port that it is told fits
+  abbrev Tells : FrontAnswer → Type 0
+  Tells (answer.Port port) = Fits port
+  Tells a = Unit {0}
 
-one_speaks : (v : FrontView) (idle : Bool) (a : FrontAnswer) → TellsFirst a → Speaks v → Speaks (step_of v idle a)
-one_speaks v idle a told h = step_speaks (due v idle) v idle a told h.order h.port (due_plain v.stage v idle h.stage)
+  acted_speaks : (act : FrontAction) (v : FrontView) → v.order ≤ 4 → IsPort Fits v.port → SpeaksWith Fits (acted act v)
+  acted_speaks action.Nothing v o p = record { order = o; port = p; stage = tt }
+  acted_speaks action.Publish v o p = record { order = o; port = p; stage = tt }
+  acted_speaks action.Connect v o p = record { order = o; port = p; stage = tt }
+  acted_speaks action.Close v o p = record { order = o; port = p; stage = tt }
+  acted_speaks action.CloseAndConnect v o p = record { order = o; port = p; stage = tt }
+  acted_speaks action.Leave v o p = record { order = o; port = p; stage = tt }
+  acted_speaks (action.Break word) v o p = record { order = o; port = p; stage = tt }
 
-settled_speaks : (b : FrontBusAsk) (v : FrontView) (idle : Bool) → Speaks v → Speaks (front_step.settled_at b idle v)
-settled_speaks front_ask.EndOtherGrants v idle h = one_speaks v idle answer.Done tt h
-settled_speaks b v idle h = h
+  feature_speaks : (k : BackKey) (n : Option ℕ) (v : FrontView) → v.order ≤ 4 → IsPort Fits v.port → SpeaksWith Fits (feature_step k n v)
+  feature_speaks k None v o p = record { order = o; port = p; stage = tt }
+  feature_speaks k (Some n) v o p = record { order = o; port = p; stage = feature_plain (next_feature k) }
 
-told_speaks : (v : FrontView) (idle : Bool) (a : FrontAnswer) → TellsFirst a → Speaks v → Speaks (front_step.bus_told idle v a)
-told_speaks v idle a told h = let u : FrontView = step_of v idle a in settled_speaks (ask_of u idle) u idle (one_speaks v idle a told h)
+  fact_speaks : (k : BackKey) (n : Option ℕ) (v : FrontView) → v.order ≤ 4 → IsPort Fits v.port → SpeaksWith Fits (fact_step k n v)
+  fact_speaks k None v o p = record { order = o; port = p; stage = tt }
+  fact_speaks k (Some n) v o p = record { order = o; port = p; stage = fact_plain (next_fact k) }
 
--- what the negotiation becomes in a move of the front: it is told the answer, that all is done, or nothing
-module _ (P : FrontView → Type 0) (x : View) (a : FrontAnswer) (p : P x.bus)
-    (told : P (front_step.bus_told (view.is_unoccupied x.ring) x.bus a)) (done : P (front_step.bus_told (view.is_unoccupied x.ring) x.bus answer.Done)) where
-  woken_is : (broken : Bool) (c : FrontAnswer) → P (front_step.bus_told (view.is_unoccupied x.ring) x.bus c) → P (front_step.woken broken (view.is_unoccupied x.ring) x.bus c)
-  woken_is false (answer.Watched path) q = q
-  woken_is false c q = p
-  woken_is true c q = p
+  step_speaks : (s : FrontStage) (v : FrontView) (idle : Bool) (a : FrontAnswer) → Tells a → v.order ≤ 4 → IsPort Fits v.port → IsPlain s → SpeaksWith Fits (step_at s (at s v) idle a)
+  step_speaks bus.Rest v idle (answer.Watched path) told o p q = record { order = o; port = p; stage = tt }
+  step_speaks bus.ReadState v idle (answer.Key text) told o p q = acted_speaks (front_action v.state v.closing idle (state_read text)) (at bus.ReadState v) o p
+  step_speaks (bus.ReadFeature k) v idle (answer.Key text) told o p q = feature_speaks k (count_read text) (at (bus.ReadFeature k) v) o p
+  step_speaks bus.NewPort v idle (answer.Port port) told o p q = record { order = o; port = told; stage = first_plain (ring_order v) }
+  step_speaks (bus.ReadFact k) v idle (answer.Key text) told o p q = fact_speaks k (fact_read k text) (at (bus.ReadFact k) v) o p
+  step_speaks (bus.WriteState s) v idle answer.Done told o p q = record { order = o; port = p; stage = state_plain s }
+  step_speaks bus.ClosePort v idle answer.Done told o p q = record { order = o; port = tt; stage = tt }
+  step_speaks s v idle answer.Done told o p q = record { order = o; port = p; stage = after_plain s (at s v) o q }
+  step_speaks s v idle a told o p q = record { order = o; port = p; stage = q }
 
-  followed_is : (b : FrontBusAsk) (later : FrontRing) → P (front_step.followed b later (view.is_unoccupied x.ring) x.bus a)
-  followed_is (front_ask.WriteRingWord word) later = told
-  followed_is (front_ask.Grant page) (ring.RingFrame k) = told
-  followed_is (front_ask.Grant page) ring.NewPort = told
-  followed_is front_ask.NewPort later = told
-  followed_is (front_ask.EndGrant page) (ring.RingRead k) = done
-  followed_is (front_ask.EndGrant page) ring.ClosePort = done
-  followed_is front_ask.ClosePort later = told
-  followed_is front_ask.Wait later = woken_is (view.is_broken later) a told
-  followed_is b later = p
+  one_speaks : (v : FrontView) (idle : Bool) (a : FrontAnswer) → Tells a → SpeaksWith Fits v → SpeaksWith Fits (step_of v idle a)
+  one_speaks v idle a told h = step_speaks (due v idle) v idle a told h.order h.port (due_plain v.stage v idle h.stage)
 
-  waited_is : (b : FrontBusAsk) → P (front_step.waited b (view.is_unoccupied x.ring) x.bus a)
-  waited_is front_ask.Wait = woken_is false a told
-  waited_is b = p
+  settled_speaks : (b : FrontBusAsk) (v : FrontView) (idle : Bool) → SpeaksWith Fits v → SpeaksWith Fits (front_step.settled_at b idle v)
+  settled_speaks front_ask.EndOtherGrants v idle h = one_speaks v idle answer.Done tt h
+  settled_speaks b v idle h = h
 
-  ring_is : (moves : Bool) (b : FrontBusAsk) → (let y : View = front_step.ring_step moves b x a in P y.bus)
-  ring_is true b = followed_is b _
-  ring_is false b = waited_is b
+  told_speaks : (v : FrontView) (idle : Bool) (a : FrontAnswer) → Tells a → SpeaksWith Fits v → SpeaksWith Fits (front_step.bus_told idle v a)
+  told_speaks v idle a told h = let u : FrontView = step_of v idle a in settled_speaks (ask_of u idle) u idle (one_speaks v idle a told h)
 
-  pub step_is : (let y : View = front_step.step_of x a in P y.bus)
-  step_is = by_test (front.speaks (front.bus_ask_of x)) (front.bus_ask_of x)
+  -- and so one that it asks for
+  abbrev pub AsksFor : ℕ → FrontAsk → Type 0
+  AsksFor made ask.NewPort = Fits (made + 1)
+  AsksFor made a = Unit {0}
+
+  abbrev MayTell : Option FrontAct → Type 0
+  MayTell None = Unit {0}
+  MayTell (Some a) = Tells a.answer
+
+  either_tells : (b : Bool) (x y : Option FrontAct) → MayTell x → MayTell y → MayTell (if b then x else y)
+  either_tells true x y p q = p
+  either_tells false x y p q = q
+
+  watched_tells : (h : Hypervisor) (path : Option (List ℕ)) → MayTell (front_watched h path)
+  watched_tells h None = tt
+  watched_tells h (Some path) = tt
+
+  act_tells : (h : Hypervisor) (a : FrontAsk) → AsksFor h.channels.made a → MayTell (front_act h a)
+  act_tells h ask.Wait fits = either_tells (is_pending h.channels end.Front) _ (front_watched h (watch_next h end.Front)) tt (watched_tells h (watch_next h end.Front))
+  act_tells h ask.NewPort fits = fits
+  act_tells h (ask.SetKey path text) fits = either_tells (is_own_path end.Front path) _ None tt tt
+  act_tells h a fits = tt
+
+  -- a move of the front
+  pub move_speaks : (w : World) → AsksFor w.rings.under.channels.made (front.ask_of (frontend_of w)) → SpeaksWith Fits w.front → SpeaksWith Fits (front_bus_after w (front_turn w))
+  move_speaks w fits h = by_act (front_turn w) (act_tells w.rings.under (front.ask_of (frontend_of w)) fits)
     where
-      by_test : (speaks : Bool) (b : FrontBusAsk) → (let y : View = if speaks then front_step.spoken x a else front_step.ring_step (front.ring_moves b x.ring.stage) b x a in P y.bus)
-      by_test true b = told
-      by_test false b = ring_is (front.ring_moves b x.ring.stage) b
+      idle : Bool
+      idle = view.is_unoccupied w.rings.front
 
--- a port is asked for only where none was made
-abbrev AsksFirst : ℕ → FrontAsk → Type 0
-AsksFirst made ask.NewPort = made ≡ 0
-AsksFirst made a = Unit {0}
+      by_act : (act : Option FrontAct) → MayTell act → SpeaksWith Fits (front_bus_after w act)
+      by_act None tells = h
+      by_act (Some a) tells = step_is (SpeaksWith Fits) (frontend_of w) a.answer h (told_speaks w.front idle a.answer tells h) (told_speaks w.front idle answer.Done tt h)
 
-fronts_first : (c : ChannelState) (a : FrontAsk) → IsFronts c a → AsksFirst c.made a
-fronts_first c ask.NewPort is = is.0
-fronts_first c a is = tt
+  -- a close of it, and a suspend
+  pub closed_speaks : (v : FrontView) → SpeaksWith Fits v → SpeaksWith Fits (closed v)
+  closed_speaks v h = by_test (v.closing || is_broken v.stage)
+    where
+      by_test : (b : Bool) → SpeaksWith Fits (if b then v else record v { closing = true })
+      by_test true = h
+      by_test false = record { order = h.order; port = h.port; stage = h.stage }
 
-abbrev Tells : Option FrontAct → Type 0
-Tells None = Unit {0}
-Tells (Some a) = TellsFirst a.answer
+  pub suspended_speaks : (v : FrontView) → SpeaksWith Fits v → SpeaksWith Fits (suspended v)
+  suspended_speaks v h = by_stage v.stage
+    where
+      by_stage : (s : FrontStage) → SpeaksWith Fits (suspended_at s v)
+      by_stage bus.Closed = h
+      by_stage (bus.Broken word) = h
+      by_stage s = record { order = h.order; port = tt; stage = tt }
 
-either_tells : (b : Bool) (x y : Option FrontAct) → Tells x → Tells y → Tells (if b then x else y)
-either_tells true x y p q = p
-either_tells false x y p q = q
+-- a port is asked for only where there is a number for one more
+fronts_number : (c : ChannelState) (a : FrontAsk) → IsFronts c a → AsksFor IsNumber c.made a
+fronts_number c ask.NewPort is = let few = is.0 in omega arith
+fronts_number c a is = tt
 
-watched_tells : (h : Hypervisor) (path : Option (List ℕ)) → Tells (front_watched h path)
-watched_tells h None = tt
-watched_tells h (Some path) = tt
+key_asks : (Fits : ℕ → Type 0) (made : ℕ) (b : FrontBusAsk) → AsksFor Fits made (front.key_ask b)
+key_asks Fits made front_ask.Watch = tt
+key_asks Fits made front_ask.GetState = tt
+key_asks Fits made (front_ask.GetKey k) = tt
+key_asks Fits made (front_ask.SetState s) = tt
+key_asks Fits made (front_ask.SetKey k value) = tt
+key_asks Fits made b = tt
 
-act_tells : (h : Hypervisor) (a : FrontAsk) → AsksFirst h.channels.made a → Tells (front_act h a)
-act_tells h ask.Wait first = either_tells (is_pending h.channels end.Front) _ (front_watched h (watch_next h end.Front)) tt (watched_tells h (watch_next h end.Front))
-act_tells h ask.NewPort first = omega arith
-act_tells h (ask.SetKey path text) first = either_tells (is_own_path end.Front path) _ None tt tt
-act_tells h a first = tt
-
-key_first : (made : ℕ) (b : FrontBusAsk) → AsksFirst made (front.key_ask b)
-key_first made front_ask.Watch = tt
-key_first made front_ask.GetState = tt
-key_first made (front_ask.GetKey k) = tt
-key_first made (front_ask.SetState s) = tt
-key_first made (front_ask.SetKey k value) = tt
-key_first made b = tt
-
-asks_first : (w : World) → IsFit w → AsksFirst w.rings.under.channels.made (front.ask_of (frontend_of w))
-asks_first w fit = by_test (front.speaks b)
+asks_number : (w : World) → IsFit w → AsksFor IsNumber w.rings.under.channels.made (front.ask_of (frontend_of w))
+asks_number w fit = by_test (front.speaks b)
   where
     b : FrontBusAsk
     b = front.bus_ask_of (frontend_of w)
 
-    by_ring : (moves : Bool) → AsksFirst w.rings.under.channels.made (front.ring_ask moves (frontend_of w))
-    by_ring true = fronts_first w.rings.under.channels _ (fronts_at w.rings.under.channels w.rings.front.stage w.rings.front fit.safe.ported)
+    by_ring : (moves : Bool) → AsksFor IsNumber w.rings.under.channels.made (front.ring_ask moves (frontend_of w))
+    by_ring true = fronts_number w.rings.under.channels _ (fronts_at w.rings.under.channels w.rings.front.stage w.rings.front fit.safe.ported)
     by_ring false = tt
 
-    by_test : (speaks : Bool) → AsksFirst w.rings.under.channels.made (if speaks then front.key_ask b else front.ring_ask (front.ring_moves b w.rings.front.stage) (frontend_of w))
-    by_test true = key_first w.rings.under.channels.made b
+    by_test : (speaks : Bool) → AsksFor IsNumber w.rings.under.channels.made (if speaks then front.key_ask b else front.ring_ask (front.ring_moves b w.rings.front.stage) (frontend_of w))
+    by_test true = key_asks IsNumber w.rings.under.channels.made b
     by_test false = by_ring (front.ring_moves b w.rings.front.stage)
 
--- a move of the front
 pub front_speaks : (w : World) → IsFit w → Speaks w.front → Speaks (front_bus_after w (front_turn w))
-front_speaks w fit h = by_act (front_turn w) (act_tells w.rings.under (front.ask_of (frontend_of w)) (asks_first w fit))
-  where
-    idle : Bool
-    idle = view.is_unoccupied w.rings.front
+front_speaks w fit h = move_speaks IsNumber w (asks_number w fit) h
 
-    by_act : (act : Option FrontAct) → Tells act → Speaks (front_bus_after w act)
-    by_act None tells = h
-    by_act (Some a) tells = step_is Speaks (frontend_of w) a.answer h (told_speaks w.front idle a.answer tells h) (told_speaks w.front idle answer.Done tt h)
+-- the first port is asked for where no other than one is made
+asks_first : (h : Hypervisor) (a : FrontAsk) → ((x : FrontAct) → front_act h a ≡ Some x → x.under.channels.made ≤ 1) → AsksFor IsFirst h.channels.made a
+asks_first h ask.NewPort few = let one : h.channels.made + 1 ≤ 1 = few _ refl in omega arith
+asks_first h a few = tt
 
--- a close of it
-pub closed_speaks : (v : FrontView) → Speaks v → Speaks (closed v)
-closed_speaks v h = by_test (v.closing || is_broken v.stage)
-  where
-    by_test : (b : Bool) → Speaks (if b then v else record v { closing = true })
-    by_test true = h
-    by_test false = record { order = h.order; port = h.port; stage = h.stage }
+pub front_first : (w : World) → ((a : FrontAct) → front_turn w ≡ Some a → a.under.channels.made ≤ 1) → SpeaksWith IsFirst w.front → SpeaksWith IsFirst (front_bus_after w (front_turn w))
+front_first w few h = move_speaks IsFirst w (asks_first w.rings.under (front.ask_of (frontend_of w)) few) h
 
 -- what it does with the keys
-small_port : (port : Option ℕ) → IsFirstPort port → unwrap_or port 0 < 2 ^ 64
-small_port None first = omega arith
-small_port (Some p) first = omega arith
+small_port : (port : Option ℕ) → IsPort IsNumber port → unwrap_or port 0 < 2 ^ 64
+small_port None fits = omega arith
+small_port (Some p) fits = omega arith
 
-at_spelled : (s : FrontStage) (v : FrontView) → v.order ≤ 4 → IsFirstPort v.port → IsPlain s → IsSpelled (front_key (ask_at s v))
+at_spelled : (s : FrontStage) (v : FrontView) → v.order ≤ 4 → IsPort IsNumber v.port → IsPlain s → IsSpelled (front_key (ask_at s v))
 at_spelled bus.Start v o p q = back_state_path
 at_spelled bus.ReadState v o p q = back_state_path
 at_spelled (bus.ReadFeature k) v o p q = back_path k
@@ -294,7 +292,9 @@ at_spelled (bus.WriteState s) v o p q = (front_state_path, state_text s)
 at_spelled s v o p q = tt
 
 pub front_spelled : (w : World) → Speaks w.front → IsSpelled (front_key (front.bus_ask_of (frontend_of w)))
-front_spelled w h = let idle : Bool = view.is_unoccupied w.rings.front in at_spelled (due w.front idle) w.front h.order h.port (due_plain w.front.stage w.front idle h.stage)
+front_spelled w h =
+    let idle : Bool = view.is_unoccupied w.rings.front in
+    asks_cases (λ (b : FrontBusAsk). IsSpelled (front_key b)) w (λ left. tt) (λ none. at_spelled (due w.front idle) w.front h.order h.port (due_plain w.front.stage w.front idle h.stage))
 
 -- it is connected and closed as it writes so, and a word that breaks it is one of 0, 6 and 9
 abbrev pub IsNewsAt : FrontStage → Option FrontNews → Type 0

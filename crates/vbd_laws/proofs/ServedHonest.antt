@@ -1,4 +1,4 @@
--- What happens before a hostile hand first overwrites a word is served by the machine of the ring.
+-- What happens before a hostile hand first overwrites a word or a key, and before the domain is first suspended, is served by the machine of the ring.
 use Rattle.vbd_laws.specs.Served.{KeepsKeys}
 use Rattle.vbd_laws.proofs.NegotiatedEarly.{IsOnItsWay}
 use Rattle.std.proofs.Common.{◌⊎◌, inl, inr, ◌≡◌, ◌∙◌, ap, sym, subst, ℕ, zero, suc, ◌+◌, ◌^◌, ◌<◌, ◌≤◌, ◌==◌, ◌&&◌, ◌||◌, Bool, true, false, true≢false, List, [], ◌∷◌, ◌++◌, map, refl, arith, if◌then◌else◌}
@@ -31,6 +31,7 @@ use Rattle.blk_front.specs.View as front_ends
 use Rattle.blk_front.specs.Submit as front_submit
 use Rattle.blk_front.specs.Ask.{is_through}
 use Rattle.blk_front.specs.State.{is_made}
+use Rattle.blk_front.specs.Suspend.{is_left}
 use Rattle.blk_front.specs.Submit.{is_connected}
 use Rattle.blk_back.specs.declared.stage.Reply.{Reply}
 use Rattle.blk_back.specs.declared.stage.Stage.{Stage as BackRing}
@@ -53,7 +54,7 @@ use Rattle.xenbus_state.specs.declared.front.FrontBusAsk.{FrontBusAsk}
 use Rattle.xenbus_state.specs.declared.front.FrontBusAsk.TheVariants as front_ask
 use Rattle.xenbus_state.specs.declared.table.BackHalt.{BackHalt}
 use Rattle.xenbus_state.specs.FrontView.{FrontView, ring_order, terms_of}
-use Rattle.xenbus_state.specs.FrontAsk.{due_at, leaving, closing_stage, ask_at}
+use Rattle.xenbus_state.specs.FrontAsk.{due_at, leaving, closing_stage, ask_at, ask_of}
 use Rattle.xenbus_state.specs.BackView.{BackView, is_halting}
 use Rattle.xenbus_state.specs.BackAsk.{says_closing}
 use Rattle.xenbus_state.specs.BackStep as bus_step
@@ -73,6 +74,7 @@ use Rattle.machine_pipeline.proofs.Holds.{Holds}
 use Rattle.machine_pipeline.proofs.Over.{IsGivingUp, Over, IsKept}
 use Rattle.machine_pipeline.proofs.BackMoves.{back_moves}
 use Rattle.machine_pipeline.proofs.Quiet.{AreQuiet, all_quiet}
+use Rattle.machine_pipeline.proofs.Unsuspended.{served_unsuspended}
 use Rattle.machine_pipeline.proofs.Together.{IsStanding, run_kept, always_stands}
 use Rattle.negotiation_laws.specs.Negotiation.{Negotiation}
 use Rattle.negotiation_laws.specs.Run.{now}
@@ -85,10 +87,10 @@ use Rattle.vbd_front.specs.Step as front_step
 use Rattle.vbd_back.specs.Ask as back
 use Rattle.vbd_back.specs.Step as back_step
 use Rattle.vbd_model.specs.World.{World, start_of, frontend_of, backend_of, is_quiet}
-use Rattle.vbd_model.specs.Happening.{Happening, FrontMoves, BackMoves, JobMoves, Closes, Submits, Notifies, Pokes, OverwritesKey, Dumps, Looks, Settles, front_turn, back_turn, entered_at, halted_at, reasons_of, front_key, closes_does, front_does, back_does, is_backs_ring, attaches, back_negotiates, does, happens, after, all_does}
+use Rattle.vbd_model.specs.Happening.{Happening, FrontMoves, BackMoves, JobMoves, Closes, Submits, Notifies, Pokes, OverwritesKey, Suspends, Dumps, Looks, Settles, front_turn, back_turn, entered_at, halted_at, reasons_of, front_key, closes_does, front_does, back_does, is_backs_ring, attaches, back_negotiates, does, happens, after, all_does}
 use Rattle.vbd_model.specs.Possible.{IsPossible, ArePossible}
 use Rattle.vbd_model.specs.Kind.{are_carried}
-use Rattle.vbd_model.specs.Fit.{OpenOrdered, RestsOrdered, FrontRests, FrontGoesWith, FrontOrdered, IsGivingUp as GivesUp, IsUnmapping, is_serving, BackRests, BackReads, BackGoesWith, IsFit}
+use Rattle.vbd_model.specs.Fit.{FrontRests, FrontGoesWith, FrontOrdered, IsGivingUp as GivesUp, IsUnmapping, is_serving, BackRests, BackReads, BackGoesWith, IsFit}
 use Rattle.vbd_laws.specs.Moves.{IsNoMove, IsFrontMove, IsBackMove}
 use Rattle.vbd_laws.specs.Quiet.{IsUntouched, AreUntouched}
 use Rattle.vbd_laws.proofs.FitBackBus.{waits_reading}
@@ -96,10 +98,12 @@ use Rattle.vbd_laws.proofs.MovesTurns.{front_asks, back_asks, back_learns, back_
 use Rattle.vbd_laws.proofs.MovesAttached.{taken}
 use Rattle.vbd_laws.proofs.MovesFront.{front_move_is, front_move_none}
 use Rattle.vbd_laws.proofs.MovesBack.{back_move_is, back_move_none}
-use Rattle.vbd_laws.proofs.ServedFront.{IsFirstPort, front_spelled}
+use Rattle.vbd_laws.proofs.ServedFront.{IsPort, IsFirst, front_spelled}
+use Rattle.vbd_laws.proofs.ServedFirst.{HasOnePort, one_port_on}
+use Rattle.vbd_laws.proofs.FitFrontMoves.{with_port}
 use Rattle.vbd_laws.proofs.ServedBack.{IsRead, halt_read, halt_said, back_spelled}
 use Rattle.vbd_laws.proofs.NegotiatedRun.{Reached, Joined, negotiation_of, reached_as, halts_at, late_at}
-use Rattle.vbd_laws.proofs.NegotiatedFront.{front_goes}
+use Rattle.vbd_laws.proofs.NegotiatedFront.{HasInHand, none_in_hand, front_goes}
 use Rattle.vbd_laws.proofs.NegotiatedBack.{a_page, keys_heard, IsGiven, back_goes}
 use Rattle.vbd_laws.proofs.NegotiatedKept.{IsTimely, states_timely}
 use Rattle.vbd_laws.proofs.NegotiatedRests.{apart_rests, closes_joined}
@@ -108,7 +112,7 @@ use Rattle.vbd_laws.proofs.NegotiatedWay.{ring_made_now, key_given, wait_given, 
 use Rattle.vbd_laws.specs.Waits.{Check, Awake, front_check_in, back_check_in}
 use Rattle.vbd_laws.proofs.WaitsFront.{Knows as FrontKnows, knows_on as front_knows_on, knows_start as front_knows_start}
 use Rattle.vbd_laws.proofs.WaitsBack.{Knows as BackKnows, knows_on as back_knows_on, knows_start as back_knows_start}
-use Rattle.vbd_laws.proofs.AtRest.{AreWaiting, are_unled}
+use Rattle.vbd_laws.proofs.AtRest.{none_left, AreWaiting, are_unled}
 use Rattle.vbd_laws.proofs.ServedPossible.{way_start, IsWord, same_is, entered_words, Stands, stands_start, stands_on, joined_start}
 
 -- each end is somewhere in its final check
@@ -118,11 +122,12 @@ FrontChecks w = (c : Check) × FrontKnows w c
 abbrev BackChecks : World → Type 0
 BackChecks w = (c : Check) × BackKnows w c
 
--- the machine before a word is overwritten: its negotiation is a run, and the machine of its ring stands for a pipeline
+-- the machine before a word is overwritten, and in its first epoch: its negotiation is a run, and the machine of its ring stands for a pipeline
 pub record Honest (config : Options) (w : World) : Type 0 where
   pub stands : Stands w
   pub way : IsOnItsWay w
   pub joined : Joined w
+  pub one_port : HasOnePort w
   pub plain : IsPlain config
   pub standing : IsStanding config w.rings
   pub front_checks : FrontChecks w
@@ -144,6 +149,10 @@ whole_now config w standing = by_kept standing.kept
     by_kept (inl held) = whole_holds config w held.0 standing.pipeline w.front.stage w.back.stage held.1
     by_kept (inr over) = whole_over config w standing.pipeline w.front.stage w.back.stage over
 
+-- and holds no data of an epoch before
+pub hand_now : (config : Options) (w : World) → IsStanding config w.rings → HasInHand w.rings.front.stage w.rings.front.ending
+hand_now config w standing = none_in_hand w.rings.front.stage w.rings.front.ending (none_left config w.rings standing)
+
 -- a front that makes its ring has written no state since it began
 abbrev IsMaking : FrontBusAsk → Type 0
 IsMaking (front_ask.WriteRingWord word) = Unit {0}
@@ -151,17 +160,18 @@ IsMaking (front_ask.Grant page) = Unit {0}
 IsMaking front_ask.NewPort = Unit {0}
 IsMaking b = ⊥
 
-made_or_making : (b : FrontBusAsk) (r : FrontRing) → front.ring_moves b r ≡ true → (is_connected r ≡ true) ⊎ IsMaking b
-made_or_making (front_ask.WriteRingWord word) r moves = inr tt
-made_or_making (front_ask.Grant page) r moves = inr tt
-made_or_making front_ask.NewPort r moves = inr tt
-made_or_making (front_ask.EndGrant page) (front_ring.RingRead k) moves = inl refl
-made_or_making (front_ask.EndGrant page) (front_ring.RingEnd k seen) moves = inl refl
-made_or_making (front_ask.EndGrant page) (front_ring.Broken word) moves = inl refl
-made_or_making (front_ask.EndGrant page) r moves = absurd (true≢false (sym moves))
-made_or_making front_ask.ClosePort front_ring.ClosePort moves = inl refl
-made_or_making front_ask.ClosePort r moves = absurd (true≢false (sym moves))
-made_or_making b r moves = inl moves
+made_or_making : (b : FrontBusAsk) (r : FrontRing) → is_left r ≡ false → front.ring_moves b r ≡ true → (is_connected r ≡ true) ⊎ IsMaking b
+made_or_making (front_ask.WriteRingWord word) r none moves = inr tt
+made_or_making (front_ask.Grant page) r none moves = inr tt
+made_or_making front_ask.NewPort r none moves = inr tt
+made_or_making (front_ask.EndGrant page) (front_ring.RingRead k) none moves = inl refl
+made_or_making (front_ask.EndGrant page) (front_ring.RingEnd k seen) none moves = inl refl
+made_or_making (front_ask.EndGrant page) (front_ring.Broken word) none moves = inl refl
+made_or_making (front_ask.EndGrant page) r none moves = absurd (true≢false (sym moves))
+made_or_making front_ask.ClosePort front_ring.ClosePort none moves = inl refl
+made_or_making front_ask.ClosePort r none moves = absurd (true≢false (sym moves))
+made_or_making b (front_ring.LeftData n) none moves = absurd (true≢false none)
+made_or_making b r none moves = inl moves
 
 leaving_made : (gone : Bool) (port : Option ℕ) (v : FrontView) → IsMaking (ask_at (leaving gone port) v) → ⊥
 leaving_made false port v making = making
@@ -185,10 +195,16 @@ making_at bus.Start v idle r fits making = absurd making
 making_at s v idle r fits making = absurd making
 
 -- once the back has halted the front's end of the ring moves only where its ring is made
-moves_made : (w : World) → IsFit w → Joined w → front.ring_moves (front_asks w) w.rings.front.stage ≡ true → is_some w.rings.back.halted ≡ true → is_connected w.rings.front.stage ≡ true
-moves_made w fit j moves halted = by_kind (made_or_making (front_asks w) w.rings.front.stage moves)
+moves_made : (w : World) → IsFit w → is_left w.rings.front.stage ≡ false → Joined w → front.ring_moves (front_asks w) w.rings.front.stage ≡ true → is_some w.rings.back.halted ≡ true → is_connected w.rings.front.stage ≡ true
+moves_made w fit none j moves halted = by_kind (made_or_making b w.rings.front.stage none (subst (λ (c : FrontBusAsk). front.ring_moves c w.rings.front.stage ≡ true) asks moves))
   where
-    by_kind : (is_connected w.rings.front.stage ≡ true) ⊎ IsMaking (front_asks w) → is_connected w.rings.front.stage ≡ true
+    b : FrontBusAsk
+    b = ask_of w.front (front_view.is_unoccupied w.rings.front)
+
+    asks : front_asks w ≡ b
+    asks = ap (λ (left : Bool). if left then front_ask.Wait else b) none
+
+    by_kind : (is_connected w.rings.front.stage ≡ true) ⊎ IsMaking b → is_connected w.rings.front.stage ≡ true
     by_kind (inl made) = made
     by_kind (inr making) =
         let own = making_at w.front.stage w.front (front_view.is_unoccupied w.rings.front) w.rings.front.stage fit.front making in
@@ -223,7 +239,7 @@ enters_served w v n fit same own (s ∷ states) timely are = (
 front_served : (config : Options) (w : World) → Honest config w → ring_allowed.AreServed (front_does w) w.rings
 front_served config w honest =
     front_cases (λ does asked step. ring_allowed.AreServed does w.rings) w (λ says. (front_spelled w honest.stands.front, by_act (front_turn w) refl says))
-    (λ quiet moves. (moves_made w honest.stands.fit honest.joined moves, tt)) (λ quiet still. (front_spelled w honest.stands.front, tt))
+    (λ quiet moves. (moves_made w honest.stands.fit (none_left config w.rings honest.standing) honest.joined moves, tt)) (λ quiet still. (front_spelled w honest.stands.front, tt))
   where
     by_act : (act : Option FrontAct) → front_turn w ≡ act → front.speaks (front_asks w) ≡ true
         → (let v : rings.World = ring_happening.happens w.rings (ring_happening.Negotiates end.Front (front_key (front_asks w))) in ring_allowed.AreServed (map ring_happening.FrontEnters (entered_at w act)) v)
@@ -331,7 +347,7 @@ module _ (config : Options) (w : World) (honest : Honest config w) where
       by_halt (Some why) e = (farewell v a why same says turn e, tt)
 
   moves_allowed : back.ring_moves (back_asks w) w.rings.back.stage ≡ true → is_some w.rings.back.halted ≡ false → is_connected w.rings.front.stage ≡ true
-  moves_allowed moves = ring_made_now w fit honest.stands.front honest.way moves
+  moves_allowed moves = ring_made_now w fit honest.way moves
 
 -- no map and no bind is refused, and the back finds no overrun
 loop_refuses : (v : ring_view.View) (r : Option Reply) (x : BackAnswer) → ring_ask.IsAnswer (ring_ask.loop_ask v r) x → IsGiven x
@@ -512,28 +528,13 @@ maps_by_terms n j = subst MapsByTerms j.stands (λ at. by_stage at)
         ]
 
 -- the front's end of the ring has the order that was agreed
-open_order : (port : Option ℕ) (agreed n : ℕ) → OpenOrdered port agreed n → IsSome port → n ≡ agreed
-open_order None agreed n ordered some = absurd (true≢false (sym some))
-open_order (Some p) agreed n ordered some = ordered
+agreed_order : (s : FrontStage) (v : FrontView) (n : ℕ) → FrontOrdered s v n → IsSome v.port → n ≡ ring_order v
+agreed_order (bus.RingWord word) v n ordered some = ordered.0
+agreed_order (bus.Grant page) v n ordered some = ordered.0
+agreed_order bus.NewPort v n ordered some = ordered.0
+agreed_order s v n ordered some = (with_port v.port v.order v.features.order n some ordered).0
 
-rests_order : (own : BusState) (port : Option ℕ) (wished agreed n : ℕ) → RestsOrdered own port wished agreed n → 3 ≤ state_number own → IsSome port → n ≡ agreed
-rests_order state.Initialising port wished agreed n ordered late some = absurd (omega arith)
-rests_order own port wished agreed n ordered late some = open_order port agreed n ordered some
-
-portless : {A : Type 0} (port : Option ℕ) → port ≡ None → IsSome port → A
-portless port none some = absurd (true≢false (sym some ∙ ap is_some none))
-
-agreed_order : (s : FrontStage) (v : FrontView) (r : FrontRing) (n : ℕ) → FrontGoesWith s v r → FrontOrdered s v n → 3 ≤ state_number v.state → IsSome v.port → n ≡ ring_order v
-agreed_order bus.Start v r n goes ordered late some = portless v.port goes.2 some
-agreed_order (bus.ReadFeature k) v r n goes ordered late some = portless v.port goes.2 some
-agreed_order (bus.RingWord word) v r n goes ordered late some = ordered
-agreed_order (bus.Grant page) v r n goes ordered late some = ordered
-agreed_order bus.NewPort v r n goes ordered late some = ordered
-agreed_order bus.Rest v r n goes ordered late some = rests_order v.state v.port v.order (ring_order v) n ordered late some
-agreed_order bus.ReadState v r n goes ordered late some = rests_order v.state v.port v.order (ring_order v) n ordered late some
-agreed_order s v r n goes ordered late some = open_order v.port (ring_order v) n ordered some
-
-first_port : (port : Option ℕ) → IsFirstPort port → IsSome port → unwrap_or port 0 ≡ 1
+first_port : (port : Option ℕ) → IsPort IsFirst port → IsSome port → unwrap_or port 0 ≡ 1
 first_port None first some = absurd (true≢false (sym some))
 first_port (Some p) first some = first
 
@@ -547,9 +548,9 @@ counts_from first (suc count) =
 same_shape : (a : Abi) (n : ℕ) (s : Shape) → a ≡ s.abi → n ≡ s.order → record { abi = a; order = n } ≡ s
 same_shape a n s x y = ap (λ (c : Abi). record { abi = c; order = n }) x ∙ ap (λ (k : ℕ). record { abi = s.abi; order = k }) y
 
-terms_are : (w : World) (b : BackView) → IsFit w → IsFirstPort w.front.port → GoesByTerms w.front b → AreTerms w.rings (back_step.shape_read b) b.grefs b.terms.port
+terms_are : (w : World) (b : BackView) → IsFit w → IsPort IsFirst w.front.port → GoesByTerms w.front b → AreTerms w.rings (back_step.shape_read b) b.grefs b.terms.port
 terms_are w b fit first goes =
-    let order = agreed_order w.front.stage w.front w.rings.front.stage w.rings.front.shape.order fit.front fit.ordered goes.late goes.some in
+    let order = agreed_order w.front.stage w.front w.rings.front.shape.order fit.ordered goes.some in
     record {
       shape_is = same_shape b.terms.abi b.terms.order w.rings.front.shape (goes.abi ∙ sym fit.layout) (goes.order ∙ sym order);
       grefs_are = goes.grefs ∙ (counts_from 0 (2 ^ ring_order w.front) ∙ ap (λ (n : ℕ). range_with_len 8 (2 ^ n)) (sym goes.order));
@@ -570,7 +571,7 @@ module _ (config : Options) (w : World) (honest : Honest config w) where
       let maps : (let v : World = happens w BackMoves in v.rings.back.stage ≡ ring.MapRing) =
       ap (λ (does : List ring_happening.Happening). (ring_happening.after does w.rings).back.stage) does_so ∙ (ap (λ (v : rings.World). v.back.stage) is.after ∙ ap (λ (r : ring_view.View). r.stage) is.led) in
       let at = map_reads b.stage b.state (let v : World = happens w BackMoves in v.rings.back.stage) next.fit.back maps in
-      terms_are w b honest.stands.fit honest.stands.front.port (maps_by_terms (negotiation_of (happens w BackMoves)) (back_joins config w honest) at)
+      terms_are w b honest.stands.fit honest.one_port.front.port (maps_by_terms (negotiation_of (happens w BackMoves)) (back_joins config w honest) at)
 
   back_served : ring_allowed.AreServed (back_does w) w.rings
   back_served =
@@ -622,6 +623,7 @@ served_at config w (Submits job) untouched honest is = (is, tt)
 served_at config w (Notifies at) untouched honest is = (tt, tt)
 served_at config w (Pokes frame word value) untouched honest is = absurd untouched
 served_at config w (OverwritesKey name text) untouched honest is = absurd untouched
+served_at config w Suspends untouched honest is = absurd untouched
 served_at config w Dumps untouched honest is = (tt, tt)
 served_at config w (Looks quiet) untouched honest is = (λ e. quiet_ring config w honest (is e), tt)
 served_at config w (Settles quiet) untouched honest is = (λ e. quiet_ring config w honest (is e), tt)
@@ -634,13 +636,14 @@ front_joins config w honest = by_act (front_turn w) refl
     by_act None e = let still : IsNoMove w FrontMoves = front_move_none w honest.stands.fit e in subst Joined (sym still.world) honest.joined
     by_act (Some a) e =
         let moved : IsFrontMove w a = front_move_is w a honest.stands.fit e in
-        subst Joined (sym moved.world) (front_goes w a honest.stands.fit (whole_now config w.rings honest.standing) honest.joined e)
+        subst Joined (sym moved.world) (front_goes w a honest.stands.fit (whole_now config w.rings honest.standing) (hand_now config w honest.standing) honest.joined e)
 
 joins : (config : Options) (w : World) (h : Happening) → IsUntouched h → Honest config w → Joined (happens w h)
 joins config w FrontMoves untouched honest = front_joins config w honest
 joins config w BackMoves untouched honest = back_joins config w honest
 joins config w (Closes at) untouched honest = closes_joined w at honest.joined
 joins config w (OverwritesKey name text) untouched honest = absurd untouched
+joins config w Suspends untouched honest = absurd untouched
 joins config w h untouched honest = let rests = apart_rests w h tt in reached_as (negotiation_of w) (negotiation_of (happens w h)) rests.bus honest.joined
 
 untouched_keeps : (h : Happening) → IsUntouched h → KeepsKeys h
@@ -651,12 +654,14 @@ untouched_keeps h untouched = tt
 honest_on : (config : Options) (w : World) (h : Happening) → IsUntouched h → Honest config w → IsPossible w h → Honest config (happens w h)
 honest_on config w h untouched honest is =
     let standing = honest.standing in
+    let served = served_at config w h untouched honest is in
     record {
       stands = stands_on w h honest.stands;
-      way = on_its_way w h (untouched_keeps h untouched) honest.stands.fit honest.stands.front honest.way;
+      way = on_its_way w h (untouched_keeps h untouched) honest.stands.fit honest.stands.front honest.stands.back.sectors (hand_now config w standing) honest.way;
       joined = joins config w h untouched honest;
+      one_port = one_port_on w h honest.stands.fit (served_unsuspended (does w h) w.rings served) honest.one_port;
       plain = honest.plain;
-      standing = run_kept config (does w h) w.rings standing.pipeline honest.plain standing.safe standing.kept (served_at config w h untouched honest is);
+      standing = run_kept config (does w h) w.rings honest.plain standing served;
       front_checks = (front_check_in w h honest.front_checks.0, front_knows_on w h honest.front_checks.0 honest.front_checks.1);
       back_checks = (back_check_in w h honest.back_checks.0, back_knows_on w h honest.back_checks.0 honest.back_checks.1);
     }
@@ -665,14 +670,15 @@ pub honest_after : (config : Options) (hs : List Happening) (w : World) → AreU
 honest_after config [] w untouched honest are = honest
 honest_after config (h ∷ hs) w untouched honest are = honest_after config hs (happens w h) untouched.1 (honest_on config w h untouched.0 honest are.0) are.1
 
--- all of it, up to the first word or key that is overwritten
+-- all of it, up to the first word or key that is overwritten, and the first suspend
 served_then : (hs rest : List ring_happening.Happening) (w : rings.World) → ring_allowed.AreServed hs w → ring_allowed.AreServed (honest_history rest) (ring_happening.after hs w) → ring_allowed.AreServed (honest_history (hs ++ rest)) w
 served_then [] rest w are later = later
 served_then (ring_happening.Pokes frame word value ∷ hs) rest w are later = absurd are.0
 served_then (ring_happening.OverwritesKey name text ∷ hs) rest w are later = absurd are.0
+served_then (ring_happening.Suspends ∷ hs) rest w are later = absurd are.0
 served_then (h ∷ hs) rest w are later = (are.0, served_then hs rest (ring_happening.happens w h) are.1 later)
 
--- what holds of the rings' happenings of each happening holds of all of them, up to the first word or key that is overwritten
+-- what holds of the rings' happenings of each happening holds of all of them, up to the first word or key that is overwritten, and the first suspend
 module _ (config : Options) (Are : List ring_happening.Happening → rings.World → Type 0) (none : (w : rings.World) → Are [] w)
     (more : (hs rest : List ring_happening.Happening) (w : rings.World) → Are hs w → Are (honest_history rest) (ring_happening.after hs w) → Are (honest_history (hs ++ rest)) w)
     (each : (w : World) (h : Happening) → IsUntouched h → Honest config w → IsPossible w h → Are (does w h) w.rings) where
@@ -680,6 +686,7 @@ module _ (config : Options) (Are : List ring_happening.Happening → rings.World
   all_of [] w honest are = none w.rings
   all_of (Pokes frame word value ∷ hs) w honest are = none w.rings
   all_of (OverwritesKey name text ∷ hs) w honest are = none w.rings
+  all_of (Suspends ∷ hs) w honest are = none w.rings
   all_of (h ∷ hs) w honest are =
       more (does w h) (all_does hs (happens w h)) w.rings (each w h tt honest are.0) (all_of hs (happens w h) (honest_on config w h tt honest are.0) are.1)
 
@@ -697,6 +704,7 @@ honest_start config carried are =
       stands = stands_start config are;
       way = way_start config are;
       joined = joined_start config are;
+      one_port = record { ports = omega arith; front = record { order = are.0; port = tt; stage = tt } };
       plain = plain;
       standing = always_stands config [] plain tt;
       front_checks = (Awake, front_knows_start config are.2);

@@ -1,6 +1,6 @@
 -- Whatever happens to the machine is possible for the machine of its ring.
-use Rattle.vbd_laws.proofs.Offered.{IsOffering, offers_on, offers_start, agreed_offered}
-use Rattle.std.proofs.Common.{inl, ◌≡◌, ◌∙◌, sym, ℕ, ◌^◌, ◌<◌, Bool, true, List, [], ◌∷◌, ◌++◌, map, refl, arith}
+use Rattle.vbd_laws.proofs.Offered.{agreed_offered}
+use Rattle.std.proofs.Common.{inl, ◌≡◌, ◌∙◌, sym, ℕ, ◌^◌, ◌<◌, ◌&&◌, Bool, true, false, if◌then◌else◌, List, [], ◌∷◌, ◌++◌, map, refl, arith}
 use Rattle.std.specs.Prelude.{Option, Some, None}
 use Rattle.std.specs.List.{AllByRecursion}
 use Rattle.blk_base.specs.Options.{Options}
@@ -12,13 +12,14 @@ use Rattle.schedule_text.specs.Range.{AreOptions}
 use Rattle.blk_front.specs.declared.state.FrontState.{FrontState}
 use Rattle.blk_front.specs.declared.state.FrontState.TheVariants as enter
 use Rattle.blk_front.specs.declared.state.Offers.{Offers}
+use Rattle.blk_front.specs.State.{is_open}
 use Rattle.xenbus_state.specs.declared.stage.FrontStage.{FrontStage}
 use Rattle.xenbus_state.specs.declared.front.FrontBusAsk.{FrontBusAsk}
 use Rattle.xenbus_state.specs.declared.front.FrontBusAsk.TheVariants as front_ask
 use Rattle.xenbus_state.specs.declared.front.FrontNews.{FrontNews}
 use Rattle.xenbus_state.specs.declared.front.FrontNews.TheVariants as news
 use Rattle.xenbus_state.specs.declared.table.BackHalt.{BackHalt}
-use Rattle.xenbus_state.specs.FrontView.{ring_order}
+use Rattle.xenbus_state.specs.FrontView.{ring_order, suspended}
 use Rattle.xenbus_state.specs.FrontAsk.{due, ask_of}
 use Rattle.split_model.specs.World as rings
 use Rattle.split_model.specs.Happening as ring_happening
@@ -31,16 +32,16 @@ use Rattle.vbd_back.specs.View as back_view
 use Rattle.vbd_back.specs.Ask as back
 use Rattle.vbd_back.specs.Step as back_step
 use Rattle.vbd_model.specs.World.{World, start_of, frontend_of, backend_of}
-use Rattle.vbd_model.specs.Happening.{Happening, FrontMoves, BackMoves, JobMoves, Closes, Submits, Notifies, Pokes, OverwritesKey, Dumps, Looks, Settles, front_turn, back_turn, entered_at, halted_at, reasons_of, closes_does, front_does, back_does, does, happens, all_does}
+use Rattle.vbd_model.specs.Happening.{Happening, FrontMoves, BackMoves, JobMoves, Closes, Submits, Notifies, Pokes, OverwritesKey, Suspends, Dumps, Looks, Settles, front_turn, back_turn, entered_at, halted_at, reasons_of, closes_does, front_does, back_does, renewed_bus, does, happens, all_does}
 use Rattle.vbd_model.specs.Possible.{IsPossible, ArePossible}
 use Rattle.vbd_model.specs.Fit.{IsFit}
 use Rattle.vbd_laws.proofs.Fit.{fit_start, fit_happens}
 use Rattle.vbd_laws.proofs.MovesTurns.{front_asks, back_asks, back_learns, front_cases, back_cases}
 use Rattle.vbd_laws.proofs.ServedFront as fronts
-use Rattle.vbd_laws.proofs.ServedFront.{IsNewsAt, news_is, front_speaks, front_spelled, closed_speaks}
+use Rattle.vbd_laws.proofs.ServedFront.{IsNewsAt, news_is, front_speaks, front_spelled, closed_speaks, suspended_speaks}
 use Rattle.vbd_laws.proofs.ServedBack as backs
-use Rattle.vbd_laws.proofs.ServedBack.{IsRead, halt_read, halt_said, back_speaks, back_spelled, terms_said, unplugged_speaks}
-use Rattle.vbd_laws.proofs.NegotiatedRun.{Joined, negotiation_of}
+use Rattle.vbd_laws.proofs.ServedBack.{IsRead, halt_read, halt_said, back_speaks, back_spelled, terms_said, unplugged_speaks, renewed_speaks}
+use Rattle.vbd_laws.proofs.NegotiatedRun.{Joined}
 use Rattle.vbd_laws.proofs.NegotiatedAgreed.{IsSame, begins, keeps_order}
 use Rattle.vbd_laws.proofs.NegotiatedEarly.{IsOnItsWay}
 use Rattle.vbd_laws.proofs.NegotiatedWay.{key_given}
@@ -48,7 +49,6 @@ use Rattle.vbd_laws.proofs.NegotiatedWay.{key_given}
 -- what is true at every moment
 pub record Stands (w : World) : Type 0 where
   pub fit : IsFit w
-  pub offering : IsOffering (negotiation_of w)
   pub front : fronts.Speaks w.front
   pub back : backs.Speaks w.back
 
@@ -101,7 +101,7 @@ entered_words w None stands turn says = tt
 entered_words w (Some a) stands turn says =
     let idle : Bool = front_view.is_unoccupied w.rings.front in
     news_words w.rings.front.shape.order (due w.front idle) (front_step.offers_of (front_step.bus_after (frontend_of w) a.answer)) (front_step.news_of (frontend_of w) a.answer) (ask_of (front_step.bus_after (frontend_of w) a.answer) idle)
-    (ring_order (front_step.bus_after (frontend_of w) a.answer)) (news_is w.front idle a.answer) (agreed_offered w a stands.fit stands.offering stands.front turn says)
+    (ring_order (front_step.bus_after (frontend_of w) a.answer)) (news_is w.front idle a.answer) (agreed_offered w a stands.fit stands.front.order turn says)
 
 front_possible : (w : World) → Stands w → ring_allowed.ArePossible (front_does w) w.rings
 front_possible w stands =
@@ -140,24 +140,35 @@ possible_at w (Submits job) stands is = (is, tt)
 possible_at w (Notifies at) stands is = (tt, tt)
 possible_at w (Pokes frame word value) stands is = (is, tt)
 possible_at w (OverwritesKey name text) stands is = (is, tt)
+possible_at w Suspends stands is = (is, tt)
 possible_at w Dumps stands is = (tt, tt)
 possible_at w (Looks quiet) stands is = (tt, tt)
 possible_at w (Settles quiet) stands is = (tt, tt)
 
+suspended_front : (b : Bool) (w : World) → Stands w → fronts.Speaks (if b then suspended w.front else w.front)
+suspended_front true w stands = suspended_speaks fronts.IsNumber w.front stands.front
+suspended_front false w stands = stands.front
+
+suspended_back : (b : Bool) (w : World) → Stands w → backs.Speaks (if b then renewed_bus (is_open w.rings.front.stage) w.back else w.back)
+suspended_back true w stands = renewed_speaks (is_open w.rings.front.stage) w.back stands.back
+suspended_back false w stands = stands.back
+
 front_stands : (w : World) (h : Happening) → Stands w → (let v : World = happens w h in fronts.Speaks v.front)
 front_stands w FrontMoves stands = front_speaks w stands.fit stands.front
-front_stands w (Closes end.Front) stands = closed_speaks w.front stands.front
+front_stands w (Closes end.Front) stands = closed_speaks fronts.IsNumber w.front stands.front
 front_stands w (Closes end.Back) stands = stands.front
+front_stands w Suspends stands = suspended_front (rings.may_suspend w.rings && is_open w.rings.front.stage) w stands
 front_stands w h stands = stands.front
 
 back_stands : (w : World) (h : Happening) → Stands w → (let v : World = happens w h in backs.Speaks v.back)
 back_stands w BackMoves stands = back_speaks w stands.back
 back_stands w (Closes end.Front) stands = stands.back
 back_stands w (Closes end.Back) stands = unplugged_speaks w.back stands.back
+back_stands w Suspends stands = suspended_back (rings.may_suspend w.rings) w stands
 back_stands w h stands = stands.back
 
 pub stands_on : (w : World) (h : Happening) → Stands w → Stands (happens w h)
-stands_on w h stands = record { fit = fit_happens w h stands.fit; offering = offers_on w h stands.fit stands.offering; front = front_stands w h stands; back = back_stands w h stands }
+stands_on w h stands = record { fit = fit_happens w h stands.fit; front = front_stands w h stands; back = back_stands w h stands }
 
 pub all_possible : (hs : List Happening) (w : World) → Stands w → ArePossible hs w → ring_allowed.ArePossible (all_does hs w) w.rings
 all_possible [] w stands are = tt
@@ -183,7 +194,6 @@ way_start config are = inl (record { joined = joined_start config are; ring = re
 pub stands_start : (config : Options) → AreOptions config → Stands (start_of config)
 stands_start config are = record {
   fit = fit_start config are.2;
-  offering = offers_start config;
   front = record { order = are.0; port = tt; stage = tt };
   back = record { sectors = are.4; order = omega arith; grefs = tt; port = omega arith; stage = tt };
 }

@@ -21,13 +21,15 @@ use Rattle.xenbus_state.specs.BackStep.{step_of}
 use Rattle.line_text.proofs.Both.{both_true}
 use Rattle.split_model.specs.World as rings
 use Rattle.split_model.specs.Happening as ring
+use Rattle.blk_back.specs.declared.told.Halt.TheVariants as halt
 use Rattle.split_model.proofs.SafeActs.{of_back, back_event}
+use Rattle.split_model.proofs.Suspending.{begun_back, back_cases as new_back_cases}
 use Rattle.split_model.proofs.SafeAnswers.{back_answered}
 use Rattle.vbd_back.specs.View as back_view
 use Rattle.vbd_back.specs.Ask as back
 use Rattle.vbd_back.specs.Step as back_step
 use Rattle.vbd_model.specs.World.{World, start_of, backend_of}
-use Rattle.vbd_model.specs.Happening.{Happening, FrontMoves, BackMoves, JobMoves, Closes, front_turn, back_turn, back_does, halted_at, happens, after}
+use Rattle.vbd_model.specs.Happening.{Happening, FrontMoves, BackMoves, JobMoves, Closes, Suspends, front_turn, back_turn, back_does, halted_at, happens, after}
 use Rattle.vbd_model.specs.Fit.{IsFit}
 use Rattle.vbd_laws.specs.Waits.{Check, Awake, back_checks, back_check_by, back_check_in, back_check}
 use Rattle.vbd_laws.proofs.Fit.{fit_start, fit_happens}
@@ -103,12 +105,21 @@ job_turns : (w : World) (c : Check) (number : ℕ) (act : Option BackAct) → St
 job_turns w c number None is = is
 job_turns w c number (Some a) is = is
 
+-- the domain is suspended: a new back is awake
+suspends : (w : World) (c : Check) → Stands w.rings.back c → StandsIn (back_check_in w Suspends c) (happens w Suspends)
+suspends w c is = by_may (rings.may_suspend w.rings)
+  where
+    by_may : (may : Bool) → Stands (let r : rings.World = if may then rings.suspended w.rings else w.rings in r.back) (if may then Awake else c)
+    by_may true = new_back_cases (λ (b : ends.View). Stands b Awake) w.rings (refl, refl) (sees_halts (halt.Gone 6) (begun_back w.rings) Awake (refl, refl))
+    by_may false = is
+
 stands_on : (w : World) (h : Happening) (c : Check) → Knows w c → StandsIn (back_check_in w h c) (happens w h)
 stands_on w FrontMoves c k = front_turns w c (front_turn w) k refl
 stands_on w BackMoves c k = back_turns w c (back_turn w) k refl
 stands_on w (JobMoves number outcome) c k = job_turns w c number (ring.job_turn w.rings number outcome) k.ring
 stands_on w (Closes end.Front) c k = k.ring
 stands_on w (Closes end.Back) c k = k.ring
+stands_on w Suspends c k = suspends w c k.ring
 stands_on w h c k = k.ring
 
 pub knows_on : (w : World) (h : Happening) (c : Check) → Knows w c → Knows (happens w h) (back_check_in w h c)

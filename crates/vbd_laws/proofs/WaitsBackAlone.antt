@@ -24,13 +24,15 @@ use Rattle.xenbus_state.specs.Tables.{bad_order, back_action}
 use Rattle.xenbus_state.specs.BackView.{BackView, is_halting, unplugged}
 use Rattle.xenbus_state.specs.BackAsk as bus
 use Rattle.xenbus_state.specs.BackStep.{step_of}
+use Rattle.blk_front.specs.State.{is_open}
+use Rattle.split_model.specs.World as rings
 use Rattle.split_model.specs.Happening as ring
 use Rattle.split_model.proofs.SafeAnswers.{IsBacks, backs_of, back_answered}
 use Rattle.vbd_back.specs.View as back_view
 use Rattle.vbd_back.specs.Ask as back
 use Rattle.vbd_back.specs.Step as back_step
 use Rattle.vbd_model.specs.World.{World, start_of, backend_of}
-use Rattle.vbd_model.specs.Happening.{Happening, FrontMoves, BackMoves, Closes, front_turn, back_turn, back_does, halted_at, happens, after}
+use Rattle.vbd_model.specs.Happening.{Happening, FrontMoves, BackMoves, Closes, Suspends, front_turn, back_turn, back_does, halted_at, renewed_bus, happens, after}
 use Rattle.vbd_model.specs.Fit.{BackGoesWith}
 use Rattle.vbd_laws.specs.Waits as waits
 use Rattle.vbd_laws.specs.Waits.{Check, Awake, Heard, Unwatched, Watching, Fired, Read, back_hears, back_check, back_check_in, back_heard_by, back_heard_in, back_heard, is_serving, BackWaits}
@@ -153,11 +155,24 @@ close_turns v h l = by_test (is_halting v.stage)
     by_test true = l
     by_test false = l
 
+-- the domain is suspended: a new back has heard nothing
+suspends : (w : World) (h : Heard) → Hears w.back h → HearsIn (back_heard_in w Suspends h) (happens w Suspends)
+suspends w h l = by_may (rings.may_suspend w.rings)
+  where
+    by_open : (o : Bool) → Hears (renewed_bus o w.back) Unwatched
+    by_open true = refl
+    by_open false = tt
+
+    by_may : (may : Bool) → Hears (if may then renewed_bus (is_open w.rings.front.stage) w.back else w.back) (if may then Unwatched else h)
+    by_may true = by_open (is_open w.rings.front.stage)
+    by_may false = l
+
 hears_on : (w : World) (happening : Happening) (c : Check) (h : Heard) → Knows w c → Hears w.back h → HearsIn (back_heard_in w happening h) (happens w happening)
 hears_on w FrontMoves c h k l = front_turns w c h (front_turn w) k l refl
 hears_on w BackMoves c h k l = back_turns w c h (back_turn w) k l refl
 hears_on w (Closes end.Front) c h k l = l
 hears_on w (Closes end.Back) c h k l = close_turns w.back h l
+hears_on w Suspends c h k l = suspends w h l
 hears_on w happening c h k l = l
 
 hears_after : (hs : List Happening) (w : World) (c : Check) (h : Heard) → Knows w c → Hears w.back h → HearsIn (back_heard hs w h) (after hs w)

@@ -20,7 +20,8 @@ use Rattle.blk_front.specs.declared.state.FrontState.TheVariants as enter
 use Rattle.blk_front.specs.Request.{is_indirect}
 use Rattle.blk_front.specs.View as ends
 use Rattle.blk_front.specs.Ask as front_ring
-use Rattle.blk_front.specs.State.{enters}
+use Rattle.blk_front.specs.State.{is_open, enters}
+use Rattle.blk_front.specs.Suspend.{resumed}
 use Rattle.blk_front.specs.Submit.{is_ready, is_wait}
 use Rattle.xenbus_state.specs.declared.state.BusState.{BusState}
 use Rattle.xenbus_state.specs.declared.state.BusState.TheVariants as state
@@ -38,14 +39,14 @@ use Rattle.vbd_front.specs.View as front_view
 use Rattle.vbd_front.specs.Ask as front
 use Rattle.vbd_front.specs.Step as front_step
 use Rattle.vbd_model.specs.World.{World, start_of, frontend_of}
-use Rattle.vbd_model.specs.Happening.{Happening, FrontMoves, BackMoves, JobMoves, Closes, Submits, front_turn, back_turn, front_does, entered_at, happens, after}
+use Rattle.vbd_model.specs.Happening.{Happening, FrontMoves, BackMoves, JobMoves, Closes, Submits, Suspends, front_turn, back_turn, front_does, entered_at, happens, after}
 use Rattle.vbd_model.specs.Fit.{IsFit}
 use Rattle.vbd_laws.specs.Waits.{Check, Awake, front_checks, front_check_by, front_check_in, front_check}
 use Rattle.vbd_laws.proofs.Fit.{fit_start, fit_happens}
 use Rattle.vbd_laws.proofs.MovesTurns.{front_asks, front_says, front_cases}
 use Rattle.vbd_laws.proofs.MovesFront.{front_waits, front_move_is, front_move_none}
 use Rattle.vbd_laws.proofs.MovesBack.{back_move_is, back_move_none}
-use Rattle.vbd_laws.proofs.WaitsFrontRing.{StandsAt, Stands, stands_step, stands_enters, stands_submit}
+use Rattle.vbd_laws.proofs.WaitsFrontRing.{StandsAt, Stands, stands_step, stands_enters, stands_submit, stands_resumed}
 
 -- the machine is fit, and the front's end of the ring sleeps where its last look found nothing
 pub record Knows (w : World) (c : Check) : Type 0 where
@@ -115,6 +116,18 @@ job_turns : (w : World) (c : Check) (number : ℕ) (act : Option BackAct) → St
 job_turns w c number None is = is
 job_turns w c number (Some a) is = is
 
+-- the domain is suspended
+suspends : (w : World) (c : Check) → Stands w.rings.front c → StandsIn (front_check_in w Suspends c) (happens w Suspends)
+suspends w c is = by_may (rings.may_suspend w.rings)
+  where
+    by_open : (o : Bool) → Stands (if o then resumed w.rings.front else w.rings.front) (if o then Awake else c)
+    by_open true = stands_resumed w.rings.front c is
+    by_open false = is
+
+    by_may : (may : Bool) → Stands (let r : rings.World = if may then rings.suspended w.rings else w.rings in r.front) (if may && is_open w.rings.front.stage then Awake else c)
+    by_may true = by_open (is_open w.rings.front.stage)
+    by_may false = is
+
 stands_on : (w : World) (h : Happening) (c : Check) → Knows w c → StandsIn (front_check_in w h c) (happens w h)
 stands_on w FrontMoves c k = front_turns w c (front_turn w) k refl
 stands_on w BackMoves c k = back_turns w c (back_turn w) k refl
@@ -122,13 +135,14 @@ stands_on w (JobMoves number outcome) c k = job_turns w c number (ring.job_turn 
 stands_on w (Closes end.Front) c k = stands_enters enter.Closing w.rings.front c k.ring
 stands_on w (Closes end.Back) c k = k.ring
 stands_on w (Submits job) c k = stands_submit w.rings.front job c k.ring
+stands_on w Suspends c k = suspends w c k.ring
 stands_on w h c k = k.ring
 
 pub knows_on : (w : World) (h : Happening) (c : Check) → Knows w c → Knows (happens w h) (front_check_in w h c)
 knows_on w h c k = record { fit = fit_happens w h k.fit; ring = stands_on w h c k }
 
 pub knows_start : (config : Options) → config.indirect ≤ 960 → Knows (start_of config) Awake
-knows_start config few = record { fit = fit_start config few; ring = ((refl, refl), refl) }
+knows_start config few = record { fit = fit_start config few; ring = ((refl, refl), tt) }
 
 pub knows_after : (hs : List Happening) (w : World) (c : Check) → Knows w c → Knows (after hs w) (front_check hs w c)
 knows_after [] w c k = k

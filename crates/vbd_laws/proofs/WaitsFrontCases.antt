@@ -12,6 +12,7 @@ use Rattle.blk_front.specs.View as ends
 use Rattle.blk_front.specs.Ask as front_ring
 use Rattle.ring_words.specs.Ring.{responses_of}
 use Rattle.blk_front.specs.State.{is_made, is_bare}
+use Rattle.blk_front.specs.Suspend.{is_left}
 use Rattle.blk_front.specs.Submit.{is_ready, is_wait, is_connected, ending_of}
 use Rattle.xenbus_state.specs.declared.state.BusState.{BusState}
 use Rattle.xenbus_state.specs.declared.state.BusState.TheVariants as state
@@ -27,12 +28,16 @@ use Rattle.vbd_model.specs.Fit.{IsEndingPage, FrontRests, IsGranting, FrontGoesW
 use Rattle.vbd_laws.specs.Waits.{Check, Asleep, is_unserved, FrontIsOver}
 use Rattle.vbd_laws.proofs.FitFrontBus.{due_cases, closing_cases, unoccupied}
 use Rattle.vbd_laws.proofs.MovesTurns.{front_asks}
-use Rattle.vbd_laws.proofs.WaitsFrontRing.{sleeps, StandsAt}
-use Rattle.vbd_laws.proofs.WaitsFront.{Knows, asks_on, BusWaits, bus_waits, loop_waits, ready_waits}
+use Rattle.vbd_laws.proofs.FitFrontMoves.{none_left, left_moves}
+use Rattle.vbd_laws.proofs.WaitsFrontRing.{sleeps, StandsAt, left_asks}
+use Rattle.vbd_laws.proofs.WaitsFront.{Knows, asks_on, bus_asks_on, BusWaits, bus_waits, loop_waits, ready_waits}
 
 -- its negotiation asks for nothing, and what else then is
+abbrev pub bus_asks : World → FrontBusAsk
+bus_asks w = bus.ask_of w.front (front_view.is_unoccupied w.rings.front)
+
 abbrev pub Rests : World → Type 0
-Rests w = front_asks w ≡ bus_ask.Wait
+Rests w = bus_asks w ≡ bus_ask.Wait
 
 pub record Sleeps (w : World) (c : Check) : Type 0 where
   pub connected : w.front.state ≡ state.Connected
@@ -84,7 +89,17 @@ ready_connected (ring_stage.RingFrame n) is = absurd (true≢false (sym is))
 ready_connected (ring_stage.RingFence n) is = absurd (true≢false (sym is))
 ready_connected (ring_stage.RingFlags n) is = absurd (true≢false (sym is))
 ready_connected ring_stage.NewPort is = absurd (true≢false (sym is))
+ready_connected (ring_stage.LeftData n) is = absurd (true≢false (sym is))
 ready_connected s is = refl
+
+-- and has the move where its negotiation rests
+ready_moves : (s : Stage) → is_ready s ≡ true → front.ring_moves bus_ask.Wait s ≡ true
+ready_moves (ring_stage.LeftData n) is = absurd (true≢false (sym is))
+ready_moves s is = ready_connected s is
+
+broken_unleft : (s : Stage) → front_view.is_broken s ≡ true → is_left s ≡ false
+broken_unleft (ring_stage.LeftData n) is = absurd (true≢false (sym is))
+broken_unleft s is = refl
 
 module _ (w : World) (c : Check) (k : Knows w c) where
   abbrev v : front_view.View
@@ -146,7 +161,7 @@ module _ (w : World) (c : Check) (k : Knows w c) where
       let goes : FrontGoesWith stage.Rest w.front r = subst (λ (s : FrontStage). FrontGoesWith s w.front r) here k.fit.front in
       elim goes [ inl rests ↦ rests | inr broken ↦ absurd (true≢false (sym broken ∙ whole)) ]
 
-  pub only_rests : front_view.is_broken r ≡ false → front.ask_of v ≡ front_ask.Wait → front_asks w ≡ bus_ask.Wait
+  pub only_rests : front_view.is_broken r ≡ false → front.ask_at (bus_asks w) v ≡ front_ask.Wait → bus_asks w ≡ bus_ask.Wait
   only_rests whole =
       due_cases Only w.front idle (begun w.front.stage k.fit.front whole)
       (λ here closing is_idle.
@@ -159,11 +174,11 @@ module _ (w : World) (c : Check) (k : Knows w c) where
       leaves true (Some p) rests e = ending 0 r refl rests e
 
   -- connected, its end of the ring waits
-  pub ready_asks : front_asks w ≡ bus_ask.Wait → front.ask_of v ≡ front_ask.Wait → is_ready r ≡ true → front_ring.ask_at r w.rings.front ≡ front_ask.Wait
-  ready_asks rests e ready = sym (ap (λ (b : FrontBusAsk). front.ask_at b v) rests ∙ ring_asks bus_ask.Wait r true refl refl (ready_connected r ready)) ∙ e
+  pub ready_asks : bus_asks w ≡ bus_ask.Wait → front.ask_at (bus_asks w) v ≡ front_ask.Wait → is_ready r ≡ true → front_ring.ask_at r w.rings.front ≡ front_ask.Wait
+  ready_asks rests e ready = sym (ap (λ (b : FrontBusAsk). front.ask_at b v) rests ∙ ring_asks bus_ask.Wait r true refl refl (ready_moves r ready)) ∙ e
 
   -- it sleeps in its loop
-  sleeps_so : front_asks w ≡ bus_ask.Wait → front.ask_of v ≡ front_ask.Wait → (w.front.closing && idle) ≡ false → front_view.is_broken r ≡ false → w.front.state ≡ state.Connected → is_ready r ≡ true → MayWait w c
+  sleeps_so : bus_asks w ≡ bus_ask.Wait → front.ask_at (bus_asks w) v ≡ front_ask.Wait → (w.front.closing && idle) ≡ false → front_view.is_broken r ≡ false → w.front.state ≡ state.Connected → is_ready r ≡ true → MayWait w c
   sleeps_so rests e remains whole own ready =
       let asks : front_ring.ask_at r w.rings.front ≡ front_ask.Wait = ready_asks rests e ready in
       let here : r ≡ ring_stage.Loop = ready_waits r w.rings.front c ready k.ring asks in
@@ -186,7 +201,7 @@ module _ (w : World) (c : Check) (k : Knows w c) where
               absurd (true≢false (sym (rw (closes, free) refl) ∙ remains))
 
   -- at rest
-  rests_may : front_view.is_broken r ≡ false → front.ask_of v ≡ front_ask.Wait → front_asks w ≡ bus_ask.Wait → ((w.front.closing && idle) ≡ false) ⊎ ((w.front.state ≡ state.Closing) × (w.front.gone ≡ false)) → FrontRests w.front.state w.front.gone w.front.port r → MayWait w c
+  rests_may : front_view.is_broken r ≡ false → front.ask_at (bus_asks w) v ≡ front_ask.Wait → bus_asks w ≡ bus_ask.Wait → ((w.front.closing && idle) ≡ false) ⊎ ((w.front.state ≡ state.Closing) × (w.front.gone ≡ false)) → FrontRests w.front.state w.front.gone w.front.port r → MayWait w c
   rests_may whole e rests (inr closes) goes = inl (ap is_unserved closes.0, rests)
   rests_may whole e rests (inl remains) goes = by_state w.front.state refl goes
     where
@@ -197,10 +212,10 @@ module _ (w : World) (c : Check) (k : Knows w c) where
       by_state state.Closing own goes = inl (ap is_unserved own, rests)
       by_state s own goes = absurd goes
 
-  pub may_wait : front.ask_of v ≡ front_ask.Wait → MayWait w c
-  may_wait e = by_broken (front_view.is_broken r) refl
+  rests_may_wait : front.ask_at (bus_asks w) v ≡ front_ask.Wait → MayWait w c
+  rests_may_wait e = by_broken (front_view.is_broken r) refl
     where
-      by_bus : front_view.is_broken r ≡ false → front_asks w ≡ bus_ask.Wait → BusWaits w.front idle → MayWait w c
+      by_bus : front_view.is_broken r ≡ false → bus_asks w ≡ bus_ask.Wait → BusWaits w.front idle → MayWait w c
       by_bus whole rests (inl at) = rests_may whole e rests at.1 (rests_whole at.0 whole)
       by_bus whole rests (inr (inl here)) = let goes : FrontGoesWith stage.Closed w.front r = subst (λ (s : FrontStage). FrontGoesWith s w.front r) here k.fit.front in inr (inr (inl goes.0))
       by_bus whole rests (inr (inr at)) = let goes : FrontGoesWith (stage.Broken at.0) w.front r = subst (λ (s : FrontStage). FrontGoesWith s w.front r) at.1 k.fit.front in absurd (true≢false (sym goes ∙ whole))
@@ -226,7 +241,7 @@ module _ (w : World) (c : Check) (k : Knows w c) where
   broken_begun (stage.EndGrant page) goes is = broken_at (bus_ask.EndGrant page) r refl is refl
   broken_begun (stage.Broken word) goes is = broken_at bus_ask.Wait r refl is refl
   broken_begun stage.Closed goes is = broken_at bus_ask.Wait r refl is refl
-  broken_begun stage.Start goes is = unlike r (ring_stage.RingWord 0) goes.1 refl is
+  broken_begun stage.Start goes is = elim goes.1 [ inl begins ↦ unlike r (ring_stage.RingWord 0) begins refl is | inr left ↦ absurd (true≢false (sym left ∙ broken_unleft r is)) ]
   broken_begun stage.ReadState goes is = absurd (rests_unbroken w.front.state w.front.gone w.front.port r goes is)
     where
       made_unbroken : (s : Stage) → is_made s ≡ true → front_view.is_broken s ≡ true → ⊥
@@ -274,11 +289,11 @@ module _ (w : World) (c : Check) (k : Knows w c) where
   broken_begun stage.ClosePort goes is = unlike r ring_stage.ClosePort goes.1 refl is
   broken_begun stage.EndOtherGrants goes is = absurd goes
 
-  pub broken_waits : front_view.is_broken r ≡ true → front.ask_of v ≡ front_ask.Wait
+  pub broken_waits : front_view.is_broken r ≡ true → front.ask_at (bus_asks w) v ≡ front_ask.Wait
   broken_waits is = due_cases Broken w.front idle (broken_begun w.front.stage k.fit.front is) (λ here closing is_idle. let free = unoccupied w.rings.front is_idle in absurd (true≢false (sym is ∙ free.whole)))
 
   -- one that is closed does
-  closed_at : (s : FrontStage) → w.front.stage ≡ s → FrontGoesWith s w.front r → front_view.is_broken r ≡ false → w.front.state ≡ state.Closed → front.ask_of v ≡ front_ask.Wait
+  closed_at : (s : FrontStage) → w.front.stage ≡ s → FrontGoesWith s w.front r → front_view.is_broken r ≡ false → w.front.state ≡ state.Closed → front.ask_at (bus_asks w) v ≡ front_ask.Wait
   closed_at stage.Closed here goes whole own =
       ap (λ (s : FrontStage). front.ask_at (bus.ask_at (bus.due_at s w.front idle) w.front) v) here ∙ ring_asks bus_ask.Wait ring_stage.Closed true goes.1 refl refl
   closed_at (stage.Broken word) here goes whole own = absurd (true≢false (sym goes ∙ whole))
@@ -320,7 +335,7 @@ module _ (w : World) (c : Check) (k : Knows w c) where
   unserved_at own gone port s here at is remains rests = absurd (true≢false (sym is))
 
   -- as it sleeps
-  asleep_waits : front_asks w ≡ bus_ask.Wait → c ≡ Asleep → ends.next_request w.rings.front ≡ None → r ≡ ring_stage.Loop → front.ask_of v ≡ front_ask.Wait
+  asleep_waits : bus_asks w ≡ bus_ask.Wait → c ≡ Asleep → ends.next_request w.rings.front ≡ None → r ≡ ring_stage.Loop → front.ask_at (bus_asks w) v ≡ front_ask.Wait
   asleep_waits rests found none here =
       let stands = subst (λ (t : Stage). StandsAt t w.rings.front c) here k.ring in
       let asleep : w.rings.front.asleep ≡ true = sym stands.0.0 ∙ ap sleeps found in
@@ -331,10 +346,10 @@ module _ (w : World) (c : Check) (k : Knows w c) where
       sleeping true is = refl
       sleeping false is = absurd (true≢false (sym is))
 
-  pub waits : MayWait w c → front.ask_of v ≡ front_ask.Wait
-  waits may = by_broken (front_view.is_broken r) refl may
+  rests_wait : MayWait w c → front.ask_at (bus_asks w) v ≡ front_ask.Wait
+  rests_wait may = by_broken (front_view.is_broken r) refl may
     where
-      at_rest : front_view.is_broken r ≡ false → front_asks w ≡ bus_ask.Wait → is_unserved w.front.state ≡ true → BusWaits w.front idle → front.ask_of v ≡ front_ask.Wait
+      at_rest : front_view.is_broken r ≡ false → bus_asks w ≡ bus_ask.Wait → is_unserved w.front.state ≡ true → BusWaits w.front idle → front.ask_at (bus_asks w) v ≡ front_ask.Wait
       at_rest whole rests is (inl at) =
           ap (λ (b : FrontBusAsk). front.ask_at b v) rests
           ∙ unserved_at w.front.state w.front.gone w.front.port r refl refl is (λ own. remains own at.1) (rests_whole at.0 whole)
@@ -366,9 +381,43 @@ module _ (w : World) (c : Check) (k : Knows w c) where
       ready_at whole own (inr (inl here)) = let goes : FrontGoesWith stage.Closed w.front r = subst (λ (s : FrontStage). FrontGoesWith s w.front r) here k.fit.front in differs w.front.state state.Connected goes.0 own refl
       ready_at whole own (inr (inr at)) = let goes : FrontGoesWith (stage.Broken at.0) w.front r = subst (λ (s : FrontStage). FrontGoesWith s w.front r) at.1 k.fit.front in absurd (true≢false (sym goes ∙ whole))
 
-      by_broken : (b : Bool) → front_view.is_broken r ≡ b → MayWait w c → front.ask_of v ≡ front_ask.Wait
+      by_broken : (b : Bool) → front_view.is_broken r ≡ b → MayWait w c → front.ask_at (bus_asks w) v ≡ front_ask.Wait
       by_broken true is may = broken_waits is
       by_broken false whole (inl may) = at_rest whole may.1 may.0 (bus_waits w.front idle may.1)
       by_broken false whole (inr (inl may)) = asleep_waits may.rests may.nothing_found may.none_waits (loops_ready r (ready_at whole may.connected (bus_waits w.front idle may.rests)) may.none_begun)
       by_broken false whole (inr (inr (inl own))) = closed_at w.front.stage refl k.fit.front whole own
       by_broken false whole (inr (inr (inr is))) = broken_waits is
+
+  -- where no data are left after a suspend, which are read at once, it asks as its negotiation has it
+  pub asks_same : is_left r ≡ false → front_asks w ≡ bus_asks w
+  asks_same none = ap (λ (b : Bool). if b then bus_ask.Wait else bus_asks w) none
+
+  pub same_ask : is_left r ≡ false → front.ask_of v ≡ front.ask_at (bus_asks w) v
+  same_ask none = ap (λ (b : FrontBusAsk). front.ask_at b v) (asks_same none)
+
+  pub left_busy : is_left r ≡ true → front.ask_of v ≡ front_ask.Wait → ⊥
+  left_busy left e =
+      left_asks r w.rings.front c left k.ring
+      (sym (ap (λ (b : FrontBusAsk). front.ask_at b v) (ap (λ (b : Bool). if b then bus_ask.Wait else bus_asks w) left) ∙ ring_asks bus_ask.Wait r true refl refl (left_moves r left)) ∙ e)
+
+  pub may_wait : front.ask_of v ≡ front_ask.Wait → MayWait w c
+  may_wait e = by_left (is_left r) refl
+    where
+      by_left : (b : Bool) → is_left r ≡ b → MayWait w c
+      by_left true left = absurd (left_busy left e)
+      by_left false none = rests_may_wait (sym (same_ask none) ∙ e)
+
+  begun_unleft : (w.front.stage ≡ stage.Start → ⊥) → is_left r ≡ false
+  begun_unleft other = none_left w.front.stage w.front r k.fit.front other
+
+  pub rests_unleft : bus_asks w ≡ bus_ask.Wait → is_left r ≡ false
+  rests_unleft rests = begun_unleft (λ here. bus_asks_on bus_ask.Watch refl (sym (ap (λ (s : FrontStage). bus.ask_at (bus.due_at s w.front idle) w.front) here) ∙ rests))
+
+  unleft : MayWait w c → is_left r ≡ false
+  unleft (inl may) = rests_unleft may.1
+  unleft (inr (inl may)) = rests_unleft may.rests
+  unleft (inr (inr (inl own))) = begun_unleft (λ here. let goes : FrontGoesWith stage.Start w.front r = subst (λ (s : FrontStage). FrontGoesWith s w.front r) here k.fit.front in differs w.front.state state.Initialising own goes.0 refl)
+  unleft (inr (inr (inr is))) = broken_unleft r is
+
+  pub waits : MayWait w c → front.ask_of v ≡ front_ask.Wait
+  waits may = same_ask (unleft may) ∙ rests_wait may

@@ -1,5 +1,5 @@
 -- A move of the front goes with what it heard of the back's state.
-use Rattle.std.proofs.Common.{inl, inr, ◌≡◌, ◌∙◌, ap, sym, subst, refl, ℕ, ◌+◌, ◌&&◌, Bool, true, false, true≢false, if◌then◌else◌, [], ◌++◌, length, arith}
+use Rattle.std.proofs.Common.{inl, inr, ◌≡◌, ◌∙◌, ap, sym, subst, refl, ℕ, ◌+◌, ◌&&◌, Bool, true, false, true≢false, if◌then◌else◌, List, [], ◌++◌, length, arith}
 use Rattle.std.specs.Prelude.{Option, Some, None, ◌==◌}
 use Rattle.std.proofs.lemmas.Bool.Decides.{nat_tests}
 use Rattle.line_text.proofs.Both.{both_true}
@@ -13,8 +13,10 @@ use Rattle.blk_front.specs.declared.state.FrontState.TheVariants as enter
 use Rattle.blk_front.specs.View as ends
 use Rattle.blk_front.specs.Ask as front_ring
 use Rattle.blk_front.specs.Step as ring_step
+use Rattle.blk_front.specs.declared.state.FrontState.{FrontState}
 use Rattle.blk_front.specs.State.{may_enter}
-use Rattle.blk_front.specs.Submit.{is_wait, ending_of}
+use Rattle.blk_front.specs.Suspend.{is_left}
+use Rattle.blk_front.specs.Submit.{is_wait, ending_of, unfinished}
 use Rattle.xenbus_state.specs.declared.state.BusState.{BusState}
 use Rattle.xenbus_state.specs.declared.state.BusState.TheVariants as state
 use Rattle.xenbus_state.specs.declared.stage.FrontStage.{FrontStage}
@@ -41,11 +43,13 @@ use Rattle.vbd_model.specs.World.{World, frontend_of}
 use Rattle.vbd_model.specs.Fit.{IsEndingPage, FrontRests, FrontGoesWith}
 use Rattle.vbd_laws.specs.Waits.{Check, Heard, front_hears}
 use Rattle.vbd_laws.proofs.FitFrontBus.{due_cases, rests_due}
-use Rattle.vbd_laws.proofs.FitFrontRing.{broken_step}
-use Rattle.vbd_laws.proofs.MovesTurns.{front_asks}
+use Rattle.vbd_laws.proofs.FitFrontRing.{broken_step, unfinished_step}
+use Rattle.vbd_laws.proofs.FitFrontMoves.{left_starts}
+use Rattle.vbd_laws.proofs.FitFront.{all_fewer}
 use Rattle.vbd_laws.proofs.WaitsFront.{Knows, bus_asks_on, asks_on, BusWaits, bus_waits}
-use Rattle.vbd_laws.proofs.WaitsFrontCases.{rests_whole, only_rests, broken_waits}
-use Rattle.vbd_laws.proofs.WaitsFrontHeard.{HearsAt, Hears, settled_hears}
+use Rattle.vbd_laws.proofs.WaitsFrontRing.{left_asks}
+use Rattle.vbd_laws.proofs.WaitsFrontCases.{bus_asks, rests_whole, only_rests, broken_waits}
+use Rattle.vbd_laws.proofs.WaitsFrontHeard.{HearsAt, Hears, settled_hears, hears_as}
 use Rattle.vbd_laws.proofs.WaitsFrontTold.{told_hears, follows_hears, heard_waiting, woken_hears, IsKept, settled_kept, follows_kept, woken_kept}
 
 abbrev pub IsWhole : World → Type 0
@@ -58,13 +62,20 @@ is_early state.Initialised = true
 is_early state.Connected = true
 is_early s = false
 
+-- nothing of a request is left
+abbrev pub IsFree : ends.View → Type 0
+IsFree f = unfinished f ≡ 0
+
+idle_free : (f : ends.View) → front_view.is_unoccupied f ≡ true → IsFree f
+idle_free f idle = let zero = (both_true (unfinished f == 0) (front_view.is_still f.stage) idle).0 in grind (arith, nat_tests)
+
 -- a front that read that the back is gone, and hasn't written Closing, does so next
 abbrev pub LeavesNext : FrontView → ends.View → Type 0
 LeavesNext v f = v.gone ≡ true → is_early v.state ≡ true → (v.closing && front_view.is_unoccupied f) ≡ true
 
 -- where its end of the ring isn't broken, its negotiation goes with what it heard
 pub record Listens (v : FrontView) (f : ends.View) (h : Heard) : Type 0 where
-  pub bus : front_view.is_broken f.stage ≡ false → Hears v h
+  pub bus : front_view.is_broken f.stage ≡ false → Hears (IsFree f) v h
   pub leaves : front_view.is_broken f.stage ≡ false → LeavesNext v f
 
 key_asks : (b : FrontBusAsk) → front.speaks b ≡ true → is_wait (front.key_ask b) ≡ false
@@ -125,7 +136,7 @@ module _ (w : World) (c : Check) (h : Heard) (k : Knows w c) (l : Listens w.fron
   idle = front_view.is_unoccupied w.rings.front
 
   -- while it rests and waits it hasn't read that the back is gone
-  pub rest_gone : IsWhole w → front_asks w ≡ bus_ask.Wait → w.front.stage ≡ stage.Rest → w.front.gone ≡ false
+  pub rest_gone : IsWhole w → bus_asks w ≡ bus_ask.Wait → w.front.stage ≡ stage.Rest → w.front.gone ≡ false
   rest_gone whole e here = by_bus (bus_waits w.front idle e)
     where
       by_gone : (gone : Bool) → w.front.gone ≡ gone → (w.front.closing && idle) ≡ false → gone ≡ false
@@ -154,7 +165,7 @@ module _ (w : World) (c : Check) (h : Heard) (k : Knows w c) (l : Listens w.fron
       by_bus (inr (inr found)) = let differ : stage.Rest ≡ stage.Broken found.0 = sym here ∙ found.1 in absurd (cc)
 
   -- a front that read that the back is gone, and hasn't written Closing, is about to
-  busy : IsWhole w → front.speaks (front_asks w) ≡ false → w.front.gone ≡ true → is_early w.front.state ≡ true → ⊥
+  busy : IsWhole w → front.speaks (bus_asks w) ≡ false → w.front.gone ≡ true → is_early w.front.state ≡ true → ⊥
   busy whole quiet gone early = by_stage w.front.stage refl (l.bus whole) k.fit.front
     where
       closes : (own : BusState) → is_early own ≡ true → front.speaks (bus.ask_at (bus.closing_stage own w.front) w.front) ≡ true
@@ -166,7 +177,7 @@ module _ (w : World) (c : Check) (h : Heard) (k : Knows w c) (l : Listens w.fron
       late : (own : BusState) → w.front.state ≡ own → is_early own ≡ false → ⊥
       late own at_own is = true≢false (sym early ∙ (ap is_early at_own ∙ is))
 
-      by_stage : (s : FrontStage) → w.front.stage ≡ s → HearsAt s w.front.state w.front.closing w.front.gone h → FrontGoesWith s w.front w.rings.front.stage → ⊥
+      by_stage : (s : FrontStage) → w.front.stage ≡ s → HearsAt (IsFree w.rings.front) s w.front.state w.front.closing w.front.gone h → FrontGoesWith s w.front w.rings.front.stage → ⊥
       by_stage stage.Rest here is goes =
           let e = rests_due w.front idle true here (l.leaves whole gone early) in
           true≢false (sym (ap (λ (d : FrontStage). front.speaks (bus.ask_at d w.front)) e ∙ closes w.front.state early) ∙ quiet)
@@ -242,7 +253,7 @@ module _ (w : World) (c : Check) (h : Heard) (k : Knows w c) (l : Listens w.fron
   fact_gone key None v = refl
   fact_gone key (Some n) v = refl
 
-  begun_ends : (s : FrontStage) (x : FrontAnswer) → HearsAt s w.front.state w.front.closing w.front.gone h → FrontGoesWith s w.front w.rings.front.stage → Ends x s
+  begun_ends : (s : FrontStage) (x : FrontAnswer) → HearsAt (IsFree w.rings.front) s w.front.state w.front.closing w.front.gone h → FrontGoesWith s w.front w.rings.front.stage → Ends x s
   begun_ends stage.Start answer.Done is goes says allowed gone early = absurd (true≢false (sym gone ∙ is.1))
   begun_ends stage.ReadState (answer.Key text) is goes says allowed gone early =
       acted_ends (front_action w.front.state w.front.closing idle (state_read text)) (action_leaves w.front.state w.front.closing idle (state_read text)) is.1 gone early
@@ -271,43 +282,57 @@ module _ (w : World) (c : Check) (h : Heard) (k : Knows w c) (l : Listens w.fron
   closing_ends own answer.Done = λ says allowed gone early. absurd (true≢false (sym early))
   closing_ends own x = λ says allowed gone early. absurd allowed
 
-  spoken_leaves : IsWhole w → (x : FrontAnswer) → front.speaks (front_asks w) ≡ true → bus.IsAnswer (front_asks w) x → LeavesNext (front_step.bus_after (frontend_of w) x) (front_step.all_entered (front_step.states_after (frontend_of w) x) w.rings.front)
+  spoken_leaves : IsWhole w → (x : FrontAnswer) → front.speaks (bus_asks w) ≡ true → bus.IsAnswer (bus_asks w) x → LeavesNext (front_step.bus_after (frontend_of w) x) (front_step.all_entered (front_step.states_after (frontend_of w) x) w.rings.front)
   spoken_leaves whole x says allowed gone early =
       let u = step_of w.front idle x in
       let kept = settled_kept idle u in
       due_cases (Ends x) w.front idle (begun_ends w.front.stage x (l.bus whole) k.fit.front) (λ here closing is_idle. closing_ends w.front.state x) says allowed (sym kept.0 ∙ gone) (ap is_early (sym kept.1) ∙ early)
 
   -- one that speaks isn't broken
-  says_whole : front.speaks (front_asks w) ≡ true → IsWhole w
+  says_whole : front.speaks (bus_asks w) ≡ true → IsWhole w
   says_whole says = by_broken (front_view.is_broken w.rings.front.stage) refl
     where
       by_broken : (b : Bool) → front_view.is_broken w.rings.front.stage ≡ b → front_view.is_broken w.rings.front.stage ≡ false
       by_broken false is = is
       by_broken true is =
-          asks_on (front.key_ask (front_asks w)) (key_asks (front_asks w) says)
-          (sym (ap (λ (t : Bool). if t then front.key_ask (front_asks w) else front.ring_ask (front.ring_moves (front_asks w) w.rings.front.stage) (frontend_of w)) says) ∙ broken_waits w c k is)
+          asks_on (front.key_ask (bus_asks w)) (key_asks (bus_asks w) says)
+          (sym (ap (λ (t : Bool). if t then front.key_ask (bus_asks w) else front.ring_ask (front.ring_moves (bus_asks w) w.rings.front.stage) (frontend_of w)) says) ∙ broken_waits w c k is)
 
-  pub says_goes : (x : FrontAnswer) → front.speaks (front_asks w) ≡ true → bus.IsAnswer (front_asks w) x
-      → Listens (front_step.bus_after (frontend_of w) x) (front_step.all_entered (front_step.states_after (frontend_of w) x) w.rings.front) (front_hears (front.key_ask (front_asks w)) x h)
+  pub says_goes : (x : FrontAnswer) → front.speaks (bus_asks w) ≡ true → bus.IsAnswer (bus_asks w) x
+      → Listens (front_step.bus_after (frontend_of w) x) (front_step.all_entered (front_step.states_after (frontend_of w) x) w.rings.front) (front_hears (front.key_ask (bus_asks w)) x h)
   says_goes x says allowed = record {
-    bus = λ still. settled_hears idle (step_of w.front idle x) _ (told_hears w.front idle w.rings.front.stage h x k.fit.front (l.bus (says_whole says)) says allowed);
+    bus = λ still.
+        hears_as (IsFree w.rings.front) (IsFree after) u.stage u.state u.closing u.gone _ (λ closing free. let fewer = all_fewer states w.rings.front in omega arith)
+        (settled_hears (IsFree w.rings.front) idle (step_of w.front idle x) _ (told_hears (IsFree w.rings.front) w.front idle w.rings.front.stage h x (idle_free w.rings.front) k.fit.front (l.bus (says_whole says)) says allowed));
     leaves = λ still. spoken_leaves (says_whole says) x says allowed;
   }
+    where
+      states : List FrontState
+      states = front_step.states_after (frontend_of w) x
+
+      after : ends.View
+      after = front_step.all_entered states w.rings.front
+
+      u : FrontView
+      u = front_step.bus_after (frontend_of w) x
 
   -- the negotiation is left as it was, or took a watch
-  kept_leaves : (u : FrontView) (f : ends.View) → IsWhole w → front.speaks (front_asks w) ≡ false → IsKept w.front u → LeavesNext u f
+  kept_leaves : (u : FrontView) (f : ends.View) → IsWhole w → front.speaks (bus_asks w) ≡ false → IsKept w.front u → LeavesNext u f
   kept_leaves u f whole quiet kept gone early = absurd (busy whole quiet (sym kept.0 ∙ gone) (ap is_early (sym kept.1) ∙ early))
 
   -- where the front's ask is no wait its negotiation's is none
-  asks_wait : front.speaks (front_asks w) ≡ false → front.ring_moves (front_asks w) w.rings.front.stage ≡ true → front_ring.ask_of w.rings.front ≡ front_ask.Wait → front.ask_of (frontend_of w) ≡ front_ask.Wait
+  asks_wait : front.speaks (bus_asks w) ≡ false → front.ring_moves (bus_asks w) w.rings.front.stage ≡ true → front_ring.ask_of w.rings.front ≡ front_ask.Wait → front.ask_at (bus_asks w) (frontend_of w) ≡ front_ask.Wait
   asks_wait quiet moves e =
-      ap (λ (t : Bool). if t then front.key_ask (front_asks w) else front.ring_ask (front.ring_moves (front_asks w) w.rings.front.stage) (frontend_of w)) quiet
+      ap (λ (t : Bool). if t then front.key_ask (bus_asks w) else front.ring_ask (front.ring_moves (bus_asks w) w.rings.front.stage) (frontend_of w)) quiet
       ∙ (ap (λ (t : Bool). front.ring_ask t (frontend_of w)) moves ∙ e)
 
-  pub moves_goes : (x : FrontAnswer) → front.speaks (front_asks w) ≡ false → front.ring_moves (front_asks w) w.rings.front.stage ≡ true → front_ring.IsAnswer (front_ring.ask_of w.rings.front) x
-      → Listens (front_step.followed (front_asks w) (ring_step.step_of w.rings.front x).stage idle w.front x) (ring_step.step_of w.rings.front x) (front_hears (front_ring.ask_of w.rings.front) x h)
-  moves_goes x quiet moves allowed = record { bus = hears; leaves = left }
+  pub moves_goes : (x : FrontAnswer) → front.speaks (bus_asks w) ≡ false → front.ring_moves (bus_asks w) w.rings.front.stage ≡ true → front_ring.IsAnswer (front_ring.ask_of w.rings.front) x
+      → Listens (front_step.followed (bus_asks w) (ring_step.step_of w.rings.front x).stage idle w.front x) (ring_step.step_of w.rings.front x) (front_hears (front_ring.ask_of w.rings.front) x h)
+  moves_goes x quiet moves allowed = record { bus = λ still. hears_as (IsFree w.rings.front) (IsFree (ring_step.step_of w.rings.front x)) u.stage u.state u.closing u.gone _ (λ closing free. let fewer = unfinished_step w.rings.front x in omega arith) (hears still); leaves = left }
     where
+      u : FrontView
+      u = front_step.followed (bus_asks w) (ring_step.step_of w.rings.front x).stage idle w.front x
+
       whole_before : front_view.is_broken (ring_step.step_of w.rings.front x).stage ≡ false → IsWhole w
       whole_before still = by_broken (front_view.is_broken w.rings.front.stage) refl
         where
@@ -322,43 +347,82 @@ module _ (w : World) (c : Check) (h : Heard) (k : Knows w c) (l : Listens w.fron
       heard_is : front_hears (front_ring.ask_of w.rings.front) x h ≡ heard_waiting x h
       heard_is = ring_heard (front_ring.ask_of w.rings.front) x h (fronts_no_key w.rings.front) allowed
 
-      hears : front_view.is_broken (ring_step.step_of w.rings.front x).stage ≡ false → Hears (front_step.followed (front_asks w) (ring_step.step_of w.rings.front x).stage idle w.front x) (front_hears (front_ring.ask_of w.rings.front) x h)
-      hears still = by_rests (front_view.rests (front_asks w)) refl
+      hears : front_view.is_broken (ring_step.step_of w.rings.front x).stage ≡ false → Hears (IsFree w.rings.front) (front_step.followed (bus_asks w) (ring_step.step_of w.rings.front x).stage idle w.front x) (front_hears (front_ring.ask_of w.rings.front) x h)
+      hears still = by_rests (front_view.rests (bus_asks w)) refl
         where
-          by_rests : (b : Bool) → front_view.rests (front_asks w) ≡ b → Hears (front_step.followed (front_asks w) (ring_step.step_of w.rings.front x).stage idle w.front x) (front_hears (front_ring.ask_of w.rings.front) x h)
+          by_rests : (b : Bool) → front_view.rests (bus_asks w) ≡ b → Hears (IsFree w.rings.front) (front_step.followed (bus_asks w) (ring_step.step_of w.rings.front x).stage idle w.front x) (front_hears (front_ring.ask_of w.rings.front) x h)
           by_rests true is =
-              let e = is_wait_ask (front_asks w) is in
-              subst (λ (b : FrontBusAsk). Hears (front_step.followed b (ring_step.step_of w.rings.front x).stage idle w.front x) (front_hears (front_ring.ask_of w.rings.front) x h)) (sym e)
-              (subst (λ (t : Heard). Hears (front_step.woken (front_view.is_broken (ring_step.step_of w.rings.front x).stage) idle w.front x) t) (sym heard_is)
-              (woken_hears (front_view.is_broken (ring_step.step_of w.rings.front x).stage) idle w.front h x still (l.bus (whole_before still)) e (rest_gone (whole_before still) e)))
+              let e = is_wait_ask (bus_asks w) is in
+              subst (λ (b : FrontBusAsk). Hears (IsFree w.rings.front) (front_step.followed b (ring_step.step_of w.rings.front x).stage idle w.front x) (front_hears (front_ring.ask_of w.rings.front) x h)) (sym e)
+              (subst (λ (t : Heard). Hears (IsFree w.rings.front) (front_step.woken (front_view.is_broken (ring_step.step_of w.rings.front x).stage) idle w.front x) t) (sym heard_is)
+              (woken_hears (IsFree w.rings.front) (front_view.is_broken (ring_step.step_of w.rings.front x).stage) idle w.front h x still (l.bus (whole_before still)) e (rest_gone (whole_before still) e)))
           by_rests false is =
-              let on : front_ring.ask_of w.rings.front ≡ front_ask.Wait → ⊥ = λ e. bus_asks_on (front_asks w) is (only_rests w c k (whole_before still) (asks_wait quiet moves e)) in
-              subst (λ (t : Heard). Hears (front_step.followed (front_asks w) (ring_step.step_of w.rings.front x).stage idle w.front x) t) (sym (heard_is ∙ unwatched (front_ring.ask_of w.rings.front) x h on allowed))
-              (follows_hears w.front idle (ring_step.step_of w.rings.front x).stage h x (l.bus (whole_before still)) quiet is)
+              let on : front_ring.ask_of w.rings.front ≡ front_ask.Wait → ⊥ = λ e. bus_asks_on (bus_asks w) is (only_rests w c k (whole_before still) (asks_wait quiet moves e)) in
+              subst (λ (t : Heard). Hears (IsFree w.rings.front) (front_step.followed (bus_asks w) (ring_step.step_of w.rings.front x).stage idle w.front x) t) (sym (heard_is ∙ unwatched (front_ring.ask_of w.rings.front) x h on allowed))
+              (follows_hears (IsFree w.rings.front) w.front idle (ring_step.step_of w.rings.front x).stage h x (l.bus (whole_before still)) quiet is)
 
-      left : front_view.is_broken (ring_step.step_of w.rings.front x).stage ≡ false → LeavesNext (front_step.followed (front_asks w) (ring_step.step_of w.rings.front x).stage idle w.front x) (ring_step.step_of w.rings.front x)
-      left still = by_rests (front_view.rests (front_asks w)) refl
+      left : front_view.is_broken (ring_step.step_of w.rings.front x).stage ≡ false → LeavesNext (front_step.followed (bus_asks w) (ring_step.step_of w.rings.front x).stage idle w.front x) (ring_step.step_of w.rings.front x)
+      left still = by_rests (front_view.rests (bus_asks w)) refl
         where
-          by_rests : (b : Bool) → front_view.rests (front_asks w) ≡ b → LeavesNext (front_step.followed (front_asks w) (ring_step.step_of w.rings.front x).stage idle w.front x) (ring_step.step_of w.rings.front x)
+          by_rests : (b : Bool) → front_view.rests (bus_asks w) ≡ b → LeavesNext (front_step.followed (bus_asks w) (ring_step.step_of w.rings.front x).stage idle w.front x) (ring_step.step_of w.rings.front x)
           by_rests true is =
-              let e = is_wait_ask (front_asks w) is in
-              kept_leaves (front_step.followed (front_asks w) (ring_step.step_of w.rings.front x).stage idle w.front x) (ring_step.step_of w.rings.front x) (whole_before still) quiet
+              let e = is_wait_ask (bus_asks w) is in
+              kept_leaves (front_step.followed (bus_asks w) (ring_step.step_of w.rings.front x).stage idle w.front x) (ring_step.step_of w.rings.front x) (whole_before still) quiet
               (subst (λ (b : FrontBusAsk). IsKept w.front (front_step.followed b (ring_step.step_of w.rings.front x).stage idle w.front x)) (sym e) (woken_kept (front_view.is_broken (ring_step.step_of w.rings.front x).stage) idle w.front x e))
           by_rests false is =
-              kept_leaves (front_step.followed (front_asks w) (ring_step.step_of w.rings.front x).stage idle w.front x) (ring_step.step_of w.rings.front x) (whole_before still) quiet (follows_kept w.front idle (ring_step.step_of w.rings.front x).stage x is)
+              kept_leaves (front_step.followed (bus_asks w) (ring_step.step_of w.rings.front x).stage idle w.front x) (ring_step.step_of w.rings.front x) (whole_before still) quiet (follows_kept w.front idle (ring_step.step_of w.rings.front x).stage x is)
 
-  pub waits_goes : (x : FrontAnswer) → front.speaks (front_asks w) ≡ false → front.ring_moves (front_asks w) w.rings.front.stage ≡ false
-      → Listens (front_step.waited (front_asks w) idle w.front x) w.rings.front (front_hears front_ask.Wait x h)
+  pub waits_goes : (x : FrontAnswer) → front.speaks (bus_asks w) ≡ false → front.ring_moves (bus_asks w) w.rings.front.stage ≡ false
+      → Listens (front_step.waited (bus_asks w) idle w.front x) w.rings.front (front_hears front_ask.Wait x h)
   waits_goes x quiet stands = record {
     bus = λ whole.
         let e = rests_now whole in
-        subst (λ (b : FrontBusAsk). Hears (front_step.waited b idle w.front x) (front_hears front_ask.Wait x h)) (sym e)
-        (subst (λ (t : Heard). Hears (front_step.woken false idle w.front x) t) (sym (wait_heard x h)) (woken_hears false idle w.front h x refl (l.bus whole) e (rest_gone whole e)));
+        subst (λ (b : FrontBusAsk). Hears (IsFree w.rings.front) (front_step.waited b idle w.front x) (front_hears front_ask.Wait x h)) (sym e)
+        (subst (λ (t : Heard). Hears (IsFree w.rings.front) (front_step.woken false idle w.front x) t) (sym (wait_heard x h)) (woken_hears (IsFree w.rings.front) false idle w.front h x refl (l.bus whole) e (rest_gone whole e)));
     leaves = λ whole.
         let e = rests_now whole in
-        kept_leaves (front_step.waited (front_asks w) idle w.front x) w.rings.front whole quiet (subst (λ (b : FrontBusAsk). IsKept w.front (front_step.waited b idle w.front x)) (sym e) (woken_kept false idle w.front x e));
+        kept_leaves (front_step.waited (bus_asks w) idle w.front x) w.rings.front whole quiet (subst (λ (b : FrontBusAsk). IsKept w.front (front_step.waited b idle w.front x)) (sym e) (woken_kept false idle w.front x e));
   }
     where
-      rests_now : IsWhole w → front_asks w ≡ bus_ask.Wait
+      rests_now : IsWhole w → bus_asks w ≡ bus_ask.Wait
       rests_now whole =
-          only_rests w c k whole (ap (λ (t : Bool). if t then front.key_ask (front_asks w) else front.ring_ask (front.ring_moves (front_asks w) w.rings.front.stage) (frontend_of w)) quiet ∙ ap (λ (t : Bool). front.ring_ask t (frontend_of w)) stands)
+          only_rests w c k whole (ap (λ (t : Bool). if t then front.key_ask (bus_asks w) else front.ring_ask (front.ring_moves (bus_asks w) w.rings.front.stage) (frontend_of w)) quiet ∙ ap (λ (t : Bool). front.ring_ask t (frontend_of w)) stands)
+
+  -- data that are left after a suspend are told while the negotiation begins anew
+  pub left_goes : (x : FrontAnswer) → is_left w.rings.front.stage ≡ true → front_ring.IsAnswer (front_ring.ask_of w.rings.front) x
+      → Listens (front_step.followed bus_ask.Wait (ring_step.step_of w.rings.front x).stage idle w.front x) (ring_step.step_of w.rings.front x) (front_hears (front_ring.ask_of w.rings.front) x h)
+  left_goes x left allowed =
+      subst (λ (v : FrontView). Listens v (ring_step.step_of w.rings.front x) (front_hears (front_ring.ask_of w.rings.front) x h)) (sym (unwoken (front_view.is_broken (ring_step.step_of w.rings.front x).stage) x))
+      (subst (λ (t : Heard). Listens w.front (ring_step.step_of w.rings.front x) t) (sym same) (record {
+        bus = λ still. subst (λ (s : FrontStage). HearsAt (IsFree (ring_step.step_of w.rings.front x)) s w.front.state w.front.closing w.front.gone h) (sym here) heard;
+        leaves = λ still gone early. absurd (true≢false (sym gone ∙ heard.1));
+      }))
+    where
+      here : w.front.stage ≡ stage.Start
+      here = left_starts w.front.stage w.front w.rings.front.stage k.fit.front left
+
+      whole : IsWhole w
+      whole = by_stage w.rings.front.stage left
+        where
+          by_stage : (s : Stage) → is_left s ≡ true → front_view.is_broken s ≡ false
+          by_stage (ring_stage.LeftData n) is = refl
+          by_stage s is = absurd (true≢false (sym is))
+
+      heard : HearsAt (IsFree w.rings.front) stage.Start w.front.state w.front.closing w.front.gone h
+      heard = subst (λ (s : FrontStage). HearsAt (IsFree w.rings.front) s w.front.state w.front.closing w.front.gone h) here (l.bus whole)
+
+      same : front_hears (front_ring.ask_of w.rings.front) x h ≡ h
+      same =
+          ring_heard (front_ring.ask_of w.rings.front) x h (fronts_no_key w.rings.front) allowed
+          ∙ unwatched (front_ring.ask_of w.rings.front) x h (λ e. left_asks w.rings.front.stage w.rings.front c left k.ring e) allowed
+
+      -- it takes no watch yet
+      unwoken : (broken : Bool) (x : FrontAnswer) → front_step.woken broken idle w.front x ≡ w.front
+      unwoken false (answer.Watched path) =
+          ap (λ (d : FrontStage). settled idle (step_at d (at d w.front) idle (answer.Watched path))) (ap (λ (s : FrontStage). bus.due_at s w.front idle) here) ∙ ap (λ (s : FrontStage). at s w.front) (sym here)
+      unwoken false answer.Event = refl
+      unwoken false answer.Done = refl
+      unwoken false (answer.Word word) = refl
+      unwoken false (answer.Port port) = refl
+      unwoken false (answer.Key text) = refl
+      unwoken true x = refl

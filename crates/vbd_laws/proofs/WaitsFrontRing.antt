@@ -31,9 +31,10 @@ use Rattle.blk_front.specs.Pool.{taking}
 use Rattle.blk_front.specs.Request.{is_write, named_of, has_data, words_in, frames_for, is_indirect, naming_words}
 use Rattle.blk_front.specs.View.{View, ring_frame, slot_frame, slot_word, next_request}
 use Rattle.blk_front.specs.Ask.{data_ask, page_ask, name_ask, grant_ask, revoke_ask, end_ask, read_ask, issue_ask, loop_ask, is_through, ask_at, IsAnswer}
-use Rattle.blk_front.specs.Step.{at, broken, looked, begun, after_data, data_stage, page_stage, granted, loop_word, loop_step, issued, taken, response_at, is_mapped, ended, revoked, finished, data_step, ring_left, step_at, step_of}
+use Rattle.blk_front.specs.Step.{at, broken, looked, begun, after_data, data_stage, page_stage, granted, loop_word, loop_step, issued, taken, response_at, is_mapped, ended, revoked, finished, data_step, left_step, ring_left, step_at, step_of}
 use Rattle.blk_front.specs.State.{is_unmade, may_enter, in_state, enters}
-use Rattle.blk_front.specs.Submit.{is_ready, is_initialised, unfinished, wish_of, most_segments, frames_taken, request_with, accepted, submit_with, submit_one, submit_of}
+use Rattle.blk_front.specs.Suspend.{stage_after, is_left, resumed}
+use Rattle.blk_front.specs.Submit.{is_ready, is_initialised, is_wait, unfinished, wish_of, most_segments, frames_taken, request_with, accepted, submit_with, submit_one, submit_of}
 use Rattle.line_text.proofs.Both.{both_true}
 use Rattle.split_model.proofs.States.{enters_cases}
 use Rattle.vbd_laws.specs.Waits.{Check, Awake, Stored, Fenced, Asleep, fences, looks, others, writes, is_ring_word, front_checks}
@@ -105,6 +106,7 @@ Sees (stage.ResponseLast low high) c asleep = IsAlert c asleep
 Sees (stage.GrantRead place) c asleep = IsAlert c asleep
 Sees (stage.GrantEnd place seen) c asleep = IsAlert c asleep
 Sees (stage.ReadData n) c asleep = IsAlert c asleep
+Sees (stage.LeftData n) c asleep = IsAlert c asleep
 Sees stage.StoreEvent c asleep = IsAwake c asleep
 Sees stage.EventFence c asleep = (asleep ≡ false) × (c ≡ Stored)
 Sees stage.LookAgain c asleep = (asleep ≡ false) × (c ≡ Fenced)
@@ -116,14 +118,8 @@ Sees stage.Closed c asleep = Unit {0}
 Sees (stage.Broken word) c asleep = Unit {0}
 Sees s c asleep = IsTold c asleep
 
--- no request before it is connected, one that is issued, and one that ends
+-- a request that is issued, and one that ends
 abbrev pub Has : Stage → View → Type 0
-Has (stage.RingWord k) v = length v.requests ≡ 0
-Has (stage.RingFrame page) v = length v.requests ≡ 0
-Has (stage.RingFence page) v = length v.requests ≡ 0
-Has (stage.RingFlags page) v = length v.requests ≡ 0
-Has stage.NewPort v = length v.requests ≡ 0
-Has stage.Initialised v = length v.requests ≡ 0
 Has (stage.Data n) v = IsSome (next_request v)
 Has (stage.Pages n) v = IsSome (next_request v)
 Has (stage.GrantFrame place) v = IsSome (next_request v)
@@ -132,6 +128,7 @@ Has (stage.GrantFlags place) v = IsSome (next_request v)
 Has (stage.GrantRead place) v = IsSome v.ending
 Has (stage.GrantEnd place seen) v = IsSome v.ending
 Has (stage.ReadData n) v = IsSome v.ending
+Has (stage.LeftData n) v = IsSome v.ending
 Has s v = Unit {0}
 
 abbrev pub StandsAt : Stage → View → Check → Type 0
@@ -275,6 +272,29 @@ read_goes v (Some e) n (answer.Word word) c same some is allowed =
     all false words = ((alert.1 ∙ sym alert.0, alert.2), tt)
 read_goes v (Some e) n x c same some is allowed = absurd allowed
 
+-- data that are left after a suspend
+left_goes : (v : View) (e : Option Ending) (n : ℕ) (x : FrontAnswer) (c : Check) → v.ending ≡ e → IsSome e → IsAlert c v.asleep → IsAnswer (read_ask e n) x
+    → Goes v (step_at (stage.LeftData n) v x) (read_ask e n) x c
+left_goes v None n x c same some is allowed = absurd (true≢false (sym some))
+left_goes v (Some e) n (answer.Word word) c same some is allowed =
+    subst (λ (o : Option Ending). Stands (left_step o n word v) d) (sym same)
+    (either (nat_lt (n + 1) (words_in e.request)) _ _ d (more (n % 128 == 127) (slice_set v.words (n % 128) word)) (all (n % 128 == 127) (slice_set v.words (n % 128) word)))
+  where
+    d : Check
+    d = front_checks v.ring.cons (read_ask (Some e) n) (answer.Word word) c
+
+    alert : IsAlert d v.asleep
+    alert = (is.0, reads_awake _ _ c is.1 is.2, reads_unfenced _ _ c is.2)
+
+    more : (b : Bool) (words : List ℕ) → Stands (at (stage.LeftData (n + 1)) (if b then record v { words = words; told = Some (told.Sector e.request.number (n / 128) words) } else record v { words = words })) d
+    more true words = (alert, rw same refl)
+    more false words = (alert, rw same refl)
+
+    all : (b : Bool) (words : List ℕ) → Stands (at (stage.RingWord 0) (finished e (if b then record v { words = words; told = Some (told.Sector e.request.number (n / 128) words) } else record v { words = words }))) d
+    all true words = ((alert.0, alert.1), tt)
+    all false words = ((alert.0, alert.1), tt)
+left_goes v (Some e) n x c same some is allowed = absurd allowed
+
 -- it looks for the last time
 last_goes : (v : View) (word : ℕ) (c : Check) → v.asleep ≡ false → c ≡ Fenced → Stands (looked v word (record v { seen = word; stage = stage.Loop; asleep = true })) (looks c (word == v.ring.cons))
 last_goes v word c awake is =
@@ -330,6 +350,7 @@ stands_at (stage.ResponseLast low high) v (answer.Word last) c here is allowed =
 stands_at (stage.GrantRead place) v x c here is allowed = revoke_goes v v.ending place x c refl is.1 is.0 allowed
 stands_at (stage.GrantEnd place before) v x c here is allowed = end_goes v v.ending place before x c refl is.1 is.0 allowed
 stands_at (stage.ReadData n) v x c here is allowed = read_goes v v.ending n x c refl is.1 is.0 allowed
+stands_at (stage.LeftData n) v x c here is allowed = left_goes v v.ending n x c refl is.1 is.0 allowed
 stands_at stage.StoreEvent v x c here is allowed = let known = is.0 in ((known.0, stored_awake c known.1), tt)
 stands_at stage.EventFence v x c here is allowed = let known = is.0 in ((known.0, ap fences known.1), tt)
 stands_at stage.LookAgain v (answer.Word word) c here is allowed = let known = is.0 in last_goes v word c known.0 known.1
@@ -347,9 +368,9 @@ pub stands_step : (v : View) (x : FrontAnswer) (c : Check) → Stands v c → Is
 stands_step v x c is allowed = stands_at v.stage v x c refl is allowed
 
 -- a state that it enters
-agrees_at : (s : Stage) (v : View) (u : View) (c : Check) → is_unmade s ≡ true → u.asleep ≡ v.asleep → u.requests ≡ v.requests → StandsAt s v c → StandsAt s u c
-agrees_at (stage.RingWord k) v u c may asleep requests is = let known = is.0 in ((asleep ∙ known.0, known.1), ap length requests ∙ is.1)
-agrees_at s v u c may asleep requests is = absurd (true≢false (sym may))
+agrees_at : (s : Stage) (v : View) (u : View) (c : Check) → is_unmade s ≡ true → u.asleep ≡ v.asleep → StandsAt s v c → StandsAt s u c
+agrees_at (stage.RingWord k) v u c may asleep is = let known = is.0 in ((asleep ∙ known.0, known.1), tt)
+agrees_at s v u c may asleep is = absurd (true≢false (sym may))
 
 connects_at : (s : Stage) (v : View) (c : Check) → is_initialised s ≡ true → StandsAt s v c → (IsTold c v.asleep) × (is_fenced c ≡ false)
 connects_at stage.Initialised v c may is = let known = is.0 in (known.1 ∙ sym known.0, known.2)
@@ -363,7 +384,7 @@ pub stands_enters : (s : FrontState) (v : View) (c : Check) → Stands v c → S
 stands_enters s v c is = enters_cases (λ (x : View) shown. Stands x c) s v (by_state s) is
   where
     by_state : (s : FrontState) → may_enter s v ≡ true → Stands (in_state s v) c
-    by_state (enter.Agreed order) may = agrees_at v.stage v (in_state (enter.Agreed order) v) c (both_true (is_unmade v.stage) (nat_le order v.shape.order) may).0 refl refl is
+    by_state (enter.Agreed order) may = agrees_at v.stage v (in_state (enter.Agreed order) v) c (both_true (is_unmade v.stage) (nat_le order v.shape.order) (both_true _ _ may).0).0 refl is
     by_state (enter.Connected offers) may = (connects_at v.stage v c may is, tt)
     by_state enter.Closing may = closing_at v.stage v c is
     by_state enter.Leaving may = (tt, tt)
@@ -437,3 +458,21 @@ pub stands_submit : (v : View) (job : Job) (c : Check) → Stands v c → Stands
 stands_submit v job c is =
     either_submit (v.last == 4294967295) c _ _ is
     (λ t. either_submit v.closing c _ _ is (λ t. either_submit (not (is_ready v.stage)) c _ _ is (λ ready. submit_wish v (wish_of v.offers job) c (unready (is_ready v.stage) ready) is)))
+
+-- a suspend
+resumed_at : (s : Stage) (v : View) (c : Check) → v.stage ≡ s → StandsAt s v c → StandsAt (stage_after s) (resumed v) Awake
+resumed_at (stage.ReadData n) v c here is = ((refl, refl, refl), rw here is.1)
+resumed_at (stage.LeftData n) v c here is = ((refl, refl, refl), rw here is.1)
+resumed_at s v c here is = ((refl, refl), tt)
+
+pub stands_resumed : (v : View) (c : Check) → Stands v c → Stands (resumed v) Awake
+stands_resumed v c is = resumed_at v.stage v c refl is
+
+-- data that are left are read at once
+pub left_asks : (s : Stage) (v : View) (c : Check) → is_left s ≡ true → StandsAt s v c → ask_at s v ≡ ask.Wait → ⊥
+left_asks (stage.LeftData n) v c left is e = by_ending v.ending is.1 e
+  where
+    by_ending : (o : Option Ending) → IsSome o → read_ask o n ≡ ask.Wait → ⊥
+    by_ending None some e = true≢false (sym some)
+    by_ending (Some ending) some e = true≢false (sym (ap is_wait e))
+left_asks s v c left is e = true≢false (sym left)

@@ -23,29 +23,6 @@ use Rattle.vbd_laws.proofs.FitFrontBus.{due_cases}
 use Rattle.vbd_laws.proofs.WaitsFront.{bus_asks_on, BusWaits, bus_waits}
 use Rattle.vbd_laws.proofs.WaitsFrontHeard.{IsGone, HearsAt, Hears, says_at, dealt_closing, dealt_gone, settled_hears}
 
--- told what it asked for
-pub told_hears : (v : FrontView) (idle : Bool) (r : Stage) (h : Heard) (a : FrontAnswer) → FrontGoesWith v.stage v r → Hears v h → front.speaks (bus.ask_of v idle) ≡ true → bus.IsAnswer (bus.ask_of v idle) a
-    → Hears (step_of v idle a) (front_hears (front.key_ask (bus.ask_of v idle)) a h)
-told_hears v idle r h a goes is =
-    due_cases Told v idle (λ says allowed. says_at v.stage v idle r h a goes is says allowed) (λ here closing is_idle. by_state v.state here closing)
-  where
-    Told : FrontStage → Type 0
-    Told d = front.speaks (bus.ask_at d v) ≡ true → bus.IsAnswer (bus.ask_at d v) a → Hears (step_at d (at d v) idle a) (front_hears (front.key_ask (bus.ask_at d v)) a h)
-
-    by_port : (gone : Bool) (port : Option ℕ) → Told (bus.leaving gone port)
-    by_port false port says allowed = absurd (true≢false (sym says))
-    by_port true None says allowed = absurd (true≢false (sym says))
-    by_port true (Some p) says allowed = absurd (true≢false (sym says))
-
-    writes : v.stage ≡ stage.Rest → v.closing ≡ true → (x : FrontAnswer) → bus.IsAnswer (bus_ask.SetState state.Closing) x
-        → Hears (step_at (stage.WriteState state.Closing) (at (stage.WriteState state.Closing) v) idle x) (front_hears (front.key_ask (bus_ask.SetState state.Closing)) x h)
-    writes here closing answer.Done allowed = dealt_closing v.state v.closing v.gone h (subst (λ (s : FrontStage). HearsAt s v.state v.closing v.gone h) here is) closing
-    writes here closing x allowed = absurd allowed
-
-    by_state : (own : BusState) → v.stage ≡ stage.Rest → v.closing ≡ true → Told (bus.closing_stage own v)
-    by_state state.Closing here closing = by_port v.gone v.port
-    by_state own here closing = λ says allowed. writes here closing a allowed
-
 -- a stage whose moves its end of the ring makes
 abbrev makes : FrontStage → Bool
 makes (stage.RingWord word) = true
@@ -55,110 +32,134 @@ makes (stage.EndGrant page) = true
 makes stage.ClosePort = true
 makes s = false
 
-either_at : (b : Bool) (x y : FrontStage) (own : BusState) (closing gone : Bool) (h : Heard) → HearsAt x own closing gone h → HearsAt y own closing gone h → HearsAt (if b then x else y) own closing gone h
-either_at true x y own closing gone h p q = p
-either_at false x y own closing gone h p q = q
-
-makes_hears : (s : FrontStage) (v : FrontView) (idle : Bool) (h : Heard) (a : FrontAnswer) → makes s ≡ true → HearsAt s v.state v.closing v.gone h → Hears (step_at s (at s v) idle a) h
-makes_hears (stage.RingWord word) v idle h answer.Done is there = either_at (word == 15) (stage.Grant 0) (stage.RingWord (word + 1)) v.state v.closing v.gone h there there
-makes_hears (stage.RingWord word) v idle h a is there = there
-makes_hears (stage.Grant page) v idle h answer.Done is there = either_at (nat_lt (page + 1) (pages_of v)) (stage.Grant (page + 1)) stage.NewPort v.state v.closing v.gone h there there
-makes_hears (stage.Grant page) v idle h a is there = there
-makes_hears stage.NewPort v idle h (answer.Port port) is there = there
-makes_hears stage.NewPort v idle h answer.Done is there = there
-makes_hears stage.NewPort v idle h a is there = there
-makes_hears (stage.EndGrant page) v idle h answer.Done is there = either_at (nat_lt (page + 1) (pages_of v)) (stage.EndGrant (page + 1)) stage.EndOtherGrants v.state v.closing v.gone h there there
-makes_hears (stage.EndGrant page) v idle h a is there = there
-makes_hears stage.ClosePort v idle h answer.Done is there = there
-makes_hears stage.ClosePort v idle h a is there = there
-makes_hears s v idle h a is there = absurd (true≢false (sym is))
-
--- what its negotiation learns of a move of the ring's end, where that asks for more than a wait
-abbrev Follows : (later : Stage) (idle : Bool) (v : FrontView) (a : FrontAnswer) (h : Heard) → FrontStage → Type 0
-Follows later idle v a h d = bus.due v idle ≡ d → front.speaks (bus.ask_at d v) ≡ false → front_view.rests (bus.ask_at d v) ≡ false → Hears (front_step.followed (bus.ask_at d v) later idle v a) h
-
-pub follows_hears : (v : FrontView) (idle : Bool) (later : Stage) (h : Heard) (a : FrontAnswer) → Hears v h → front.speaks (bus.ask_of v idle) ≡ false → front_view.rests (bus.ask_of v idle) ≡ false
-    → Hears (front_step.followed (bus.ask_of v idle) later idle v a) h
-follows_hears v idle later h a is quiet on =
-    due_cases (Follows later idle v a h) v idle (begun v.stage is) (λ here closing is_idle. by_state v.state here) refl quiet on
-  where
-    told : (d : FrontStage) (x : FrontAnswer) → makes d ≡ true → HearsAt d v.state v.closing v.gone h → bus.due v idle ≡ d → Hears (front_step.bus_told idle v x) h
-    told d x moves there e = settled_hears idle (step_of v idle x) h (subst (λ (s : FrontStage). Hears (step_at s (at s v) idle x) h) (sym e) (makes_hears d v idle h x moves there))
-
-    granted : (page : ℕ) (s : Stage) → HearsAt (stage.Grant page) v.state v.closing v.gone h → bus.due v idle ≡ stage.Grant page → Hears (front_step.followed (bus_ask.Grant page) s idle v a) h
-    granted page (ring_stage.RingFrame k) there e = told (stage.Grant page) a refl there e
-    granted page ring_stage.NewPort there e = told (stage.Grant page) a refl there e
-    granted page s there e = is
-
-    ended : (page : ℕ) (s : Stage) → IsGone h → bus.due v idle ≡ stage.EndGrant page → Hears (front_step.followed (bus_ask.EndGrant page) s idle v a) h
-    ended page (ring_stage.RingRead k) there e = told (stage.EndGrant page) answer.Done refl there e
-    ended page ring_stage.ClosePort there e = told (stage.EndGrant page) answer.Done refl there e
-    ended page s there e = is
-
-    begun : (s : FrontStage) → HearsAt s v.state v.closing v.gone h → Follows later idle v a h s
-    begun (stage.RingWord word) there e quiet on = told (stage.RingWord word) a refl there e
-    begun (stage.Grant page) there e quiet on = granted page later there e
-    begun stage.NewPort there e quiet on = told stage.NewPort a refl there e
-    begun (stage.EndGrant page) there e quiet on = ended page later there e
-    begun stage.ClosePort there e quiet on = told stage.ClosePort a refl there e
-    begun stage.EndOtherGrants there e quiet on = is
-    begun stage.Rest there e quiet on = absurd (true≢false on)
-    begun stage.Closed there e quiet on = absurd (true≢false on)
-    begun (stage.Broken word) there e quiet on = absurd (true≢false on)
-    begun stage.Start there e quiet on = absurd (true≢false quiet)
-    begun stage.ReadState there e quiet on = absurd (true≢false quiet)
-    begun (stage.ReadFeature key) there e quiet on = absurd (true≢false quiet)
-    begun (stage.Publish key) there e quiet on = absurd (true≢false quiet)
-    begun (stage.ReadFact key) there e quiet on = absurd (true≢false quiet)
-    begun (stage.WriteState s) there e quiet on = absurd (true≢false quiet)
-
-    by_port : (gone : Bool) (port : Option ℕ) → v.stage ≡ stage.Rest → v.gone ≡ gone → Follows later idle v a h (bus.leaving gone port)
-    by_port false port here g e quiet on = absurd (true≢false on)
-    by_port true None here g e quiet on = is
-    by_port true (Some p) here g e quiet on = ended 0 later (dealt_gone v.state v.closing v.gone h (subst (λ (s : FrontStage). HearsAt s v.state v.closing v.gone h) here is) g) e
-
-    by_state : (own : BusState) → v.stage ≡ stage.Rest → Follows later idle v a h (bus.closing_stage own v)
-    by_state state.Closing here = by_port v.gone v.port here refl
-    by_state own here = λ e quiet on. absurd (true≢false quiet)
-
 -- while it waits it takes its watch
 abbrev pub heard_waiting : FrontAnswer → Heard → Heard
 heard_waiting (answer.Watched path) h = Fired
 heard_waiting a h = h
 
-waits_at : (d : FrontStage) (v : FrontView) (idle : Bool) (path : List ℕ) → bus.ask_at d v ≡ bus_ask.Wait → v.gone ≡ false → Hears (step_at d (at d v) idle (answer.Watched path)) Fired
-waits_at stage.Rest v idle path e gone = (refl, gone)
-waits_at stage.Closed v idle path e gone = tt
-waits_at (stage.Broken word) v idle path e gone = tt
-waits_at stage.Start v idle path e gone = bus_asks_on bus_ask.Watch refl e
-waits_at stage.ReadState v idle path e gone = bus_asks_on bus_ask.GetState refl e
-waits_at (stage.ReadFeature key) v idle path e gone = bus_asks_on (bus_ask.GetKey key) refl e
-waits_at (stage.RingWord word) v idle path e gone = bus_asks_on (bus_ask.WriteRingWord word) refl e
-waits_at (stage.Grant page) v idle path e gone = bus_asks_on (bus_ask.Grant page) refl e
-waits_at stage.NewPort v idle path e gone = bus_asks_on bus_ask.NewPort refl e
-waits_at (stage.Publish key) v idle path e gone = bus_asks_on (bus.ask_at (stage.Publish key) v) refl e
-waits_at (stage.ReadFact key) v idle path e gone = bus_asks_on (bus_ask.GetKey key) refl e
-waits_at (stage.WriteState s) v idle path e gone = bus_asks_on (bus_ask.SetState s) refl e
-waits_at (stage.EndGrant page) v idle path e gone = bus_asks_on (bus_ask.EndGrant page) refl e
-waits_at stage.EndOtherGrants v idle path e gone = bus_asks_on bus_ask.EndOtherGrants refl e
-waits_at stage.ClosePort v idle path e gone = bus_asks_on bus_ask.ClosePort refl e
+module _ (free : Type 0) where
+  -- told what it asked for
+  pub told_hears : (v : FrontView) (idle : Bool) (r : Stage) (h : Heard) (a : FrontAnswer) → (idle ≡ true → free) → FrontGoesWith v.stage v r → Hears free v h → front.speaks (bus.ask_of v idle) ≡ true → bus.IsAnswer (bus.ask_of v idle) a
+      → Hears free (step_of v idle a) (front_hears (front.key_ask (bus.ask_of v idle)) a h)
+  told_hears v idle r h a may goes is =
+      due_cases Told v idle (λ says allowed. says_at free v.stage v idle r h a may goes is says allowed) (λ here closing is_idle. by_state v.state here closing)
+    where
+      Told : FrontStage → Type 0
+      Told d = front.speaks (bus.ask_at d v) ≡ true → bus.IsAnswer (bus.ask_at d v) a → Hears free (step_at d (at d v) idle a) (front_hears (front.key_ask (bus.ask_at d v)) a h)
 
-pub woken_hears : (broken idle : Bool) (v : FrontView) (h : Heard) (a : FrontAnswer) → broken ≡ false → Hears v h → bus.ask_of v idle ≡ bus_ask.Wait → (v.stage ≡ stage.Rest → v.gone ≡ false) → Hears (front_step.woken broken idle v a) (heard_waiting a h)
-woken_hears true idle v h a whole is e gone = absurd (true≢false whole)
-woken_hears false idle v h (answer.Watched path) whole is e gone = settled_hears idle (step_of v idle (answer.Watched path)) Fired (by_bus (bus_waits v idle e))
-  where
-    over : (s : FrontStage) → v.stage ≡ s → bus.due_at s v idle ≡ s → Hears (step_at s (at s v) idle (answer.Watched path)) Fired → Hears (step_of v idle (answer.Watched path)) Fired
-    over s here same there = subst (λ (d : FrontStage). Hears (step_at d (at d v) idle (answer.Watched path)) Fired) (sym (ap (λ (t : FrontStage). bus.due_at t v idle) here ∙ same)) there
+      by_port : (gone : Bool) (port : Option ℕ) → Told (bus.leaving gone port)
+      by_port false port says allowed = absurd (true≢false (sym says))
+      by_port true None says allowed = absurd (true≢false (sym says))
+      by_port true (Some p) says allowed = absurd (true≢false (sym says))
 
-    by_bus : BusWaits v idle → Hears (step_of v idle (answer.Watched path)) Fired
-    by_bus (inl at_rest) = waits_at (bus.due v idle) v idle path e (gone at_rest.0)
-    by_bus (inr (inl here)) = over stage.Closed here refl tt
-    by_bus (inr (inr found)) = over (stage.Broken found.0) found.1 refl tt
-woken_hears false idle v h answer.Event whole is e gone = is
-woken_hears false idle v h answer.Done whole is e gone = is
-woken_hears false idle v h (answer.Word word) whole is e gone = is
-woken_hears false idle v h (answer.Port port) whole is e gone = is
-woken_hears false idle v h (answer.Key text) whole is e gone = is
+      writes : v.stage ≡ stage.Rest → v.closing ≡ true → (x : FrontAnswer) → bus.IsAnswer (bus_ask.SetState state.Closing) x
+          → Hears free (step_at (stage.WriteState state.Closing) (at (stage.WriteState state.Closing) v) idle x) (front_hears (front.key_ask (bus_ask.SetState state.Closing)) x h)
+      writes here closing answer.Done allowed = dealt_closing free v.state v.closing v.gone h (subst (λ (s : FrontStage). HearsAt free s v.state v.closing v.gone h) here is) closing
+      writes here closing x allowed = absurd allowed
+
+      by_state : (own : BusState) → v.stage ≡ stage.Rest → v.closing ≡ true → Told (bus.closing_stage own v)
+      by_state state.Closing here closing = by_port v.gone v.port
+      by_state own here closing = λ says allowed. writes here closing a allowed
+
+  either_at : (b : Bool) (x y : FrontStage) (own : BusState) (closing gone : Bool) (h : Heard) → HearsAt free x own closing gone h → HearsAt free y own closing gone h → HearsAt free (if b then x else y) own closing gone h
+  either_at true x y own closing gone h p q = p
+  either_at false x y own closing gone h p q = q
+
+  makes_hears : (s : FrontStage) (v : FrontView) (idle : Bool) (h : Heard) (a : FrontAnswer) → makes s ≡ true → HearsAt free s v.state v.closing v.gone h → Hears free (step_at s (at s v) idle a) h
+  makes_hears (stage.RingWord word) v idle h answer.Done is there = either_at (word == 15) (stage.Grant 0) (stage.RingWord (word + 1)) v.state v.closing v.gone h there there
+  makes_hears (stage.RingWord word) v idle h a is there = there
+  makes_hears (stage.Grant page) v idle h answer.Done is there = either_at (nat_lt (page + 1) (pages_of v)) (stage.Grant (page + 1)) stage.NewPort v.state v.closing v.gone h there there
+  makes_hears (stage.Grant page) v idle h a is there = there
+  makes_hears stage.NewPort v idle h (answer.Port port) is there = there
+  makes_hears stage.NewPort v idle h answer.Done is there = there
+  makes_hears stage.NewPort v idle h a is there = there
+  makes_hears (stage.EndGrant page) v idle h answer.Done is there = either_at (nat_lt (page + 1) (pages_of v)) (stage.EndGrant (page + 1)) stage.EndOtherGrants v.state v.closing v.gone h there there
+  makes_hears (stage.EndGrant page) v idle h a is there = there
+  makes_hears stage.ClosePort v idle h answer.Done is there = there
+  makes_hears stage.ClosePort v idle h a is there = there
+  makes_hears s v idle h a is there = absurd (true≢false (sym is))
+
+  -- what its negotiation learns of a move of the ring's end, where that asks for more than a wait
+  abbrev Follows : (later : Stage) (idle : Bool) (v : FrontView) (a : FrontAnswer) (h : Heard) → FrontStage → Type 0
+  Follows later idle v a h d = bus.due v idle ≡ d → front.speaks (bus.ask_at d v) ≡ false → front_view.rests (bus.ask_at d v) ≡ false → Hears free (front_step.followed (bus.ask_at d v) later idle v a) h
+
+  pub follows_hears : (v : FrontView) (idle : Bool) (later : Stage) (h : Heard) (a : FrontAnswer) → Hears free v h → front.speaks (bus.ask_of v idle) ≡ false → front_view.rests (bus.ask_of v idle) ≡ false
+      → Hears free (front_step.followed (bus.ask_of v idle) later idle v a) h
+  follows_hears v idle later h a is quiet on =
+      due_cases (Follows later idle v a h) v idle (begun v.stage is) (λ here closing is_idle. by_state v.state here) refl quiet on
+    where
+      told : (d : FrontStage) (x : FrontAnswer) → makes d ≡ true → HearsAt free d v.state v.closing v.gone h → bus.due v idle ≡ d → Hears free (front_step.bus_told idle v x) h
+      told d x moves there e = settled_hears free idle (step_of v idle x) h (subst (λ (s : FrontStage). Hears free (step_at s (at s v) idle x) h) (sym e) (makes_hears d v idle h x moves there))
+
+      granted : (page : ℕ) (s : Stage) → HearsAt free (stage.Grant page) v.state v.closing v.gone h → bus.due v idle ≡ stage.Grant page → Hears free (front_step.followed (bus_ask.Grant page) s idle v a) h
+      granted page (ring_stage.RingFrame k) there e = told (stage.Grant page) a refl there e
+      granted page ring_stage.NewPort there e = told (stage.Grant page) a refl there e
+      granted page s there e = is
+
+      ended : (page : ℕ) (s : Stage) → IsGone h → bus.due v idle ≡ stage.EndGrant page → Hears free (front_step.followed (bus_ask.EndGrant page) s idle v a) h
+      ended page (ring_stage.RingRead k) there e = told (stage.EndGrant page) answer.Done refl there e
+      ended page ring_stage.ClosePort there e = told (stage.EndGrant page) answer.Done refl there e
+      ended page s there e = is
+
+      begun : (s : FrontStage) → HearsAt free s v.state v.closing v.gone h → Follows later idle v a h s
+      begun (stage.RingWord word) there e quiet on = told (stage.RingWord word) a refl there e
+      begun (stage.Grant page) there e quiet on = granted page later there e
+      begun stage.NewPort there e quiet on = told stage.NewPort a refl there e
+      begun (stage.EndGrant page) there e quiet on = ended page later there e
+      begun stage.ClosePort there e quiet on = told stage.ClosePort a refl there e
+      begun stage.EndOtherGrants there e quiet on = is
+      begun stage.Rest there e quiet on = absurd (true≢false on)
+      begun stage.Closed there e quiet on = absurd (true≢false on)
+      begun (stage.Broken word) there e quiet on = absurd (true≢false on)
+      begun stage.Start there e quiet on = absurd (true≢false quiet)
+      begun stage.ReadState there e quiet on = absurd (true≢false quiet)
+      begun (stage.ReadFeature key) there e quiet on = absurd (true≢false quiet)
+      begun (stage.Publish key) there e quiet on = absurd (true≢false quiet)
+      begun (stage.ReadFact key) there e quiet on = absurd (true≢false quiet)
+      begun (stage.WriteState s) there e quiet on = absurd (true≢false quiet)
+
+      by_port : (gone : Bool) (port : Option ℕ) → v.stage ≡ stage.Rest → v.gone ≡ gone → Follows later idle v a h (bus.leaving gone port)
+      by_port false port here g e quiet on = absurd (true≢false on)
+      by_port true None here g e quiet on = is
+      by_port true (Some p) here g e quiet on = ended 0 later (dealt_gone free v.state v.closing v.gone h (subst (λ (s : FrontStage). HearsAt free s v.state v.closing v.gone h) here is) g) e
+
+      by_state : (own : BusState) → v.stage ≡ stage.Rest → Follows later idle v a h (bus.closing_stage own v)
+      by_state state.Closing here = by_port v.gone v.port here refl
+      by_state own here = λ e quiet on. absurd (true≢false quiet)
+
+  waits_at : (d : FrontStage) (v : FrontView) (idle : Bool) (path : List ℕ) → bus.ask_at d v ≡ bus_ask.Wait → v.gone ≡ false → Hears free (step_at d (at d v) idle (answer.Watched path)) Fired
+  waits_at stage.Rest v idle path e gone = (refl, gone)
+  waits_at stage.Closed v idle path e gone = tt
+  waits_at (stage.Broken word) v idle path e gone = tt
+  waits_at stage.Start v idle path e gone = bus_asks_on bus_ask.Watch refl e
+  waits_at stage.ReadState v idle path e gone = bus_asks_on bus_ask.GetState refl e
+  waits_at (stage.ReadFeature key) v idle path e gone = bus_asks_on (bus_ask.GetKey key) refl e
+  waits_at (stage.RingWord word) v idle path e gone = bus_asks_on (bus_ask.WriteRingWord word) refl e
+  waits_at (stage.Grant page) v idle path e gone = bus_asks_on (bus_ask.Grant page) refl e
+  waits_at stage.NewPort v idle path e gone = bus_asks_on bus_ask.NewPort refl e
+  waits_at (stage.Publish key) v idle path e gone = bus_asks_on (bus.ask_at (stage.Publish key) v) refl e
+  waits_at (stage.ReadFact key) v idle path e gone = bus_asks_on (bus_ask.GetKey key) refl e
+  waits_at (stage.WriteState s) v idle path e gone = bus_asks_on (bus_ask.SetState s) refl e
+  waits_at (stage.EndGrant page) v idle path e gone = bus_asks_on (bus_ask.EndGrant page) refl e
+  waits_at stage.EndOtherGrants v idle path e gone = bus_asks_on bus_ask.EndOtherGrants refl e
+  waits_at stage.ClosePort v idle path e gone = bus_asks_on bus_ask.ClosePort refl e
+
+  pub woken_hears : (broken idle : Bool) (v : FrontView) (h : Heard) (a : FrontAnswer) → broken ≡ false → Hears free v h → bus.ask_of v idle ≡ bus_ask.Wait → (v.stage ≡ stage.Rest → v.gone ≡ false) → Hears free (front_step.woken broken idle v a) (heard_waiting a h)
+  woken_hears true idle v h a whole is e gone = absurd (true≢false whole)
+  woken_hears false idle v h (answer.Watched path) whole is e gone = settled_hears free idle (step_of v idle (answer.Watched path)) Fired (by_bus (bus_waits v idle e))
+    where
+      over : (s : FrontStage) → v.stage ≡ s → bus.due_at s v idle ≡ s → Hears free (step_at s (at s v) idle (answer.Watched path)) Fired → Hears free (step_of v idle (answer.Watched path)) Fired
+      over s here same there = subst (λ (d : FrontStage). Hears free (step_at d (at d v) idle (answer.Watched path)) Fired) (sym (ap (λ (t : FrontStage). bus.due_at t v idle) here ∙ same)) there
+
+      by_bus : BusWaits v idle → Hears free (step_of v idle (answer.Watched path)) Fired
+      by_bus (inl at_rest) = waits_at (bus.due v idle) v idle path e (gone at_rest.0)
+      by_bus (inr (inl here)) = over stage.Closed here refl tt
+      by_bus (inr (inr found)) = over (stage.Broken found.0) found.1 refl tt
+  woken_hears false idle v h answer.Event whole is e gone = is
+  woken_hears false idle v h answer.Done whole is e gone = is
+  woken_hears false idle v h (answer.Word word) whole is e gone = is
+  woken_hears false idle v h (answer.Port port) whole is e gone = is
+  woken_hears false idle v h (answer.Key text) whole is e gone = is
 
 -- and it leaves what the negotiation wrote, whether it closes and whether the back is gone
 abbrev pub IsKept : FrontView → FrontView → Type 0

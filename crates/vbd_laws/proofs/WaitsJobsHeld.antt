@@ -18,6 +18,7 @@ use Rattle.blk_back.specs.declared.stage.Reply.{Reply}
 use Rattle.blk_back.specs.declared.stage.Stage.{Stage}
 use Rattle.blk_back.specs.declared.stage.Stage.TheVariants as stage
 use Rattle.blk_back.specs.declared.told.Halt.{Halt}
+use Rattle.blk_back.specs.declared.told.Halt.TheVariants as halt
 use Rattle.blk_back.specs.View as ends
 use Rattle.blk_back.specs.Ask.{next_reply, is_wait}
 use Rattle.blk_back.specs.Step.{overrun, looked, loop_step, next_number, fetched, fetch_step, may_attach, attached, halts, step_at, job_ask_of}
@@ -27,11 +28,12 @@ use Rattle.xenbus_state.specs.BackStep as bus
 use Rattle.split_model.specs.World as rings
 use Rattle.split_model.specs.Happening as ring
 use Rattle.split_model.proofs.States.{halts_cases}
+use Rattle.split_model.proofs.Suspending.{suspend_cases, begun_back, back_cases as new_back_cases}
 use Rattle.vbd_back.specs.View as back_view
 use Rattle.vbd_back.specs.Ask as back
 use Rattle.vbd_back.specs.Step as back_step
 use Rattle.vbd_model.specs.World.{World, start_of, backend_of}
-use Rattle.vbd_model.specs.Happening.{Happening, FrontMoves, BackMoves, JobMoves, Closes, front_turn, back_turn, back_does, happens, after}
+use Rattle.vbd_model.specs.Happening.{Happening, FrontMoves, BackMoves, JobMoves, Closes, Suspends, front_turn, back_turn, back_does, happens, after}
 use Rattle.vbd_model.specs.Fit.{IsFit}
 use Rattle.vbd_laws.specs.Waits.{IsOver, JobMayWait, JobWaits}
 use Rattle.vbd_laws.proofs.Fit.{fit_start, fit_happens}
@@ -119,6 +121,9 @@ supplies_on w BackMoves fit all = back_turns w (back_turn w) fit all refl
 supplies_on w (JobMoves number outcome) fit all = job_turns w number (ring.job_turn w.rings number outcome) all
 supplies_on w (Closes end.Front) fit all = all
 supplies_on w (Closes end.Back) fit all = all
+supplies_on w Suspends fit all =
+    suspend_cases (λ (v : rings.World) shown. Supplies v.back) w.rings
+    (λ may. new_back_cases Supplies w.rings (All-nil IsSupplied) (halts_supplies (halt.Gone 6) (begun_back w.rings) (All-nil IsSupplied))) all
 supplies_on w h fit all = all
 
 supplies_after : (hs : List Happening) (w : World) → IsFit w → Supplies w.rings.back → SuppliesIn (after hs w)

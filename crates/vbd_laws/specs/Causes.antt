@@ -49,12 +49,13 @@ abbrev pub order_said : Option (List ℕ) → Option ℕ
 order_said None = Some 0
 order_said (Some text) = order_of (number_of text)
 
--- the order after a line, which was this before it: the one that the back read of the front's key
+-- the order after a line, which was this before it: the one that the back read of the front's key; after a suspend the new back has read none
 abbrev pub order_path : List ℕ
 order_path = path_under end.Front (front_name key.RingPageOrder)
 
 abbrev pub order_after : ℕ → Line → ℕ
 order_after order (lines.Move (moves.GetKey mover.Back path text)) = if bytes_eq path order_path then unwrap_or (order_said text) order else order
+order_after order lines.Epoch = 0
 order_after order line = order
 
 abbrev pub order_from : ℕ → List Line → ℕ

@@ -1,4 +1,4 @@
--- When each end waits, and a job: told from what an end asked and was answered, and from the state that it wrote last.
+-- When each end waits, and a job: told from what an end asked and was answered since the last suspend, and from the state that it wrote last.
 use Rattle.std.specs.Str.{bytes_eq}
 use Rattle.std.specs.Prelude.{◌≡◌, ◌≢◌, ◌↔◌, ◌⊎◌, ℕ, ◌==◌, ◌≤◌, ◌&&◌, Bool, true, false, if◌then◌else◌, List, [], ◌∷◌, Option, Some, None, is_some}
 use Rattle.blk_base.specs.Options.{Options}
@@ -13,6 +13,7 @@ use Rattle.blk_base.specs.declared.ask.BackAnswer.TheVariants as back_answer
 use Rattle.blk_base.specs.declared.parts.Mapping.{Mapping}
 use Rattle.hypervisor.specs.Act.{FrontAct, BackAct}
 use Rattle.blk_front.specs.View.{ring_frame, next_request}
+use Rattle.blk_front.specs.State.{is_open}
 use Rattle.xenbus_state.specs.declared.state.BusState.{BusState}
 use Rattle.xenbus_state.specs.declared.state.BusState.TheVariants as state
 use Rattle.xenbus_state.specs.declared.table.FrontAction.{FrontAction}
@@ -22,6 +23,7 @@ use Rattle.xenbus_state.specs.Tables as tables
 use Rattle.xenbus_state.specs.declared.table.BackAction.TheVariants as back_action
 use Rattle.back_jobs.specs.Task.{Work}
 use Rattle.back_jobs.specs.Jobs.{is_done, work_of, waits as is_held_up}
+use Rattle.split_model.specs.World.{may_suspend}
 use Rattle.blk_back.specs.View as ring
 use Rattle.blk_back.specs.View.{page_of}
 use Rattle.blk_back.specs.Ask.{next_reply}
@@ -30,7 +32,7 @@ use Rattle.vbd_front.specs.Ask as front
 use Rattle.vbd_back.specs.Ask as back
 use Rattle.vbd_back.specs.Step as back_step
 use Rattle.vbd_model.specs.World.{World, start_of, frontend_of, backend_of}
-use Rattle.vbd_model.specs.Happening.{Happening, FrontMoves, BackMoves, front_turn, back_turn, happens, after}
+use Rattle.vbd_model.specs.Happening.{Happening, FrontMoves, BackMoves, Suspends, front_turn, back_turn, happens, after}
 
 -- How far an end has come with its final check (RING_FINAL_CHECK_FOR_REQUESTS and _RESPONSES of `io/ring.h`).
 -- It stored its event word; a fence came right after that; and the next read, of the other's producer, showed its own consumer.
@@ -82,8 +84,13 @@ abbrev pub front_check_by : World → Option FrontAct → Check → Check
 front_check_by w None c = c
 front_check_by w (Some a) c = front_checks w.rings.front.ring.cons (front.ask_of (frontend_of w)) a.answer c
 
+-- a front that is neither closed nor broken begins anew as its domain is suspended
+abbrev pub front_begins : World → Bool
+front_begins w = may_suspend w.rings && is_open w.rings.front.stage
+
 abbrev pub front_check_in : World → Happening → Check → Check
 front_check_in w FrontMoves c = front_check_by w (front_turn w) c
+front_check_in w Suspends c = if front_begins w then Awake else c
 front_check_in w h c = c
 
 abbrev pub front_check : List Happening → World → Check → Check
@@ -111,6 +118,7 @@ front_heard_by w (Some a) h = front_hears (front.ask_of (frontend_of w)) a.answe
 
 abbrev pub front_heard_in : World → Happening → Heard → Heard
 front_heard_in w FrontMoves h = front_heard_by w (front_turn w) h
+front_heard_in w Suspends h = if front_begins w then Unwatched else h
 front_heard_in w happening h = h
 
 abbrev pub front_heard : List Happening → World → Heard → Heard
@@ -188,6 +196,7 @@ back_check_by w (Some a) c = back_checks (page_of w.rings.back 0) w.rings.back.r
 
 abbrev pub back_check_in : World → Happening → Check → Check
 back_check_in w BackMoves c = back_check_by w (back_turn w) c
+back_check_in w Suspends c = if may_suspend w.rings then Awake else c
 back_check_in w h c = c
 
 abbrev pub back_check : List Happening → World → Check → Check
@@ -208,6 +217,7 @@ back_heard_by w (Some a) h = back_hears (back.ask_of (backend_of w)) a.answer h
 
 abbrev pub back_heard_in : World → Happening → Heard → Heard
 back_heard_in w BackMoves h = back_heard_by w (back_turn w) h
+back_heard_in w Suspends h = if may_suspend w.rings then Unwatched else h
 back_heard_in w happening h = h
 
 abbrev pub back_heard : List Happening → World → Heard → Heard

@@ -12,12 +12,12 @@ use Rattle.plain_disk.specs.Echo.{Answers, AnswersAll, AnswersSettle, AnswersLoo
 use Rattle.blk_front.specs.declared.state.FrontState.{FrontState}
 use Rattle.blk_back.specs.declared.told.Halt.{Halt}
 use Rattle.split_model.specs.Happening as ring
-use Rattle.split_model.proofs.Echo.{echo_of, echo-append, is_move as is_ring_move, moves_silent as ring_moves_silent, are_moves-append as ring_moves-append, submit_answers, poke_echo, dump_answers, overwritten_echo}
+use Rattle.split_model.proofs.Echo.{echo_of, echo-append, is_move as is_ring_move, moves_silent as ring_moves_silent, are_moves-append as ring_moves-append, submit_answers, poke_echo, dump_answers, overwritten_echo, suspend_echo}
 use Rattle.xenbus_state.specs.BackView.{BackView}
 use Rattle.vbd_front.specs.Ask as front
 use Rattle.vbd_back.specs.Ask as back
 use Rattle.vbd_model.specs.World.{World, is_quiet, frontend_of, backend_of}
-use Rattle.vbd_model.specs.Happening.{Happening, FrontMoves, BackMoves, JobMoves, Closes, Submits, Notifies, Pokes, OverwritesKey, Dumps, Looks, Settles, front_key, entered_at, halted_at, front_enters, back_halts, back_negotiates, back_bus_after, attaches, front_turn, back_turn, is_fronts_ring, is_backs_ring, does, happens, after, lines_of, all_does}
+use Rattle.vbd_model.specs.Happening.{Happening, FrontMoves, BackMoves, JobMoves, Closes, Submits, Notifies, Pokes, OverwritesKey, Suspends, Dumps, Looks, Settles, front_key, entered_at, halted_at, front_enters, back_halts, back_negotiates, back_bus_after, attaches, front_turn, back_turn, is_fronts_ring, is_backs_ring, does, happens, after, lines_of, all_does}
 use Rattle.vbd_model.specs.Kind.{is_carried, Makes, AreOf, AreOfAll, AreJobMoves, AreEachJobs, round_start, IsRound, AreRounds, never}
 use Rattle.split_model.specs.World as rings
 use Rattle.split_model.proofs.Narrow.{after_narrow}
@@ -72,6 +72,7 @@ does_moves w (Notifies at) m = (refl, tt)
 does_moves w (Submits job) m = absurd (cc)
 does_moves w (Pokes frame word value) m = absurd (cc)
 does_moves w (OverwritesKey name text) m = absurd (cc)
+does_moves w Suspends m = absurd (cc)
 does_moves w Dumps m = absurd (cc)
 does_moves w (Looks quiet) m = absurd (cc)
 does_moves w (Settles quiet) m = absurd (cc)
@@ -154,7 +155,7 @@ made_echo order events.Look w hs narrow c k =
     let a = look_answers (is_quiet w) in
     (a.0, ap (λ (l : List Happening). echo_of (lines_of l w)) k ∙ a.1, a.2)
 made_echo order (events.Notify at) w hs narrow c k = ap (λ (l : List Happening). echo_of (lines_of l w)) k
-made_echo order events.Suspend w hs narrow c k = absurd k
+made_echo order events.Suspend w hs narrow c k = ap echo_of (shows_same w Suspends ring.Suspends hs refl k.0) ∙ suspend_echo w.rings k.1
 made_echo order (events.Close at) w hs narrow c k = ap (λ (l : List Happening). echo_of (lines_of l w)) k ∙ moves_silent (Closes at ∷ []) w (refl, tt)
 made_echo order (events.Poke frame word value) w hs narrow c k = ap echo_of (shows_same w (Pokes frame word value) (ring.Pokes frame word value) hs refl k.0) ∙ poke_echo w.rings frame word value c
 made_echo order (events.Key name text) w hs narrow c k = ap echo_of (shows_same w (OverwritesKey name text) (ring.OverwritesKey name text) hs refl k) ∙ overwritten_echo w.rings name text c

@@ -6,6 +6,7 @@ use Rattle.split_model.specs.World as rings
 use Rattle.split_model.specs.Happening as ring
 use Rattle.split_model.proofs.Running.{runs_attachment as ring_runs_attachment}
 use Rattle.split_model.proofs.SafeFront.{sectors_front, entered_kept, submit_kept}
+use Rattle.split_model.proofs.Suspending.{suspend_cases, front_kept}
 use Rattle.vbd_model.specs.World.{World}
 use Rattle.vbd_model.specs.Happening.{Happening, does, happens, after, DiskGoes}
 
@@ -38,6 +39,7 @@ ring_sectors_kept w (ring.Submits job) = let kept = submit_kept w.front job in k
 ring_sectors_kept w (ring.Notifies at) = refl
 ring_sectors_kept w (ring.Pokes frame word value) = refl
 ring_sectors_kept w (ring.OverwritesKey name text) = refl
+ring_sectors_kept w ring.Suspends = suspend_cases (λ v shown. v.front.sectors ≡ w.front.sectors) w (λ may. (front_kept w.front).sectors) refl
 ring_sectors_kept w ring.Dumps = refl
 ring_sectors_kept w (ring.Looks quiet) = refl
 ring_sectors_kept w (ring.Settles quiet) = refl

@@ -58,6 +58,7 @@ use Rattle.blk_back.specs.Step.{giving_up, give_up, unbound, bound, other_pages,
 use Rattle.split_model.proofs.SafeActs.{made_back, made_front, of_back}
 use Rattle.split_model.proofs.States.{halts_cases}
 use Rattle.split_model.proofs.Attaching.{attach_cases}
+use Rattle.split_model.proofs.Suspending.{suspend_cases, begun_back, suspended_cases}
 use Rattle.split_model.specs.World as rings
 use Rattle.split_model.specs.Happening as ring
 use Rattle.xenbus_state.specs.BackView.{BackView}
@@ -385,6 +386,12 @@ overwritten_left : (b : Bool) (w : rings.World) (x : Hypervisor) → x.grants �
 overwritten_left true w x same = let made = ap (λ (t : GrantTable). t.made) same in omega arith
 overwritten_left false w x same = omega arith
 
+-- a suspend drops all jobs, and the numbers go on
+suspend_left : (w : rings.World) → mappings_in (ring.happens w ring.Suspends) ≤ mappings_in w
+suspend_left w =
+    suspend_cases (λ (v : rings.World) shown. mappings_in v ≤ mappings_in w) w
+    (λ may. suspended_cases (λ (v : rings.World). mappings_in v ≤ mappings_in w) w (λ opened. omega arith) (λ closed. let none = halted_left (halt.Gone 6) (begun_back w) in omega arith)) (omega arith)
+
 -- what a happening of the ring's machine comes to
 abbrev pub cost_of : ring.Happening → ℕ
 cost_of ring.BackMoves = 41
@@ -402,6 +409,7 @@ ring_left w (ring.Submits job) = omega arith
 ring_left w (ring.Notifies at) = omega arith
 ring_left w (ring.Pokes frame word value) = let same = overwritten_left (ring.is_guest_word frame word) w (with_pages w.under (with_word w.under.pages frame word value)) refl in omega arith
 ring_left w (ring.OverwritesKey name text) = let same = overwritten_left (ring.is_guest_key name text) w (with_keys w.under (written w.under.keys (front_path name) text)) refl in omega arith
+ring_left w ring.Suspends = let less = suspend_left w in omega arith
 ring_left w ring.Dumps = omega arith
 ring_left w (ring.Looks quiet) = omega arith
 ring_left w (ring.Settles quiet) = omega arith

@@ -1,5 +1,5 @@
 -- The requests that a history submits to the ring's machine are those that its events submit, in order.
-use Rattle.std.proofs.Common.{◌≡◌, ℕ, Bool, true, inl, inr, List, [], ◌∷◌, ◌++◌, refl, ap, sym, ◌∙◌}
+use Rattle.std.proofs.Common.{◌≡◌, ℕ, Bool, true, false, inl, inr, List, [], ◌∷◌, ◌++◌, refl, ap, sym, ◌∙◌}
 use Rattle.std.specs.Prelude.{replicate}
 use Rattle.std.specs.List.{AllByRecursion}
 use Rattle.std.proofs.lemmas.List.Elements.{filter_map-append}
@@ -10,7 +10,7 @@ use Rattle.split_model.specs.Happening as ring
 use Rattle.split_model.proofs.Echo.{is_move as is_ring_move}
 use Rattle.machine_pipeline.specs.Submissions.{job_submitted, jobs_of, submitted_at, submitted_of}
 use Rattle.vbd_model.specs.World.{World, is_quiet}
-use Rattle.vbd_model.specs.Happening.{Happening, FrontMoves, BackMoves, Closes, Submits, Notifies, Pokes, OverwritesKey, Dumps, Looks, Settles, after, all_does}
+use Rattle.vbd_model.specs.Happening.{Happening, FrontMoves, BackMoves, Closes, Submits, Notifies, Pokes, OverwritesKey, Suspends, Dumps, Looks, Settles, after, all_does}
 use Rattle.vbd_model.specs.Kind.{Makes, MakesSoFar, AreOf, AreOfSoFar, AreOfAll, round_start, IsBeginning, IsRoundSoFar, AreRoundsSoFar, IsSettlingSoFar, never, settle_bound}
 use Rattle.vbd_model.proofs.Running.{all_does-append}
 use Rattle.vbd_model.proofs.Echo.{is_move, all_do_moves, front_are_moves, back_are_moves, job_are_moves, each_are_moves, start_are_moves, rounds_are_moves}
@@ -56,7 +56,7 @@ made_submits events.Settle w hs is =
     (moves_submit is.rounds w (rounds_are_moves is_quiet is.are_rounds.count w is.rounds is.are_rounds.are_rounds)) refl
 made_submits events.Look w hs is = same_submit hs (Looks (is_quiet w) ∷ []) w is
 made_submits (events.Notify at) w hs is = same_submit hs (Notifies at ∷ []) w is
-made_submits events.Suspend w hs is = absurd is
+made_submits events.Suspend w hs is = same_submit hs (Suspends ∷ []) w is.0
 made_submits (events.Close at) w hs is = same_submit hs (Closes at ∷ []) w is ∙ moves_submit (Closes at ∷ []) w (refl, tt)
 made_submits (events.Poke frame word value) w hs is = same_submit hs (Pokes frame word value ∷ []) w is.0
 made_submits (events.Key name text) w hs is = same_submit hs (OverwritesKey name text ∷ []) w is
@@ -84,6 +84,8 @@ made_so_far_submits (events.Back n) w hs is = begun_submits hs (replicate n Back
 made_so_far_submits (events.Job number n) w hs is = moves_submit hs w (job_are_moves number hs is.0)
 made_so_far_submits (events.Turn n) w hs is = rounds_so_far_submit never n w hs is
 made_so_far_submits events.Settle w hs is = settling_so_far_submits w hs is
+made_so_far_submits events.Suspend w hs (inl is) = same_submit hs (Suspends ∷ []) w is.0
+made_so_far_submits events.Suspend w hs (inr is) = same_submit hs (Looks false ∷ []) w is.0
 made_so_far_submits e w hs is = made_submits e w hs is
 
 pub event_submits : (e : Event) (w : World) (hs : List Happening) → AreOf e w hs → submitted_of (all_does hs w) ≡ jobs_of (e ∷ [])

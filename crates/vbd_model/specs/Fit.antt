@@ -1,14 +1,16 @@
--- What is true of the machine at every moment: each end's negotiation and its end of the ring go together, and no event is pending at an end whose port isn't bound.
-use Rattle.std.specs.Prelude.{◌≡◌, ℕ, ◌^◌, ◌<◌, ◌≤◌, ◌⊎◌, Bool, true, false, [], length, Option, Some, None, IsSome, is_some}
+-- What is true of the machine at every moment: each end's negotiation and its end of the ring go together, the front reads what its back offers only once all of that is said, and no event is pending at an end whose port isn't bound.
+use Rattle.std.specs.Prelude.{◌≡◌, ℕ, ◌^◌, ◌<◌, ◌≤◌, ◌⊎◌, min, Bool, true, false, [], length, Option, Some, None, IsSome, is_some}
 use Rattle.blk_base.specs.declared.parts.End.TheVariants as end
 use Rattle.segment_list.specs.declared.verdict.DiskInfo.{DiskInfo}
 use Rattle.key_directory.specs.Directory.{Directory, key_of}
+use Rattle.ring_words.specs.Shape.{entries_of}
 use Rattle.event_channel.specs.Channels.{ChannelState, is_bound}
 use Rattle.blk_front.specs.declared.stage.Stage.{Stage as FrontRing}
 use Rattle.blk_front.specs.declared.stage.Stage.TheVariants as front_ring
 use Rattle.blk_front.specs.Ask.{is_through}
-use Rattle.blk_front.specs.Submit.{is_ready}
+use Rattle.blk_front.specs.Submit.{is_ready, unfinished}
 use Rattle.blk_front.specs.State.{is_made, is_bare}
+use Rattle.blk_front.specs.Suspend.{is_left}
 use Rattle.blk_back.specs.declared.stage.Stage.{Stage as BackRing}
 use Rattle.blk_back.specs.declared.stage.Stage.TheVariants as back_ring
 use Rattle.blk_back.specs.View as ends
@@ -25,12 +27,14 @@ use Rattle.xenbus_state.specs.declared.offer.Features.{Features}
 use Rattle.xenbus_state.specs.declared.offer.DiskFacts.{DiskFacts}
 use Rattle.xenbus_state.specs.Keys.{back_name, path_under}
 use Rattle.xenbus_state.specs.Values.{text_of, back_value}
-use Rattle.xenbus_state.specs.Programs.{IsFact}
-use Rattle.xenbus_state.specs.FrontView.{FrontView, ring_order}
+use Rattle.xenbus_state.specs.States.{state_read}
+use Rattle.xenbus_state.specs.Programs.{IsFeature, IsFact}
+use Rattle.xenbus_state.specs.FrontView.{FrontView}
 use Rattle.xenbus_state.specs.BackView.{BackView, is_halting}
 use Rattle.xenbus_state.specs.BackSound.{IsSound}
 use Rattle.split_model.specs.Safe.{IsSafe}
 use Rattle.vbd_front.specs.View.{is_broken}
+use Rattle.vbd_front.specs.Ask.{other_state}
 use Rattle.vbd_back.specs.View.{offer}
 use Rattle.vbd_back.specs.Step.{shape_read}
 use Rattle.vbd_model.specs.World.{World}
@@ -58,9 +62,13 @@ IsGranting page (front_ring.RingFence k) = k ≡ page
 IsGranting page (front_ring.RingFlags k) = k ≡ page
 IsGranting page r = ⊥
 
+-- the ring is made next; or data are left in hand after a suspend, which are told first
+abbrev pub IsUnbegun : FrontRing → Type 0
+IsUnbegun r = (r ≡ front_ring.RingWord 0) ⊎ (is_left r ≡ true)
+
 -- and as it is at this; a ring that is broken leaves it at rest
 abbrev pub FrontGoesWith : FrontStage → FrontView → FrontRing → Type 0
-FrontGoesWith front.Start v r = (v.state ≡ state.Initialising) × (r ≡ front_ring.RingWord 0) × (v.port ≡ None)
+FrontGoesWith front.Start v r = (v.state ≡ state.Initialising) × IsUnbegun r × (v.port ≡ None)
 FrontGoesWith front.Rest v r = FrontRests v.state v.gone v.port r ⊎ (is_broken r ≡ true)
 FrontGoesWith front.ReadState v r = FrontRests v.state v.gone v.port r
 FrontGoesWith (front.ReadFeature key) v r = (v.state ≡ state.Initialising) × (r ≡ front_ring.RingWord 0) × (v.port ≡ None)
@@ -78,25 +86,25 @@ FrontGoesWith front.Closed v r = (v.state ≡ state.Closed) × (r ≡ front_ring
 FrontGoesWith (front.Broken word) v r = is_broken r ≡ true
 FrontGoesWith b v r = ⊥
 
--- before it has made a ring at rest, and once it has its port
-abbrev pub OpenOrdered : Option ℕ → (agreed order : ℕ) → Type 0
-OpenOrdered None agreed order = Unit {0}
-OpenOrdered (Some port) agreed order = order ≡ agreed
+-- the order of the ring is agreed with a back that offers rings of up to 16 pages, order 4
+abbrev pub IsAgreed : (wished offered order : ℕ) → Type 0
+IsAgreed wished offered order = (order ≡ min wished offered) × (offered ≡ 4)
 
-abbrev pub RestsOrdered : BusState → Option ℕ → (wished agreed order : ℕ) → Type 0
-RestsOrdered state.Initialising port wished agreed order = order ≡ wished
-RestsOrdered s port wished agreed order = OpenOrdered port agreed order
+-- until then the front's end of the ring has the order that it wishes, or the one that was agreed in an earlier epoch
+abbrev pub IsWished : (wished offered order : ℕ) → Type 0
+IsWished wished offered order = (order ≡ wished) ⊎ IsAgreed wished offered order
 
--- the order of the ring is agreed as it is begun; until then the front's end of the ring has the order that it wishes
+-- without a port, and with one
+abbrev pub PortOrdered : Option ℕ → (wished offered order : ℕ) → Type 0
+PortOrdered None wished offered order = IsWished wished offered order
+PortOrdered (Some port) wished offered order = IsAgreed wished offered order
+
+-- the order is agreed as the ring is begun
 abbrev pub FrontOrdered : FrontStage → FrontView → (order : ℕ) → Type 0
-FrontOrdered front.Start v order = order ≡ v.order
-FrontOrdered (front.ReadFeature key) v order = order ≡ v.order
-FrontOrdered (front.RingWord word) v order = order ≡ ring_order v
-FrontOrdered (front.Grant page) v order = order ≡ ring_order v
-FrontOrdered front.NewPort v order = order ≡ ring_order v
-FrontOrdered front.Rest v order = RestsOrdered v.state v.port v.order (ring_order v) order
-FrontOrdered front.ReadState v order = RestsOrdered v.state v.port v.order (ring_order v) order
-FrontOrdered s v order = OpenOrdered v.port (ring_order v) order
+FrontOrdered (front.RingWord word) v order = IsAgreed v.order v.features.order order
+FrontOrdered (front.Grant page) v order = IsAgreed v.order v.features.order order
+FrontOrdered front.NewPort v order = IsAgreed v.order v.features.order order
+FrontOrdered s v order = PortOrdered v.port v.order v.features.order order
 
 -- the back's end of the ring has its pages and its port, and hasn't halted
 abbrev pub is_serving : BackRing → Bool
@@ -203,9 +211,20 @@ SaidBefore says back_key.FeatureMaxIndirectSegments = says back_key.FeatureBarri
 SaidBefore says back_key.MaxRingPageOrder = says back_key.FeatureBarrier × says back_key.FeatureFlushCache × says back_key.FeatureDiscard × says back_key.FeatureMaxIndirectSegments
 SaidBefore says k = IsServiceSaid says
 
+-- a back that has halted promises nothing of its keys: it may have halted from its beginning
 abbrev pub SaidAt : (says : BackKey → Type 0) → BackStage → Type 0
 SaidAt says (back.Publish k) = SaidBefore says k
+SaidAt says back.Halted = Unit {0}
 SaidAt says b = IsServiceSaid says
+
+-- the back's state says that the back offers only where its keys say what
+abbrev pub IsAnnounced : (says : BackKey → Type 0) → Directory → Type 0
+IsAnnounced says d = state_read (key_of d.keys other_state) ≡ Some state.InitWait → IsServiceSaid says
+
+-- a front that reads what the back offers reads a key that says some of it, once they all do
+abbrev pub ReadsOffer : (says : BackKey → Type 0) → FrontStage → Type 0
+ReadsOffer says (front.ReadFeature k) = IsFeature k × IsServiceSaid says
+ReadsOffer says s = Unit {0}
 
 -- no port is bound, and no event is pending at the back, before it binds
 abbrev pub IsUnbound : BackRing → ChannelState → Type 0
@@ -214,15 +233,18 @@ IsUnbound back_ring.MapRing c = (is_bound c ≡ false) × (c.back_pending ≡ fa
 IsUnbound back_ring.Bind c = (is_bound c ≡ false) × (c.back_pending ≡ false)
 IsUnbound r c = Unit {0}
 
--- the machine is safe, and so is the back's negotiation; each negotiation goes with its end of the ring, closes and halts with it, and a front that wrote Closing has no request left; both know the shape of the ring, the references of its pages and the port; the back offers what it offers, no more than 960 segments of an indirect request among it, its end of the ring serves that, and its keys say so; and no event is pending where no port is made, or none is bound yet
+-- the machine is safe, and so is the back's negotiation; each negotiation goes with its end of the ring, closes and halts with it, and a front that wrote Closing has no request left; both know the shape of the ring, the references of its pages and the port, and the ring that is agreed has an entry for each request; the back offers what it offers, no more than 960 segments of an indirect request among it, its end of the ring serves that, its keys say so, and the front reads them only then; and no event is pending where no port is made, or none is bound yet
 pub record IsFit (w : World) : Type 0 where
   pub safe : IsSafe w.rings
   pub layout : w.rings.front.shape.abi ≡ w.front.abi
   pub ordered : FrontOrdered w.front.stage w.front w.rings.front.shape.order
+  pub room : unfinished w.rings.front ≤ entries_of (min w.front.order 4)
   pub offers : w.back.features ≡ offer w.back.disk.read_only w.back.features.indirect
   pub limited : w.back.features.indirect ≤ 960
   pub published : IsOffered w.rings.back.jobs.info w.back.features
   pub said : SaidAt (SaysKey w.rings.under.keys w.back.features w.back.disk) w.back.stage
+  pub announced : IsAnnounced (SaysKey w.rings.under.keys w.back.features w.back.disk) w.rings.under.keys
+  pub reads : ReadsOffer (SaysKey w.rings.under.keys w.back.features w.back.disk) w.front.stage
   pub front : FrontGoesWith w.front.stage w.front w.rings.front.stage
   pub closing : is_broken w.rings.front.stage ≡ false → w.rings.front.closing ≡ w.front.closing
   pub through : w.front.state ≡ state.Closing → is_broken w.rings.front.stage ≡ false → is_through w.rings.front ≡ true

@@ -7,6 +7,7 @@ use Rattle.blk_base.specs.declared.parts.End.TheVariants as end
 use Rattle.blk_base.specs.declared.moves.BackMover.TheVariants as back_mover
 use Rattle.schedule_text.specs.declared.line.Line.{Line}
 use Rattle.hypervisor.specs.Act.{FrontAct, BackAct, Outcome, Took, front_act, back_act}
+use Rattle.blk_front.specs.State.{is_open}
 use Rattle.blk_front.specs.declared.state.FrontState.{FrontState}
 use Rattle.blk_front.specs.declared.state.FrontState.TheVariants as front_state
 use Rattle.blk_back.specs.declared.told.Halt.{Halt}
@@ -18,17 +19,18 @@ use Rattle.xenbus_state.specs.declared.back.BackBusAsk.TheVariants as back_ask
 use Rattle.xenbus_state.specs.States.{state_number}
 use Rattle.xenbus_state.specs.Keys.{front_name, back_name, path_under}
 use Rattle.xenbus_state.specs.Values.{text_of}
-use Rattle.xenbus_state.specs.FrontView.{FrontView, closed}
-use Rattle.xenbus_state.specs.BackView.{BackView, unplugged}
+use Rattle.xenbus_state.specs.FrontView.{FrontView, closed, suspended}
+use Rattle.xenbus_state.specs.BackView.{BackView, unplugged, start_of, halted_of}
 use Rattle.split_model.specs.Keys.{KeyMove, Gets, Sets, Watches, TakesWatch}
 use Rattle.split_model.specs.Happening as ring
+use Rattle.split_model.specs.World as ring_world
 use Rattle.vbd_front.specs.Ask as front
 use Rattle.vbd_front.specs.Step as front_step
 use Rattle.vbd_back.specs.Ask as back
 use Rattle.vbd_back.specs.Step as back_step
 use Rattle.vbd_model.specs.World.{World, frontend_of, backend_of}
 
--- a move of the front, of the back, or of the job of a number with what the disk answers it; an end that is asked to close; a submission; a spurious event at an end's bound port; a word of the guest's memory, or a key of the front, overwritten by a hostile hand; a look at the words of the ring, at whether all is quiet, with what was found, and one when the rounds are over
+-- a move of the front, of the back, or of the job of a number with what the disk answers it; an end that is asked to close; a submission; a spurious event at an end's bound port; a word of the guest's memory, or a key of the front, overwritten by a hostile hand; the domain suspended and resumed; a look at the words of the ring, at whether all is quiet, with what was found, and one when the rounds are over
 pub data Happening : Type 0 where
   FrontMoves : Happening
   BackMoves : Happening
@@ -38,6 +40,7 @@ pub data Happening : Type 0 where
   Notifies : (at : End) → Happening
   Pokes : (frame word value : ℕ) → Happening
   OverwritesKey : (name text : List ℕ) → Happening
+  Suspends : Happening
   Dumps : Happening
   Looks : (quiet : Bool) → Happening
   Settles : (quiet : Bool) → Happening
@@ -143,6 +146,7 @@ does w (Submits job) = ring.Submits job ∷ []
 does w (Notifies at) = ring.Notifies at ∷ []
 does w (Pokes frame word value) = ring.Pokes frame word value ∷ []
 does w (OverwritesKey name text) = ring.OverwritesKey name text ∷ []
+does w Suspends = ring.Suspends ∷ []
 does w Dumps = ring.Dumps ∷ []
 does w (Looks quiet) = ring.Looks quiet ∷ []
 does w (Settles quiet) = ring.Settles quiet ∷ []
@@ -152,15 +156,22 @@ abbrev pub front_bus_after : World → Option FrontAct → FrontView
 front_bus_after w None = w.front
 front_bus_after w (Some a) = (front_step.step_of (frontend_of w) a.answer).bus
 
+-- a new back's negotiation, which has halted where its front is closed or broken
+abbrev pub renewed_bus : (going : Bool) → BackView → BackView
+renewed_bus true v = start_of v.features v.disk
+renewed_bus false v = halted_of v.features v.disk
+
 -- what something that happens makes of each end's negotiation
 abbrev pub front_bus : World → Happening → FrontView
 front_bus w FrontMoves = front_bus_after w (front_turn w)
 front_bus w (Closes end.Front) = closed w.front
+front_bus w Suspends = if ring_world.may_suspend w.rings && is_open w.rings.front.stage then suspended w.front else w.front
 front_bus w h = w.front
 
 abbrev pub back_bus : World → Happening → BackView
 back_bus w BackMoves = back_bus_after w (back_turn w)
 back_bus w (Closes end.Back) = unplugged w.back
+back_bus w Suspends = if ring_world.may_suspend w.rings then renewed_bus (is_open w.rings.front.stage) w.back else w.back
 back_bus w h = w.back
 
 abbrev pub happens : World → Happening → World

@@ -9,14 +9,15 @@ use Rattle.schedule_text.specs.declared.event.Event.TheVariants as events
 use Rattle.blk_front.specs.Submit.{unfinished, sectors_owed}
 use Rattle.blk_back.specs.Step.{next_job_of}
 use Rattle.vbd_model.specs.World.{World, is_quiet}
+use Rattle.split_model.specs.World.{may_suspend}
 use Rattle.split_model.specs.Happening.{is_guest_word, is_guest_key}
-use Rattle.vbd_model.specs.Happening.{Happening, FrontMoves, BackMoves, JobMoves, Closes, Submits, Notifies, Pokes, OverwritesKey, Dumps, Looks, Settles, happens, after}
+use Rattle.vbd_model.specs.Happening.{Happening, FrontMoves, BackMoves, JobMoves, Closes, Submits, Notifies, Pokes, OverwritesKey, Suspends, Dumps, Looks, Settles, happens, after}
 
--- the options that are carried out yet: either layout, a ring of 1 to 16 pages from any start, indirect requests of up to 960 segments, and a disk of any size, read-only or not
+-- the options that are carried out: either layout, a ring of 1 to 16 pages from any start, indirect requests of up to 960 segments, and a disk of any size, read-only or not
 abbrev pub are_carried : Options → Bool
 are_carried o = (o.persistent == 0) && nat_le o.indirect 960
 
--- the events that are carried out yet, with the numbers of the grammar
+-- the events that are carried out: all, with the numbers of the grammar
 abbrev pub is_carried : Event → Bool
 is_carried (events.Submit job) = true
 is_carried (events.Front n) = is_number n
@@ -26,11 +27,11 @@ is_carried (events.Turn n) = is_number n
 is_carried events.Settle = true
 is_carried events.Look = true
 is_carried (events.Notify at) = true
+is_carried events.Suspend = true
 is_carried (events.Close at) = true
 is_carried (events.Poke frame word value) = is_guest_word frame word
 is_carried (events.Key name text) = is_guest_key name text
 is_carried events.Dump = true
-is_carried event = false
 
 -- moves of one job, each with what the disk answers it
 abbrev pub AreJobMoves : ℕ → List Happening → Type 0
@@ -129,6 +130,14 @@ pub record AreRoundsSoFar (test : World → Bool) (bound : ℕ) (w : World) (hs 
 abbrev pub IsSettlingSoFar : World → List Happening → Type 0
 IsSettlingSoFar w hs = AreRoundsSoFar is_quiet (settle_bound w) w hs ⊎ IsSettling w hs
 
+-- a suspend, for which a port number is left
+abbrev pub IsSuspend : World → List Happening → Type 0
+IsSuspend w hs = (hs ≡ Suspends ∷ []) × (may_suspend w.rings ≡ true)
+
+-- where none is left it is stopped before anything happens, so before the machine is looked at again
+abbrev pub IsSuspendSoFar : World → List Happening → Type 0
+IsSuspendSoFar w hs = IsSuspend w hs ⊎ ((hs ≡ Looks false ∷ []) × (may_suspend w.rings ≡ false))
+
 -- an event makes these happenings
 abbrev pub Makes : Event → World → List Happening → Type 0
 Makes (events.Submit job) w hs = (hs ≡ Submits job ∷ []) × JobHasWidths job
@@ -139,11 +148,11 @@ Makes (events.Turn n) w hs = AreRounds never n w hs
 Makes events.Settle w hs = IsSettling w hs
 Makes events.Look w hs = hs ≡ Looks (is_quiet w) ∷ []
 Makes (events.Notify at) w hs = hs ≡ Notifies at ∷ []
+Makes events.Suspend w hs = IsSuspend w hs
 Makes (events.Close at) w hs = hs ≡ Closes at ∷ []
 Makes (events.Poke frame word value) w hs = (hs ≡ Pokes frame word value ∷ []) × (value < 2 ^ 32)
 Makes (events.Key name text) w hs = hs ≡ OverwritesKey name text ∷ []
 Makes events.Dump w hs = hs ≡ Dumps ∷ []
-Makes event w hs = ⊥
 
 -- and so far it made these
 abbrev pub MakesSoFar : Event → World → List Happening → Type 0
@@ -152,9 +161,10 @@ MakesSoFar (events.Back n) w hs = IsBeginning hs (replicate n BackMoves)
 MakesSoFar (events.Job number n) w hs = AreFewJobMoves number n hs
 MakesSoFar (events.Turn n) w hs = AreRoundsSoFar never n w hs
 MakesSoFar events.Settle w hs = IsSettlingSoFar w hs
+MakesSoFar events.Suspend w hs = IsSuspendSoFar w hs
 MakesSoFar event w hs = Makes event w hs
 
--- the happenings of an event, which is one that is carried out
+-- the happenings of an event
 abbrev pub AreOf : Event → World → List Happening → Type 0
 AreOf event w hs = (is_carried event ≡ true) × Makes event w hs
 

@@ -42,7 +42,7 @@ pub record StopsShowing (history : List Happening) (last : Happening) (stop : Re
   pub disk : DiskRuns (history ++ last ∷ []) a.world a.disk b.disk
   pub told : StopsAmong (lines_of history a.world) (lines_at (after history a.world) last) stop a.recorder b.recorder
 
--- or before anything of it happened, by want of memory for a key or a watch
+-- or before anything of it happened, by want of memory for a key, a watch or a new back, or of a number for another port
 pub record LacksMemory (history : List Happening) (stop : RecordStop) (a b : Moment) : Type 0 where
   pub lacks : stop ≡ OutOfMemory
   pub world : b.world ≡ after history a.world

@@ -109,6 +109,20 @@ impl BackBus {
         back
     }
 
+    /// What it offers.
+    pub fn features(&self) -> Features
+        ensures { result ≡ self.now.features }
+    {
+        self.features
+    }
+
+    /// The disk as it publishes it.
+    pub fn disk(&self) -> DiskFacts
+        ensures { result ≡ self.now.disk }
+    {
+        self.disk
+    }
+
     /// What is asked next. A state that is written is above the one that was written before; it is
     /// Connected where the ring is mapped and the port bound, and Closed where nothing is.
     pub fn ask(&self) -> BackBusAsk

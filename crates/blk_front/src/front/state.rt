@@ -1,5 +1,6 @@
 // What the front's negotiation has it enter.
-ghost use Rattle.std.specs.Prelude.{◌≡◌, ◌≤◌};
+ghost use Rattle.std.specs.Prelude.{◌≡◌, ◌≤◌, ◌&&◌, nat_le, length};
+ghost use Rattle.ring_words.specs.Shape.{entries_of};
 ghost use Rattle.blk_front.specs.declared.stage.Stage.TheVariants as stage;
 ghost use Rattle.blk_front.specs.declared.state.FrontState.TheVariants as state;
 ghost use Rattle.blk_front.specs.State.{may_enter, in_state, enters};
@@ -11,7 +12,8 @@ use ring_words::{FrontRing, RingShape};
 
 impl Front {
     /// Enters a state where it may, and says whether it did; no other front changes. An order no
-    /// greater than it wished is agreed before its ring is begun. It connects where it waits for
+    /// greater than it wished, of a ring with an entry for each request, is agreed before its ring is
+    /// begun. It connects where it waits for
     /// that, and begins to close once. It leaves, and is closed, only while it closes with no request
     /// left, and is closed only without a ring. A closed or broken front enters none. It takes no
     /// memory.
@@ -41,11 +43,20 @@ impl Front {
     fn agree(&mut self, order: u32)
         requires unmade { self.old.stage ≡ stage.RingWord 0 }
         requires within { order ≤ self.old.shape.order }
+        requires room { length self.old.requests ≤ entries_of order }
         ensures { self.new ≡ in_state (state.Agreed order) self.old }
     {
         self.ring = FrontRing::attach(RingShape::of(self.abi, order), self.start);
         self.order = order;
         self.seen = self.start;
+    }
+
+    // Whether a ring of this order is no greater than it wished, and has an entry for each request.
+    fn may_have(&self, order: u32) -> bool
+        ensures { result ≡ (nat_le order self.now.shape.order && nat_le (length self.now.requests) (entries_of order)) }
+    {
+        order <= self.order
+            && self.requests.len() <= RingShape::of(self.abi, order).entries() as usize
     }
 
     // Whether it may enter this state.
@@ -55,7 +66,7 @@ impl Front {
         let open = !matches!(self.stage, Stage::Closed | Stage::Broken(_));
         match state {
             FrontState::Agreed(order) => {
-                matches!(self.stage, Stage::RingWord(0)) && order <= self.order
+                matches!(self.stage, Stage::RingWord(0)) && self.may_have(order)
             }
             FrontState::Connected(_) => matches!(self.stage, Stage::Initialised),
             FrontState::Closing => !self.closing && open,

@@ -1,13 +1,14 @@
 // What the front makes of each answer.
-ghost use Rattle.std.specs.Prelude.{◌≡◌, ◌<◌, ◌≤◌, ◌+◌, ◌-◌, ◌*◌, ◌^◌, length, position, slice_get, IfSome, Some, ◌==◌, true};
+ghost use Rattle.std.specs.Prelude.{◌≡◌, ◌<◌, ◌≤◌, ◌+◌, ◌-◌, ◌*◌, ◌/◌, ◌^◌, length, position, slice_get, IfSome, Some, ◌==◌, true};
 ghost use Rattle.blk_base.specs.declared.ask.FrontAnswer.TheVariants.{Word, Done};
 ghost use Rattle.blk_front.specs.declared.stage.Stage.TheVariants as stage;
 ghost use Rattle.blk_front.specs.View.{next_request};
 ghost use Rattle.blk_front.specs.Ask.{loop_ask, IsAnswer};
 ghost use Rattle.blk_front.specs.Sound.{AreAscending};
-ghost use Rattle.blk_front.specs.Step.{step_at, loop_step, loop_word, looked, broken, found_at, issued, taken, response_step, end_step, exchanged, ring_read, ring_ended, ended, finished, pushed, data_step, begun, IsTaking, IsRevoking, IsEndingStage};
+ghost use Rattle.blk_front.specs.Step.{step_at, loop_step, loop_word, looked, broken, found_at, issued, taken, response_step, end_step, exchanged, ring_read, ring_ended, ended, finished, pushed, data_step, left_step, begun, IsTaking, IsRevoking, IsEndingStage};
 ghost use Rattle.blk_front.specs.Request.{IsShaped, is_indirect};
 ghost use Rattle.blk_front.specs.Inside.{held};
+ghost use Rattle.blk_front.specs.declared.told.Told.TheVariants.{Sector};
 ghost use Rattle.blk_front.specs.Entry.{entry_request};
 ghost use Rattle.blk_layout.specs.declared.request.RawRequest.TheVariants.{Discard};
 ghost use Rattle.ring_words.specs.Shape.{entry_words_of};
@@ -395,17 +396,47 @@ impl Front {
         let (id, all) = (ending.request.number, SECTOR_WORDS * ending.request.count);
         self.words[(n % SECTOR_WORDS) as usize] = word;
         if n % SECTOR_WORDS == SECTOR_WORDS - 1 {
-            self.told = Some(Told::Sector {
-                id,
-                index: n / SECTOR_WORDS,
-                words: self.words,
-            });
+            self.told = Some(sector(id, n, self.words));
         }
         if n + 1 < all {
             self.stage = Stage::ReadData(n + 1);
         } else {
             self.finish();
         }
+    }
+
+    /// The same after a suspend: after the last word the ring is made anew.
+    #[inline(never)]
+    pub(super) fn read_left(&mut self, n: u32, word: u32)
+        requires stage { self.old.stage ≡ stage.LeftData n }
+        requires placed { n < 983040 }
+        ensures { self.new ≡ left_step self.old.ending n word self.old }
+    {
+        let Some(ending) = &self.ending else {
+            return;
+        };
+        let (id, all) = (ending.request.number, SECTOR_WORDS * ending.request.count);
+        self.words[(n % SECTOR_WORDS) as usize] = word;
+        if n % SECTOR_WORDS == SECTOR_WORDS - 1 {
+            self.told = Some(sector(id, n, self.words));
+        }
+        if n + 1 < all {
+            self.stage = Stage::LeftData(n + 1);
+        } else {
+            self.finish();
+            self.stage = Stage::RingWord(0);
+        }
+    }
+}
+
+// The sector that ends with this word of a request's data.
+fn sector(id: u32, n: u32, words: [u32; 128]) -> Told
+    ensures { result ≡ Sector id (n / 128) words }
+{
+    Told::Sector {
+        id,
+        index: n / SECTOR_WORDS,
+        words,
     }
 }
 

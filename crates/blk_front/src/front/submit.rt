@@ -1,5 +1,6 @@
 // What the front is handed, and what it tells.
-ghost use Rattle.std.specs.Prelude.{◌≡◌, ◌≤◌, ◌<◌, ◌+◌, ◌*◌, ◌==◌, if◌then◌else◌, true, false, [], None, All, length, sum_by, is_some, option_map, IfSome};
+ghost use Rattle.std.specs.Prelude.{◌≡◌, ◌≤◌, ◌<◌, ◌+◌, ◌*◌, ◌==◌, if◌then◌else◌, true, false, [], None, All, length, sum_by, is_some, option_map, IfSome, IsSome};
+ghost use Rattle.blk_front.specs.Suspend.{is_left};
 ghost use Rattle.ring_words.specs.Shape.{entries_of};
 ghost use Rattle.blk_front.specs.declared.request.Request.{Request};
 ghost use Rattle.blk_front.specs.Request.{IsShaped, IsCounted, is_moving};
@@ -92,6 +93,13 @@ impl Front {
         self.requests.len() as u32 + ending_of(self.stage)
     }
 
+    /// The first index of its ring.
+    pub fn start(&self) -> u32
+        ensures { result ≡ self.now.start }
+    {
+        self.start
+    }
+
     /// What it is doing.
     #[inline(always)]
     pub fn stage(&self) -> Stage
@@ -111,7 +119,18 @@ impl Front {
                 | Stage::RingFence(_)
                 | Stage::RingFlags(_)
                 | Stage::NewPort
+                | Stage::LeftData(_)
         )
+    }
+
+    /// Whether data are in hand after a suspend, which it tells before anything else.
+    pub fn has_left(&self) -> bool
+        ensures value { result ≡ is_left self.now.stage }
+        ensures held { result ≡ true → IsSome self.now.ending }
+    {
+        // Opens the front, for what is true of it at every moment.
+        let _ = &self.ending;
+        matches!(self.stage, Stage::LeftData(_))
     }
 
     /// Whether it is connected, closed or broken, and asks for nothing but an event.
@@ -187,7 +206,8 @@ fn ending_of(stage: Stage) -> u32
     ensures few { result ≤ 1 }
 {
     match stage {
-        Stage::GrantRead(_) | Stage::GrantEnd(_, _) | Stage::ReadData(_) => 1,
+        Stage::GrantRead(_) | Stage::GrantEnd(_, _) => 1,
+        Stage::ReadData(_) | Stage::LeftData(_) => 1,
         _ => 0,
     }
 }
@@ -216,7 +236,8 @@ fn is_ready(stage: Stage) -> bool
         | Stage::RingFence(_)
         | Stage::RingFlags(_)
         | Stage::NewPort
-        | Stage::Initialised => false,
+        | Stage::Initialised
+        | Stage::LeftData(_) => false,
         Stage::RingRead(_)
         | Stage::RingEnd(_, _)
         | Stage::ClosePort

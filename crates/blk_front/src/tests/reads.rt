@@ -60,9 +60,9 @@ fn data() -> [u32; 128] {
     words
 }
 
-// A front whose read of sector 3 is answered by this response's last word, up to the move that ends
-// its grant.
-fn answered(
+/// A front whose read of sector 3 is answered by this response's last word, up to the move that ends
+/// its grant.
+pub fn answered(
     rt: &impl Abort,
     memory: &mut Memory,
     front: &mut Front,
@@ -86,7 +86,7 @@ fn answered(
 }
 
 // The move that ends the grant of the read, which tells its answer.
-fn ends_the_grant(
+pub fn ends_the_grant(
     rt: &impl Abort,
     memory: &mut Memory,
     front: &mut Front,

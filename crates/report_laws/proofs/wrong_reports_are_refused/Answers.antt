@@ -1,4 +1,4 @@
-use Rattle.report_laws.proofs.Refused.{begun_twice, moved, ready_late, unserved, unread, connected_alone, closed_unsaid, five_ports, out_of_range}
+use Rattle.report_laws.proofs.Refused.{begun_twice, moved, ready_late, unserved, unread, connected_alone, closed_unsaid, ready_before, answered_before, connected_before, five_ports, out_of_range}
 use Rattle.report_laws.proofs.wrong_reports_are_refused.Goals as goal
 
 pub returns-clause-begun_twice : goal.returns-clause-begun_twice
@@ -21,6 +21,15 @@ returns-clause-connected_alone c config h = connected_alone config h
 
 pub returns-clause-closed_unsaid : goal.returns-clause-closed_unsaid
 returns-clause-closed_unsaid c config h = closed_unsaid config h
+
+pub returns-clause-ready_before : goal.returns-clause-ready_before
+returns-clause-ready_before c config detail h = ready_before config detail h
+
+pub returns-clause-answered_before : goal.returns-clause-answered_before
+returns-clause-answered_before c config status start h = answered_before config status start h
+
+pub returns-clause-connected_before : goal.returns-clause-connected_before
+returns-clause-connected_before c config h = connected_before config h
 
 pub returns-clause-five_ports : goal.returns-clause-five_ports
 returns-clause-five_ports c config h = five_ports config h

@@ -2,6 +2,7 @@ use Rattle.std.proofs.Common.{refl, arith, rules}
 use Rattle.std.proofs.lemmas.Grind.{common_steps}
 use Rattle.blk_front.proofs.Shapes.{few_pages}
 use Rattle.blk_front.proofs.Numbers.{push_ascending, push_given}
+use Rattle.blk_front.proofs.Order.{pushed_apart}
 use Rattle.std.proofs.lemmas.List.Elements.{All-push}
 use Rattle.blk_front.specs.Request.{IsShaped}
 use Rattle.blk_front.proofs.front.Front.accept.Goals as goal
@@ -17,13 +18,15 @@ invariant_of-self-2 c =
         room = grind (arith, few_pages);
         seen = sound.seen;
         placed = sound.placed;
-        unmade = search rules;
+        unissued = search rules;
         issuing = search rules;
         reading = sound.reading;
         ascending = rw items (push_ascending _ _ c.self.inside.last sound.ascending sound.given refl);
         given = rw items (push_given _ _ c.self.inside.last sound.given refl);
         shaped = rw items (All-push IsShaped _ _ sound.shaped (record { counted = c.requires.counted; frames = search rules }));
+        held = sound.held;
         ending = sound.ending;
+        apart = rw items (pushed_apart c.self.inside.ending _ _ c.self.inside.last sound.apart refl);
       },
       grind (arith, common_steps),
       record { enough = omega arith; room = omega arith },

@@ -2,6 +2,7 @@ use Rattle.std.proofs.Common.{◌<◌, length, refl, arith, rules}
 use Rattle.std.proofs.lemmas.Option.{slice_get_read}
 use Rattle.std.proofs.lemmas.Grind.{common_steps}
 use Rattle.blk_front.proofs.Numbers.{remove_ascending, remove_given, remove_shaped}
+use Rattle.blk_front.proofs.Order.{removed_apart}
 use Rattle.blk_front.proofs.front.Front.take.Goals as goal
 
 pub invariant_of-self-else-is_empty : goal.invariant_of-self-else-is_empty
@@ -16,13 +17,15 @@ invariant_of-self-else-is_empty c =
         room = grind (arith, common_steps);
         seen = grind (arith, common_steps);
         placed = omega arith;
-        unmade = tt;
+        unissued = tt;
         issuing = tt;
         reading = tt;
         ascending = rw items (remove_ascending _ _ within sound.ascending);
         given = rw items (remove_given _ _ _ within sound.given);
         shaped = rw items (remove_shaped _ _ sound.shaped);
+        held = tt;
         ending = rw c.replace.ensures.ending (grind (arith, common_steps));
+        apart = rw (c.replace.ensures.ending, items) (removed_apart _ _ _ _ within sound.ascending sound.given c.remove-request.ensures.value);
       },
       grind (arith, common_steps),
       record { enough = grind (arith, common_steps); room = grind (arith, common_steps) },

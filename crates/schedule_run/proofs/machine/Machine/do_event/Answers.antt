@@ -97,3 +97,11 @@ invariant_of-self-in-Key g c =
 
 pub returns-in-Key-clause-goes : goal.returns-in-Key-clause-goes
 returns-in-Key-clause-goes g c = rw (c.in-Key.is, ← c.self.view_is) (goes_as _ _ _ _ 0 (10 ^ 10) _ _ _ (omega arith) (λ hs k. k) (λ hs k. k) (c.overwrite_key.ensures (g.D.SectorDisk.seen c.args.disk.now)))
+
+pub invariant_of-self-in-Suspend : goal.invariant_of-self-in-Suspend
+invariant_of-self-in-Suspend g c =
+    let few : c.self.inside.events < 10 ^ 9 = subst (λ (m : Run). m.events < 10 ^ 9) (sym c.self.view_is) c.requires.few in
+    runs_on _ _ 0 _ _ _ c.self.inside.events (omega arith) few (c.suspend.ensures (g.D.SectorDisk.seen c.args.disk.now)) c.self.invariant
+
+pub returns-in-Suspend-clause-goes : goal.returns-in-Suspend-clause-goes
+returns-in-Suspend-clause-goes g c = rw (c.in-Suspend.is, ← c.self.view_is) (goes_as _ _ _ _ 0 (10 ^ 10) _ _ _ (omega arith) (λ hs k. k) (λ hs k. k) (c.suspend.ensures (g.D.SectorDisk.seen c.args.disk.now)))

@@ -1,0 +1,57 @@
+-- What a suspend makes of the front: the ring, the port, the grants and what the back offered are gone, and the frames and the unfinished requests stay.
+use Rattle.std.specs.Prelude.{Bool, true, false, List, [], ◌∷◌, length, Option, Some, None, if◌then◌else◌, nat_lt}
+use Rattle.ring_words.specs.Shape.{entries_of}
+use Rattle.blk_front.specs.declared.request.Request.{Request}
+use Rattle.blk_front.specs.declared.stage.Ending.{Ending}
+use Rattle.blk_front.specs.declared.stage.Stage.{Stage}
+use Rattle.blk_front.specs.declared.stage.Stage.TheVariants as stage
+use Rattle.blk_front.specs.State.{is_open}
+use Rattle.blk_front.specs.View.{View, no_offers}
+
+-- a request among others that are in order of number
+abbrev pub by_number : Request → List Request → List Request
+by_number r [] = r ∷ []
+by_number r (s ∷ rest) = if nat_lt r.number s.number then r ∷ s ∷ rest else s ∷ by_number r rest
+
+-- one whose grants were being ended wasn't answered: it is one of the others again
+abbrev pub with_ending : Option Ending → List Request → List Request
+with_ending None requests = requests
+with_ending (Some e) requests = by_number e.request requests
+
+abbrev pub requests_after : Stage → Option Ending → List Request → List Request
+requests_after (stage.GrantRead place) ending requests = with_ending ending requests
+requests_after (stage.GrantEnd place before) ending requests = with_ending ending requests
+requests_after s ending requests = requests
+
+-- the data of a read whose answer was told stay in hand
+abbrev pub ending_after : Stage → Option Ending → Option Ending
+ending_after (stage.GrantRead place) ending = None
+ending_after (stage.GrantEnd place before) ending = None
+ending_after s ending = ending
+
+abbrev pub stage_after : Stage → Stage
+stage_after (stage.ReadData n) = stage.LeftData n
+stage_after (stage.LeftData n) = stage.LeftData n
+stage_after s = stage.RingWord 0
+
+-- the ring is made anew, and each request waits to be issued
+abbrev pub resumed : View → View
+resumed v = record v {
+  offers = no_offers;
+  ring = record { entries = entries_of v.shape.order; prod = v.start; cons = v.start };
+  stage = stage_after v.stage;
+  asleep = false;
+  seen = v.start;
+  waiting = length (requests_after v.stage v.ending v.requests);
+  requests = requests_after v.stage v.ending v.requests;
+  ending = ending_after v.stage v.ending;
+}
+
+-- a closed or broken front does nothing more
+abbrev pub suspended : View → View
+suspended v = if is_open v.stage then resumed v else v
+
+-- the data in hand are told before anything else
+abbrev pub is_left : Stage → Bool
+is_left (stage.LeftData n) = true
+is_left s = false
