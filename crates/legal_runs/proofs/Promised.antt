@@ -1,5 +1,5 @@
 -- A lawful report is what a run promises.
-use Rattle.std.proofs.Common.{ℕ, List, ap, sym, subst, ◌∙◌}
+use Rattle.std.proofs.Common.{ℕ, List, ap, sym, ◌∙◌}
 use Rattle.std.specs.Prelude.{Option}
 use Rattle.std.specs.List.{list_any}
 use Rattle.blk_base.specs.Options.{Options}
@@ -15,15 +15,13 @@ use Rattle.trace_check.specs.Found.{AreSound, EndsWell}
 use Rattle.trace_check.specs.Laws.{KeepsLayout}
 use Rattle.legal_laws.specs.Promised.{IsPromised, IsFoundLegal}
 use Rattle.legal_laws.proofs.Promised.{jobs_asked, shown_says, promised_legal, promised_sound, promised_found_legal}
-use Rattle.pipeline_laws.specs.Effects.{IsOfADisk}
-use Rattle.schedule_run.specs.Lawful.{ServesRequestsSoFar}
 use Rattle.legal_runs.specs.Legal.{IsRunReport}
 use Rattle.legal_runs.proofs.NamedFirst.{layout_stays}
 
 promised : (config : Options) (detail : Detail) (events : List Event) (before now : Option (List (List ℕ))) (report : List Line)
     → IsRunReport config detail events before now report → IsPromised config detail (jobs_of events) report
 promised config detail events before now report r =
-    let served = subst (ServesRequestsSoFar (jobs_of events) before) r.whole (r.lawful.honest (subst (IsOfADisk config.sectors before) (sym r.whole) r.disk)) in
+    let served = r.lawful.honest r.disk in
     record {
       rest = r.lawful.begun.rest;
       first = r.lawful.begun.first;

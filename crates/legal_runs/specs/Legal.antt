@@ -1,5 +1,5 @@
 -- What `run` promises of its report makes it legal (`io/ring.h`, `io/blkif.h`, `io/xenbus.h`, `grant_table.h`).
-use Rattle.std.specs.Prelude.{◌≡◌, ℕ, List, Option, All}
+use Rattle.std.specs.Prelude.{ℕ, List, Option, All}
 use Rattle.blk_base.specs.Options.{Options}
 use Rattle.schedule_text.specs.declared.event.Event.{Event}
 use Rattle.schedule_text.specs.declared.line.Detail.{Detail}
@@ -10,7 +10,6 @@ use Rattle.plain_disk.specs.Honest.{honest_part}
 use Rattle.plain_disk.specs.Echo.{Echoes}
 use Rattle.report_rules.specs.Obeys.{Obeys}
 use Rattle.pipeline_laws.specs.Effects.{IsOfADisk}
-use Rattle.machine_pipeline.specs.First.{first_part}
 use Rattle.machine_pipeline.specs.Submissions.{jobs_of}
 use Rattle.schedule_run.specs.Lawful.{IsLawful}
 use Rattle.trace_check.specs.Rules.{KeepsAll}
@@ -18,14 +17,13 @@ use Rattle.trace_check.specs.Found.{AreSound, EndsWell}
 use Rattle.legal_laws.specs.Kept.{IsSettled}
 use Rattle.legal_laws.specs.Promised.{IsFoundLegal}
 
--- a lawful report of these events, of a disk, that never ran out of rounds before a hostile hand first touched it, nor was suspended before that
+-- a lawful report of these events, of a disk, that never ran out of rounds before a hostile hand first touched it
 pub record IsRunReport (config : Options) (detail : Detail) (events : List Event) (before now : Option (List (List ℕ))) (report : List Line) : Type 0 where
   pub lawful : IsLawful config detail (jobs_of events) before now report
   pub disk : IsOfADisk config.sectors before (honest_part report)
   pub echo : Echoes config detail events report
   pub widths : All JobHasWidths (jobs_of events)
   pub settled : IsSettled (honest_part report)
-  pub whole : first_part report ≡ honest_part report
 
 -- of each such report
 abbrev pub OfRuns : (List Line → Type 0) → Type 0

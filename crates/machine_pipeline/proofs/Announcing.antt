@@ -74,9 +74,9 @@ bound_asleep back.MapRing asleep may t = let no = may refl in absurd (cc)
 bound_asleep back.Bind asleep may t = let no = may refl in absurd (cc)
 bound_asleep b asleep may t = refl
 
-pending_sent : (bound : Bool) (made : ℕ) (ports : List PortState) (pending : Bool) → PortsAt true bound made ports → bound ≡ true → (if list_any is_bound_port ports then true else pending) ≡ true
-pending_sent true made ports pending at e = rw (at.1) refl
-pending_sent false made ports pending at e = absurd (cc)
+pending_sent : (before : ℕ) (bound : Bool) (made : ℕ) (ports : List PortState) (pending : Bool) → PortsAt before true bound made ports → bound ≡ true → (if list_any is_bound_port ports then true else pending) ≡ true
+pending_sent before true made ports pending at e = rw (at.1) refl
+pending_sent before false made ports pending at e = absurd (cc)
 
 pub send_goes : (config : Options) (w : World) (g : Flow) (d : Pipeline) → IsSafe w → Holds config w g d front.Send w.back.stage → FrontGoes config w d front.Send
 send_goes config w g d safe h =
@@ -116,7 +116,7 @@ send_goes config w g d safe h =
           arming = u.arming;
           armed = u.armed;
           may = u.may;
-          woken = λ t. inr (inl (pending_sent (is_bound_back w.back.stage) w.under.channels.made w.under.channels.ports w.under.channels.back_pending h.ports (bound_asleep w.back.stage w.back.asleep u.may t)));
+          woken = λ t. inr (inl (pending_sent g.before (is_bound_back w.back.stage) w.under.channels.made w.under.channels.ports w.under.channels.back_pending h.ports (bound_asleep w.back.stage w.back.asleep u.may t)));
         };
         ports = h.ports;
       };

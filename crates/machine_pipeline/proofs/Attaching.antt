@@ -1,12 +1,13 @@
 -- The back takes the terms of its front, which are the front's own: all else stays as it is.
-use Rattle.std.proofs.Common.{◌≡◌, ℕ, ◌^◌, List, [], ◌∷◌, length, refl, ap, ◌∙◌, subst, arith}
+use Rattle.std.proofs.Common.{◌≡◌, ℕ, ◌+◌, ◌-◌, ◌^◌, Bool, true, false, List, [], ◌∷◌, length, refl, ap, ◌∙◌, subst, arith}
 use Rattle.std.specs.List.{range_with_len}
 use Rattle.std.proofs.lemmas.Bool.{false≢true}
 use Rattle.blk_base.specs.Options.{Options}
 use Rattle.schedule_text.specs.declared.line.Line.TheVariants.{Move}
 use Rattle.pipeline_laws.specs.Pipeline.{Pipeline}
 use Rattle.ring_words.specs.Shape.{Shape, entries_of}
-use Rattle.blk_front.specs.Submit.{ending_of}
+use Rattle.event_channel.specs.declared.channels.PortState.{PortState}
+use Rattle.blk_front.specs.Submit.{is_connected, ending_of}
 use Rattle.blk_back.specs.declared.stage.Stage.TheVariants as back
 use Rattle.blk_back.specs.Step.{attached}
 use Rattle.split_model.specs.World.{World}
@@ -16,12 +17,17 @@ use Rattle.split_model.proofs.Attaching.{attach_cases}
 use Rattle.machine_pipeline.specs.Allowed.{AreTerms}
 use Rattle.machine_pipeline.specs.Step.{IsSame}
 use Rattle.machine_pipeline.proofs.Flow.{Flow, wrapped}
-use Rattle.machine_pipeline.proofs.Holds.{Holds, AreIndices}
+use Rattle.machine_pipeline.proofs.Holds.{Holds, AreIndices, PortsAt}
 use Rattle.machine_pipeline.proofs.Turns.{Goes}
 use Rattle.machine_pipeline.proofs.Keyed.{asides_do}
 use Rattle.machine_pipeline.proofs.Slots.{some_pages}
 use Rattle.machine_pipeline.proofs.BackQuiet.{slots_at, front_sleep_at, back_sleep_at}
 use Rattle.machine_pipeline.proofs.JobMoves.{stays}
+
+-- before a port is bound in this epoch, so many were made before it
+made_first : (before : ℕ) (connected : Bool) (made : ℕ) (ports : List PortState) → PortsAt before connected false made ports → made - length ports ≡ before
+made_first before false made ports at = (let none : length ports ≡ 0 = ap length at.1 in let same = at.0 in omega arith)
+made_first before true made ports at = (let one : length ports ≡ 1 = ap length at.1 in let same = at.0 in omega arith)
 
 takes : (config : Options) (w : World) (g : Flow) (d : Pipeline) (shape : Shape) (grefs : List ℕ) (port : ℕ) → AreTerms w shape grefs port → Holds config w g d w.front.stage back.InitWait
     → Goes config (Move (layout_read w) ∷ []) (record { front = w.front; back = attached shape grefs port w.back; under = w.under }) d
@@ -78,7 +84,7 @@ takes config w g d shape grefs port terms h = record {
       shaped = λ t. own;
       entries_are = λ t. ap (λ (s : Shape). entries_of s.order) own;
       grefs_are = λ t. terms.grefs_are ∙ ap (λ (s : Shape). range_with_len 8 (2 ^ s.order)) own;
-      port_is = λ t. terms.port_is;
+      port_is = λ t. terms.port_is ∙ ap (λ (n : ℕ). n + 1) (made_first g.before (is_connected w.front.stage) w.under.channels.made w.under.channels.ports h.ports);
       mapped = let none : length w.back.pages ≡ 0 = h.paged.mapped in let some = some_pages g.shape.order in omega arith;
       gref = h.paged.gref;
       mode = h.paged.mode;

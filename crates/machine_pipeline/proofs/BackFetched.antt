@@ -118,7 +118,7 @@ goes_fetched config w g d k shown given r words p known e = subst (λ (ws : List
     telling = h.telling;
     entries = h.entries;
     mapped = record { counted = λ test. h.mapped.counted test ∙ ap (λ (l : List Mapping). count_by test (l ++ w.back.pages)) (sym (started_hands w.back.jobs (next_number w.back) (request_of w.back.shape.abi (entry_of w.back.shape.abi r)))); framed = h.mapped.framed };
-    paged = paged_at g.shape w.back.shape w.back.ring.entries w.back.grefs w.back.port w.back.pages (stage.Fetch k) stage.Loop refl refl h.paged;
+    paged = paged_at g.shape w.back.shape w.back.ring.entries w.back.grefs w.back.port (g.before + 1) w.back.pages (stage.Fetch k) stage.Loop refl refl h.paged;
     front_sleep = front_sleep_at g.start g.taken g.replied w.under.pages w.front.asleep w.under.channels.front_pending w.front.stage (stage.Fetch k) stage.Loop (λ u s. absurd s) h.front_sleep;
     back_sleep = record { arming = λ u. absurd (false≢true u); armed = λ u. absurd (false≢true (sym awake ∙ u)); may = λ u. awake; woken = λ u. absurd (false≢true (sym awake ∙ u)) };
     ports = h.ports;

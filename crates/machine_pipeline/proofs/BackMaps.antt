@@ -1,5 +1,5 @@
 -- The back waits for the terms of its front, maps the pages of the ring, and is bound to the front's port.
-use Rattle.std.proofs.Common.{◌≡◌, ◌≢◌, ℕ, ◌+◌, ◌*◌, ◌/◌, ◌%◌, ◌^◌, ◌<◌, ◌≤◌, ◌==◌, if◌then◌else◌, cond, Bool, true, false, List, [], ◌∷◌, ◌++◌, length, refl, ap, sym, subst, ◌∙◌, inl, inr, arith, length-set, length-append}
+use Rattle.std.proofs.Common.{◌≡◌, ◌≢◌, ℕ, ◌+◌, ◌-◌, ◌*◌, ◌/◌, ◌%◌, ◌^◌, ◌<◌, ◌≤◌, ◌==◌, if◌then◌else◌, cond, Bool, true, false, List, [], ◌∷◌, ◌++◌, length, refl, ap, sym, subst, ◌∙◌, inl, inr, arith, length-set, length-append}
 use Rattle.std.specs.Prelude.{All, Option, Some, None, Result, Ok, nat_lt, slice_index_or}
 use Rattle.std.proofs.lemmas.Option.{none-some}
 use Rattle.std.proofs.lemmas.Bool.{false≢true, cases_eq}
@@ -205,7 +205,7 @@ maps config w g d verdict b' p e named stepped i mapped = subst (λ (x : Result 
         };
         front_sleep = front_sleep_at g.start g.taken g.replied new w.front.asleep w.under.channels.front_pending w.front.stage stage.MapRing b' (λ t s. absurd s) (front_sleep_kept g.start g.taken g.replied w.under.pages new w.front.asleep w.under.channels.front_pending w.front.stage stage.MapRing (others 2 (omega arith) 3 (omega arith)) h.front_sleep);
         back_sleep = back_sleep_at g.start g.fetched g.pushed new w.back.asleep w.under.channels.back_pending w.front.stage stage.MapRing b' (λ t. absurd (false≢true (sym i.unarmed ∙ t))) (λ t. h.back_sleep.may refl) (back_sleep_kept g.start g.fetched g.pushed w.under.pages new w.back.asleep w.under.channels.back_pending w.front.stage stage.MapRing (others 2 (omega arith) 1 (omega arith)) h.back_sleep);
-        ports = subst (λ (bound : Bool). PortsAt (is_connected w.front.stage) bound w.under.channels.made w.under.channels.ports) (sym i.unbound) h.ports;
+        ports = subst (λ (bound : Bool). PortsAt g.before (is_connected w.front.stage) bound w.under.channels.made w.under.channels.ports) (sym i.unbound) h.ports;
       };
     }))
   where
@@ -266,21 +266,27 @@ goes_map_ring config w g d p =
     let verdict : verdict_at w.under.pages (next_gref w.back) ReadWrite ≡ Ok (2 + length w.back.pages) = ap (λ (n : ℕ). verdict_at w.under.pages n ReadWrite) named ∙ maps_ring w.under.pages (length w.back.pages) (omega arith) flags frame in
     maps_by config w g d (nat_lt (length w.back.pages + 1) (length w.back.grefs)) p all named verdict refl
 
--- the front's one port waits to be bound
-waits_bound : (c : ChannelState) (connected : Bool) → connected ≡ true → PortsAt connected false c.made c.ports → state_of c 1 ≡ Unbound
-waits_bound c false is at = absurd (false≢true is)
-waits_bound c true is at = rw (at.0, at.1) refl
+-- the front's one port of this epoch waits to be bound
+own_place : (before : ℕ) → before + 1 - (before + 1 - 1) - 1 ≡ 0
+own_place before = omega arith
 
-is_bound_now : (c : ChannelState) (connected : Bool) → connected ≡ true → PortsAt connected false c.made c.ports → PortsAt connected true (let b : ChannelState = bound c 1 in b.made) (let b : ChannelState = bound c 1 in b.ports)
-is_bound_now c false is at = absurd (false≢true is)
-is_bound_now c true is at = (at.0, rw (at.0, at.1) refl)
+own_made : (before : ℕ) → nat_lt (before + 1 - 1) (before + 1) ≡ true
+own_made before = grind (arith, nat_tests)
 
-binds : (config : Options) (w : World) (g : Flow) (d : Pipeline) (port : ℕ) (state : PortState) → BackStands config w g d stage.Bind → port ≡ 1 → state ≡ Unbound → ActGoes config w d (step_at stage.Bind w.back) (Some (bind_act w.under port state))
+waits_bound : (before : ℕ) (c : ChannelState) (connected : Bool) → connected ≡ true → PortsAt before connected false c.made c.ports → state_of c (before + 1) ≡ Unbound
+waits_bound before c false is at = absurd (false≢true is)
+waits_bound before c true is at = rw (at.0, at.1) (rw (own_made before, own_place before) refl)
+
+is_bound_now : (before : ℕ) (c : ChannelState) (connected : Bool) → connected ≡ true → PortsAt before connected false c.made c.ports → PortsAt before connected true (let b : ChannelState = bound c (before + 1) in b.made) (let b : ChannelState = bound c (before + 1) in b.ports)
+is_bound_now before c false is at = absurd (false≢true is)
+is_bound_now before c true is at = (at.0, rw (at.0, at.1) (rw (own_place before) refl))
+
+binds : (config : Options) (w : World) (g : Flow) (d : Pipeline) (port : ℕ) (state : PortState) → BackStands config w g d stage.Bind → port ≡ g.before + 1 → state ≡ Unbound → ActGoes config w d (step_at stage.Bind w.back) (Some (bind_act w.under port state))
 binds config w g d port state p one e =
     let h : Holds config w g d w.front.stage stage.Bind = p.holds in
-    let c : ChannelState = bound w.under.channels 1 in
+    let c : ChannelState = bound w.under.channels (g.before + 1) in
     subst (λ (n : ℕ). ActGoes config w d (step_at stage.Bind w.back) (Some (bind_act w.under n state))) (sym one)
-    (subst (λ (x : PortState). ActGoes config w d (step_at stage.Bind w.back) (Some (bind_act w.under 1 x))) (sym e)
+    (subst (λ (x : PortState). ActGoes config w d (step_at stage.Bind w.back) (Some (bind_act w.under (g.before + 1) x))) (sym e)
     (goes_still config w g d stage.Bind stage.Loop w.back w.under.pages c g.back_seen _ _ p (record {
       indices = h.indices;
       stations = h.stations;
@@ -297,14 +303,14 @@ binds config w g d port state p one e =
       paged = record { shaped = λ t. h.paged.shaped refl; entries_are = λ t. h.paged.entries_are refl; grefs_are = λ t. h.paged.grefs_are refl; port_is = λ t. h.paged.port_is refl; mapped = h.paged.mapped; gref = h.paged.gref; mode = h.paged.mode };
       front_sleep = front_sleep_at g.start g.taken g.replied w.under.pages w.front.asleep w.under.channels.front_pending w.front.stage stage.Bind stage.Loop (λ t s. absurd s) h.front_sleep;
       back_sleep = back_sleep_at g.start g.fetched g.pushed w.under.pages w.back.asleep w.under.channels.back_pending w.front.stage stage.Bind stage.Loop (λ t. t) (λ t. h.back_sleep.may refl) h.back_sleep;
-      ports = is_bound_now w.under.channels (is_connected w.front.stage) p.connected h.ports;
+      ports = is_bound_now g.before w.under.channels (is_connected w.front.stage) p.connected h.ports;
     })))
 
 pub goes_bind : (config : Options) (w : World) (g : Flow) (d : Pipeline) → BackStands config w g d stage.Bind → BackGoes config w d stage.Bind
 goes_bind config w g d p =
     let h : Holds config w g d w.front.stage stage.Bind = p.holds in
     binds config w g d w.back.port (state_of w.under.channels w.back.port) p (h.paged.port_is refl)
-    (ap (state_of w.under.channels) (h.paged.port_is refl) ∙ waits_bound w.under.channels (is_connected w.front.stage) p.connected h.ports)
+    (ap (state_of w.under.channels) (h.paged.port_is refl) ∙ waits_bound g.before w.under.channels (is_connected w.front.stage) p.connected h.ports)
 
 -- an event or a watch leaves a back that waits for terms as it is
 goes_waited : (config : Options) (w : World) (g : Flow) (d : Pipeline) (shown : Shown) (given : BackAnswer) (c : ChannelState)

@@ -47,8 +47,8 @@ mapped_all back.MapRing order count bound h = absurd (false≢true bound)
 mapped_all b order count bound h = h
 
 -- so they are at each such stage
-pub paged_at : (shape back_shape : Shape) (entries : ℕ) (grefs : List ℕ) (port : ℕ) (pages : List Mapping) (b b' : BackStage) → is_bound_back b ≡ true → is_bound_back b' ≡ true → ArePaged shape back_shape entries grefs port pages b → ArePaged shape back_shape entries grefs port pages b'
-paged_at shape back_shape entries grefs port pages b b' bound still h = record {
+pub paged_at : (shape back_shape : Shape) (entries : ℕ) (grefs : List ℕ) (port own : ℕ) (pages : List Mapping) (b b' : BackStage) → is_bound_back b ≡ true → is_bound_back b' ≡ true → ArePaged shape back_shape entries grefs port own pages b → ArePaged shape back_shape entries grefs port own pages b'
+paged_at shape back_shape entries grefs port own pages b b' bound still h = record {
   shaped = λ t. h.shaped (bound_terms b bound);
   entries_are = λ t. h.entries_are (bound_terms b bound);
   grefs_are = λ t. h.grefs_are (bound_terms b bound);
@@ -141,10 +141,10 @@ quiet_with config w g d b b' asleep word entry channels seen h i j stations indi
   ring = h.ring;
   slots = slots_at g.shape g.start g.fetched g.pushed g.taken g.replied g.series g.replies w.under.pages w.front.stage b b' (λ rep t k lt. absurd (none-some rep (sym j.none ∙ t))) h.slots;
   hands = j.hands ∙ sym i.hands;
-  paged = paged_at g.shape w.back.shape w.back.ring.entries w.back.grefs w.back.port w.back.pages b b' i.bound j.bound h.paged;
+  paged = paged_at g.shape w.back.shape w.back.ring.entries w.back.grefs w.back.port (g.before + 1) w.back.pages b b' i.bound j.bound h.paged;
   front_sleep = front_sleep;
   back_sleep = back_sleep;
-  ports = rw (made, ports) (subst (λ (bound : Bool). PortsAt (is_connected w.front.stage) bound w.under.channels.made w.under.channels.ports) (i.bound ∙ sym j.bound) h.ports);
+  ports = rw (made, ports) (subst (λ (bound : Bool). PortsAt g.before (is_connected w.front.stage) bound w.under.channels.made w.under.channels.ports) (i.bound ∙ sym j.bound) h.ports);
 }
 
 -- with nothing else changed

@@ -137,7 +137,8 @@ front_still shape start pushed taken seen submitted before next entry ending (fr
     (h.0, h.1, ending_still submitted before rep h.0 (other h.0 h.1) h.2, h.3)
 front_still shape start pushed taken seen submitted before next entry ending (front.ReadData n) rep other h =
     (h.0, h.1, ending_still submitted before rep h.0 (other h.0 h.1) h.2, h.3)
-front_still shape start pushed taken seen submitted before next entry ending (front.LeftData n) rep other h = absurd h
+front_still shape start pushed taken seen submitted before next entry ending (front.LeftData n) rep other h =
+    (h.0, h.1, ending_still submitted before rep h.0 (other h.0 h.1) h.2, h.3)
 front_still shape start pushed taken seen submitted before next entry ending s rep other h = h
 
 pub goes_producer : (config : Options) (w : World) (g : Flow) (d : Pipeline) (rep : Reply) → BackStands config w g d (stage.Producer rep) → BackGoes config w d (stage.Producer rep)
@@ -169,7 +170,7 @@ goes_producer config w g d rep p = record {
     telling = told_elsewhere config w g d w.front.stage (stage.Producer rep) new h (λ f low high. wrote.others f (inr low));
     entries = entries_beside config w g d w.front.stage (stage.Producer rep) new h wrote.others;
     mapped = h.mapped;
-    paged = paged_at g.shape w.back.shape w.back.ring.entries w.back.grefs w.back.port w.back.pages (stage.Producer rep) (stage.ProducerFence w.back.ring.prod) refl refl h.paged;
+    paged = paged_at g.shape w.back.shape w.back.ring.entries w.back.grefs w.back.port (g.before + 1) w.back.pages (stage.Producer rep) (stage.ProducerFence w.back.ring.prod) refl refl h.paged;
     front_sleep = front_sleep_replied g.start g.taken g.replied w.back.ring.prod new w.front.asleep w.under.channels.front_pending w.front.stage rep (front_sleep_kept g.start g.taken g.replied w.under.pages new w.front.asleep w.under.channels.front_pending w.front.stage (stage.Producer rep) (wrote.words 2 3 (omega arith)) h.front_sleep);
     back_sleep = back_sleep_at g.start g.fetched g.pushed new w.back.asleep w.under.channels.back_pending w.front.stage (stage.Producer rep) (stage.ProducerFence w.back.ring.prod) (λ t. t) (λ t. cc) (back_sleep_kept g.start g.fetched g.pushed w.under.pages new w.back.asleep w.under.channels.back_pending w.front.stage (stage.Producer rep) (wrote.words 2 1 (omega arith)) h.back_sleep);
     ports = h.ports;

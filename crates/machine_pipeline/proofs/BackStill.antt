@@ -54,10 +54,10 @@ pub record Moves (config : Options) (w : World) (g : Flow) (d : Pipeline) (s : F
   pub ring : AreRingWords g.shape.order g.start g.pushed g.replied pages s (length v.pages)
   pub slots : AreSlots g.shape g.start g.fetched g.pushed g.taken g.replied g.series g.replies pages s b'
   pub hands : hands_at b' v ≡ hands_at b w.back
-  pub paged : ArePaged g.shape v.shape v.ring.entries v.grefs v.port v.pages b'
+  pub paged : ArePaged g.shape v.shape v.ring.entries v.grefs v.port (g.before + 1) v.pages b'
   pub front_sleep : IsFrontSleep g.start g.taken g.replied pages w.front.asleep channels.front_pending s b'
   pub back_sleep : IsBackSleep g.start g.fetched g.pushed pages v.asleep channels.back_pending s b'
-  pub ports : PortsAt (is_connected s) (is_bound_back b') channels.made channels.ports
+  pub ports : PortsAt g.before (is_connected s) (is_bound_back b') channels.made channels.ports
 
 -- a request whose grants are being ended is one that ends
 pub revoking_ends : (s : FrontStage) (ending : Option Ending) (e : Ending) → revoking_at s ending ≡ Some e → ending_at s ending ≡ Some e

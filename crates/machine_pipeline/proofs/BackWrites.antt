@@ -115,9 +115,9 @@ slot_is config w g d b k i p bound hands lt =
     rw shaped (frame_is config w g d b (slot_word_of g.shape k i).0 p bound hands (slot_within g.shape k i lt))
 
 -- the back sends the front an event
-bound_pending : (made : ℕ) (ports : List PortState) (pending : Bool) (c : Bool) → c ≡ true → PortsAt c true made ports → (if list_any is_bound_port ports then true else pending) ≡ true
-bound_pending made ports pending false c at = absurd (false≢true c)
-bound_pending made ports pending true c at = rw at.1 refl
+bound_pending : (before made : ℕ) (ports : List PortState) (pending : Bool) (c : Bool) → c ≡ true → PortsAt before c true made ports → (if list_any is_bound_port ports then true else pending) ≡ true
+bound_pending before made ports pending false c at = absurd (false≢true c)
+bound_pending before made ports pending true c at = rw at.1 refl
 
 pub goes_send : (config : Options) (w : World) (g : Flow) (d : Pipeline) → BackStands config w g d stage.Send → BackGoes config w d stage.Send
 goes_send config w g d p =
@@ -125,7 +125,7 @@ goes_send config w g d p =
     let c : ChannelState = sent w.under.channels end.Back in
     goes_still config w g d stage.Send stage.Loop w.back w.under.pages c g.back_seen _ _ p
     (quiet_with config w g d stage.Send stage.Loop w.back.asleep w.back.seen w.back.entry c g.back_seen h (between stage.Send w.back refl refl refl) (between stage.Loop w.back refl refl refl) h.stations h.indices tt
-    (record { arming = h.front_sleep.arming; armed = h.front_sleep.armed; may = h.front_sleep.may; woken = λ t. inr (inl (bound_pending w.under.channels.made w.under.channels.ports w.under.channels.front_pending (is_connected w.front.stage) p.connected h.ports)) })
+    (record { arming = h.front_sleep.arming; armed = h.front_sleep.armed; may = h.front_sleep.may; woken = λ t. inr (inl (bound_pending g.before w.under.channels.made w.under.channels.ports w.under.channels.front_pending (is_connected w.front.stage) p.connected h.ports)) })
     (back_sleep_at g.start g.fetched g.pushed w.under.pages w.back.asleep w.under.channels.back_pending w.front.stage stage.Send stage.Loop (λ t. t) (λ t. cc) h.back_sleep)
     refl refl)
 
@@ -152,7 +152,7 @@ goes_store_event config w g d p =
       ring = ring_beside g.shape.order g.start g.pushed g.replied (length w.back.pages) 2 1 (next_of w.back.ring.cons) w.under.pages new w.front.stage r (omega arith) (omega arith) p.connected h.paged.mapped h.ring;
       slots = slots_at g.shape g.start g.fetched g.pushed g.taken g.replied g.series g.replies new w.front.stage stage.StoreEvent stage.EventFence (λ rep t i lt. cc) (slots_beside g.shape g.start g.fetched g.pushed g.taken g.replied 1 (next_of w.back.ring.cons) g.series g.replies w.under.pages new w.front.stage stage.StoreEvent r (omega arith) h.shaped.narrow h.slots);
       hands = refl;
-      paged = paged_at g.shape w.back.shape w.back.ring.entries w.back.grefs w.back.port w.back.pages stage.StoreEvent stage.EventFence refl refl h.paged;
+      paged = paged_at g.shape w.back.shape w.back.ring.entries w.back.grefs w.back.port (g.before + 1) w.back.pages stage.StoreEvent stage.EventFence refl refl h.paged;
       front_sleep = front_sleep_at g.start g.taken g.replied new w.front.asleep w.under.channels.front_pending w.front.stage stage.StoreEvent stage.EventFence (λ t s. absurd s) (front_sleep_kept g.start g.taken g.replied w.under.pages new w.front.asleep w.under.channels.front_pending w.front.stage stage.StoreEvent (r.words 2 3 (omega arith)) h.front_sleep);
       back_sleep = record { arming = λ t. event; armed = λ t. event; may = λ t. awake; woken = λ t. absurd (false≢true (sym awake ∙ t)) };
       ports = h.ports;

@@ -103,7 +103,7 @@ ends_on config w g d d' s s' ending pool words pages i i' restless unarmed fewer
   paged = h.paged;
   front_sleep = (let was = h.front_sleep in record { arming = λ t. absurd (true≢false (sym t ∙ unarmed)); armed = λ t. absurd (true≢false (sym t ∙ was.may restless)); may = λ t. was.may restless; woken = was.woken });
   back_sleep = (let was = h.back_sleep in record { arming = λ t. frames 2 (omega arith) 1 (omega arith) ∙ was.arming t; armed = λ t. frames 2 (omega arith) 1 (omega arith) ∙ was.armed t; may = was.may; woken = λ t. by_wake (was.woken t) });
-  ports = subst (λ (b : Bool). PortsAt b (is_bound_back w.back.stage) w.under.channels.made w.under.channels.ports) (as_connected s s' i.ready i'.ready) h.ports;
+  ports = subst (λ (b : Bool). PortsAt g.before b (is_bound_back w.back.stage) w.under.channels.made w.under.channels.ports) (as_connected s s' i.ready i'.ready) h.ports;
 }
   where
     among : (page : ℕ) → page < 2 ^ g.shape.order → page < 16

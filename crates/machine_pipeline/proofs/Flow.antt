@@ -20,10 +20,11 @@ use Rattle.blk_back.specs.declared.stage.Stage.{Stage as BackStage}
 use Rattle.blk_back.specs.declared.stage.Stage.TheVariants as back
 use Rattle.pipeline_laws.specs.Station.{Station, Working, Failed, Ended}
 
--- the ring's shape and its first index; how many requests were pushed, how many of them fetched, how many of these replied to, and how many of the responses taken; how many responses and requests the front and the back saw in the producers; the requests, number 1 first; those of this epoch, in the order in which they are pushed; the responses that the front hasn't taken, oldest first; and whether the front began to close
+-- the ring's shape and its first index; how many ports were made before this epoch; how many requests were pushed, how many of them fetched, how many of these replied to, and how many of the responses taken; how many responses and requests the front and the back saw in the producers; the requests, number 1 first; those of this epoch, in the order in which they are pushed; the responses that the front hasn't taken, oldest first; and whether the front began to close
 pub record Flow : Type 0 where
   pub shape : Shape
   pub start : ℕ
+  pub before : ℕ
   pub pushed : ℕ
   pub fetched : ℕ
   pub replied : ℕ
@@ -36,12 +37,12 @@ pub record Flow : Type 0 where
   pub closing : Bool
 
 -- at the start of an epoch, of which these are the requests
-abbrev pub epoch_flow : Shape → ℕ → (submitted series : List Request) → (closing : Bool) → Flow
-epoch_flow shape start submitted series closing = record { shape = shape; start = start; pushed = 0; fetched = 0; replied = 0; taken = 0; front_seen = 0; back_seen = 0; submitted = submitted; series = series; replies = []; closing = closing }
+abbrev pub epoch_flow : Shape → (start before : ℕ) → (submitted series : List Request) → (closing : Bool) → Flow
+epoch_flow shape start before submitted series closing = record { shape = shape; start = start; before = before; pushed = 0; fetched = 0; replied = 0; taken = 0; front_seen = 0; back_seen = 0; submitted = submitted; series = series; replies = []; closing = closing }
 
 -- of the first one
 abbrev pub start_flow : Shape → ℕ → Flow
-start_flow shape start = epoch_flow shape start [] [] false
+start_flow shape start = epoch_flow shape start 0 [] [] false
 
 -- a whole index as the ring's words have it
 abbrev pub wrapped : ℕ → ℕ → ℕ
@@ -138,6 +139,12 @@ abbrev pub telling_at : FrontStage → Option ℕ
 telling_at (front.ReadData n) = Some (n / 128)
 telling_at (front.LeftData n) = Some (n / 128)
 telling_at s = None
+
+-- and the word of its data that is read next
+abbrev pub word_at : FrontStage → Option ℕ
+word_at (front.ReadData n) = Some n
+word_at (front.LeftData n) = Some n
+word_at s = None
 
 abbrev pub count_of : Option Ending → ℕ
 count_of None = 0

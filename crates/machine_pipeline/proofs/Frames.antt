@@ -24,9 +24,9 @@ use Rattle.blk_back.specs.declared.stage.Stage.TheVariants as back
 use Rattle.blk_back.specs.View.{no_page}
 use Rattle.blk_back.specs.Hands.{given_up, hands_at}
 use Rattle.split_model.specs.World.{World}
-use Rattle.machine_pipeline.proofs.Flow.{Flow, ending_at, telling_at, reply_at, named_pages, worked, frames_of}
+use Rattle.machine_pipeline.proofs.Flow.{Flow, ending_at, word_at, telling_at, reply_at, named_pages, worked, frames_of}
 use Rattle.machine_pipeline.proofs.Stations.{worked_kind}
-use Rattle.machine_pipeline.proofs.Holds.{Holds, FrontAt, IsEndingAt, BackAt, IsReplying, IsEnding, IsSubmitted, IsWork}
+use Rattle.machine_pipeline.proofs.Holds.{Holds, FrontAt, IsToldAt, BackAt, IsReplying, IsEnding, IsSubmitted, IsWork}
 use Rattle.machine_pipeline.proofs.Data.{pooled_at}
 use Rattle.machine_pipeline.proofs.Lists.{all_at}
 use Rattle.machine_pipeline.proofs.Hands.{IsQueued, queued, frames_apart, work_hand, hands_none, pages_none, mapped_few, nothing_given_up}
@@ -37,7 +37,7 @@ pub ending_is : (shape : Shape) (start pushed taken front_seen : ℕ) (submitted
 ending_is shape start pushed taken front_seen submitted replies next entry ending (front.GrantRead place) e h same = subst (IsEnding submitted replies) (same_Some h.0 e (sym h.1 ∙ same)) h.2
 ending_is shape start pushed taken front_seen submitted replies next entry ending (front.GrantEnd place before) e h same = subst (IsEnding submitted replies) (same_Some h.0 e (sym h.1 ∙ same)) h.2
 ending_is shape start pushed taken front_seen submitted replies next entry ending (front.ReadData n) e h same = subst (IsEnding submitted replies) (same_Some h.0 e (sym h.1 ∙ same)) h.2
-ending_is shape start pushed taken front_seen submitted replies next entry ending (front.LeftData n) e h same = absurd h
+ending_is shape start pushed taken front_seen submitted replies next entry ending (front.LeftData n) e h same = subst (IsEnding submitted replies) (same_Some h.0 e (sym h.1 ∙ same)) h.2
 ending_is shape start pushed taken front_seen submitted replies next entry ending s e h same = absurd (none-some e same)
 
 -- the response that is being written
@@ -59,14 +59,19 @@ named_at shape start pushed taken front_seen submitted replies next entry ending
 named_at shape start pushed taken front_seen submitted replies next entry ending (front.RingFrame page) narrow h = let few = few_pages shape.order narrow in omega (arith, h)
 named_at shape start pushed taken front_seen submitted replies next entry ending (front.RingFence page) narrow h = let few = few_pages shape.order narrow in omega (arith, h)
 named_at shape start pushed taken front_seen submitted replies next entry ending (front.RingFlags page) narrow h = let few = few_pages shape.order narrow in omega (arith, h)
-named_at shape start pushed taken front_seen submitted replies next entry ending (front.LeftData n) narrow h = absurd h
+named_at shape start pushed taken front_seen submitted replies next entry ending (front.LeftData n) narrow h = omega arith
 named_at shape start pushed taken front_seen submitted replies next entry ending s narrow h = few_pages shape.order narrow
 
 -- the data of the ending request that are told have so many words
-pub told_few : (shape : Shape) (start pushed taken front_seen : ℕ) (submitted : List Request) (replies : List Reply) (next : Option Request) (entry : List ℕ) (ending : Option Ending) (s : FrontStage) → FrontAt shape start pushed taken front_seen submitted replies next entry ending s → (n : ℕ) → s ≡ front.ReadData n → (e : Ending) → ending ≡ Some e → n < words_in e.request
-told_few shape start pushed taken front_seen submitted replies next entry ending s h n is e here =
-    let at : IsEndingAt submitted replies ending (λ x. (n < words_in x.request) × (x.request.transfer ≡ transfer.Read) × (x.status ≡ Okay)) = subst (λ (x : FrontStage). FrontAt shape start pushed taken front_seen submitted replies next entry ending x) is h in
-    subst (λ (x : Ending). n < words_in x.request) (same_Some at.0 e (sym at.1 ∙ here)) at.3.0
+told_fewer : (submitted : List Request) (replies : List Reply) (ending : Option Ending) (m n : ℕ) (e : Ending) → IsToldAt submitted replies ending m → Some m ≡ Some n → ending ≡ Some e → n < words_in e.request
+told_fewer submitted replies ending m n e at is here =
+    let few : m < words_in e.request = subst (λ (x : Ending). m < words_in x.request) (same_Some at.0 e (sym at.1 ∙ here)) at.3.0 in
+    subst (λ (k : ℕ). k < words_in e.request) (same_Some m n is) few
+
+pub told_few : (shape : Shape) (start pushed taken front_seen : ℕ) (submitted : List Request) (replies : List Reply) (next : Option Request) (entry : List ℕ) (ending : Option Ending) (s : FrontStage) → FrontAt shape start pushed taken front_seen submitted replies next entry ending s → (n : ℕ) → word_at s ≡ Some n → (e : Ending) → ending ≡ Some e → n < words_in e.request
+told_few shape start pushed taken front_seen submitted replies next entry ending (front.ReadData m) at n is e here = told_fewer submitted replies ending m n e at is here
+told_few shape start pushed taken front_seen submitted replies next entry ending (front.LeftData m) at n is e here = told_fewer submitted replies ending m n e at is here
+told_few shape start pushed taken front_seen submitted replies next entry ending s at n is e here = absurd (none-some n is)
 
 -- one of the front's requests is a submitted one
 pub is_submitted : (config : Options) (w : World) (g : Flow) (d : Pipeline) (s : FrontStage) (b : BackStage) → Holds config w g d s b → (i : ℕ) (r : Request) → slice_get w.front.requests i ≡ Some r → IsSubmitted w.front.sectors (r.number - 1) r

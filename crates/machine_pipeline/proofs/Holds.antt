@@ -234,6 +234,10 @@ IsNextAt next P = (r : Request) × (next ≡ Some r) × P r
 abbrev pub IsEndingAt : List Request → List Reply → Option Ending → (Ending → Type 0) → Type 0
 IsEndingAt submitted replies ending P = (e : Ending) × (ending ≡ Some e) × IsEnding submitted replies e × P e
 
+-- a read whose answer was told, with so many words of its data read
+abbrev pub IsToldAt : List Request → List Reply → Option Ending → ℕ → Type 0
+IsToldAt submitted replies ending n = IsEndingAt submitted replies ending (λ e. (n < words_in e.request) × (e.request.transfer ≡ transfer.Read) × (e.status ≡ Okay))
+
 abbrev pub FrontAt : Shape → (start pushed taken front_seen : ℕ) → List Request → List Reply → Option Request → List ℕ → Option Ending → FrontStage → Type 0
 FrontAt shape start pushed taken front_seen submitted replies next entry ending (front.RingWord k) = k < 16
 FrontAt shape start pushed taken front_seen submitted replies next entry ending (front.RingFrame page) = page < 2 ^ shape.order
@@ -252,8 +256,8 @@ FrontAt shape start pushed taken front_seen submitted replies next entry ending 
 FrontAt shape start pushed taken front_seen submitted replies next entry ending (front.ResponseLast low high) = (t : IsTaken taken front_seen replies) × (low ≡ response_word t.rep 0) × (high ≡ response_word t.rep 1)
 FrontAt shape start pushed taken front_seen submitted replies next entry ending (front.GrantRead place) = IsEndingAt submitted replies ending (λ e. place < frames_of e.request)
 FrontAt shape start pushed taken front_seen submitted replies next entry ending (front.GrantEnd place before) = IsEndingAt submitted replies ending (λ e. (place < frames_of e.request) × (before ≡ flags_at e.request place))
-FrontAt shape start pushed taken front_seen submitted replies next entry ending (front.ReadData n) = IsEndingAt submitted replies ending (λ e. (n < words_in e.request) × (e.request.transfer ≡ transfer.Read) × (e.status ≡ Okay))
-FrontAt shape start pushed taken front_seen submitted replies next entry ending (front.LeftData n) = ⊥
+FrontAt shape start pushed taken front_seen submitted replies next entry ending (front.ReadData n) = IsToldAt submitted replies ending n
+FrontAt shape start pushed taken front_seen submitted replies next entry ending (front.LeftData n) = IsToldAt submitted replies ending n
 FrontAt shape start pushed taken front_seen submitted replies next entry ending (front.RingRead page) = ⊥
 FrontAt shape start pushed taken front_seen submitted replies next entry ending (front.RingEnd page before) = ⊥
 FrontAt shape start pushed taken front_seen submitted replies next entry ending front.ClosePort = ⊥
@@ -360,12 +364,12 @@ PagesAt back.InitWait order count = count ≡ 0
 PagesAt back.MapRing order count = count < 2 ^ order
 PagesAt s order count = count ≡ 2 ^ order
 
--- the back's terms are the front's: its shape, the references of its ring's frames, which count from 8, and its port; each page of the ring is that of its reference, for writing too
-pub record ArePaged (shape back_shape : Shape) (entries : ℕ) (grefs : List ℕ) (port : ℕ) (pages : List Mapping) (stage : BackStage) : Type 0 where
+-- the back's terms are the front's: its shape, the references of its ring's frames, which count from 8, and its port (`own`); each page of the ring is that of its reference, for writing too
+pub record ArePaged (shape back_shape : Shape) (entries : ℕ) (grefs : List ℕ) (port own : ℕ) (pages : List Mapping) (stage : BackStage) : Type 0 where
   pub shaped : has_terms stage ≡ true → back_shape ≡ shape
   pub entries_are : has_terms stage ≡ true → entries ≡ entries_of shape.order
   pub grefs_are : has_terms stage ≡ true → grefs ≡ range_with_len 8 (2 ^ shape.order)
-  pub port_is : has_terms stage ≡ true → port ≡ 1
+  pub port_is : has_terms stage ≡ true → port ≡ own
   pub mapped : PagesAt stage shape.order (length pages)
   pub gref : (page : ℕ) → page < length pages → (slice_index_or pages page no_page).gref ≡ 8 + page
   pub mode : (page : ℕ) → page < length pages → (slice_index_or pages page no_page).mode ≡ ReadWrite
@@ -377,8 +381,12 @@ pub record IsOfShape (config : Options) (shape front_shape : Shape) : Type 0 whe
   pub known : front_shape ≡ shape
 
 -- the words of the sector that the front read so far
+abbrev pub AreReadTo : (pages words : List ℕ) → Option Ending → ℕ → Type 0
+AreReadTo pages words ending n = (e : Ending) → ending ≡ Some e → (k : ℕ) → k < n % 128 → slice_index words k ≡ data_word pages e.request (n / 128 * 128 + k)
+
 abbrev pub IsReadSoFar : (pages words : List ℕ) → Option Ending → FrontStage → Type 0
-IsReadSoFar pages words ending (front.ReadData n) = (e : Ending) → ending ≡ Some e → (k : ℕ) → k < n % 128 → slice_index words k ≡ data_word pages e.request (n / 128 * 128 + k)
+IsReadSoFar pages words ending (front.ReadData n) = AreReadTo pages words ending n
+IsReadSoFar pages words ending (front.LeftData n) = AreReadTo pages words ending n
 IsReadSoFar pages words ending s = Unit {0}
 
 pub record AreDataWords (pages words : List ℕ) (ending : Option Ending) (stage : FrontStage) : Type 0 where
@@ -411,11 +419,11 @@ pub record IsBackSleep (start fetched pushed : ℕ) (pages : List ℕ) (asleep p
   pub may : may_back_sleep back_stage ≡ false → asleep ≡ false
   pub woken : asleep ≡ true → (pushed ≡ fetched) ⊎ (pending ≡ true) ⊎ FrontSends front_stage pushed fetched
 
--- the front's one port, as far as both ends came
-abbrev pub PortsAt : (connected bound : Bool) → ℕ → List PortState → Type 0
-PortsAt false bound made ports = (made ≡ 0) × (ports ≡ []) × (bound ≡ false)
-PortsAt true false made ports = (made ≡ 1) × (ports ≡ Unbound ∷ [])
-PortsAt true true made ports = (made ≡ 1) × (ports ≡ Bound ∷ [])
+-- the front's one port of this epoch, as far as both ends came, where so many were made before
+abbrev pub PortsAt : (before : ℕ) → (connected bound : Bool) → ℕ → List PortState → Type 0
+PortsAt before false bound made ports = (made ≡ before) × (ports ≡ []) × (bound ≡ false)
+PortsAt before true false made ports = (made ≡ before + 1) × (ports ≡ Unbound ∷ [])
+PortsAt before true true made ports = (made ≡ before + 1) × (ports ≡ Bound ∷ [])
 
 -- the ring's first index is the option's, and the front knows it; and it closes where it began to
 pub record IsStarted (option start front_start : ℕ) (began front_closes : Bool) : Type 0 where
@@ -456,10 +464,10 @@ pub record Holds (config : Options) (w : World) (g : Flow) (d : Pipeline) (s : F
   pub telling : AreDataWords w.under.pages w.front.words w.front.ending s
   pub entries : AreEntries g.series g.pushed w.under.pages w.under.grants.live s w.front.ending w.front.requests
   pub mapped : AreMapped w.under.grants.live (hands_at b w.back)
-  pub paged : ArePaged g.shape w.back.shape w.back.ring.entries w.back.grefs w.back.port w.back.pages b
+  pub paged : ArePaged g.shape w.back.shape w.back.ring.entries w.back.grefs w.back.port (g.before + 1) w.back.pages b
   pub front_sleep : IsFrontSleep g.start g.taken g.replied w.under.pages w.front.asleep w.under.channels.front_pending s b
   pub back_sleep : IsBackSleep g.start g.fetched g.pushed w.under.pages w.back.asleep w.under.channels.back_pending s b
-  pub ports : PortsAt (is_connected s) (is_bound_back b) w.under.channels.made w.under.channels.ports
+  pub ports : PortsAt g.before (is_connected s) (is_bound_back b) w.under.channels.made w.under.channels.ports
 
 -- and each ask may be carried out
 pub record Stands (config : Options) (w : World) (g : Flow) (d : Pipeline) : Type 0 where

@@ -1,10 +1,9 @@
--- The report before a hostile hand first overwrote a word or a key, and before the domain was first suspended, is that of what happened before.
-use Rattle.std.proofs.Common.{◌≡◌, ℕ, ◌*◌, ◌^◌, Bool, true, false, List, [], ◌∷◌, ◌++◌, ◌⊎◌, inl, inr, refl, ap, sym, ◌∙◌, subst, append_assoc, cond, true≢false}
+-- The report before a hostile hand first overwrote a word or a key is that of what happened before.
+use Rattle.std.proofs.Common.{◌≡◌, ℕ, ◌*◌, ◌^◌, Bool, true, false, List, [], ◌∷◌, ◌++◌, ◌⊎◌, inl, inr, refl, ap, sym, ◌∙◌, subst, append_assoc, true≢false}
 use Rattle.std.specs.Prelude.{if◌then◌else◌, Result, Ok, Err}
 use Rattle.std.specs.List.{AllByRecursion, list_all}
 use Rattle.std.proofs.lemmas.List.{append-nil}
 use Rattle.std.proofs.lemmas.List.Elements.{filter_map-append}
-use Rattle.std.proofs.lemmas.List.Sums.{take_while-cons}
 use Rattle.blk_base.specs.Options.{Options}
 use Rattle.blk_base.specs.declared.config.Job.{Job}
 use Rattle.blk_io.specs.Disk.{DiskSeen}
@@ -14,37 +13,31 @@ use Rattle.schedule_text.specs.declared.line.Line.{Line}
 use Rattle.schedule_text.specs.declared.line.Line.TheVariants as lines
 use Rattle.schedule_text.specs.Recorder.{recorded, kept_of}
 use Rattle.plain_disk.specs.Echo.{is_echo}
-use Rattle.machine_pipeline.specs.First.{is_first, first_part}
+use Rattle.plain_disk.specs.Honest.{is_honest, honest_part}
+use Rattle.plain_disk.proofs.Honest.{honest_more, honest_ends}
 use Rattle.blk_front.specs.declared.told.Refusal.{Refusal}
 use Rattle.blk_front.specs.Submit as front_submit
-use Rattle.split_model.specs.World.{World, start_of, may_suspend}
+use Rattle.split_model.specs.World.{World, start_of}
 use Rattle.split_model.specs.Happening.{Happening, Submits, Pokes, OverwritesKey, Suspends, Dumps, Looks, Settles, is_guest_word, is_guest_key, happens, after, lines_at, lines_of, submit_line, DiskRuns}
 use Rattle.split_model.specs.Honest.{honest_history}
 use Rattle.split_model.specs.Report.{report_of, ended_report_of}
 use Rattle.split_model.proofs.Running.{kept_of-append}
 use Rattle.split_model.proofs.Echo.{echo_of, move_silent}
 use Rattle.split_model.proofs.Overwriting.{dump_lines_are}
+use Rattle.split_model.proofs.Suspending.{suspend_lines_are}
 use Rattle.machine_pipeline.proofs.Allowed.{possible_first}
 use Rattle.line_text.proofs.Both.{both_true}
 use Rattle.machine_pipeline.specs.Submissions.{submitted_at, submitted_of}
 use Rattle.machine_pipeline.specs.Allowed.{AreServed, ArePossible}
 
--- a first line belongs to it, and another ends it
-pub first_more : (line : Line) (rest : List Line) → is_first line ≡ true → first_part (line ∷ rest) ≡ line ∷ first_part rest
-first_more line rest first = take_while-cons is_first line rest ∙ ap (λ (b : Bool). cond b (line ∷ first_part rest) []) first
-
-pub first_ends : (line : Line) (rest : List Line) → is_first line ≡ false → first_part (line ∷ rest) ≡ []
-first_ends line rest other = take_while-cons is_first line rest ∙ ap (λ (b : Bool). cond b (line ∷ first_part rest) []) other
-
--- lines of which none is hostile, nor one of a suspend
+-- lines of which none is hostile
 abbrev AreHonest : List Line → Type 0
-AreHonest ls = AllByRecursion (λ (line : Line). is_first line ≡ true) ls
+AreHonest ls = AllByRecursion (λ (line : Line). is_honest line ≡ true) ls
 
 -- a line that doesn't echo is none
-unechoed : (line : Line) → is_echo line ≡ false → is_first line ≡ true
+unechoed : (line : Line) → is_echo line ≡ false → is_honest line ≡ true
 unechoed (lines.Poke frame word value) e = absurd (true≢false e)
 unechoed (lines.Key name text) e = absurd (true≢false e)
-unechoed lines.Epoch e = absurd (true≢false e)
 unechoed line e = refl
 
 echo_more : (line : Line) (ls : List Line) → is_echo line ≡ true → echo_of (line ∷ ls) ≡ line ∷ echo_of ls
@@ -65,58 +58,56 @@ submit_honest : (job : Job) (r : Result ℕ Refusal) → AreHonest (submit_line 
 submit_honest job (Ok number) = (refl, tt)
 submit_honest job (Err refusal) = (refl, tt)
 
-look_honest : (quiet : Bool) (other : Line) → is_first other ≡ true → AreHonest ((if quiet then lines.Quiet else other) ∷ [])
+look_honest : (quiet : Bool) (other : Line) → is_honest other ≡ true → AreHonest ((if quiet then lines.Quiet else other) ∷ [])
 look_honest true other e = (refl, tt)
 look_honest false other e = (e, tt)
 
--- no word and no key is overwritten, and the domain isn't suspended
+-- no word and no key is overwritten
 abbrev IsUntouched : Happening → Type 0
 IsUntouched (Pokes frame word value) = ⊥
 IsUntouched (OverwritesKey name text) = ⊥
-IsUntouched Suspends = ⊥
 IsUntouched h = Unit {0}
 
 honest_at : (w : World) (h : Happening) → IsUntouched h → AreHonest (lines_at w h)
 honest_at w (Submits job) may = submit_honest job (front_submit.submit_of w.front job).0
 honest_at w (Looks quiet) may = look_honest quiet lines.Busy refl
 honest_at w (Settles quiet) may = look_honest quiet lines.Unsettled refl
-honest_at w Dumps may = dump_lines_are (λ (line : Line). is_first line ≡ true) w.under.pages 0 (1024 * 2 ^ w.front.shape.order) (λ frame word value. refl)
+honest_at w Dumps may = dump_lines_are (λ (line : Line). is_honest line ≡ true) w.under.pages 0 (1024 * 2 ^ w.front.shape.order) (λ frame word value. refl)
 honest_at w (Pokes frame word value) may = absurd may
 honest_at w (OverwritesKey name text) may = absurd may
-honest_at w Suspends may = absurd may
+honest_at w Suspends may = suspend_lines_are (λ (line : Line). is_honest line ≡ true) w refl
 honest_at w h may = silent_honest (lines_at w h) (move_silent w h refl)
 
 -- honest lines come before those of the rest
-honest_then : (ls rest : List Line) → AreHonest ls → first_part (ls ++ rest) ≡ ls ++ first_part rest
+honest_then : (ls rest : List Line) → AreHonest ls → honest_part (ls ++ rest) ≡ ls ++ honest_part rest
 honest_then [] rest all = refl
-honest_then (line ∷ ls) rest all = first_more line (ls ++ rest) all.0 ∙ ap (λ (l : List Line). line ∷ l) (honest_then ls rest all.1)
+honest_then (line ∷ ls) rest all = honest_more line (ls ++ rest) all.0 ∙ ap (λ (l : List Line). line ∷ l) (honest_then ls rest all.1)
 
 both_honest : (a b : List Line) → AreHonest a → AreHonest b → AreHonest (a ++ b)
 both_honest [] b p q = q
 both_honest (line ∷ a) b p q = (p.0, both_honest a b p.1 q)
 
 -- all of it
-honest_all : (ls : List Line) → AreHonest ls → first_part ls ≡ ls
+honest_all : (ls : List Line) → AreHonest ls → honest_part ls ≡ ls
 honest_all [] all = refl
-honest_all (line ∷ ls) all = first_more line ls all.0 ∙ ap (λ (l : List Line). line ∷ l) (honest_all ls all.1)
+honest_all (line ∷ ls) all = honest_more line ls all.0 ∙ ap (λ (l : List Line). line ∷ l) (honest_all ls all.1)
 
-listed_honest : (ls : List Line) → list_all is_first ls ≡ true → AreHonest ls
+listed_honest : (ls : List Line) → list_all is_honest ls ≡ true → AreHonest ls
 listed_honest [] all = tt
-listed_honest (line ∷ ls) all = let e = both_true (is_first line) (list_all is_first ls) all in (e.0, listed_honest ls e.1)
+listed_honest (line ∷ ls) all = let e = both_true (is_honest line) (list_all is_honest ls) all in (e.0, listed_honest ls e.1)
 
 -- what happened before shows honest lines alone
 before_honest : (hs : List Happening) (w : World) → AreHonest (lines_of (honest_history hs) w)
 before_honest [] w = tt
 before_honest (Pokes frame word value ∷ hs) w = tt
 before_honest (OverwritesKey name text ∷ hs) w = tt
-before_honest (Suspends ∷ hs) w = tt
 before_honest (h ∷ hs) w = both_honest (lines_at w h) (lines_of (honest_history hs) (happens w h)) (honest_at w h tt) (before_honest hs (happens w h))
 
 -- nothing was overwritten, or the first line that says so comes after those of what happened before
 pub record HostileAfter (whole first : List Line) : Type 0 where
   pub line : Line
   pub rest : List Line
-  pub hostile : is_first line ≡ false
+  pub hostile : is_honest line ≡ false
   pub split : whole ≡ first ++ line ∷ rest
 
 abbrev pub HonestWith : List Happening → World → List Line → Type 0
@@ -139,7 +130,6 @@ pub honest_with : (hs : List Happening) (w : World) (tail : List Line) → ArePo
 honest_with [] w tail may = inl refl
 honest_with (Pokes frame word value ∷ hs) w tail may = inr (record { line = lines.Poke frame word value; rest = lines_of hs (happens w (Pokes frame word value)) ++ tail; hostile = refl; split = rw may.0.0 refl })
 honest_with (OverwritesKey name text ∷ hs) w tail may = inr (record { line = lines.Key name text; rest = lines_of hs (happens w (OverwritesKey name text)) ++ tail; hostile = refl; split = rw may.0 refl })
-honest_with (Suspends ∷ hs) w tail may = inr (record { line = lines.Epoch; rest = lines_of hs (happens w Suspends) ++ tail; hostile = refl; split = rw may.0 refl })
 honest_with (h ∷ hs) w tail may = more_honest h hs w tail refl (honest_with hs (happens w h) tail may.1)
 
 -- what happened before comes first
@@ -147,7 +137,6 @@ pub honest_first : (hs : List Happening) → (rest : List Happening) × (hs ≡ 
 honest_first [] = ([], refl)
 honest_first (Pokes frame word value ∷ hs) = (Pokes frame word value ∷ hs, refl)
 honest_first (OverwritesKey name text ∷ hs) = (OverwritesKey name text ∷ hs, refl)
-honest_first (Suspends ∷ hs) = (Suspends ∷ hs, refl)
 honest_first (h ∷ hs) = let others = honest_first hs in (others.0, ap (λ (l : List Happening). h ∷ l) others.1)
 
 -- and of a first part what happened before is served
@@ -155,7 +144,6 @@ pub served_before : (first rest : List Happening) (w : World) → AreServed (hon
 served_before [] rest w may = tt
 served_before (Pokes frame word value ∷ first) rest w may = tt
 served_before (OverwritesKey name text ∷ first) rest w may = tt
-served_before (Suspends ∷ first) rest w may = tt
 served_before (h ∷ first) rest w may = (may.0, served_before first rest (happens w h) may.1)
 
 -- its disk and its submissions are the first of all
@@ -176,7 +164,7 @@ submitted_part hs =
     (submitted_of first.0, sym (ap submitted_of first.1 ∙ filter_map-append submitted_at (honest_history hs) first.0))
 
 -- what a recorder keeps of lines
-kept_honest : (d : Detail) (line : Line) → is_first line ≡ true → AreHonest (recorded d line)
+kept_honest : (d : Detail) (line : Line) → is_honest line ≡ true → AreHonest (recorded d line)
 kept_honest Lines (lines.Begin config other) e = (refl, tt)
 kept_honest Lines (lines.Move move) e = tt
 kept_honest Lines line e = (e, tt)
@@ -184,54 +172,52 @@ kept_honest Moves (lines.Begin config other) e = (refl, tt)
 kept_honest Moves (lines.Move move) e = (refl, tt)
 kept_honest Moves line e = (e, tt)
 
-kept_hostile : (d : Detail) (line : Line) → is_first line ≡ false → recorded d line ≡ line ∷ []
+kept_hostile : (d : Detail) (line : Line) → is_honest line ≡ false → recorded d line ≡ line ∷ []
 kept_hostile Lines (lines.Poke frame word value) e = refl
 kept_hostile Lines (lines.Key name text) e = refl
-kept_hostile Lines lines.Epoch e = refl
 kept_hostile Moves (lines.Poke frame word value) e = refl
 kept_hostile Moves (lines.Key name text) e = refl
-kept_hostile Moves lines.Epoch e = refl
 kept_hostile d line e = absurd (true≢false e)
 
-pub honest_kept : (d : Detail) (ls : List Line) → first_part (kept_of d ls) ≡ kept_of d (first_part ls)
+pub honest_kept : (d : Detail) (ls : List Line) → honest_part (kept_of d ls) ≡ kept_of d (honest_part ls)
 honest_kept d [] = refl
-honest_kept d (line ∷ ls) = by_test (is_first line) refl (honest_kept d ls)
+honest_kept d (line ∷ ls) = by_test (is_honest line) refl (honest_kept d ls)
   where
-    by_test : (b : Bool) → is_first line ≡ b → first_part (kept_of d ls) ≡ kept_of d (first_part ls) → first_part (recorded d line ++ kept_of d ls) ≡ kept_of d (first_part (line ∷ ls))
+    by_test : (b : Bool) → is_honest line ≡ b → honest_part (kept_of d ls) ≡ kept_of d (honest_part ls) → honest_part (recorded d line ++ kept_of d ls) ≡ kept_of d (honest_part (line ∷ ls))
     by_test true e later =
         honest_then (recorded d line) (kept_of d ls) (kept_honest d line e)
-        ∙ (ap (λ (l : List Line). recorded d line ++ l) later ∙ ap (kept_of d) (sym (first_more line ls e)))
-    by_test false e later = ap (λ (l : List Line). first_part (l ++ kept_of d ls)) (kept_hostile d line e) ∙ (first_ends line (kept_of d ls) e ∙ ap (kept_of d) (sym (first_ends line ls e)))
+        ∙ (ap (λ (l : List Line). recorded d line ++ l) later ∙ ap (kept_of d) (sym (honest_more line ls e)))
+    by_test false e later = ap (λ (l : List Line). honest_part (l ++ kept_of d ls)) (kept_hostile d line e) ∙ (honest_ends line (kept_of d ls) e ∙ ap (kept_of d) (sym (honest_ends line ls e)))
 
 -- the lines of a report, and more after them: its honest part is the report of what happened before, or all of it
 honest_cut : (config : Options) (detail : Detail) (hs : List Happening) (whole : List Line)
-    → HostileAfter whole (lines_of (honest_history hs) (start_of config)) → first_part (lines.Begin config detail ∷ whole) ≡ report_of config detail (honest_history hs)
+    → HostileAfter whole (lines_of (honest_history hs) (start_of config)) → honest_part (lines.Begin config detail ∷ whole) ≡ report_of config detail (honest_history hs)
 honest_cut config detail hs whole h =
     let first = lines_of (honest_history hs) (start_of config) in
-    first_more (lines.Begin config detail) whole refl
+    honest_more (lines.Begin config detail) whole refl
     ∙ ap (λ (l : List Line). lines.Begin config detail ∷ l)
-    (ap first_part h.split
+    (ap honest_part h.split
     ∙ (honest_then first (h.line ∷ h.rest) (before_honest hs (start_of config))
-    ∙ (ap (λ (l : List Line). first ++ l) (first_ends h.line h.rest h.hostile) ∙ append-nil first)))
+    ∙ (ap (λ (l : List Line). first ++ l) (honest_ends h.line h.rest h.hostile) ∙ append-nil first)))
 
 -- where nothing was overwritten, all lines are honest
 all_before : (hs : List Happening) (w : World) → honest_history hs ≡ hs → AreHonest (lines_of hs w)
 all_before hs w all = subst (λ (l : List Happening). AreHonest (lines_of l w)) all (before_honest hs w)
 
 pub honest_report : (config : Options) (detail : Detail) (hs : List Happening) → ArePossible hs (start_of config)
-    → first_part (report_of config detail hs) ≡ report_of config detail (honest_history hs)
+    → honest_part (report_of config detail hs) ≡ report_of config detail (honest_history hs)
 honest_report config detail hs may = by_part (honest_with hs (start_of config) [] may)
   where
-    by_part : HonestWith hs (start_of config) [] → first_part (report_of config detail hs) ≡ report_of config detail (honest_history hs)
+    by_part : HonestWith hs (start_of config) [] → honest_part (report_of config detail hs) ≡ report_of config detail (honest_history hs)
     by_part (inl all) = honest_all (report_of config detail hs) (refl, all_before hs (start_of config) all) ∙ ap (report_of config detail) (sym all)
-    by_part (inr h) = ap (λ (l : List Line). first_part (lines.Begin config detail ∷ l)) (sym (append-nil (lines_of hs (start_of config)))) ∙ honest_cut config detail hs (lines_of hs (start_of config) ++ []) h
+    by_part (inr h) = ap (λ (l : List Line). honest_part (lines.Begin config detail ∷ l)) (sym (append-nil (lines_of hs (start_of config)))) ∙ honest_cut config detail hs (lines_of hs (start_of config) ++ []) h
 
 -- with its last line
 abbrev pub HonestEnded : Options → Detail → List Happening → Type 0
 HonestEnded config detail hs =
-    ((honest_history hs ≡ hs) × (first_part (ended_report_of config detail hs) ≡ ended_report_of config detail hs))
+    ((honest_history hs ≡ hs) × (honest_part (ended_report_of config detail hs) ≡ ended_report_of config detail hs))
     ⊎ (HostileAfter (ended_report_of config detail hs) (report_of config detail (honest_history hs))
-    × (first_part (ended_report_of config detail hs) ≡ report_of config detail (honest_history hs)))
+    × (honest_part (ended_report_of config detail hs) ≡ report_of config detail (honest_history hs)))
 
 pub honest_ended : (config : Options) (detail : Detail) (hs : List Happening) → ArePossible hs (start_of config) → HonestEnded config detail hs
 honest_ended config detail hs may = by_part (honest_with hs (start_of config) (lines.End ∷ []) may)
@@ -244,7 +230,7 @@ honest_ended config detail hs may = by_part (honest_with hs (start_of config) (l
     )
 
 -- a report that a recorder keeps and in which no line is hostile is one of a history in which nothing was overwritten
-none_hostile : (first rest : List Line) (hostile : Line) → is_first hostile ≡ false → AreHonest (first ++ hostile ∷ rest) → ⊥
+none_hostile : (first rest : List Line) (hostile : Line) → is_honest hostile ≡ false → AreHonest (first ++ hostile ∷ rest) → ⊥
 none_hostile [] rest hostile e all = true≢false (sym all.0 ∙ e)
 none_hostile (line ∷ first) rest hostile e all = none_hostile first rest hostile e all.1
 
@@ -256,23 +242,23 @@ kept_after d whole first h = record {
   split = ap (kept_of d) h.split ∙ (kept_of-append d first (h.line ∷ h.rest) ∙ ap (λ (l : List Line). kept_of d first ++ (l ++ kept_of d h.rest)) (kept_hostile d h.line h.hostile));
 }
 
-pub not_honest : (whole first : List Line) → HostileAfter whole first → list_all is_first whole ≡ true → ⊥
+pub not_honest : (whole first : List Line) → HostileAfter whole first → list_all is_honest whole ≡ true → ⊥
 not_honest whole first h all = none_hostile first h.rest h.line h.hostile (subst AreHonest h.split (listed_honest whole all))
 
 -- a report that was cut among the lines of what happened last: nothing was overwritten, or its honest part is the report of what happened before
 abbrev pub CutOrWhole : Options → Detail → List Happening → Happening → List Line → Type 0
 CutOrWhole config detail history last part =
-    ((honest_history (history ++ last ∷ []) ≡ history ++ last ∷ []) × (first_part (report_of config detail history ++ part) ≡ report_of config detail history ++ part))
-    ⊎ (first_part (report_of config detail history ++ part) ≡ report_of config detail (honest_history history))
+    ((honest_history (history ++ last ∷ []) ≡ history ++ last ∷ []) × (honest_part (report_of config detail history ++ part) ≡ report_of config detail history ++ part))
+    ⊎ (honest_part (report_of config detail history ++ part) ≡ report_of config detail (honest_history history))
 
 first_honest : (a b : List Line) → AreHonest (a ++ b) → AreHonest a
 first_honest [] b all = tt
 first_honest (line ∷ a) b all = (all.0, first_honest a b all.1)
 
 -- what was overwritten last is shown, or not yet
-hostile_cut : (allowed : Bool) (hostile : Line) (part rest : List Line) → is_first hostile ≡ false → part ++ rest ≡ (if allowed then hostile ∷ [] else []) → first_part part ≡ []
+hostile_cut : (allowed : Bool) (hostile : Line) (part rest : List Line) → is_honest hostile ≡ false → part ++ rest ≡ (if allowed then hostile ∷ [] else []) → honest_part part ≡ []
 hostile_cut allowed hostile [] rest e all = refl
-hostile_cut true hostile (line ∷ part) rest e all = let same : line ≡ hostile = cc in first_ends line part (ap is_first same ∙ e)
+hostile_cut true hostile (line ∷ part) rest e all = let same : line ≡ hostile = cc in honest_ends line part (ap is_honest same ∙ e)
 hostile_cut false hostile (line ∷ part) rest e all = absurd (cc)
 
 -- a history with one more happening, where nothing was overwritten
@@ -282,25 +268,22 @@ one_more_honest hs last unpoked all = joined hs last (later last unpoked) all
     later : (h : Happening) → IsUntouched h → honest_history (h ∷ []) ≡ h ∷ []
     later (Pokes frame word value) none = absurd none
     later (OverwritesKey name text) none = absurd none
-    later Suspends none = absurd none
     later h none = refl
 
     joined : (hs : List Happening) (last : Happening) → honest_history (last ∷ []) ≡ last ∷ [] → honest_history hs ≡ hs → honest_history (hs ++ last ∷ []) ≡ hs ++ last ∷ []
     joined [] last one all = one
     joined (Pokes frame word value ∷ hs) last one all = absurd (cc)
     joined (OverwritesKey name text ∷ hs) last one all = absurd (cc)
-    joined (Suspends ∷ hs) last one all = absurd (cc)
     joined (h ∷ hs) last one all = ap (λ (l : List Happening). h ∷ l) (joined hs last one (cc))
 
 pub cut_or_whole : (config : Options) (detail : Detail) (history : List Happening) (last : Happening) (part rest : List Line) → ArePossible (history ++ last ∷ []) (start_of config)
     → part ++ rest ≡ lines_at (after history (start_of config)) last → CutOrWhole config detail history last part
-cut_or_whole config detail history last part rest may all =
-    by_part (honest_with history (start_of config) part (possible_first history (last ∷ []) (start_of config) may))
+cut_or_whole config detail history last part rest may all = by_part (honest_with history (start_of config) part (possible_first history (last ∷ []) (start_of config) may))
   where
     start : World
     start = start_of config
 
-    overwritten : (h : Happening) → honest_history history ≡ history → first_part part ≡ [] → CutOrWhole config detail history h part
+    overwritten : (h : Happening) → honest_history history ≡ history → honest_part part ≡ [] → CutOrWhole config detail history h part
     overwritten h whole none =
         inr (
         honest_then (report_of config detail history) part (refl, all_before history start whole)
@@ -311,7 +294,6 @@ cut_or_whole config detail history last part rest may all =
     by_last : (h : Happening) → honest_history history ≡ history → part ++ rest ≡ lines_at (after history start) h → CutOrWhole config detail history h part
     by_last (Pokes frame word value) whole shown = overwritten (Pokes frame word value) whole (hostile_cut (is_guest_word frame word) (lines.Poke frame word value) part rest refl shown)
     by_last (OverwritesKey name text) whole shown = overwritten (OverwritesKey name text) whole (hostile_cut (is_guest_key name text) (lines.Key name text) part rest refl shown)
-    by_last Suspends whole shown = overwritten Suspends whole (hostile_cut (may_suspend (after history start)) lines.Epoch part rest refl shown)
     by_last h whole shown =
         inl (
           one_more_honest history h tt whole,

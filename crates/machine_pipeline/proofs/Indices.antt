@@ -57,12 +57,12 @@ pub record AreFirst (config : Options) (front_ring back_ring : Ring) (front_seen
   pub front_saw : front_seen ≡ config.start
   pub back_saw : back_seen ≡ config.start
 
--- all requests of the epoch wait
-pub indices_epoch : (config : Options) (front_ring back_ring : Ring) (front_seen back_seen last : ℕ) (submitted series : List Request) (closing : Bool) → IsPlain config
+-- all requests of the epoch wait, but the read whose data are told first
+pub indices_epoch : (config : Options) (front_ring back_ring : Ring) (before front_seen back_seen last ending : ℕ) (submitted series : List Request) (closing : Bool) → IsPlain config
     → AreFirst config front_ring back_ring front_seen back_seen
-    → length series ≤ last → last < 2 ^ 32 → length series ≤ entries_of config.order
-    → AreIndices (epoch_flow (record { abi = config.abi; order = config.order }) config.start submitted series closing) front_ring back_ring front_seen back_seen 0 last (length series) (length series) 0
-indices_epoch config front_ring back_ring front_seen back_seen last submitted series closing plain h given few room = record {
+    → length series ≤ last → last < 2 ^ 32 → length series + ending ≤ entries_of config.order
+    → AreIndices (epoch_flow (record { abi = config.abi; order = config.order }) config.start before submitted series closing) front_ring back_ring front_seen back_seen 0 last (length series) (length series) ending
+indices_epoch config front_ring back_ring before front_seen back_seen last ending submitted series closing plain h given few room = record {
   front_entries = h.entries;
   pushed = h.front_prod ∙ begins;
   taken = h.front_cons ∙ begins;

@@ -15,7 +15,7 @@ use Rattle.blk_back.specs.declared.stage.Reply.{Reply}
 use Rattle.blk_back.specs.declared.stage.Stage.{Stage as BackStage}
 use Rattle.blk_back.specs.declared.stage.Stage.TheVariants as back
 use Rattle.blk_front.specs.Request.{frame_at, words_in}
-use Rattle.machine_pipeline.proofs.Flow.{wrapped, named_pages, granted_pages, ending_at, revoking_at, responded, frames_of}
+use Rattle.machine_pipeline.proofs.Flow.{wrapped, named_pages, granted_pages, ending_at, revoking_at, word_at, responded, frames_of}
 use Rattle.machine_pipeline.proofs.Slots.{response_fits, SameSlots, slot_kept}
 use Rattle.machine_pipeline.proofs.Data.{SameData, pooled_at}
 use Rattle.machine_pipeline.proofs.Holds.{IsPooled, RingBegun, AreRingWords, slot_of, AreSlots, IsFilled, IsReadSoFar, AreDataWords, AreEntries, IsFrontSleep, IsBackSleep}
@@ -144,13 +144,14 @@ frames_kept pushed old new s requests same h k d lt =
 -- the words of data that are told are as they were
 pub data_kept : (old new words : List ℕ) (ending : Option Ending) (s : FrontStage)
     → ((e : Ending) → ending_at s ending ≡ Some e → SameData old new e.request)
-    → ((n : ℕ) → s ≡ front.ReadData n → (e : Ending) → ending ≡ Some e → n < words_in e.request)
+    → ((n : ℕ) → word_at s ≡ Some n → (e : Ending) → ending ≡ Some e → n < words_in e.request)
     → AreDataWords old words ending s
     → AreDataWords new words ending s
 data_kept old new words ending s same within h = record { size = h.size; so_far = by_stage s same within h.so_far }
   where
-    by_stage : (t : FrontStage) → ((e : Ending) → ending_at t ending ≡ Some e → SameData old new e.request) → ((n : ℕ) → t ≡ front.ReadData n → (e : Ending) → ending ≡ Some e → n < words_in e.request) → IsReadSoFar old words ending t → IsReadSoFar new words ending t
+    by_stage : (t : FrontStage) → ((e : Ending) → ending_at t ending ≡ Some e → SameData old new e.request) → ((n : ℕ) → word_at t ≡ Some n → (e : Ending) → ending ≡ Some e → n < words_in e.request) → IsReadSoFar old words ending t → IsReadSoFar new words ending t
     by_stage (front.ReadData n) kept bound x = λ e here k lt. x e here k lt ∙ sym (kept e here (n / 128 * 128 + k) (let few = bound n refl e here in omega arith))
+    by_stage (front.LeftData n) kept bound x = λ e here k lt. x e here k lt ∙ sym (kept e here (n / 128 * 128 + k) (let few = bound n refl e here in omega arith))
     by_stage t kept bound x = tt
 
 -- both words of the grant entries of a request's frames are as they were

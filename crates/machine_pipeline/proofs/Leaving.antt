@@ -9,6 +9,7 @@ use Rattle.blk_base.specs.declared.parts.Mapping.{Mapping}
 use Rattle.ring_words.specs.Shape.{Shape}
 use Rattle.event_channel.specs.declared.channels.PortState.{PortState}
 use Rattle.pipeline_laws.specs.Pipeline.{Pipeline, Front, Leaves}
+use Rattle.blk_front.specs.declared.request.Request.{Request}
 use Rattle.blk_front.specs.declared.stage.Ending.{Ending}
 use Rattle.blk_front.specs.declared.stage.Stage.{Stage as FrontStage}
 use Rattle.blk_front.specs.declared.stage.Stage.TheVariants as front
@@ -29,12 +30,12 @@ use Rattle.split_model.proofs.States.{halts_cases}
 use Rattle.machine_pipeline.specs.Allowed.{is_free, IsFarewell}
 use Rattle.machine_pipeline.specs.Step.{IsSame}
 use Rattle.machine_pipeline.proofs.Flow.{Flow, granted_pages, is_bound_back, ending_at, count_of}
-use Rattle.machine_pipeline.proofs.Holds.{AreMapped, Holds, PortsAt}
+use Rattle.machine_pipeline.proofs.Holds.{AreMapped, ArePooled, Holds, PortsAt}
 use Rattle.machine_pipeline.proofs.Lists.{all_from, pairs_from}
 use Rattle.machine_pipeline.proofs.Slots.{few_pages, some_pages}
 use Rattle.machine_pipeline.proofs.Hands.{mapped_few, nothing_given_up}
 use Rattle.machine_pipeline.proofs.Turns.{no_move}
-use Rattle.machine_pipeline.proofs.Over.{IsDrained, IsGivingUp, AreOwn, AreUnmapped, IsLeaving, Over, HasGone, unclosed}
+use Rattle.machine_pipeline.proofs.Over.{may_begin, IsDrained, IsGivingUp, AreOwn, AreUnmapped, IsLeaving, Over, HasGone, unclosed}
 use Rattle.line_text.proofs.Both.{both_true}
 use Rattle.machine_pipeline.proofs.Drained.{no_element, drained_at, no_job_left, finished_at}
 
@@ -55,9 +56,9 @@ none_ends (front.LeftData n) ending free = absurd (true≢false (sym free))
 none_ends s ending free = refl
 
 -- the front made one port, at the end of all that it makes
-pub one_port : (bound : Bool) (made : ℕ) (ports : List PortState) → PortsAt true bound made ports → made ≡ 1
-one_port true made ports p = p.0
-one_port false made ports p = p.0
+pub one_port : (before : ℕ) (bound : Bool) (made : ℕ) (ports : List PortState) → PortsAt before true bound made ports → length ports ≡ 1
+one_port before true made ports p = ap length p.1
+one_port before false made ports p = ap length p.1
 
 -- frames of the ring that the back didn't map are granted, and no flag of theirs says that they are mapped
 unmapped_yet : (config : Options) (w : World) (g : Flow) (d : Pipeline) (s : FrontStage) (b : BackStage) → Holds config w g d s b → granted_pages s (2 ^ g.shape.order) ≡ 2 ^ g.shape.order → AreUnmapped w.front.shape.order w.under.pages w.back.pages
@@ -95,28 +96,34 @@ left_mapped config w g d s b h no_job =
     (subst (λ (ms : List Mapping). AreMapped w.under.grants.live (ms ++ (hands_in w.back.jobs.works ++ w.back.pages))) given h.mapped)
 
 leaving_at : (config : Options) (w : World) (g : Flow) (d : Pipeline) (s : FrontStage) (b b' : BackStage) → is_free s ≡ true → Holds config w g d s b
-    → IsLeaving d.front.connected w.under.channels.made w.front.shape.order w.under.pages w.back.pages b' s
-leaving_at config w g d (front.RingWord k) b b' free h = (ap (λ (f : Front). f.connected) h.stations.front, h.ports.0)
-leaving_at config w g d front.Initialised b b' free h = (ap (λ (f : Front). f.connected) h.stations.front, one_port (is_bound_back b) w.under.channels.made w.under.channels.ports h.ports, unmapped_yet config w g d front.Initialised b h refl)
+    → IsLeaving d.front.connected (length w.under.channels.ports) w.front.shape.order w.under.pages w.back.pages b' s
+leaving_at config w g d (front.RingWord k) b b' free h = (ap (λ (f : Front). f.connected) h.stations.front, ap length h.ports.1)
+leaving_at config w g d front.Initialised b b' free h = (ap (λ (f : Front). f.connected) h.stations.front, one_port g.before (is_bound_back b) w.under.channels.made w.under.channels.ports h.ports, unmapped_yet config w g d front.Initialised b h refl)
 leaving_at config w g d front.Loop b b' free h = unmapped_yet config w g d front.Loop b h refl
 leaving_at config w g d s b b' free h = absurd (true≢false (sym free))
 
-ring_left : (config : Options) (w : World) (g : Flow) (d : Pipeline) (s : FrontStage) (b : BackStage) → Holds config w g d s b → length w.front.requests ≡ 0 → w.under.channels.made ≡ 1 → IsDrained w.under.pages w.front.ring.cons w.back.ring.cons
-ring_left config w g d (front.RingWord k) b h none made = let unmade = h.ports.0 in absurd (omega arith)
-ring_left config w g d (front.LeftData n) b h none made = absurd h.front_at
+ring_left : (config : Options) (w : World) (g : Flow) (d : Pipeline) (s : FrontStage) (b : BackStage) → Holds config w g d s b → length w.front.requests ≡ 0 → length w.under.channels.ports ≢ 0 → IsDrained w.under.pages w.front.ring.cons w.back.ring.cons
+ring_left config w g d (front.RingWord k) b h none made = absurd (made (ap length h.ports.1))
+ring_left config w g d (front.LeftData n) b h none made = absurd (made (ap length h.ports.1))
 ring_left config w g d s b h none made = drained_at config w g d s b h refl none
 
 -- the machine with that back
 abbrev backed : World → View → World
 backed w v = record { front = w.front; back = v; under = w.under }
 
+-- no frame is in use
+unpooled : {pool : List Bool} (requests : List Request) → length requests ≡ 0 → (ending : Option Ending) → count_of ending ≡ 0 → ArePooled pool requests ending → ArePooled pool [] None
+unpooled [] none None ended h = h
+unpooled requests none (Some e) ended h = absurd (omega arith)
+unpooled (r ∷ requests) none ending ended h = absurd (omega arith)
+
 -- what stands then
 over_begins : (config : Options) (w : World) (g : Flow) (d : Pipeline) (why : Halt) (v : View)
     → Holds config w g d w.front.stage w.back.stage → IsFarewell w why
-    → v.halted ≡ Some why → v.jobs.works ≡ [] → v.ring.cons ≡ w.back.ring.cons → v.pages ≡ w.back.pages
+    → v.halted ≡ Some why → v.jobs.works ≡ [] → v.jobs.info ≡ w.back.jobs.info → v.ring.cons ≡ w.back.ring.cons → v.pages ≡ w.back.pages
     → IsGivingUp w.back.pages v.stage
     → Over config (backed w v) d w.front.stage v.stage
-over_begins config w g d why v h farewell halted no_job cons same_pages held =
+over_begins config w g d why v h farewell halted no_job info cons same_pages held =
     let through = through_is w.front.closing (length w.front.requests) farewell.through in
     let none : w.back.jobs.works ≡ [] = no_job_left config w g d w.front.stage w.back.stage h through.none in
     record {
@@ -125,6 +132,18 @@ over_begins config w g d why v h farewell halted no_job cons same_pages held =
       closed = ap (λ (f : Front). f.closed) h.stations.front ∙ sym (unclosed is_free refl w.front.stage farewell.free);
       finished = finished_at config w g d w.front.stage w.back.stage h through.none (none_ends w.front.stage w.front.ending farewell.free);
       counted = h.stations.known.as_many ∙ h.submitted.counted;
+      begins = (let was = may_begin config w g d w.front.stage w.back.stage h in record {
+        submitted = was.submitted;
+        sized = was.sized;
+        each = was.each;
+        few = was.few;
+        known = was.known;
+        started = was.started;
+        shaped = was.shaped;
+        words = was.words;
+        info = info ∙ was.info;
+      });
+      pooled = unpooled w.front.requests through.none (ending_at w.front.stage w.front.ending) (none_ends w.front.stage w.front.ending farewell.free) h.pool;
       closes = through.closes;
       no_request = no_element w.front.requests through.none;
       narrow = subst (λ (x : Shape). x.order ≤ 4) (sym h.shaped.known) h.shaped.narrow;
@@ -134,7 +153,7 @@ over_begins config w g d why v h farewell halted no_job cons same_pages held =
       back_at = subst (λ (ms : List Mapping). IsGivingUp ms v.stage) (sym same_pages) held;
       own = subst AreOwn (sym same_pages) (own_pages config w g d w.front.stage w.back.stage h);
       mapped = subst (AreMapped w.under.grants.live) (sym same_pages) (left_mapped config w g d w.front.stage w.back.stage h none);
-      front_at = subst (λ (ms : List Mapping). IsLeaving d.front.connected w.under.channels.made w.front.shape.order w.under.pages ms v.stage w.front.stage) (sym same_pages)
+      front_at = subst (λ (ms : List Mapping). IsLeaving d.front.connected (length w.under.channels.ports) w.front.shape.order w.under.pages ms v.stage w.front.stage) (sym same_pages)
           (leaving_at config w g d w.front.stage w.back.stage v.stage farewell.free h);
       ring = λ made. subst (IsDrained w.under.pages w.front.ring.cons) (sym cons) (ring_left config w g d w.front.stage w.back.stage h through.none made);
     }
@@ -162,9 +181,9 @@ some_held (m ∷ held) some = λ none. cc
 -- the back halts, or goes on with what it is at
 pub halts_goes : (config : Options) (w : World) (g : Flow) (d : Pipeline) (why : Halt) → Holds config w g d w.front.stage w.back.stage → IsFarewell w why → HasGone None IsSame config (lines_at w (BackHalts why)) (happens w (BackHalts why)) d
 halts_goes config w g d why h farewell = halts_cases (Leaving config w d) why w.back
-    (λ e. leaves config w g d why unmapped h farewell refl (over_begins config w g d why unmapped h farewell refl no_job refl refl (giving_unbound w.back.pages)))
+    (λ e. leaves config w g d why unmapped h farewell refl (over_begins config w g d why unmapped h farewell refl no_job refl refl refl (giving_unbound w.back.pages)))
     (λ e. subst (λ (works : List Work). Leaving config w d (given_up_jobs works)) (sym no_job)
-    (leaves config w g d why (given_up_jobs []) h farewell refl (over_begins config w g d why (given_up_jobs []) h farewell refl refl refl refl
+    (leaves config w g d why (given_up_jobs []) h farewell refl (over_begins config w g d why (given_up_jobs []) h farewell refl refl refl refl refl
     (some_held w.back.pages (let looping : Holds config w g d w.front.stage back.Loop = at e in let all : length w.back.pages ≡ 2 ^ g.shape.order = looping.paged.mapped in let some = some_pages g.shape.order in omega arith)))))
     (record { steps = []; does = rw h.unhalted (no_move IsSame d (λ a b same. same)); kept = inl (g, h) })
   where

@@ -1,6 +1,6 @@
 -- What holds once the back has halted, since its front closes and has no request left: the back gives up the ring's pages and its port, and then the front ends the grants of the ring's frames, closes its port, and is closed.
-use Rattle.std.proofs.Common.{◌≡◌, ◌≢◌, ℕ, ◌+◌, ◌^◌, ◌<◌, ◌≤◌, ◌⊎◌, inl, Bool, true, false, List, [], length, refl, ap, sym, ◌∙◌, true≢false}
-use Rattle.std.specs.Prelude.{All, AllPairs, Option, is_some}
+use Rattle.std.proofs.Common.{subst, ◌≡◌, ◌≢◌, ℕ, ◌+◌, ◌^◌, ◌<◌, ◌≤◌, ◌⊎◌, inl, Bool, true, false, List, [], length, refl, ap, sym, ◌∙◌, true≢false}
+use Rattle.std.specs.Prelude.{All, AllPairs, Option, None, is_some}
 use Rattle.xen_pages.specs.Pages.{word_of}
 use Rattle.grant_table.specs.declared.held.Held.{Held}
 use Rattle.grant_table.specs.Table.{entry_word0}
@@ -8,6 +8,9 @@ use Rattle.blk_base.specs.Options.{Options}
 use Rattle.blk_base.specs.declared.config.Job.{Job}
 use Rattle.blk_base.specs.declared.parts.Mapping.{Mapping}
 use Rattle.schedule_text.specs.declared.line.Line.{Line}
+use Rattle.ring_words.specs.Shape.{Shape}
+use Rattle.segment_list.specs.declared.verdict.DiskInfo.{DiskInfo}
+use Rattle.pipeline_laws.specs.Station.{Request as Asked}
 use Rattle.pipeline_laws.specs.Pipeline.{Pipeline, Step, after_steps}
 use Rattle.pipeline_laws.specs.Allowed.{AreFinished}
 use Rattle.blk_front.specs.declared.request.Request.{Request}
@@ -15,13 +18,15 @@ use Rattle.blk_front.specs.declared.stage.Stage.{Stage as FrontStage}
 use Rattle.blk_front.specs.declared.stage.Stage.TheVariants as front
 use Rattle.blk_front.specs.Step.{is_mapped}
 use Rattle.back_jobs.specs.Task.{Work}
+use Rattle.blk_back.specs.View.{info_of}
 use Rattle.blk_back.specs.declared.stage.Stage.{Stage as BackStage}
 use Rattle.blk_back.specs.declared.stage.Stage.TheVariants as back
 use Rattle.blk_back.specs.declared.told.Halt.{Halt}
 use Rattle.split_model.specs.World.{World}
 use Rattle.machine_pipeline.specs.Step.{Does}
 use Rattle.machine_pipeline.proofs.Flow.{Flow}
-use Rattle.machine_pipeline.proofs.Holds.{AreMapped, Holds}
+use Rattle.machine_pipeline.proofs.Stations.{AreKnown}
+use Rattle.machine_pipeline.proofs.Holds.{AreMapped, AreSubmitted, ArePooled, IsOfTheDisk, Holds}
 use Rattle.machine_pipeline.proofs.Turns.{GoesBy}
 
 -- each request that was pushed was fetched and has its response, and each response was read (req_prod is word 0 of the ring's first page, rsp_prod word 2)
@@ -47,7 +52,7 @@ pub record AreOwn (held : List Mapping) : Type 0 where
 abbrev pub AreUnmapped : (order : ℕ) → List ℕ → List Mapping → Type 0
 AreUnmapped order pages held = (page : ℕ) → page < 2 ^ order → All (λ (m : Mapping). m.gref ≢ 8 + page) held → is_mapped (entry_word0 pages (8 + page)) ≡ false
 
--- how far the front came: it made nothing, or a port too; it leaves only after the back
+-- how far the front came, which made so many ports in this epoch: it made nothing, or a port too; it leaves only after the back
 abbrev pub IsLeaving : (connected : Bool) (made order : ℕ) (pages : List ℕ) (held : List Mapping) → BackStage → FrontStage → Type 0
 IsLeaving connected made order pages held b (front.RingWord k) = (connected ≡ false) × (made ≡ 0)
 IsLeaving connected made order pages held b front.Initialised = (connected ≡ false) × (made ≡ 1) × AreUnmapped order pages held
@@ -63,45 +68,88 @@ abbrev pub is_closed : FrontStage → Bool
 is_closed front.Closed = true
 is_closed s = false
 
--- what holds of the pipeline, of the front's last number and requests and its ring's order, of the back's halt, jobs and pages, of both ends' next entries, and of mappings and memory, with the front at stage s and the back at stage b
-pub record IsOver (config : Options) (d : Pipeline) (last : ℕ) (front_closes : Bool) (requests : List Request) (front_cons order : ℕ) (halt : Option Halt) (works : List Work) (held : List Mapping) (back_cons made : ℕ) (live : List Held) (pages : List ℕ) (s : FrontStage) (b : BackStage) : Type 0 where
+-- what both ends keep over a suspend: the disk as the front knows it, its last number, the ring's first index and shape, its pool, the words of a sector in its hands, and the disk as the back has it
+pub record Lasting : Type 0 where
+  pub size : ℕ
+  pub fixed : Bool
+  pub last : ℕ
+  pub start : ℕ
+  pub shape : Shape
+  pub pool : List Bool
+  pub words : List ℕ
+  pub info : DiskInfo
+
+abbrev pub lasting_of : World → Lasting
+lasting_of w = record { size = w.front.sectors; fixed = w.front.read_only; last = w.front.last; start = w.front.start; shape = w.front.shape; pool = w.front.pool; words = w.front.words; info = w.back.jobs.info }
+
+-- from which another epoch may begin: each request was submitted as the pipeline has it
+pub record MayBegin (config : Options) (asked : List Asked) (x : Lasting) : Type 0 where
+  pub submitted : List Request
+  pub sized : IsOfTheDisk config x.size x.fixed submitted
+  pub each : AreSubmitted submitted x.size x.last
+  pub few : x.last < 2 ^ 32
+  pub known : AreKnown submitted asked
+  pub started : x.start ≡ config.start
+  pub shaped : x.shape ≡ record { abi = config.abi; order = config.order }
+  pub words : length x.words ≡ 128
+  pub info : x.info ≡ info_of config
+
+abbrev pub may_begin : (config : Options) (w : World) (g : Flow) (d : Pipeline) (s : FrontStage) (b : BackStage) → Holds config w g d s b → MayBegin config d.requests (lasting_of w)
+may_begin config w g d s b h = record {
+  submitted = g.submitted;
+  sized = h.sized;
+  each = h.submitted;
+  few = h.indices.few;
+  known = h.stations.known;
+  started = h.started.known;
+  shaped = h.shaped.known ∙ h.shaped.whole;
+  words = h.telling.size;
+  info = h.info;
+}
+
+-- what holds of the pipeline, of what both ends keep, of the front's requests, of the back's halt, jobs and pages, of both ends' next entries, and of mappings and memory, with the front at stage s and the back at stage b
+pub record IsOver (config : Options) (d : Pipeline) (x : Lasting) (front_closes : Bool) (requests : List Request) (front_cons : ℕ) (halt : Option Halt) (works : List Work) (held : List Mapping) (back_cons made : ℕ) (live : List Held) (pages : List ℕ) (s : FrontStage) (b : BackStage) : Type 0 where
   pub options : d.options ≡ config
   pub closing : d.front.closing ≡ true
   pub closed : d.front.closed ≡ is_closed s
   pub finished : AreFinished d
-  pub counted : length d.requests ≡ last
+  pub counted : length d.requests ≡ x.last
+  pub begins : MayBegin config d.requests x
+  pub pooled : ArePooled x.pool [] None
   pub closes : front_closes ≡ true
   pub no_request : requests ≡ []
-  pub narrow : order ≤ 4
+  pub narrow : x.shape.order ≤ 4
   pub halted : is_some halt ≡ true
   pub no_job : works ≡ []
   pub memory : length pages ≡ 1114112
   pub back_at : IsGivingUp held b
   pub own : AreOwn held
   pub mapped : AreMapped live held
-  pub front_at : IsLeaving d.front.connected made order pages held b s
-  pub ring : made ≡ 1 → IsDrained pages front_cons back_cons
+  pub front_at : IsLeaving d.front.connected made x.shape.order pages held b s
+  pub ring : made ≢ 0 → IsDrained pages front_cons back_cons
 
 -- the machine, and the pipeline that it stands for
 abbrev pub Over : Options → World → Pipeline → FrontStage → BackStage → Type 0
-Over config w d s b = IsOver config d w.front.last w.front.closing w.front.requests w.front.ring.cons w.front.shape.order w.back.halted w.back.jobs.works w.back.pages w.back.ring.cons w.under.channels.made w.under.grants.live w.under.pages s b
+Over config w d s b = IsOver config d (lasting_of w) w.front.closing w.front.requests w.front.ring.cons w.back.halted w.back.jobs.works w.back.pages w.back.ring.cons (length w.under.channels.ports) w.under.grants.live w.under.pages s b
 
 -- one pipeline with the options, the requests and the closing of another
 abbrev pub IsAlike : Pipeline → Pipeline → Type 0
 IsAlike d d' = (d'.options ≡ d.options) × (d'.requests ≡ d.requests) × (d'.front.closing ≡ d.front.closing)
 
 -- what stands where the pipeline, memory, mappings and both stages change
-pub over_at : {config : Options} {d d' : Pipeline} {last : ℕ} {front_closes : Bool} {requests : List Request} {front_cons order : ℕ} {halt : Option Halt} {works : List Work} {held held' : List Mapping} {back_cons made : ℕ} {live live' : List Held} {pages pages' : List ℕ} {s s' : FrontStage} {b b' : BackStage}
-    → IsOver config d last front_closes requests front_cons order halt works held back_cons made live pages s b
+pub over_at : {config : Options} {d d' : Pipeline} {x : Lasting} {front_closes : Bool} {requests : List Request} {front_cons : ℕ} {halt : Option Halt} {works : List Work} {held held' : List Mapping} {back_cons made made' : ℕ} {live live' : List Held} {pages pages' : List ℕ} {s s' : FrontStage} {b b' : BackStage}
+    → IsOver config d x front_closes requests front_cons halt works held back_cons made live pages s b
     → IsAlike d d' → d'.front.closed ≡ is_closed s' → length pages' ≡ 1114112 → IsGivingUp held' b' → AreOwn held' → AreMapped live' held'
-    → IsLeaving d'.front.connected made order pages' held' b' s' → (made ≡ 1 → IsDrained pages' front_cons back_cons)
-    → IsOver config d' last front_closes requests front_cons order halt works held' back_cons made live' pages' s' b'
-over_at o alike closed memory back_at own mapped front_at ring = record {
+    → made' ≡ made → IsLeaving d'.front.connected made x.shape.order pages' held' b' s' → (made ≢ 0 → IsDrained pages' front_cons back_cons)
+    → IsOver config d' x front_closes requests front_cons halt works held' back_cons made' live' pages' s' b'
+over_at {config = config} {d' = d'} {x = x} {held' = held'} {pages' = pages'} {s' = s'} {b' = b'} o alike closed memory back_at own mapped same front_at ring = record {
   options = alike.0 ∙ o.options;
   closing = alike.2 ∙ o.closing;
   closed = closed;
   finished = record { each = rw alike.1 (let all = o.finished in all.each) };
   counted = ap length alike.1 ∙ o.counted;
+  begins = subst (λ (asked : List Asked). MayBegin config asked x) (sym alike.1) o.begins;
+  pooled = o.pooled;
   closes = o.closes;
   no_request = o.no_request;
   narrow = o.narrow;
@@ -111,8 +159,8 @@ over_at o alike closed memory back_at own mapped front_at ring = record {
   back_at = back_at;
   own = own;
   mapped = mapped;
-  front_at = front_at;
-  ring = ring;
+  front_at = subst (λ (n : ℕ). IsLeaving d'.front.connected n x.shape.order pages' held' b' s') (sym same) front_at;
+  ring = λ some. ring (λ none. some (same ∙ none));
 }
 
 -- a front that passed a test which a closed one fails

@@ -2,6 +2,7 @@
 use Rattle.std.proofs.Common.{◌≡◌, ◌≢◌, ℕ, suc, ◌+◌, ◌-◌, ◌*◌, ◌/◌, ◌%◌, ◌^◌, ◌<◌, ◌≤◌, ◌==◌, ◌&&◌, ◌||◌, inl, inr, if◌then◌else◌, Bool, true, false, List, [], ◌∷◌, ◌++◌, length, refl, ap, sym, ◌∙◌, subst, arith, length-set, true≢false}
 use Rattle.std.specs.Prelude.{All, Option, Some, None, count_by, slice_get, nat_lt}
 use Rattle.std.proofs.lemmas.Bool.{cases_eq}
+use Rattle.std.proofs.lemmas.List.{length-map}
 use Rattle.std.proofs.lemmas.List.Elements.{All-head, All-tail, All-cons}
 use Rattle.std.proofs.lemmas.Option.{same_Some}
 use Rattle.std.proofs.lemmas.Bool.Decides.{nat_tests}
@@ -26,6 +27,7 @@ use Rattle.xen_pages.specs.Pages.{word_of, with_word}
 use Rattle.grant_table.specs.declared.held.Held.{Held}
 use Rattle.grant_table.specs.Entry.{is_reading, is_writing, is_for_writing, without_reading, unmapped_entry}
 use Rattle.grant_table.specs.Table.{IsLive, entry_word0, with_entry_word0, mappings_of, writers_of, without, unmap_pages, unmap_table}
+use Rattle.event_channel.specs.Channels.{unbound_port, closed_port as shut}
 use Rattle.hypervisor.specs.Act.{FrontAct, BackAct, Outcome, Took, front_act, front_watched, back_act, back_watched, watch_next}
 use Rattle.pipeline_laws.specs.Pipeline.{Pipeline}
 use Rattle.blk_front.specs.declared.request.Request.{Request}
@@ -139,7 +141,7 @@ reads_grant config w d page told o =
     (record {
       steps = [];
       does = said_nothing d (moves.FrontRead frame place word) w.front.told told;
-      kept = inr (over_at o (refl, refl, refl) o.closed o.memory o.back_at o.own o.mapped (o.front_at.0, o.front_at.1, o.front_at.2, sym (ring_flags w.under.pages page)) o.ring);
+      kept = inr (over_at o (refl, refl, refl) o.closed o.memory o.back_at o.own o.mapped refl (o.front_at.0, o.front_at.1, o.front_at.2, sym (ring_flags w.under.pages page)) o.ring);
     })
   where
     frame : ℕ
@@ -193,7 +195,7 @@ ends_grant config w d page seen told o =
           ap is_mapped same.flags ∙ o.front_at.2 other within none
     ]
 
-    drained : w.under.channels.made ≡ 1 → IsDrained pages w.front.ring.cons w.back.ring.cons
+    drained : length w.under.channels.ports ≢ 0 → IsDrained pages w.front.ring.cons w.back.ring.cons
     drained made = still_drained w.under.pages pages w.front.ring.cons w.back.ring.cons (other_frame w.under.pages frame place 0 2 (omega (arith, few)) (omega (arith, few))) (o.ring made)
 
     sized : length pages ≡ 1114112
@@ -205,12 +207,12 @@ ends_grant config w d page seen told o =
     by_more true more = record {
       steps = [];
       does = said_nothing d (moves.FrontCas frame place seen 0 word) w.front.told told;
-      kept = inr (over_at o (refl, refl, refl) o.closed sized o.back_at o.own o.mapped (o.front_at.0, (let lt : page + 1 < 2 ^ w.front.shape.order = grind (arith, nat_tests) in lt), unmapped) drained);
+      kept = inr (over_at o (refl, refl, refl) o.closed sized o.back_at o.own o.mapped refl (o.front_at.0, (let lt : page + 1 < 2 ^ w.front.shape.order = grind (arith, nat_tests) in lt), unmapped) drained);
     }
     by_more false last = record {
       steps = [];
       does = said_nothing d (moves.FrontCas frame place seen 0 word) w.front.told told;
-      kept = inr (over_at o (refl, refl, refl) o.closed sized o.back_at o.own o.mapped tt drained);
+      kept = inr (over_at o (refl, refl, refl) o.closed sized o.back_at o.own o.mapped refl tt drained);
     }
 
 -- its port is closed
@@ -219,7 +221,7 @@ closes_port : (config : Options) (w : World) (d : Pipeline) → w.front.told ≡
 closes_port config w d told o = record {
   steps = [];
   does = said_nothing d (moves.ClosePort mover.Front) w.front.told told;
-  kept = inr (over_at o (refl, refl, refl) o.closed o.memory o.back_at o.own o.mapped tt o.ring);
+  kept = inr (over_at o (refl, refl, refl) o.closed o.memory o.back_at o.own o.mapped (length-map w.under.channels.ports shut) tt o.ring);
 }
 
 pub front_ends : (config : Options) (w : World) (d : Pipeline) (s : FrontStage) → is_connected s ≡ true → w.front.told ≡ None → w.front.stage ≡ s → Over config w d s w.back.stage
@@ -300,8 +302,8 @@ unmaps_first config w d b next m rest e serves gives held o =
     subst (λ (ms : List ℕ). Over config (record { front = w.front; back = record w.back { pages = rest; stage = next rest; told = None }; under = (let h = w.under in record h { grants = unmap_table h.grants m; pages = ms }) }) d w.front.stage (next rest)) (sym written_so)
     (over_at o (refl, refl, refl) o.closed (length-set w.under.pages (m.gref / 512 * 1024 + 2 * (m.gref % 512)) flags ∙ o.memory) (gives rest)
     (record { grefs = All-tail (λ (x : Mapping). (8 ≤ x.gref) × (x.gref < 24)) m rest own.grefs; distinct = pairs_from (λ (x y : Mapping). x.gref ≢ y.gref) rest (λ i j x y lt first second. pair_at (λ (a b : Mapping). a.gref ≢ b.gref) (m ∷ rest) (i + 1) (j + 1) x y own.distinct (omega arith) (get_behind i x first) (get_behind j y second)) })
-    mapped
-    (gave_up d.front.connected w.under.channels.made w.front.shape.order w.under.pages pages w.back.pages rest b (next rest) w.front.stage serves still o.front_at)
+    mapped refl
+    (gave_up d.front.connected (length w.under.channels.ports) w.front.shape.order w.under.pages pages w.back.pages rest b (next rest) w.front.stage serves still o.front_at)
     (λ made. still_drained w.under.pages pages w.front.ring.cons w.back.ring.cons (other_frame w.under.pages (m.gref / 512) (2 * (m.gref % 512)) flags 2 (omega (arith, among.1)) (omega (arith, among.1))) (o.ring made)))
   where
     own : AreOwn (m ∷ rest)
@@ -390,7 +392,7 @@ closes_back : (config : Options) (w : World) (d : Pipeline) → w.back.told ≡ 
 closes_back config w d told o = record {
   steps = [];
   does = said_back d (moves.ClosePort mover.Back) w.back.told w.back.halted back_answer.Done told;
-  kept = inr (over_at o (refl, refl, refl) o.closed o.memory o.back_at o.own o.mapped (closed_port d.front.connected w.under.channels.made w.front.shape.order w.under.pages w.back.pages w.front.stage o.front_at) o.ring);
+  kept = inr (over_at o (refl, refl, refl) o.closed o.memory o.back_at o.own o.mapped (length-map w.under.channels.ports unbound_port) (closed_port d.front.connected (length w.under.channels.ports) w.front.shape.order w.under.pages w.back.pages w.front.stage o.front_at) o.ring);
 }
 
 -- it has halted, and waits

@@ -1,5 +1,5 @@
 -- Whatever else happens once the back has halted: submissions are refused, and the front is closed once it left.
-use Rattle.std.proofs.Common.{◌≡◌, ℕ, ◌==◌, ◌&&◌, inr, not, if◌then◌else◌, Bool, true, false, List, [], ◌∷◌, length, map, refl, ap, sym, ◌∙◌, subst, arith, true≢false}
+use Rattle.std.proofs.Common.{◌≡◌, ◌≢◌, ℕ, ◌==◌, ◌&&◌, inr, not, if◌then◌else◌, Bool, true, false, List, [], ◌∷◌, length, map, refl, ap, sym, ◌∙◌, subst, arith, true≢false}
 use Rattle.std.specs.Prelude.{Some, None, Result, Err, nat_le}
 use Rattle.blk_base.specs.declared.parts.Mapping.{Mapping}
 use Rattle.ring_words.specs.Shape.{Shape}
@@ -90,7 +90,7 @@ connects_late : (config : Options) (w : World) (d : Pipeline) (offers : Offers) 
 connects_late config w d offers o = record {
   steps = Connects ∷ [];
   does = record { asides = []; aside = refl; shows = refl; asks = refl; allowed = ((o.front_at.0, o.closed), tt); disk = λ a b e. (b, e, refl) };
-  kept = inr (over_at o (refl, refl, refl) o.closed o.memory o.back_at o.own o.mapped o.front_at.2 o.ring);
+  kept = inr (over_at o (refl, refl, refl) o.closed o.memory o.back_at o.own o.mapped refl o.front_at.2 o.ring);
 }
 
 -- the back has left: the grants of the ring's frames are ended next
@@ -98,10 +98,10 @@ leaves_ring : (config : Options) (w : World) (d : Pipeline) (s : FrontStage) →
 leaves_ring config w d s made halted o = record {
   steps = [];
   does = no_move IsSame d (λ a b same. same);
-  kept = inr (over_at o (refl, refl, refl) (o.closed ∙ unclosed is_made refl s made) o.memory o.back_at o.own o.mapped (halted, some_pages w.front.shape.order, by_stage s made (subst (λ (b : BackStage). IsLeaving d.front.connected w.under.channels.made w.front.shape.order w.under.pages w.back.pages b s) halted o.front_at)) o.ring);
+  kept = inr (over_at o (refl, refl, refl) (o.closed ∙ unclosed is_made refl s made) o.memory o.back_at o.own o.mapped refl (halted, some_pages w.front.shape.order, by_stage s made (subst (λ (b : BackStage). IsLeaving d.front.connected (length w.under.channels.ports) w.front.shape.order w.under.pages w.back.pages b s) halted o.front_at)) o.ring);
 }
   where
-    by_stage : (s : FrontStage) → is_made s ≡ true → IsLeaving d.front.connected w.under.channels.made w.front.shape.order w.under.pages w.back.pages back.Halted s → AreUnmapped w.front.shape.order w.under.pages w.back.pages
+    by_stage : (s : FrontStage) → is_made s ≡ true → IsLeaving d.front.connected (length w.under.channels.ports) w.front.shape.order w.under.pages w.back.pages back.Halted s → AreUnmapped w.front.shape.order w.under.pages w.back.pages
     by_stage front.Initialised t p = p.2
     by_stage front.Loop t p = p
     by_stage s t p = absurd (true≢false (sym t))
@@ -111,7 +111,7 @@ is_closed_now : (config : Options) (w : World) (d : Pipeline) (s : FrontStage) �
 is_closed_now config w d s bare o = record {
   steps = Closes ∷ [];
   does = record { asides = []; aside = refl; shows = refl; asks = refl; allowed = ((o.closing, o.closed ∙ unclosed is_bare refl s bare, o.finished), tt); disk = λ a b e. (b, e, refl) };
-  kept = inr (over_at o (refl, refl, refl) refl o.memory o.back_at o.own o.mapped tt o.ring);
+  kept = inr (over_at o (refl, refl, refl) refl o.memory o.back_at o.own o.mapped refl tt o.ring);
 }
 
 -- the order that it wished leaves a front as it is that hasn't begun its ring
@@ -128,6 +128,8 @@ agrees_late config w d order wished unmade o =
         closed = o.closed;
         finished = o.finished;
         counted = o.counted;
+        begins = o.begins;
+        pooled = o.pooled;
         closes = o.closes;
         no_request = o.no_request;
         narrow = o.narrow;
@@ -142,8 +144,8 @@ agrees_late config w d order wished unmade o =
       });
     })
   where
-    unmade_yet : (s : FrontStage) → is_unmade s ≡ true → IsLeaving d.front.connected w.under.channels.made w.front.shape.order w.under.pages w.back.pages w.back.stage s → w.under.channels.made ≡ 1 → ⊥
-    unmade_yet (front.RingWord k) t p made = let none = p.1 in omega arith
+    unmade_yet : (s : FrontStage) → is_unmade s ≡ true → IsLeaving d.front.connected (length w.under.channels.ports) w.front.shape.order w.under.pages w.back.pages w.back.stage s → length w.under.channels.ports ≢ 0 → ⊥
+    unmade_yet (front.RingWord k) t p made = made p.1
     unmade_yet s t p made = true≢false (sym t)
 
 -- a state that the front enters; where it may not nothing changes

@@ -93,7 +93,8 @@ front_sleeps shape start pushed taken seen submitted replies entry v (front.Gran
     absurd (true≢false (sym waits ∙ ap (λ (x : Option Ending). front_submit.is_wait (front_ask.end_ask x place before)) at.1))
 front_sleeps shape start pushed taken seen submitted replies entry v (front.ReadData n) ready waits at =
     absurd (true≢false (sym waits ∙ ap (λ (x : Option Ending). front_submit.is_wait (front_ask.read_ask x n)) at.1))
-front_sleeps shape start pushed taken seen submitted replies entry v (front.LeftData n) ready waits at = absurd at
+front_sleeps shape start pushed taken seen submitted replies entry v (front.LeftData n) ready waits at =
+    absurd (true≢false (sym waits ∙ ap (λ (x : Option Ending). front_submit.is_wait (front_ask.read_ask x n)) at.1))
 front_sleeps shape start pushed taken seen submitted replies entry v front.Closed ready waits at = absurd at
 front_sleeps shape start pushed taken seen submitted replies entry v (front.Broken word) ready waits at = absurd at
 front_sleeps shape start pushed taken seen submitted replies entry v front.Initialised ready waits at = absurd (true≢false (sym ready))

@@ -59,7 +59,7 @@ pub same_ending : (shape : Shape) (start pushed taken front_seen : ℕ) (submitt
 same_ending shape start pushed taken front_seen submitted replies next entry ending (front.GrantRead place) at = rw at.1 refl
 same_ending shape start pushed taken front_seen submitted replies next entry ending (front.GrantEnd place before) at = rw at.1 refl
 same_ending shape start pushed taken front_seen submitted replies next entry ending (front.ReadData n) at = rw at.1 refl
-same_ending shape start pushed taken front_seen submitted replies next entry ending (front.LeftData n) at = absurd at
+same_ending shape start pushed taken front_seen submitted replies next entry ending (front.LeftData n) at = rw at.1 refl
 same_ending shape start pushed taken front_seen submitted replies next entry ending s at = refl
 
 -- a frame is free where fewer are in use than there are

@@ -93,6 +93,7 @@ unrevoked s ending e zero same = none-some e same
 -- of the words that were read nothing is said but their number, while no data are told
 silent : (pages words : List ℕ) (ending : Option Ending) (s : FrontStage) → telling_at s ≡ None → IsReadSoFar pages words ending s
 silent pages words ending (front.ReadData n) none = absurd (none-some (n / 128) (sym none))
+silent pages words ending (front.LeftData n) none = absurd (none-some (n / 128) (sym none))
 silent pages words ending s none = tt
 
 pub data_rests : (old new words : List ℕ) (ending ending' : Option Ending) (s s' : FrontStage) → telling_at s' ≡ None → AreDataWords old words ending s
@@ -200,8 +201,8 @@ rest_kept config w g d s s' seen whole asleep pages channels i i' zero zero' h a
     may = was.may;
     woken = λ t. by_wake (was.woken t);
   });
-  ports = subst (λ (b : Bool). PortsAt b (is_bound_back w.back.stage) channels.made channels.ports) (as_connected s s' i.ready i'.ready)
-      (subst (λ (n : ℕ). PortsAt (is_connected s) (is_bound_back w.back.stage) n channels.ports) (sym made) (subst (PortsAt (is_connected s) (is_bound_back w.back.stage) w.under.channels.made) (sym ports) h.ports));
+  ports = subst (λ (b : Bool). PortsAt g.before b (is_bound_back w.back.stage) channels.made channels.ports) (as_connected s s' i.ready i'.ready)
+      (subst (λ (n : ℕ). PortsAt g.before (is_connected s) (is_bound_back w.back.stage) n channels.ports) (sym made) (subst (PortsAt g.before (is_connected s) (is_bound_back w.back.stage) w.under.channels.made) (sym ports) h.ports));
 }
   where
     none : ending_at s w.front.ending ≡ None

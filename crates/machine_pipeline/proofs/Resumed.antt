@@ -8,25 +8,21 @@ use Rattle.std.proofs.lemmas.Bool.Decides.{nat_tests}
 use Rattle.std.proofs.lemmas.List.Sums.{sum_by-cons, sum_by-append}
 use Rattle.blk_base.specs.Options.{Options}
 use Rattle.schedule_text.specs.declared.line.Line.TheVariants as lines
+use Rattle.ring_words.specs.Shape.{Shape}
 use Rattle.blk_front.specs.declared.request.Request.{Request}
+use Rattle.blk_front.specs.Request.{is_write}
 use Rattle.blk_front.specs.declared.stage.Ending.{Ending}
-use Rattle.back_jobs.specs.Task.{Work}
-use Rattle.blk_back.specs.declared.stage.Reply.{Reply}
 use Rattle.pipeline_laws.specs.Station.{Station, Waiting, Taking, Telling, Finished, Request as Asked, is_finished}
-use Rattle.pipeline_laws.specs.Pipeline.{Pipeline, Resumes, again, station_again}
-use Rattle.pipeline_laws.specs.Allowed.{is_unissued}
+use Rattle.pipeline_laws.specs.Pipeline.{Pipeline, Resumes, next, again, station_again}
+use Rattle.pipeline_laws.specs.Allowed.{is_unissued, AreFinished}
 use Rattle.machine_pipeline.specs.Step.{IsSame}
-use Rattle.machine_pipeline.proofs.Flow.{Flow, epoch_flow, uses, frames_of}
+use Rattle.machine_pipeline.proofs.Flow.{epoch_flow, uses, frames_of}
 use Rattle.machine_pipeline.proofs.Series.{IsSeries}
 use Rattle.machine_pipeline.proofs.Holds.{ArePooled}
 use Rattle.machine_pipeline.proofs.ReadBack.{IsReadBack, has_data_at}
 use Rattle.machine_pipeline.proofs.Lists.{place_of_any, any_at}
 use Rattle.machine_pipeline.proofs.Turns.{Stepped}
-use Rattle.machine_pipeline.proofs.Stations.{StandsAt, AreStations, AreOpen, AreGoing, kind_of, finishing}
-
--- what passes through the ring in the new epoch, with these requests
-abbrev pub resumed_flow : Flow → List Request → Flow
-resumed_flow g after = epoch_flow g.shape g.start g.submitted after g.closing
+use Rattle.machine_pipeline.proofs.Stations.{StandsAt, AreKnown, AreStations, AreOpen, AreGoing, kind_of, finishing}
 
 -- the front's requests in the new epoch are those that wait again
 pub record AreAgain (asked : List Asked) (after : List Request) : Type 0 where
@@ -47,10 +43,10 @@ as_many : (asked : List Asked) → length (map again asked) ≡ length asked
 as_many [] = refl
 as_many (p ∷ asked) = let rest = as_many asked in omega arith
 
-finished_again : (s : Station) → is_finished (station_again s) ≡ is_finished s
-finished_again (Telling next) = refl
-finished_again (Finished status) = refl
-finished_again s = refl
+station_finished : (s : Station) → is_finished (station_again s) ≡ is_finished s
+station_finished (Telling next) = refl
+station_finished (Finished status) = refl
+station_finished s = refl
 
 unissued_again : (s : Station) → is_unissued (station_again s) ≡ true → station_again s ≡ Waiting
 unissued_again (Telling next) t = absurd (false≢true t)
@@ -67,9 +63,16 @@ unfinished_again [] = refl
 unfinished_again (p ∷ asked) =
     let now = sum_by-cons (λ (q : Asked). cond (not (is_finished q.station)) 1 0) (again p) (map again asked) in
     let was = sum_by-cons (λ (q : Asked). cond (not (is_finished q.station)) 1 0) p asked in
-    let here : ◌≡◌ {A = ℕ} (cond (not (is_finished (station_again p.station))) 1 0) (cond (not (is_finished p.station)) 1 0) = ap (λ (b : Bool). cond (not b) 1 0) (finished_again p.station) in
+    let here : ◌≡◌ {A = ℕ} (cond (not (is_finished (station_again p.station))) 1 0) (cond (not (is_finished p.station)) 1 0) = ap (λ (b : Bool). cond (not b) 1 0) (station_finished p.station) in
     let rest = unfinished_again asked in
     omega arith
+
+-- each is known as it was
+pub known_again : (submitted : List Request) (asked : List Asked) → AreKnown submitted asked → AreKnown submitted (map again asked)
+known_again submitted asked h = record {
+  as_many = as_many asked ∙ h.as_many;
+  each = λ k r q e f. let was = again_was asked k q f in ap (λ (x : Asked). x.job) was.2 ∙ h.each k r was.0 e was.1;
+}
 
 -- one whose data are told goes on being told
 told_again : (asked : List Asked) (k next : ℕ) → StandsAt asked k (Telling next) → StandsAt (map again asked) k (Telling next)
@@ -79,16 +82,28 @@ told_again asked k next x = record { q = again x.q; at = again_has asked k x.q x
 waiting_again : (asked : List Asked) (after : List Request) → AreAgain asked after → (i : ℕ) (r : Request) → slice_get after i ≡ Some r → StandsAt (map again asked) (r.number - 1) Waiting
 waiting_again asked after h i r e = let was = h.waits i r e in record { q = again was.0; at = again_has asked (r.number - 1) was.0 was.1; there = was.2 }
 
--- the stations of the new epoch: nothing was pushed, no job is held, and a read that was being told goes on (`ending`, `telling`)
-pub resumes : (config : Options) (g : Flow) (d : Pipeline) (connected issuing fetching : Bool) (last : Option Ending) (told : Option ℕ) (replying : Option Reply) (requests : List Request) (works : List Work) (pages : List ℕ)
-    (after : List Request) (ending : Option Ending) (telling : Option ℕ)
-    → IsSeries g.submitted after
-    → AreAgain d.requests after
-    → AreOpen d.requests after ending
-    → ((e : Ending) → ending ≡ Some e → (next : ℕ) × (telling ≡ Some next) × StandsAt d.requests (e.request.number - 1) (Telling next))
-    → AreStations config g d connected issuing fetching last told replying requests works pages
-    → Stepped None IsSame d (lines.Epoch ∷ []) (λ p. AreStations config (resumed_flow g after) p false false false ending telling None after [] pages)
-resumes config g d connected issuing fetching last told replying requests works pages after ending telling series waits opened goes_on h = record {
+-- the data of each read that went well stand in its frames
+abbrev pub HaveReadBack : (submitted : List Request) (asked : List Asked) (pages : List ℕ) → Type 0
+HaveReadBack submitted asked pages =
+    (k : ℕ) (r : Request) (q : Asked) → slice_get submitted k ≡ Some r → slice_get asked k ≡ Some q → is_write r.transfer ≡ false → has_data_at q.station ≡ true → IsReadBack pages r r.count q.words
+
+-- what the pipeline has to be as the guest is suspended, where these requests wait next, and the data of one are told on (`ending`, `telling`)
+pub record MayResume (config : Options) (d : Pipeline) (submitted : List Request) (closing : Bool) (pages : List ℕ) (after : List Request) (ending : Option Ending) (telling : Option ℕ) : Type 0 where
+  pub options : d.options ≡ config
+  pub closing_is : d.front.closing ≡ closing
+  pub unclosed : d.front.closed ≡ false
+  pub known : AreKnown submitted d.requests
+  pub reads : HaveReadBack submitted d.requests pages
+  pub series : IsSeries submitted after
+  pub waits : AreAgain d.requests after
+  pub opened : AreOpen d.requests after ending
+  pub goes_on : (e : Ending) → ending ≡ Some e → (next : ℕ) × (telling ≡ Some next) × StandsAt d.requests (e.request.number - 1) (Telling next)
+
+-- the stations of the new epoch: nothing was pushed, no job is held, and a read that was being told goes on
+pub resumes : (config : Options) (d : Pipeline) (shape : Shape) (start before : ℕ) (submitted : List Request) (closing : Bool) (pages : List ℕ) (after : List Request) (ending : Option Ending) (telling : Option ℕ)
+    → MayResume config d submitted closing pages after ending telling
+    → Stepped None IsSame d (lines.Epoch ∷ []) (λ p. AreStations config (epoch_flow shape start before submitted after closing) p false false false ending telling None after [] pages)
+resumes config d shape start before submitted closing pages after ending telling h = record {
   step = Resumes;
   allowed = tt;
   shows = refl;
@@ -96,38 +111,35 @@ resumes config g d connected issuing fetching last told replying requests works 
   disk = λ a b e. e;
   now = record {
     options = h.options;
-    front = rw h.front refl;
+    front = rw (h.closing_is, h.unclosed) refl;
     ring = record { pushed = refl; entries = λ i r lt. absurd (omega arith); fetched = refl; replied = refl; responses = λ i rep e. absurd (none-some rep e); taken = refl };
-    known = record {
-      as_many = as_many d.requests ∙ h.known.as_many;
-      each = λ k r q e f. let was = again_was d.requests k q f in ap (λ (x : Asked). x.job) was.2 ∙ h.known.each k r was.0 e was.1;
-    };
+    known = known_again submitted d.requests h.known;
     opened = record {
-      unfinished = unfinished_again d.requests ∙ opened.unfinished;
+      unfinished = unfinished_again d.requests ∙ h.opened.unfinished;
       held = λ k q e going.
           let was = again_was d.requests k q e in
-          opened.held k was.0 was.1 (sym (finished_again (let x : Asked = was.0 in x.station)) ∙ (sym (ap (λ (x : Asked). is_finished x.station) was.2) ∙ going));
+          h.opened.held k was.0 was.1 (sym (station_finished (let x : Asked = was.0 in x.station)) ∙ (sym (ap (λ (x : Asked). is_finished x.station) was.2) ∙ going));
     };
     issued = λ k q e some.
         let was = again_was d.requests k q e in
-        let left = waits.all k was.0 was.1 (unissued_again (let x : Asked = was.0 in x.station) (sym (ap (λ (x : Asked). is_unissued x.station) was.2) ∙ some)) in
+        let left = h.waits.all k was.0 was.1 (unissued_again (let x : Asked = was.0 in x.station) (sym (ap (λ (x : Asked). is_unissued x.station) was.2) ∙ some)) in
         record { index = left.0; late = omega arith; r = left.1; at = left.2; number = left.3 };
-    waiting = record { issued = λ t. absurd (false≢true t); rest = λ i r le at other. waiting_again d.requests after waits i r at };
+    waiting = record { issued = λ t. absurd (false≢true t); rest = λ i r le at other. waiting_again d.requests after h.waits i r at };
     pushed = record { copied = λ t. absurd (false≢true t); rest = λ i r le lt. absurd (omega arith) };
     works = λ i t e. absurd (none-some t e);
     held = λ k q e kind. absurd (no_job k q e kind);
-    going = λ i r at. let stands = waiting_again d.requests after waits i r at in record { q = stands.q; at = stands.at; early = (let kind = ap kind_of stands.there in omega (arith, kind)) };
+    going = λ i r at. let stands = waiting_again d.requests after h.waits i r at in record { q = stands.q; at = stands.at; early = (let kind = ap kind_of stands.there in omega (arith, kind)) };
     replying = λ rep e. absurd (none-some rep e);
     replied = λ i rep e. absurd (none-some rep e);
     taking = λ e same.
-        let still = goes_on e same in
+        let still = h.goes_on e same in
         subst (λ (t : Option ℕ). StandsAt (map again d.requests) (e.request.number - 1) (finishing t e.status)) (sym still.1) (told_again d.requests (e.request.number - 1) still.0 still.2);
     reads = record {
       working = λ i t r q at. absurd (none-some t at);
       after = λ k r q its at reads there.
           let was = again_was d.requests k q at in
           subst (λ (x : Asked). IsReadBack pages r r.count x.words) (sym was.2)
-          (h.reads.after k r was.0 its was.1 reads (data_again (let x : Asked = was.0 in x.station) (sym (ap (λ (x : Asked). has_data_at x.station) was.2) ∙ there)));
+          (h.reads k r was.0 its was.1 reads (data_again (let x : Asked = was.0 in x.station) (sym (ap (λ (x : Asked). has_data_at x.station) was.2) ∙ there)));
     };
   };
 }
@@ -146,14 +158,28 @@ again_waiting (Telling next) le = absurd (omega arith)
 again_waiting (Finished status) le = absurd (omega arith)
 again_waiting s le = refl
 
-unfinished_waiting : (s : Station) → station_again s ≡ Waiting → is_finished s ≡ false
-unfinished_waiting (Finished status) e = absurd (true≢false (ap is_finished e))
-unfinished_waiting s e = refl
+unfinished_waits : (s : Station) → station_again s ≡ Waiting → is_finished s ≡ false
+unfinished_waits (Finished status) e = absurd (true≢false (ap is_finished e))
+unfinished_waits s e = refl
+
+-- all that are finished stay so
+pub finished_again : (d : Pipeline) → AreFinished d → AreFinished (next d Resumes)
+finished_again d h = record { each = λ k q e. let was = again_was d.requests k q e in ap (λ (x : Asked). is_finished x.station) was.2 ∙ (station_finished (let x : Asked = was.0 in x.station) ∙ h.each k was.0 was.1) }
+
+no_data : (s : Station) → is_finished s ≡ true → has_data_at s ≡ false
+no_data (Finished status) e = refl
+no_data s e = absurd (false≢true e)
+
+pub finished_all : (d : Pipeline) → AreFinished d → (k : ℕ) (q : Asked) → slice_get d.requests k ≡ Some q → has_data_at q.station ≡ true → ⊥
+finished_all d h k q e there = true≢false (sym there ∙ no_data q.station (h.each k q e))
+
+pub unfinished : (q : Asked) → station_again q.station ≡ Waiting → is_finished q.station ≡ false
+unfinished q waits = unfinished_waits q.station waits
 
 pub all_again : (asked : List Asked) (requests : List Request) → AreOpen asked requests None → AreGoing requests asked → AreAgain asked requests
 all_again asked requests opened going = record {
   waits = λ i r e. let was = going i r e in (was.q, was.at, again_waiting (let x : Asked = was.q in x.station) was.early);
-  all = λ k q e waits. by_place k (opened.held k q e (unfinished_waiting q.station waits));
+  all = λ k q e waits. by_place k (opened.held k q e (unfinished_waits q.station waits));
 }
   where
     by_place : (k : ℕ) → (list_any (λ (r : Request). r.number == k + 1) requests ≡ true) ⊎ ((e : Ending) × (None ≡ Some e) × (e.request.number ≡ k + 1)) → (i : ℕ) × (r : Request) × (slice_get requests i ≡ Some r) × (r.number ≡ k + 1)
@@ -235,7 +261,7 @@ pub put_back_again : (asked : List Asked) (requests after : List Request) (e : E
 put_back_again asked requests after e put opened going taking = (
   record {
     waits = λ i r at. waits r (back_was requests after e.request put i r at);
-    all = λ k q at waits. among k (opened.held k q at (unfinished_waiting q.station waits));
+    all = λ k q at waits. among k (opened.held k q at (unfinished_waits q.station waits));
   },
   record {
     unfinished = (let unfinished = opened.unfinished in let many = back_many requests after e.request put in omega arith);
@@ -267,7 +293,7 @@ pub told_again_beside : (asked : List Asked) (requests : List Request) (e : Endi
     → AreAgain asked requests
 told_again_beside asked requests e next opened going positive telling = record {
   waits = λ i r at. let was = going i r at in (was.q, was.at, again_waiting (let x : Asked = was.q in x.station) was.early);
-  all = λ k q at waits. among k q at waits (opened.held k q at (unfinished_waiting q.station waits));
+  all = λ k q at waits. among k q at waits (opened.held k q at (unfinished_waits q.station waits));
 }
   where
     no_wait : (n : ℕ) → Telling n ≡ Waiting → ⊥

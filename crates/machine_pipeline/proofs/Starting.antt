@@ -58,9 +58,9 @@ none_of : (ready fixed : Bool) (limit : ℕ) (offers : Offers) (pushed : ℕ) �
 none_of false fixed limit offers pushed e h = h
 none_of true fixed limit offers pushed e h = absurd (true≢false e)
 
-pub unbound_of : (connected bound : Bool) (made : ℕ) (ports : _) → connected ≡ false → PortsAt connected bound made ports → (made ≡ 0) × (ports ≡ List.[]) × (bound ≡ false)
-unbound_of false bound made ports e h = h
-unbound_of true bound made ports e h = absurd (true≢false e)
+pub unbound_of : (before : ℕ) (connected bound : Bool) (made : ℕ) (ports : _) → connected ≡ false → PortsAt before connected bound made ports → (made ≡ before) × (ports ≡ List.[]) × (bound ≡ false)
+unbound_of before false bound made ports e h = h
+unbound_of before true bound made ports e h = absurd (true≢false e)
 
 -- a back that isn't bound doesn't sleep yet
 back_awake : (b : BackStage) → is_bound_back b ≡ false → (is_back_arming b ≡ false) × (may_back_sleep b ≡ false)
@@ -80,7 +80,7 @@ pub starts_on : (config : Options) (w : World) (g : Flow) (d : Pipeline) (s s' :
     → SameSlots w.under.pages pages
     → ((f : ℕ) → 18 ≤ f → f < 1018 → SameFrame w.under.pages pages f)
     → AreRingWords g.shape.order g.start g.pushed g.replied pages s' (length w.back.pages)
-    → PortsAt (is_connected s') (is_bound_back w.back.stage) channels.made channels.ports
+    → PortsAt g.before (is_connected s') (is_bound_back w.back.stage) channels.made channels.ports
     → Holds config (rested w s' w.front.seen w.front.asleep pages channels) g d s' w.back.stage
 starts_on config w g d s s' pages channels starting restless i i' h at sized words elsewhere ring ports = record {
   started = h.started;
@@ -143,7 +143,7 @@ starts_on config w g d s s' pages channels starting restless i i' h at sized wor
         (unending s' w.front.ending i'.none_ends ∙ sym (unending s w.front.ending i.none_ends)) (untelling s' i'.none_ends ∙ sym (untelling s i.none_ends)) h.stations
 
     awake : (is_back_arming w.back.stage ≡ false) × (may_back_sleep w.back.stage ≡ false)
-    awake = back_awake w.back.stage ((unbound_of (is_connected s) (is_bound_back w.back.stage) w.under.channels.made w.under.channels.ports starting h.ports).2)
+    awake = back_awake w.back.stage ((unbound_of g.before (is_connected s) (is_bound_back w.back.stage) w.under.channels.made w.under.channels.ports starting h.ports).2)
 
     slots : AreSlots g.shape g.start g.fetched g.pushed g.taken g.replied g.series g.replies pages s w.back.stage
     slots = slots_kept g.shape g.start g.fetched g.pushed g.taken g.replied g.series g.replies w.under.pages pages s w.back.stage h.shaped.narrow words h.slots

@@ -1,5 +1,5 @@
 -- A machine at the start of an epoch, all of whose requests wait, and the pipeline; and the machine at the start, and the pipeline of which nothing was asked.
-use Rattle.std.proofs.Common.{◌≡◌, ℕ, zero, suc, ◌-◌, ◌<◌, ◌≤◌, ◌^◌, Bool, false, cond, List, [], length, refl, ap, sym, ◌∙◌, arith, true≢false, length-take}
+use Rattle.std.proofs.Common.{◌≡◌, ℕ, zero, suc, ◌+◌, ◌-◌, ◌<◌, ◌≤◌, ◌^◌, Bool, false, cond, List, [], length, refl, ap, sym, ◌∙◌, arith, true≢false, length-take}
 use Rattle.std.specs.Prelude.{Some, None, slice_get, count_by, replicate, slice_index_or}
 use Rattle.std.proofs.Math.ListN.{length-replicate}
 use Rattle.std.proofs.lemmas.Option.{none-some}
@@ -10,17 +10,22 @@ use Rattle.blk_base.specs.Options.{Options}
 use Rattle.pipeline_laws.specs.Pipeline.{Pipeline, pipeline_of}
 use Rattle.blk_front.specs.Pool.{empty_pool}
 use Rattle.blk_front.specs.declared.request.Request.{Request}
+use Rattle.blk_front.specs.declared.stage.Stage.{Stage as FrontStage}
 use Rattle.blk_front.specs.declared.stage.Stage.TheVariants as front
+use Rattle.blk_front.specs.Request.{frames_for}
+use Rattle.blk_front.specs.Submit.{ending_of}
+use Rattle.blk_front.specs.View.{next_request}
 use Rattle.blk_back.specs.declared.stage.Stage.TheVariants as back
 use Rattle.blk_back.specs.View.{info_of}
 use Rattle.split_model.specs.World.{World, start_of}
 use Rattle.split_model.proofs.Safe.{safe_start}
 use Rattle.machine_pipeline.specs.Plain.{IsPlain}
-use Rattle.machine_pipeline.proofs.Flow.{start_flow, epoch_flow}
+use Rattle.machine_pipeline.proofs.Flow.{Flow, start_flow, epoch_flow, ending_at, telling_at}
 use Rattle.ring_words.specs.Shape.{Shape, entries_of}
 use Rattle.machine_pipeline.proofs.Series.{IsSeries, IsAmong, series_few}
 use Rattle.machine_pipeline.proofs.Lists.{all_from}
-use Rattle.machine_pipeline.proofs.Holds.{AreSubmitted, IsOfTheDisk, IsFilled, IsGranted, ArePooled, Holds, Stands}
+use Rattle.machine_pipeline.proofs.Left.{IsUnbegun, first_word}
+use Rattle.machine_pipeline.proofs.Holds.{AreSubmitted, IsOfTheDisk, FrontAt, AreDataWords, IsFilled, IsGranted, ArePooled, Holds, Stands}
 use Rattle.machine_pipeline.proofs.Stations.{AreStations}
 use Rattle.machine_pipeline.proofs.Indices.{AreFirst, indices_epoch}
 
@@ -64,13 +69,12 @@ start_stations config = record {
   reads = record { working = λ i t r q at. absurd (none-some t at); after = λ k r q at. absurd (none-some r at) };
 }
 
--- at the start of an epoch the front makes its ring next; the back waits, and has nothing
+-- at the start of an epoch nothing of the ring is made; the back waits, and has nothing
 pub record BeginsEpoch (config : Options) (w : World) : Type 0 where
   pub start : w.front.start ≡ config.start
   pub shape : w.front.shape ≡ shape_of config
   pub indices : AreFirst config w.front.ring w.back.ring w.front.seen w.back.seen
   pub front_awake : w.front.asleep ≡ false
-  pub words : length w.front.words ≡ 128
   pub fetched : w.back.fetched ≡ 0
   pub back_awake : w.back.asleep ≡ false
   pub works : w.back.jobs.works ≡ []
@@ -79,27 +83,32 @@ pub record BeginsEpoch (config : Options) (w : World) : Type 0 where
   pub unhalted : w.back.halted ≡ None
   pub memory : length w.under.pages ≡ 1114112
   pub live : w.under.grants.live ≡ []
-  pub made : w.under.channels.made ≡ 0
   pub ports : w.under.channels.ports ≡ []
 
--- and its requests wait, in frames of their own
-pub record AreAllWaiting (config : Options) (w : World) (submitted : List Request) (d : Pipeline) : Type 0 where
+-- what passes through its ring
+abbrev pub begun_flow : Options → World → (submitted : List Request) → Flow
+begun_flow config w submitted = epoch_flow (shape_of config) config.start w.under.channels.made submitted w.front.requests w.front.closing
+
+-- and its requests wait, in frames of their own, but the read whose data the front has in hand
+pub record AreAllWaiting (config : Options) (w : World) (submitted : List Request) (d : Pipeline) (s : FrontStage) : Type 0 where
   pub sized : IsOfTheDisk config w.front.sectors w.front.read_only submitted
   pub each : AreSubmitted submitted w.front.sectors w.front.last
   pub series : IsSeries submitted w.front.requests
   pub few : w.front.last < 2 ^ 32
-  pub room : length w.front.requests ≤ entries_of config.order
+  pub room : length w.front.requests + ending_of s ≤ entries_of config.order
   pub waiting : w.front.waiting ≡ length w.front.requests
-  pub pool : ArePooled w.front.pool w.front.requests None
-  pub stations : AreStations config (epoch_flow (shape_of config) config.start submitted w.front.requests w.front.closing) d false false false None None None w.front.requests [] w.under.pages
+  pub pool : ArePooled w.front.pool w.front.requests (ending_at s w.front.ending)
+  pub front_at : FrontAt (shape_of config) config.start 0 0 0 submitted [] (next_request w.front) w.front.entry w.front.ending s
+  pub telling : AreDataWords w.under.pages w.front.words w.front.ending s
+  pub stations : AreStations config (begun_flow config w submitted) d false false false (ending_at s w.front.ending) (telling_at s) None w.front.requests [] w.under.pages
 
-pub epoch_holds : (config : Options) (w : World) (submitted : List Request) (d : Pipeline) → IsPlain config → BeginsEpoch config w → AreAllWaiting config w submitted d
-    → Holds config w (epoch_flow (shape_of config) config.start submitted w.front.requests w.front.closing) d (front.RingWord 0) back.InitWait
-epoch_holds config w submitted d plain b h = record {
+pub epoch_holds : (config : Options) (w : World) (submitted : List Request) (d : Pipeline) (s : FrontStage) → IsPlain config → IsUnbegun s → BeginsEpoch config w → AreAllWaiting config w submitted d s
+    → Holds config w (begun_flow config w submitted) d s back.InitWait
+epoch_holds config w submitted d s plain i b h = record {
   started = record { whole = refl; known = b.start; closing = refl };
   shaped = record { whole = refl; narrow = plain.order; known = b.shape };
   sized = h.sized;
-  indices = rw (b.fetched, h.waiting) (indices_epoch config w.front.ring w.back.ring w.front.seen w.back.seen w.front.last submitted w.front.requests w.front.closing plain b.indices (let all = h.each in let counted = all.counted in let few = series_few submitted w.front.requests h.series in omega arith) h.few h.room);
+  indices = rw (b.fetched, h.waiting) (indices_epoch config w.front.ring w.back.ring w.under.channels.made w.front.seen w.back.seen w.front.last (ending_of s) submitted w.front.requests w.front.closing plain b.indices (let all = h.each in let counted = all.counted in let few = series_few submitted w.front.requests h.series in omega arith) h.few h.room);
   queue = record {
     ordered = h.series;
     known = all_from (λ (r : Request). slice_get submitted (r.number - 1) ≡ Some r) w.front.requests h.series.known;
@@ -109,39 +118,39 @@ epoch_holds config w submitted d plain b h = record {
   };
   submitted = h.each;
   pool = h.pool;
-  stations = rw b.works h.stations;
+  stations = rw (i.unready, i.unissued, b.works) h.stations;
   works = rw b.works (record { each = λ k x lt. absurd (omega arith); ascending = λ i j x lt within. absurd (omega arith); clear = λ i j x lt within. absurd (omega arith) });
   counted = rw b.works refl;
   info = b.info;
   replies = record { counted = refl; each = λ k x lt. absurd (omega arith); distinct = λ i j x lt within. absurd (omega arith) };
-  front_at = omega arith;
-  offered = refl;
+  front_at = h.front_at;
+  offered = rw i.unready refl;
   back_at = refl;
   unhalted = b.unhalted;
   memory = b.memory;
   ring = record {
-    begun = λ j lt. absurd (omega arith);
-    requests = λ t. absurd (true≢false (sym t));
-    responses = λ t. absurd (true≢false (sym t));
-    named = λ page lt unmapped. absurd (omega arith);
-    granted = λ page lt unmapped. absurd (omega arith);
+    begun = i.begun config.start w.under.pages;
+    requests = λ t. absurd (true≢false (sym t ∙ i.ringless));
+    responses = λ t. absurd (true≢false (sym t ∙ i.ringless));
+    named = λ page lt unmapped. absurd (let none = i.named (2 ^ config.order) in omega arith);
+    granted = λ page lt unmapped. absurd (let none = i.granted (2 ^ config.order) in omega arith);
   };
   slots = record {
     entries = λ k r from to. absurd (omega arith);
-    entry = λ r e i lt in_it. absurd (omega arith);
+    entry = λ r e k lt in_it. absurd (let none = i.entered_none in omega arith);
     responses = λ k rep e. absurd (none-some rep e);
     response = λ rep e. absurd (none-some rep e);
   };
-  frames = all_from (IsFilled w.front.requests 0 w.under.pages (front.RingWord 0)) w.front.requests (λ i r e. record { whole = λ one. absurd (none r one); begun = λ at n f. absurd (omega arith) });
-  telling = record { size = b.words; so_far = tt };
+  frames = all_from (IsFilled w.front.requests 0 w.under.pages s) w.front.requests (λ j r e. record { whole = λ one. absurd (none r one); begun = λ at n f. absurd (i.unfilled (frames_for r.count) n f) });
+  telling = h.telling;
   entries = record {
-    each = all_from (IsGranted w.front.requests 0 w.under.pages w.under.grants.live (front.RingWord 0)) w.front.requests (λ i r e. record {
+    each = all_from (IsGranted w.front.requests 0 w.under.pages w.under.grants.live s) w.front.requests (λ j r e. record {
       named = λ one. absurd (none r one);
-      named_next = λ at place t. absurd (omega arith);
+      named_next = λ at place t. absurd (let zero = i.unnamed in omega arith);
       flags = λ one. absurd (none r one);
-      flags_next = λ at place t. absurd (omega arith);
+      flags_next = λ at place t. absurd (let zero = i.ungranted in omega arith);
     });
-    ending = λ e same. absurd (none-some e same);
+    ending = λ e same. absurd (none-some e (sym (i.unrevoked w.front.ending) ∙ same));
   };
   mapped = record { counted = λ test. rw (b.live, b.works, b.unmapped) refl; framed = rw b.live (λ k x lt. absurd (omega arith)) };
   paged = rw b.unmapped (record {
@@ -154,7 +163,7 @@ epoch_holds config w submitted d plain b h = record {
     mode = λ page lt. absurd (omega arith);
   });
   front_sleep = record {
-    arming = λ t. absurd (true≢false (sym t));
+    arming = λ t. absurd (true≢false (sym t ∙ i.unarmed));
     armed = λ t. absurd (true≢false (sym t ∙ b.front_awake));
     may = λ t. b.front_awake;
     woken = λ t. absurd (true≢false (sym t ∙ b.front_awake));
@@ -165,14 +174,14 @@ epoch_holds config w submitted d plain b h = record {
     may = λ t. b.back_awake;
     woken = λ t. absurd (true≢false (sym t ∙ b.back_awake));
   };
-  ports = (b.made, b.ports, refl);
+  ports = rw i.unconnected (refl, b.ports, refl);
 }
   where
     none : (r : Request) → IsAmong w.front.requests 0 r → ⊥
     none r one = let early = one.early in omega arith
 
 -- so it is at the first start, with no request
-start_waiting : (config : Options) → IsPlain config → AreAllWaiting config (start_of config) [] (pipeline_of config)
+start_waiting : (config : Options) → IsPlain config → AreAllWaiting config (start_of config) [] (pipeline_of config) (front.RingWord 0)
 start_waiting config plain = record {
   sized = record { sectors = refl; read_only = refl; writable = λ k r e. absurd (none-some r e); served = λ k r e. absurd (none-some r e); short = λ k r e. absurd (none-some r e) };
   each = record { counted = refl; each = λ k r e. absurd (none-some r e); sized = plain.sectors };
@@ -181,6 +190,8 @@ start_waiting config plain = record {
   room = omega arith;
   waiting = refl;
   pool = empty_pooled;
+  front_at = omega arith;
+  telling = record { size = length-replicate {A = ℕ} 128 0; so_far = tt };
   stations = start_stations config;
 }
 
@@ -190,7 +201,6 @@ start_begins config = record {
   shape = refl;
   indices = record { entries = refl; front_prod = refl; front_cons = refl; back_prod = refl; back_cons = refl; front_saw = refl; back_saw = refl };
   front_awake = refl;
-  words = length-replicate {A = ℕ} 128 0;
   fetched = refl;
   back_awake = refl;
   works = refl;
@@ -199,12 +209,11 @@ start_begins config = record {
   unhalted = refl;
   memory = length-zero_words 1114112;
   live = refl;
-  made = refl;
   ports = refl;
 }
 
 pub start_holds : (config : Options) → IsPlain config → Stands config (start_of config) (start_flow (shape_of config) config.start) (pipeline_of config)
 start_holds config plain = record {
   safe = safe_start config;
-  holds = epoch_holds config (start_of config) [] (pipeline_of config) plain (start_begins config) (start_waiting config plain);
+  holds = epoch_holds config (start_of config) [] (pipeline_of config) (front.RingWord 0) plain first_word (start_begins config) (start_waiting config plain);
 }

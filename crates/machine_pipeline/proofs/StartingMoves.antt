@@ -16,7 +16,7 @@ use Rattle.blk_front.specs.declared.stage.Stage.{Stage as FrontStage}
 use Rattle.blk_front.specs.declared.stage.Stage.TheVariants as front
 use Rattle.blk_front.specs.View.{View, fresh_word, next_request, entry_frame, entry_word, ring_page_frame}
 use Rattle.blk_front.specs.Step.{at}
-use Rattle.blk_front.specs.Submit.{is_connected}
+use Rattle.blk_front.specs.Submit.{is_connected, ending_of}
 use Rattle.split_model.specs.World.{World}
 use Rattle.split_model.specs.Shown.{front_lines}
 use Rattle.machine_pipeline.specs.Plain.{IsPlain}
@@ -47,7 +47,7 @@ makes config w g d s s' m pages told starting going restless i i' h place sized 
   steps = [];
   does = said_nothing d m w.front.told told;
   holds = starts_on config w g d s s' pages w.under.channels starting restless i i' h place sized words elsewhere ring
-      (subst (λ (c : Bool). PortsAt c (is_bound_back w.back.stage) w.under.channels.made w.under.channels.ports) (starting ∙ sym going) h.ports);
+      (subst (λ (c : Bool). PortsAt g.before c (is_bound_back w.back.stage) w.under.channels.made w.under.channels.ports) (starting ∙ sym going) h.ports);
 }
 
 -- the ring's words, one after another
@@ -234,10 +234,10 @@ flags_goes config w g d page told h = by_last (nat_lt (page + 1) (2 ^ w.front.sh
           granted = λ p lt unmapped. granted_now p (let among : p < 2 ^ g.shape.order = lt in omega (arith, known, last, among)) unmapped;
         })
 
--- a first port, which waits to be bound
-first_port : (bound : Bool) (made : ℕ) (ports : List PortState) → made ≡ 0 → ports ≡ [] → bound ≡ false → PortsAt true bound (made + 1) (ports ++ Unbound ∷ [])
-first_port false made ports none empty e = (omega arith, ap (λ l. l ++ Unbound ∷ []) empty)
-first_port true made ports none empty e = absurd (true≢false e)
+-- the first port of an epoch, which waits to be bound
+first_port : (before : ℕ) (bound : Bool) (made : ℕ) (ports : List PortState) → made ≡ before → ports ≡ [] → bound ≡ false → PortsAt before true bound (made + 1) (ports ++ Unbound ∷ [])
+first_port before false made ports none empty e = (omega arith, ap (λ l. l ++ Unbound ∷ []) empty)
+first_port before true made ports none empty e = absurd (true≢false e)
 
 port_goes : (config : Options) (w : World) (g : Flow) (d : Pipeline)
     → w.front.told ≡ None
@@ -245,7 +245,7 @@ port_goes : (config : Options) (w : World) (g : Flow) (d : Pipeline)
     → FrontGoes config w d front.NewPort
 port_goes config w g d told h =
     let ring = h.ring in
-    let none = unbound_of false (is_bound_back w.back.stage) w.under.channels.made w.under.channels.ports refl h.ports in
+    let none = unbound_of g.before false (is_bound_back w.back.stage) w.under.channels.made w.under.channels.ports refl h.ports in
     record {
       flow = g;
       steps = [];
@@ -258,7 +258,7 @@ port_goes config w g d told h =
             named = ring.named;
             granted = ring.granted;
           })
-          (first_port (is_bound_back w.back.stage) w.under.channels.made w.under.channels.ports none.0 none.1 none.2);
+          (first_port g.before (is_bound_back w.back.stage) w.under.channels.made w.under.channels.ports none.0 none.1 none.2);
     }
 
 -- a front that isn't connected goes on at each stage
@@ -266,12 +266,13 @@ pub start_moves : (config : Options) (w : World) (g : Flow) (d : Pipeline) (s : 
     → IsPlain config
     → w.front.told ≡ None
     → is_connected s ≡ false
+    → ending_of s ≡ 0
     → Holds config w g d s w.back.stage
     → FrontGoes config w d s
-start_moves config w g d (front.RingWord k) plain told starting h = word_goes config w g d k plain told h
-start_moves config w g d (front.RingFrame page) plain told starting h = frame_goes config w g d page told h
-start_moves config w g d (front.RingFence page) plain told starting h = fence_goes config w g d page told h
-start_moves config w g d (front.RingFlags page) plain told starting h = flags_goes config w g d page told h
-start_moves config w g d front.NewPort plain told starting h = port_goes config w g d told h
-start_moves config w g d (front.LeftData n) plain told starting h = absurd h.front_at
-start_moves config w g d s plain told starting h = absurd (true≢false starting)
+start_moves config w g d (front.RingWord k) plain told starting none h = word_goes config w g d k plain told h
+start_moves config w g d (front.RingFrame page) plain told starting none h = frame_goes config w g d page told h
+start_moves config w g d (front.RingFence page) plain told starting none h = fence_goes config w g d page told h
+start_moves config w g d (front.RingFlags page) plain told starting none h = flags_goes config w g d page told h
+start_moves config w g d front.NewPort plain told starting none h = port_goes config w g d told h
+start_moves config w g d (front.LeftData n) plain told starting none h = absurd (omega arith)
+start_moves config w g d s plain told starting none h = absurd (true≢false starting)

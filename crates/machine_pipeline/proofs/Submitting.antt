@@ -216,7 +216,8 @@ front_at_grown shape start pushed taken front_seen submitted replies next entry 
     (h.0, h.1, ending_more submitted replies x h.0 h.2, h.3)
 front_at_grown shape start pushed taken front_seen submitted replies next entry ending x (front.ReadData n) h =
     (h.0, h.1, ending_more submitted replies x h.0 h.2, h.3)
-front_at_grown shape start pushed taken front_seen submitted replies next entry ending x (front.LeftData n) h = absurd h
+front_at_grown shape start pushed taken front_seen submitted replies next entry ending x (front.LeftData n) h =
+    (h.0, h.1, ending_more submitted replies x h.0 h.2, h.3)
 front_at_grown shape start pushed taken front_seen submitted replies next entry ending x s h = h
 
 replying_grown : {series : List Request} (fetched : ℕ) (works : List Work) (rep : Reply) (x : Request) → IsReplying series fetched works rep → IsReplying (series ++ x ∷ []) fetched works rep

@@ -113,7 +113,7 @@ freed_holds config w g d d' low high rep s ending i untold unarmed few h oldest 
   paged = h.paged;
   front_sleep = (let was = h.front_sleep in record { arming = λ t. absurd (true≢false (sym t ∙ unarmed)); armed = λ t. absurd (true≢false (sym t ∙ was.may refl)); may = λ t. was.may refl; woken = λ t. absurd (true≢false (sym t ∙ was.may refl)) });
   back_sleep = (let was = h.back_sleep in record { arming = was.arming; armed = was.armed; may = was.may; woken = λ t. by_wake (was.woken t) });
-  ports = subst (λ (b : Bool). PortsAt b (is_bound_back w.back.stage) w.under.channels.made w.under.channels.ports) (as_connected (front.ResponseLast low high) s refl i.ready) h.ports;
+  ports = subst (λ (b : Bool). PortsAt g.before b (is_bound_back w.back.stage) w.under.channels.made w.under.channels.ports) (as_connected (front.ResponseLast low high) s refl i.ready) h.ports;
 }
   where
     within : f.place < length w.front.requests

@@ -12,6 +12,7 @@ use Rattle.pipeline_laws.specs.Pipeline.{Pipeline, next}
 use Rattle.blk_front.specs.declared.request.Transfer.TheVariants as transfer
 use Rattle.blk_front.specs.declared.request.Request.{Request}
 use Rattle.blk_front.specs.declared.stage.Ending.{Ending}
+use Rattle.blk_front.specs.declared.stage.Stage.{Stage as FrontStage}
 use Rattle.blk_front.specs.declared.stage.Stage.TheVariants as front
 use Rattle.blk_front.specs.declared.told.Told.TheVariants as told
 use Rattle.blk_front.specs.Ask.{read_ask}
@@ -22,7 +23,7 @@ use Rattle.blk_front.specs.View.{View}
 use Rattle.split_model.specs.World.{World}
 use Rattle.split_model.specs.Shown.{front_lines}
 use Rattle.machine_pipeline.proofs.Flow.{Flow, is_fetching, reply_at, data_word}
-use Rattle.machine_pipeline.proofs.Holds.{Holds, IsEnding, IsEndingAt, IsSubmitted, ArePooled, AreDataWords}
+use Rattle.machine_pipeline.proofs.Holds.{Holds, IsEnding, IsToldAt, IsSubmitted, AreSubmitted, ArePooled, AreReadTo}
 use Rattle.machine_pipeline.proofs.Turns.{Goes, FrontGoes, said_nothing, does_step}
 use Rattle.machine_pipeline.proofs.Resting.{at_loop, at_data, entries_rest}
 use Rattle.machine_pipeline.proofs.Ending.{pooled_free}
@@ -64,131 +65,159 @@ same_sector n further = omega (arith, further)
 further_word : (n : ℕ) → n % 128 < 127 → (n + 1) % 128 ≡ n % 128 + 1
 further_word n further = omega (arith, further)
 
--- a word of data is read: its sector is told once it was read whole, and the request is finished once all were told
+-- a read whose answer was told, with its first n words read, as the front is ready or not
+pub record IsTelling (config : Options) (w : World) (g : Flow) (d : Pipeline) (ready : Bool) (n : ℕ) : Type 0 where
+  pub untold : w.front.told ≡ None
+  pub at : IsToldAt g.submitted g.replies w.front.ending n
+  pub submitted : AreSubmitted g.submitted w.front.sectors w.front.last
+  pub size : length w.front.words ≡ 128
+  pub so_far : AreReadTo w.under.pages w.front.words w.front.ending n
+  pub pool : ArePooled w.front.pool w.front.requests w.front.ending
+  pub stations : AreStations config g d ready false (is_fetching w.back.stage) w.front.ending (Some (n / 128)) (reply_at w.back.stage) w.front.requests w.back.jobs.works w.under.pages
+
+-- what stands at the next stage, with more words to read, and at the last one, once all are told
+abbrev pub HoldsMore : Options → World → Flow → (ready : Bool) → (n : ℕ) → (next : FrontStage) → Type 0
+HoldsMore config w g ready n next =
+    (p : Pipeline) (words : List ℕ) → IsToldAt g.submitted g.replies w.front.ending (n + 1) → length words ≡ 128 → AreReadTo w.under.pages words w.front.ending (n + 1)
+    → AreStations config g p ready false (is_fetching w.back.stage) w.front.ending (Some ((n + 1) / 128)) (reply_at w.back.stage) w.front.requests w.back.jobs.works w.under.pages
+    → Holds config (finishing_at w next w.front.ending w.front.pool words w.under.pages) g p next w.back.stage
+
+abbrev pub HoldsAll : Options → World → Flow → (ready : Bool) → (last : FrontStage) → Type 0
+HoldsAll config w g ready last =
+    (p : Pipeline) (pool : List Bool) (words : List ℕ) → ArePooled pool w.front.requests None → length words ≡ 128
+    → AreStations config g p ready false (is_fetching w.back.stage) None None (reply_at w.back.stage) w.front.requests w.back.jobs.works w.under.pages
+    → Holds config (finishing_at w last None pool words w.under.pages) g p last w.back.stage
+
+module _ (config : Options) (w : World) (g : Flow) (d : Pipeline) (n : ℕ) (next_stage last_stage : FrontStage) (ready : Bool) (h : IsTelling config w g d ready n) where
+  abbrev e : Ending
+  e = h.at.0
+
+  here : w.front.ending ≡ Some e
+  here = h.at.1
+
+  is : IsEnding g.submitted g.replies e
+  is = h.at.2
+
+  within : n < words_in e.request
+  within = h.at.3.0
+
+  its : IsSubmitted w.front.sectors (e.request.number - 1) e.request
+  its = let submitted = h.submitted in submitted.each (e.request.number - 1) e.request is.known
+
+  abbrev pub word : ℕ
+  word = data_word w.under.pages e.request n
+
+  abbrev words : List ℕ
+  words = slice_set w.front.words (n % 128) word
+
+  -- the machine with that front
+  abbrev pub Becomes : View → Type 0
+  Becomes x = Goes config (lines.Move (moves.FrontRead (frame_at e.request (n / 1024)) (n % 1024) word) ∷ front_lines x.told)
+      (record { front = record x { told = None }; back = w.back; under = w.under }) d
+
+  sized : length words ≡ 128
+  sized = length-set w.front.words (n % 128) word ∙ h.size
+
+  read : (k : ℕ) → k < n % 128 + 1 → slice_index words k ≡ data_word w.under.pages e.request (n / 128 * 128 + k)
+  read = more_read w.under.pages w.front.words e.request n h.size (h.so_far e here)
+
+  whole : n % 128 ≡ 127 → (j : ℕ) → j < 128 → slice_index words j ≡ data_word w.under.pages e.request (128 * (n / 128) + j)
+  whole last j lt = read j (omega arith) ∙ ap (data_word w.under.pages e.request) (omega arith)
+
+  abbrev At : Option Ending → Option ℕ → Pipeline → Type 0
+  At ending telling p = AreStations config g p ready false (is_fetching w.back.stage) ending telling
+      (reply_at w.back.stage) w.front.requests w.back.jobs.works w.under.pages
+
+  stations : At (Some e) (Some (n / 128)) d
+  stations = subst (λ (x : Option Ending). At x (Some (n / 128)) d) here h.stations
+
+  abbrev told_of : Bool → View
+  told_of b = if b then record w.front { words = words; told = Some (told.Sector e.request.number (n / 128) words) } else record w.front { words = words }
+
+  abbrev pub next_at : (more last : Bool) → View
+  next_at more last = if more then at_stage next_stage (told_of last) else at_stage last_stage (finished e (told_of last))
+
+  -- word n + 1 is read next
+  goes_on : HoldsMore config w g ready n next_stage → (p : Pipeline) → n + 1 < words_in e.request → At (Some e) (Some ((n + 1) / 128)) p
+      → ((k : ℕ) → k < (n + 1) % 128 → slice_index words k ≡ data_word w.under.pages e.request ((n + 1) / 128 * 128 + k))
+      → Holds config (finishing_at w next_stage w.front.ending w.front.pool words w.under.pages) g p next_stage w.back.stage
+  goes_on more p further now so_far =
+      more p words (e, here, is, (further, h.at.3.1, h.at.3.2)) sized
+      (λ x same. subst (λ (y : Ending). (k : ℕ) → k < (n + 1) % 128 → slice_index words k ≡ data_word w.under.pages y.request ((n + 1) / 128 * 128 + k)) (same_Some e x (sym here ∙ same)) so_far)
+      (subst (λ (x : Option Ending). At x (Some ((n + 1) / 128)) p) (sym here) now)
+
+  -- a word of data is read: its sector is told once it was read whole, and the request is finished once all were told
+  pub told_by : HoldsMore config w g ready n next_stage → HoldsAll config w g ready last_stage → Becomes (next_at (nat_lt (n + 1) (words_in e.request)) (n % 128 == 127))
+  told_by more all = by_place (nat_lt (n + 1) (words_in e.request)) (n % 128 == 127) refl refl
+    where
+      by_place : (further last : Bool) → nat_lt (n + 1) (words_in e.request) ≡ further → (n % 128 == 127) ≡ last → Becomes (next_at further last)
+      by_place true true t u =
+          let further : n + 1 < words_in e.request = grind (arith, nat_tests) in
+          let last = is_last n u in
+          let s = tells config g d ready false (is_fetching w.back.stage) (reply_at w.back.stage) w.front.requests w.back.jobs.works w.under.pages words e
+          (n / 128) is.known is.positive h.at.3.1 (omega arith) sized (whole last) stations in
+          record {
+            flow = g;
+            steps = s.step ∷ [];
+            does = does_step (moves.FrontRead (frame_at e.request (n / 1024)) (n % 1024) word) (lines.Data e.request.number (n / 128) words ∷ []) refl s;
+            holds = goes_on more (next d s.step) further (subst (λ (i : ℕ). At (Some e) (Some i) (next d s.step)) (sym (next_sector n last)) s.now)
+                (λ k lt. absurd (let none = next_word n last in omega arith));
+          }
+      by_place true false t u =
+          let further : n + 1 < words_in e.request = grind (arith, nat_tests) in
+          let on = not_last n u in
+          record {
+            flow = g;
+            steps = [];
+            does = said_nothing d (moves.FrontRead (frame_at e.request (n / 1024)) (n % 1024) word) w.front.told h.untold;
+            holds = goes_on more d further (subst (λ (i : ℕ). At (Some e) (Some i) d) (sym (same_sector n on)) stations)
+                (λ k lt. read k (let one = further_word n on in omega arith)
+                ∙ ap (λ (i : ℕ). data_word w.under.pages e.request (i * 128 + k)) (sym (same_sector n on)));
+          }
+      by_place false true t u =
+          let end : words_in e.request ≤ n + 1 = grind (arith, nat_tests) in
+          let last = is_last n u in
+          let s = tells_last config g d ready false (is_fetching w.back.stage) (reply_at w.back.stage) w.front.requests w.back.jobs.works w.under.pages words e
+          (n / 128) is.known is.positive h.at.3.1 (omega arith) sized (whole last) stations in
+          record {
+            flow = g;
+            steps = s.step ∷ [];
+            does = does_step (moves.FrontRead (frame_at e.request (n / 1024)) (n % 1024) word) (lines.Data e.request.number (n / 128) words ∷ []) refl s;
+            holds = all (next d s.step) (with_all_free w.front.pool e.request.frames.items) words
+                (pooled_free w.front.pool w.front.requests e its.frames (subst (ArePooled w.front.pool w.front.requests) here h.pool)) sized s.now;
+          }
+      by_place false false t u =
+          let end : words_in e.request ≤ n + 1 = grind (arith, nat_tests) in
+          let on = not_last n u in
+          absurd (omega arith)
+
+-- while the ring is served: the next request is looked for after all
 pub told_goes : (config : Options) (w : World) (g : Flow) (d : Pipeline) (n : ℕ)
     → w.front.told ≡ None
     → Holds config w g d (front.ReadData n) w.back.stage
     → FrontGoes config w d (front.ReadData n)
 told_goes config w g d n untold h =
-    subst (λ (x : Option Ending). ActGoes config w d (front.ReadData n) (read_ask x n)) (sym here)
-    (subst Becomes (sym stepped)
-    (by_place (nat_lt (n + 1) (words_in e.request)) (n % 128 == 127) refl refl))
+    subst (λ (x : Option Ending). ActGoes config w d (front.ReadData n) (read_ask x n)) (sym h.front_at.1)
+    (subst (Becomes config w g d n (front.ReadData (n + 1)) front.Loop true t) (sym stepped) (told_by config w g d n (front.ReadData (n + 1)) front.Loop true t more all))
   where
-    at : IsEndingAt g.submitted g.replies w.front.ending (λ x. (n < words_in x.request) × (x.request.transfer ≡ transfer.Read) × (x.status ≡ Okay))
-    at = h.front_at
+    t : IsTelling config w g d true n
+    t = record { untold = untold; at = h.front_at; submitted = h.submitted; size = h.telling.size; so_far = h.telling.so_far; pool = h.pool; stations = h.stations }
 
-    e : Ending
-    e = at.0
+    stepped : data_step w.front.ending n (word config w g d n (front.ReadData (n + 1)) front.Loop true t) w.front ≡ next_at config w g d n (front.ReadData (n + 1)) front.Loop true t (nat_lt (n + 1) (words_in h.front_at.0.request)) (n % 128 == 127)
+    stepped = ap (λ (x : Option Ending). data_step x n (word config w g d n (front.ReadData (n + 1)) front.Loop true t) w.front) h.front_at.1
 
-    here : w.front.ending ≡ Some e
-    here = at.1
-
-    is : IsEnding g.submitted g.replies e
-    is = at.2
-
-    within : n < words_in e.request
-    within = at.3.0
-
-    its : IsSubmitted w.front.sectors (e.request.number - 1) e.request
-    its = let submitted = h.submitted in submitted.each (e.request.number - 1) e.request is.known
-
-    word : ℕ
-    word = data_word w.under.pages e.request n
-
-    words : List ℕ
-    words = slice_set w.front.words (n % 128) word
-
-    Becomes : View → Type 0
-    Becomes x = Goes config (lines.Move (moves.FrontRead (frame_at e.request (n / 1024)) (n % 1024) word) ∷ front_lines x.told)
-        (record { front = record x { told = None }; back = w.back; under = w.under }) d
-
-    was : AreDataWords w.under.pages w.front.words w.front.ending (front.ReadData n)
-    was = h.telling
-
-    sized : length words ≡ 128
-    sized = length-set w.front.words (n % 128) word ∙ was.size
-
-    read : (k : ℕ) → k < n % 128 + 1 → slice_index words k ≡ data_word w.under.pages e.request (n / 128 * 128 + k)
-    read = more_read w.under.pages w.front.words e.request n was.size (was.so_far e here)
-
-    whole : n % 128 ≡ 127 → (j : ℕ) → j < 128 → slice_index words j ≡ data_word w.under.pages e.request (128 * (n / 128) + j)
-    whole last j lt = read j (omega arith) ∙ ap (data_word w.under.pages e.request) (omega arith)
-
-    At : Option Ending → Option ℕ → Pipeline → Type 0
-    At ending telling p = AreStations config g p true false (is_fetching w.back.stage) ending telling
-        (reply_at w.back.stage) w.front.requests w.back.jobs.works w.under.pages
-
-    stations : At (Some e) (Some (n / 128)) d
-    stations = subst (λ (x : Option Ending). At x (Some (n / 128)) d) here h.stations
-
-    told_of : Bool → View
-    told_of b = if b then record w.front { words = words; told = Some (told.Sector e.request.number (n / 128) words) } else record w.front { words = words }
-
-    next_at : (more last : Bool) → View
-    next_at more last = if more then at_stage (front.ReadData (n + 1)) (told_of last) else finished e (told_of last)
-
-    stepped : data_step w.front.ending n word w.front ≡ next_at (nat_lt (n + 1) (words_in e.request)) (n % 128 == 127)
-    stepped = ap (λ (x : Option Ending). data_step x n word w.front) here
-
-    -- word n + 1 is read next
-    goes_on : (p : Pipeline) → n + 1 < words_in e.request → At (Some e) (Some ((n + 1) / 128)) p
-        → ((k : ℕ) → k < (n + 1) % 128 → slice_index words k ≡ data_word w.under.pages e.request ((n + 1) / 128 * 128 + k))
-        → Holds config (finishing_at w (front.ReadData (n + 1)) w.front.ending w.front.pool words w.under.pages) g p (front.ReadData (n + 1)) w.back.stage
-    goes_on p further now so_far =
+    more : HoldsMore config w g true n (front.ReadData (n + 1))
+    more p words at sized so_far now =
         ends_on config w g d p (front.ReadData n) (front.ReadData (n + 1)) w.front.ending w.front.pool words w.under.pages (at_data n)
-        (at_data (n + 1)) refl refl (omega arith) h
-        (subst (λ (x : Option Ending). At x (Some ((n + 1) / 128)) p) (sym here) now)
-        h.pool (e, here, is, (further, at.3.1, at.3.2))
-        (record {
-          size = sized;
-          so_far = λ x same. subst (λ (y : Ending). (k : ℕ) → k < (n + 1) % 128
-              → slice_index words k ≡ data_word w.under.pages y.request ((n + 1) / 128 * 128 + k)) (same_Some e x (sym here ∙ same)) so_far;
-        })
+        (at_data (n + 1)) refl refl (omega arith) h now h.pool at (record { size = sized; so_far = so_far })
         (entries_rest g.pushed w.under.pages w.under.grants.live (front.ReadData n) (front.ReadData (n + 1)) w.front.ending w.front.ending w.front.requests
         (at_data (n + 1)) (λ x same. absurd (none-some x same)) h.entries)
         h.memory (λ f from x lt. refl) (λ page lt. record { flags = refl; frame = refl })
 
-    by_place : (more last : Bool) → nat_lt (n + 1) (words_in e.request) ≡ more → (n % 128 == 127) ≡ last → Becomes (next_at more last)
-    by_place true true t u =
-        let further : n + 1 < words_in e.request = grind (arith, nat_tests) in
-        let last = is_last n u in
-        let s = tells config g d true false (is_fetching w.back.stage) (reply_at w.back.stage) w.front.requests w.back.jobs.works w.under.pages words e
-        (n / 128) is.known is.positive at.3.1 (omega arith) sized (whole last) stations in
-        record {
-          flow = g;
-          steps = s.step ∷ [];
-          does = does_step (moves.FrontRead (frame_at e.request (n / 1024)) (n % 1024) word) (lines.Data e.request.number (n / 128) words ∷ []) refl s;
-          holds = goes_on (next d s.step) further (subst (λ (i : ℕ). At (Some e) (Some i) (next d s.step)) (sym (next_sector n last)) s.now)
-              (λ k lt. absurd (let none = next_word n last in omega arith));
-        }
-    by_place true false t u =
-        let further : n + 1 < words_in e.request = grind (arith, nat_tests) in
-        let on = not_last n u in
-        record {
-          flow = g;
-          steps = [];
-          does = said_nothing d (moves.FrontRead (frame_at e.request (n / 1024)) (n % 1024) word) w.front.told untold;
-          holds = goes_on d further (subst (λ (i : ℕ). At (Some e) (Some i) d) (sym (same_sector n on)) stations)
-              (λ k lt. read k (let one = further_word n on in omega arith)
-              ∙ ap (λ (i : ℕ). data_word w.under.pages e.request (i * 128 + k)) (sym (same_sector n on)));
-        }
-    by_place false true t u =
-        let end : words_in e.request ≤ n + 1 = grind (arith, nat_tests) in
-        let last = is_last n u in
-        let s = tells_last config g d true false (is_fetching w.back.stage) (reply_at w.back.stage) w.front.requests w.back.jobs.works w.under.pages words e
-        (n / 128) is.known is.positive at.3.1 (omega arith) sized (whole last) stations in
-        record {
-          flow = g;
-          steps = s.step ∷ [];
-          does = does_step (moves.FrontRead (frame_at e.request (n / 1024)) (n % 1024) word) (lines.Data e.request.number (n / 128) words ∷ []) refl s;
-          holds = ends_on config w g d (next d s.step) (front.ReadData n) front.Loop None (with_all_free w.front.pool e.request.frames.items) words w.under.pages (at_data n) at_loop refl refl (omega arith) h
-              s.now (pooled_free w.front.pool w.front.requests e its.frames (subst (ArePooled w.front.pool w.front.requests) here h.pool)) tt
-              (record { size = sized; so_far = tt })
-              (entries_rest g.pushed w.under.pages w.under.grants.live (front.ReadData n) front.Loop w.front.ending None w.front.requests at_loop
-              (λ x same. absurd (none-some x same)) h.entries)
-              h.memory (λ f from x lt. refl) (λ page lt. record { flags = refl; frame = refl });
-        }
-    by_place false false t u =
-        let end : words_in e.request ≤ n + 1 = grind (arith, nat_tests) in
-        let on = not_last n u in
-        absurd (omega arith)
+    all : HoldsAll config w g true front.Loop
+    all p pool words pooled sized now =
+        ends_on config w g d p (front.ReadData n) front.Loop None pool words w.under.pages (at_data n) at_loop refl refl (omega arith) h
+        now pooled tt (record { size = sized; so_far = tt })
+        (entries_rest g.pushed w.under.pages w.under.grants.live (front.ReadData n) front.Loop w.front.ending None w.front.requests at_loop
+        (λ x same. absurd (none-some x same)) h.entries)
+        h.memory (λ f from x lt. refl) (λ page lt. record { flags = refl; frame = refl })

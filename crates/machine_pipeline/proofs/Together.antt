@@ -39,8 +39,8 @@ use Rattle.machine_pipeline.proofs.Leaving.{halts_goes}
 use Rattle.machine_pipeline.proofs.OverMoves.{front_ends, back_ends, job_ends}
 use Rattle.machine_pipeline.proofs.OverRest.{keys_end, notified_ends, submit_ends, enters_ends, attaches_late, halts_no_more}
 use Rattle.machine_pipeline.proofs.Keyed.{negotiates_goes}
-use Rattle.machine_pipeline.proofs.Unsuspended.{one_served}
-use Rattle.machine_pipeline.proofs.Unasked.{IsUnasked, unasked_happens}
+use Rattle.machine_pipeline.proofs.Left.{left_goes}
+use Rattle.machine_pipeline.proofs.ResumedHolds.{suspends_goes, suspends_ends}
 use Rattle.machine_pipeline.proofs.Quiet.{dumps_goes, looks_goes, settles_goes}
 use Rattle.pipeline_laws.specs.Pipeline.{Pipeline, pipeline_of, after_steps}
 use Rattle.machine_pipeline.specs.Step.{CallAt, GoesStepwise}
@@ -55,11 +55,12 @@ loop_goes config w g d safe e h = by_next (next_request w.front) refl
     by_next None t = loop_resumes config w g d safe.front_told e t h
 
 front_goes : (config : Options) (w : World) (g : Flow) (d : Pipeline) (s : FrontStage) → IsPlain config → IsSafe w → w.front.stage ≡ s → Holds config w g d s w.back.stage → FrontGoes config w d s
-front_goes config w g d (front.RingWord k) plain safe e h = start_moves config w g d (front.RingWord k) plain safe.front_told refl h
-front_goes config w g d (front.RingFrame page) plain safe e h = start_moves config w g d (front.RingFrame page) plain safe.front_told refl h
-front_goes config w g d (front.RingFence page) plain safe e h = start_moves config w g d (front.RingFence page) plain safe.front_told refl h
-front_goes config w g d (front.RingFlags page) plain safe e h = start_moves config w g d (front.RingFlags page) plain safe.front_told refl h
-front_goes config w g d front.NewPort plain safe e h = start_moves config w g d front.NewPort plain safe.front_told refl h
+front_goes config w g d (front.RingWord k) plain safe e h = start_moves config w g d (front.RingWord k) plain safe.front_told refl refl h
+front_goes config w g d (front.RingFrame page) plain safe e h = start_moves config w g d (front.RingFrame page) plain safe.front_told refl refl h
+front_goes config w g d (front.RingFence page) plain safe e h = start_moves config w g d (front.RingFence page) plain safe.front_told refl refl h
+front_goes config w g d (front.RingFlags page) plain safe e h = start_moves config w g d (front.RingFlags page) plain safe.front_told refl refl h
+front_goes config w g d front.NewPort plain safe e h = start_moves config w g d front.NewPort plain safe.front_told refl refl h
+front_goes config w g d (front.LeftData n) plain safe e h = left_goes config w g d n safe.front_told h
 front_goes config w g d front.Initialised plain safe e h = waits_goes config w g d safe.front_told e h
 front_goes config w g d front.Loop plain safe e h = loop_goes config w g d safe e h
 front_goes config w g d (front.Data n) plain safe e h = data_goes config w g d n safe h
@@ -95,53 +96,52 @@ serving_goes config w g d (Submits job) plain safe holds may = goes_on config _ 
 serving_goes config w g d (Notifies at) plain safe holds may = goes_on config _ _ d (notified_goes config w g d at (record { safe = safe; holds = holds }))
 serving_goes config w g d (Pokes frame word value) plain safe holds may = absurd may
 serving_goes config w g d (OverwritesKey name text) plain safe holds may = absurd may
-serving_goes config w g d Suspends plain safe holds may = absurd may
+serving_goes config w g d Suspends plain safe holds may = suspends_goes config w g d plain holds
 serving_goes config w g d Dumps plain safe holds may = dumps_goes config w d (inl (g, holds))
 serving_goes config w g d (Looks quiet) plain safe holds may = looks_goes config w d quiet may safe (inl (g, holds))
 serving_goes config w g d (Settles quiet) plain safe holds may = settles_goes config w d quiet may safe (inl (g, holds))
 
 -- and so it is once the back has halted
-ending_goes : (config : Options) (w : World) (d : Pipeline) (h : Happening) → IsSafe w → Over config w d w.front.stage w.back.stage → IsServed w h → HasGone (submitted_at h) (CallAt w h) config (lines_at w h) (happens w h) d
-ending_goes config w d FrontMoves safe over may = front_ends config w d w.front.stage (may over.halted) safe.front_told refl over
-ending_goes config w d BackMoves safe over may = back_ends config w d w.back.stage safe refl over
-ending_goes config w d (JobMoves number outcome) safe over may = job_ends config w d number outcome over
-ending_goes config w d (Negotiates at move) safe over may = keys_end config w d at move over
-ending_goes config w d (FrontEnters state) safe over may = enters_ends config w d state may over
-ending_goes config w d (BackAttaches shape grefs port) safe over may = attaches_late config w d shape grefs port over
-ending_goes config w d (BackHalts why) safe over may = halts_no_more config w d why over
-ending_goes config w d (Submits job) safe over may = submit_ends config w d job over
-ending_goes config w d (Notifies at) safe over may = notified_ends config w d at over
-ending_goes config w d (Pokes frame word value) safe over may = absurd may
-ending_goes config w d (OverwritesKey name text) safe over may = absurd may
-ending_goes config w d Suspends safe over may = absurd may
-ending_goes config w d Dumps safe over may = dumps_goes config w d (inr over)
-ending_goes config w d (Looks quiet) safe over may = looks_goes config w d quiet may safe (inr over)
-ending_goes config w d (Settles quiet) safe over may = settles_goes config w d quiet may safe (inr over)
+ending_goes : (config : Options) (w : World) (d : Pipeline) (h : Happening) → IsPlain config → IsSafe w → Over config w d w.front.stage w.back.stage → IsServed w h → HasGone (submitted_at h) (CallAt w h) config (lines_at w h) (happens w h) d
+ending_goes config w d FrontMoves plain safe over may = front_ends config w d w.front.stage (may over.halted) safe.front_told refl over
+ending_goes config w d BackMoves plain safe over may = back_ends config w d w.back.stage safe refl over
+ending_goes config w d (JobMoves number outcome) plain safe over may = job_ends config w d number outcome over
+ending_goes config w d (Negotiates at move) plain safe over may = keys_end config w d at move over
+ending_goes config w d (FrontEnters state) plain safe over may = enters_ends config w d state may over
+ending_goes config w d (BackAttaches shape grefs port) plain safe over may = attaches_late config w d shape grefs port over
+ending_goes config w d (BackHalts why) plain safe over may = halts_no_more config w d why over
+ending_goes config w d (Submits job) plain safe over may = submit_ends config w d job over
+ending_goes config w d (Notifies at) plain safe over may = notified_ends config w d at over
+ending_goes config w d (Pokes frame word value) plain safe over may = absurd may
+ending_goes config w d (OverwritesKey name text) plain safe over may = absurd may
+ending_goes config w d Suspends plain safe over may = suspends_ends config w d plain over
+ending_goes config w d Dumps plain safe over may = dumps_goes config w d (inr over)
+ending_goes config w d (Looks quiet) plain safe over may = looks_goes config w d quiet may safe (inr over)
+ending_goes config w d (Settles quiet) plain safe over may = settles_goes config w d quiet may safe (inr over)
 
 -- one happening more: what it is to the pipeline, and that all goes on
 pub step_kept : (config : Options) (w : World) (d : Pipeline) (h : Happening) → IsPlain config → IsSafe w → IsKept config w d → IsServed w h → HasGone (submitted_at h) (CallAt w h) config (lines_at w h) (happens w h) d
 step_kept config w d h plain safe (inl held) may = serving_goes config w held.0 d h plain safe held.1 may
-step_kept config w d h plain safe (inr over) may = ending_goes config w d h safe over may
+step_kept config w d h plain safe (inr over) may = ending_goes config w d h plain safe over may
 
 -- the machine as it stands after a history
 pub record IsStanding (config : Options) (w : World) : Type 0 where
   pub pipeline : Pipeline
   pub safe : IsSafe w
   pub kept : IsKept config w pipeline
-  pub unasked : IsUnasked w.front
 
 pub run_kept : (config : Options) (hs : List Happening) (w : World) → IsPlain config → IsStanding config w → AreServed hs w → IsStanding config (world_after hs w)
 run_kept config [] w plain stands may = stands
 run_kept config (h ∷ hs) w plain stands may =
     let one = step_kept config w stands.pipeline h plain stands.safe stands.kept may.0 in
-    run_kept config hs (happens w h) plain (record { pipeline = after_steps one.steps stands.pipeline; safe = safe_happens w h stands.safe; kept = one.kept; unasked = unasked_happens w h (one_served w h may.0) stands.unasked }) may.1
+    run_kept config hs (happens w h) plain (record { pipeline = after_steps one.steps stands.pipeline; safe = safe_happens w h stands.safe; kept = one.kept }) may.1
 
 -- so all starts
 start_kept : (config : Options) → IsPlain config → IsKept config (start_of config) (pipeline_of config)
 start_kept config plain = let start = start_holds config plain in inl (start_flow (record { abi = config.abi; order = config.order }) config.start, start.holds)
 
 pub always_stands : (config : Options) (hs : List Happening) → IsPlain config → AreServed hs (start_of config) → IsStanding config (world_after hs (start_of config))
-always_stands config hs plain may = run_kept config hs (start_of config) plain (record { pipeline = pipeline_of config; safe = safe_start config; kept = start_kept config plain; unasked = λ early. refl }) may
+always_stands config hs plain may = run_kept config hs (start_of config) plain (record { pipeline = pipeline_of config; safe = safe_start config; kept = start_kept config plain }) may
 
 -- each happening in its turn
 pub steps_on : (config : Options) (hs : List Happening) (w : World) (d : Pipeline) → IsPlain config → IsSafe w → IsKept config w d → AreServed hs w → GoesStepwise hs w d

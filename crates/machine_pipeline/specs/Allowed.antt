@@ -1,9 +1,10 @@
 -- Histories of a machine whose ends connect before they do anything else, with the submissions that it carries out.
-use Rattle.std.specs.Prelude.{◌≡◌, ℕ, ◌^◌, ◌<◌, ◌≤◌, ◌==◌, Bool, true, false, List, [], ◌∷◌, All, is_some}
+use Rattle.std.specs.Prelude.{◌≡◌, ℕ, ◌+◌, ◌^◌, ◌<◌, ◌≤◌, ◌==◌, Bool, true, false, List, [], ◌∷◌, All, is_some}
 use Rattle.std.specs.List.{range_with_len}
 use Rattle.line_text.specs.Texts.{is_key_path, is_key_text}
 use Rattle.schedule_text.specs.declared.line.Line.TheVariants.{Halt as HaltLine}
 use Rattle.schedule_text.specs.Range.{IsInRange}
+use Rattle.event_channel.specs.Channels.{made_before}
 use Rattle.blk_base.specs.declared.config.Job.{Job}
 use Rattle.blk_base.specs.declared.config.Job.TheVariants.{Read, Write, Barrier, Flush, Discard}
 use Rattle.blk_front.specs.declared.stage.Stage.{Stage}
@@ -66,11 +67,11 @@ MayEnter w state = Unit {0}
 abbrev pub IsSaid : Halt → Type 0
 IsSaid why = IsInRange (HaltLine (halt_line why))
 
--- the terms are the front's own: its shape, the references of its ring's frames, which count from 8, and its first port
+-- the terms are the front's own: its shape, the references of its ring's frames, which count from 8, and its port, the first one since the domain was last suspended
 pub record AreTerms (w : World) (shape : Shape) (grefs : List ℕ) (port : ℕ) : Type 0 where
   pub shape_is : shape ≡ (let v : front.View = w.front in v.shape)
   pub grefs_are : grefs ≡ range_with_len 8 (2 ^ shape.order)
-  pub port_is : port ≡ 1
+  pub port_is : port ≡ made_before w.under.channels + 1
 
 -- a halt that is asked for: the front closes, has no request left, and is at nothing
 pub record IsFarewell (w : World) (why : Halt) : Type 0 where
@@ -79,7 +80,7 @@ pub record IsFarewell (w : World) (why : Halt) : Type 0 where
   pub free : is_free w.front.stage ≡ true
   pub said : IsSaid why
 
--- the terms that the back takes are the front's own; it moves only once the front made its ring and its port, or after it halted, and then the front makes none; a sector that the disk gives has 128 words of 32 bits; what is submitted may be served; no hostile hand overwrites a word or a key, and the domain isn't suspended; paths and texts of keys are of the grammar; and where all is found quiet it is
+-- the terms that the back takes are the front's own; it moves only once the front made its ring and its port, or after it halted, and then the front makes none; a sector that the disk gives has 128 words of 32 bits; what is submitted may be served; no hostile hand overwrites a word or a key; the domain is suspended where another port may be made after it; paths and texts of keys are of the grammar; and where all is found quiet it is
 abbrev pub IsServed : World → Happening → Type 0
 IsServed w FrontMoves = is_some w.back.halted ≡ true → is_connected w.front.stage ≡ true
 IsServed w BackMoves = is_some w.back.halted ≡ false → is_connected w.front.stage ≡ true
@@ -91,7 +92,7 @@ IsServed w (BackHalts why) = IsFarewell w why
 IsServed w (Submits job) = IsServable job
 IsServed w (Pokes frame word value) = ⊥
 IsServed w (OverwritesKey name text) = ⊥
-IsServed w Suspends = ⊥
+IsServed w Suspends = may_suspend w ≡ true
 IsServed w (Looks quiet) = quiet ≡ true → is_quiet w ≡ true
 IsServed w (Settles quiet) = quiet ≡ true → is_quiet w ≡ true
 IsServed w h = Unit {0}
@@ -110,7 +111,7 @@ IsStated w state = Unit {0}
 abbrev pub AreSaid : List ℕ → ℕ → Type 0
 AreSaid grefs port = All (λ (gref : ℕ). gref < 2 ^ 32) grefs × (port < 2 ^ 32)
 
--- what may happen where a word of the guest's memory or a key of the front may be overwritten too, and the domain suspended; all may then be found quiet where an end waits for its negotiation
+-- what may happen where a word of the guest's memory or a key of the front may be overwritten too; all may then be found quiet where an end waits for its negotiation
 abbrev pub IsPossible : World → Happening → Type 0
 IsPossible w FrontMoves = Unit {0}
 IsPossible w BackMoves = Unit {0}
@@ -119,7 +120,6 @@ IsPossible w (BackAttaches shape grefs port) = AreSaid grefs port
 IsPossible w (BackHalts why) = IsSaid why
 IsPossible w (Pokes frame word value) = (is_guest_word frame word ≡ true) × (value < 2 ^ 32)
 IsPossible w (OverwritesKey name text) = is_guest_key name text ≡ true
-IsPossible w Suspends = may_suspend w ≡ true
 IsPossible w (Looks quiet) = Unit {0}
 IsPossible w (Settles quiet) = Unit {0}
 IsPossible w h = IsServed w h

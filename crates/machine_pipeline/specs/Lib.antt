@@ -4,4 +4,3 @@ pub mod Submissions
 pub mod Sectors
 pub mod Step
 pub mod Run
-pub mod First

@@ -9,9 +9,9 @@
 //! port, and halts only where the front closes, has no request left and is at nothing; the front leaves
 //! after the back, and finds nothing that breaks it; as it connects it knows what the back published;
 //! what is submitted moves or discards some sectors, or is a flush, keys are spelled as the grammar has
-//! them, the domain isn't suspended, and all is quiet where it is found so (`AreServed`).
-//! What a schedule makes happen (`vbd_model`) is such until a word or a key is overwritten, or the
-//! domain is suspended.
+//! them, the domain is suspended only where another port may be made after it, and all is quiet where it
+//! is found so (`AreServed`). What a schedule makes happen (`vbd_model`) is such until a word or a key is
+//! overwritten.
 #![tactic(auto)]
 
 ghost use Rattle.std.specs.Prelude.{List};

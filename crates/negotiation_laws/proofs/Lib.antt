@@ -17,6 +17,7 @@ pub mod Stays
 pub mod Found
 pub mod Unbroken
 pub mod Resting
+pub mod Busy
 pub mod Open
 pub mod Granting
 pub mod Listening

@@ -32,7 +32,7 @@ use Rattle.negotiation_laws.proofs.Unbroken.{never_broken, is_closing}
 use Rattle.negotiation_laws.proofs.Subjects.{Sees, Settled, RestHeard, FrontSees, IsReady, SettledBack, BackSees}
 
 -- where an end that waits has no watch to take, what it read last still stands
-heard : (path : List ℕ) (w : Watches) (A : Type 0) → has_pending w ≡ false → Sees path w A → A
+pub heard : (path : List ℕ) (w : Watches) (A : Type 0) → has_pending w ≡ false → Sees path w A → A
 heard path w A none (inl e) = absurd (true≢false (sym (ap has_pending e) ∙ none))
 heard path w A none (inr (e, a)) = a
 
@@ -41,11 +41,11 @@ record FrontIs (own : BusState) (closing gone : Bool) (idle : Bool) (b : BusStat
   open_settled : closing ≡ false → Settled own b
   closing_open : closing ≡ true → idle ≡ true → (own ≡ state.Closing) × (gone ≡ false) × (b ≡ state.Closed → gone ≡ true)
 
-abbrev IsWait : FrontBusAsk → Type 0
+abbrev pub IsWait : FrontBusAsk → Type 0
 IsWait front_ask.Wait = Unit {0}
 IsWait a = ⊥
 
-abbrev IsBackWait : BackBusAsk → Type 0
+abbrev pub IsBackWait : BackBusAsk → Type 0
 IsBackWait back_ask.Wait = Unit {0}
 IsBackWait a = ⊥
 
@@ -127,7 +127,7 @@ back_is back.UnmapPage v fs w placed none sees h = absurd (unmap_waits v.pages p
 back_is back.Watch v fs w placed none sees h = absurd h
 back_is s v fs w placed none sees h = absurd h
 
-back_is_now : (v : BackView) (fs : BusState) (w : Watches) → IsPlaced v.stage v → has_pending w ≡ false → BackSees v.stage v.state fs w
+pub back_is_now : (v : BackView) (fs : BusState) (w : Watches) → IsPlaced v.stage v → has_pending w ≡ false → BackSees v.stage v.state fs w
     → IsBackWait (back_asks.ask_of v) → SettledBack v.state fs ⊎ (v.state ≡ state.Closed)
 back_is_now v fs w placed none sees = by_test (back_asks.says_closing v)
   where

@@ -1,5 +1,5 @@
 -- What is true of every run of a negotiation.
-use Rattle.std.specs.Prelude.{ℕ, ◌+◌, ◌≡◌, ◌≢◌, ◌⊎◌, ◌<◌, ◌≤◌, Bool, true, false, List, [], map, length, Some, None}
+use Rattle.std.specs.Prelude.{ℕ, ◌+◌, ◌≡◌, ◌≢◌, ◌⊎◌, ◌<◌, ◌≤◌, Bool, true, false, List, [], ◌∷◌, map, length, Some, None}
 use Rattle.key_directory.specs.Directory.{key_of}
 use Rattle.key_directory.specs.Watches.{has_pending}
 use Rattle.xenbus_state.specs.States.{state_number}
@@ -265,3 +265,16 @@ abbrev pub ConnectedAtRest : Type 0
 ConnectedAtRest =
     (r : NegotiationRun) (idle : Bool) → r.front.closing ≡ false → list_any closes r.happenings ≡ false
     → IsAtRest idle (now r) → AreBoth (now r) state.Connected
+
+-- each move of the front finds it with unfinished requests
+abbrev pub IsBusy : Happening → Type 0
+IsBusy (FrontMoves idle port) = idle ≡ false
+IsBusy h = Unit {0}
+
+abbrev pub AreBusy : List Happening → Type 0
+AreBusy [] = Unit {0}
+AreBusy (h ∷ happenings) = IsBusy h × AreBusy happenings
+
+-- then at rest it has written Connected, or a later state
+abbrev pub BusyFrontsConnect : Type 0
+BusyFrontsConnect = (r : NegotiationRun) → AreBusy r.happenings → IsAtRest false (now r) → 4 ≤ state_number (now r).front.state

@@ -9,7 +9,7 @@
 #![tactic(auto)]
 
 ghost use Rattle.negotiation_laws.specs.Run.{NegotiationRun, now};
-ghost use Rattle.negotiation_laws.specs.Laws.{AreStatesSaid, TermsAreSaid, FeaturesAreSaid, FactsAreSaid, BackReadsTheFront, FrontReadsTheBack, MapsByTheTerms, GoesByTheTerms, GoesByTheOffer, GoesByTheDisk, KeepsTheOffer, BackHaltsAsTheFrontIsGone, FrontBreaksOnlyUnserved, FrontIsUnbroken, ConnectsToAConnectedBack, IsConnectedAfter, BackConnectsAfter, BackMapsAfterTheGrants, ConnectedStaysGranted, TheRingOutlastsTheBack, LeavesAfterTheBack, AgreeAtRest, ConnectedAtRest, OnlyACloseCloses, NoFrontWatchIsLost, NoBackWatchIsLost, EpochsBegin, MovesLower, SettlingIsBounded, RestsWhereNothingGoes};
+ghost use Rattle.negotiation_laws.specs.Laws.{AreStatesSaid, TermsAreSaid, FeaturesAreSaid, FactsAreSaid, BackReadsTheFront, FrontReadsTheBack, MapsByTheTerms, GoesByTheTerms, GoesByTheOffer, GoesByTheDisk, KeepsTheOffer, BackHaltsAsTheFrontIsGone, FrontBreaksOnlyUnserved, FrontIsUnbroken, ConnectsToAConnectedBack, IsConnectedAfter, BackConnectsAfter, BackMapsAfterTheGrants, ConnectedStaysGranted, TheRingOutlastsTheBack, LeavesAfterTheBack, AgreeAtRest, ConnectedAtRest, BusyFrontsConnect, OnlyACloseCloses, NoFrontWatchIsLost, NoBackWatchIsLost, EpochsBegin, MovesLower, SettlingIsBounded, RestsWhereNothingGoes};
 
 /// The directory says which state each end wrote last. From its state Initialised on the front's
 /// terms stand in it as it said them, with the port that it made; from InitWait on the back's
@@ -64,11 +64,14 @@ pub fn the_front_leaves_after_the_back()
 
 /// Where both ends wait and no watch is pending, both are connected or both are closed; or a closing
 /// front waits for requests that are unfinished, before it writes Closing. Where nobody was asked to
-/// close, no end closes, and at rest both are connected.
+/// close, no end closes, and at rest both are connected. A front whose requests are unfinished at
+/// each of its moves of the epoch has written Connected at rest, or a later state, also where it is
+/// closing.
 pub fn at_rest_both_agree()
     ensures agree { AgreeAtRest }
     ensures closes { OnlyACloseCloses }
     ensures connected { ConnectedAtRest }
+    ensures busy { BusyFrontsConnect }
 {}
 
 /// An epoch has at most 483 moves of both ends but those that wait in vain, whatever happens in

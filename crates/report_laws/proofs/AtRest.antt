@@ -15,12 +15,7 @@ use Rattle.machine_pipeline.proofs.Over.{IsDrained}
 use Rattle.machine_pipeline.proofs.Together.{always_stands}
 use Rattle.machine_pipeline.proofs.AtRest.{IsIdleRing, quiet_rests}
 use Rattle.report_laws.specs.AtRest.{IsReadRing, IsAtRest}
-use Rattle.report_laws.proofs.OnePort.{made_one}
 use Rattle.report_laws.proofs.Lines.{says_quiet, is_usual, AreUsual, AreUnquiet, usual_unquiet, front_usual, back_usual, job_usual, keys_usual, attach_usual, states_unquiet, halt_usual, submit_usual, suspend_usual, dump_usual}
-
--- a front that made its port in this epoch left nothing in its ring
-pub port_drained : (config : Options) (history : List Happening) → AreServed history (start_of config) → (let w : World = after history (start_of config) in (IsIdleRing w → w.under.channels.ports ≢ [] → IsDrained w.under.pages w.front.ring.cons w.back.ring.cons))
-port_drained config history may idle port = idle.ring (made_one config history may port)
 
 pub always_rests : (config : Options) (history : List Happening) → IsPlain config → AreServed history (start_of config) → is_quiet (after history (start_of config)) ≡ true → IsAtRest (after history (start_of config))
 always_rests config history plain may quiet = record { ring = read; no_job = rest.no_job; no_request = rest.no_request }
@@ -32,7 +27,7 @@ always_rests config history plain may quiet = record { ring = read; no_job = res
     rest = quiet_rests config w quiet (always_stands config history plain may)
 
     read : w.under.channels.ports ≢ [] → IsReadRing w
-    read port = let ring : IsDrained w.under.pages w.front.ring.cons w.back.ring.cons = port_drained config history may rest port in record { served = ring.served; fetched = ring.fetched; read = ring.read }
+    read port = let ring : IsDrained w.under.pages w.front.ring.cons w.back.ring.cons = rest.ring port in record { served = ring.served; fetched = ring.fetched; read = ring.read }
 
 -- a happening shows `quiet` only where the machine is so
 none_quiet : (ls : List Line) → AreUnquiet ls → Contains ls lines.Quiet → ⊥

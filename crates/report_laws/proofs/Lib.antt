@@ -8,7 +8,6 @@ mod Epochs
 mod Aside
 mod Phases
 mod Gone
-mod OnePort
 pub mod Ready
 pub mod Closing
 pub mod AtRest

@@ -30,7 +30,6 @@ use Rattle.report_laws.specs.Begun.{is_begin}
 use Rattle.report_laws.specs.QuietRing.{answers_told, IsQuietRingAt, IsQuietRing}
 use Rattle.report_laws.proofs.Lines.{AreLater, all_later}
 use Rattle.report_laws.proofs.Looks.{SpeaksOfQuiet, HoldsWhereQuiet, reports_obey, ended_obey}
-use Rattle.report_laws.proofs.AtRest.{port_drained}
 use Rattle.report_laws.proofs.Ports.{report_port}
 use Rattle.report_laws.proofs.Counts.{CountsAt}
 use Rattle.report_laws.proofs.Answers.{report_counts}
@@ -77,7 +76,7 @@ served_where_quiet config history plain may quiet ready = record {
     idle = quiet_rests config w quiet (always_stands config history plain may)
 
     rest : IsDrained w.under.pages w.front.ring.cons w.back.ring.cons
-    rest = port_drained config history may idle (report_port config Moves history ready)
+    rest = idle.ring (report_port config Moves history ready)
 
     taken : w.front.ring.cons ≡ wrapped config.start (answers_told report)
     taken = taken_at config.start (answers_told report) w.front.start w.front.ring.cons w.front.stage idle.front_at (report_counts config Moves history plain ready)

@@ -7,7 +7,8 @@ use Rattle.schedule_text.specs.declared.line.Detail.{Detail}
 use Rattle.schedule_text.specs.declared.line.Detail.TheVariants.{Moves}
 use Rattle.schedule_text.specs.declared.line.Line.{Line}
 use Rattle.schedule_text.specs.declared.line.Line.TheVariants.{Begin, End}
-use Rattle.machine_pipeline.specs.First.{is_first, first_part, IsFirst}
+use Rattle.plain_disk.specs.Honest.{is_honest, honest_part, IsHonest}
+use Rattle.plain_disk.proofs.Honest.{honest_more, honest_ends}
 use Rattle.report_rules.specs.Obeys.{Obeys}
 use Rattle.report_rules.proofs.Obeys.{obeys_none, obeys_more, obeys_before}
 use Rattle.move_laws.proofs.Recorded.{report_kept, ended_kept}
@@ -24,7 +25,7 @@ use Rattle.disk_laws.specs.Run.{IsRunSoFar}
 use Rattle.pipeline_laws.specs.Answered.{AreAnsweredOnce, IsQuietAnswered}
 use Rattle.pipeline_laws.proofs.AnsweredRuns.{run_answers_once, run_answers_at_quiet}
 use Rattle.split_model.specs.World.{World, start_of}
-use Rattle.split_model.specs.Happening.{Happening, Pokes, OverwritesKey, Suspends, DiskRuns, happens, after, lines_at, lines_of}
+use Rattle.split_model.specs.Happening.{Happening, Pokes, OverwritesKey, DiskRuns, happens, after, lines_at, lines_of}
 use Rattle.split_model.specs.Honest.{honest_history}
 use Rattle.schedule_text.specs.Recorder.{kept_of, line_bytes, report_text}
 use Rattle.split_model.specs.Report.{report_of, ended_report_of}
@@ -32,7 +33,7 @@ use Rattle.split_model.proofs.Running.{lines_of-append, kept_of-append}
 use Rattle.machine_pipeline.specs.Plain.{IsPlain}
 use Rattle.machine_pipeline.specs.Allowed.{AreServed, ArePossible}
 use Rattle.machine_pipeline.specs.Submissions.{submitted_at, submitted_of}
-use Rattle.machine_pipeline.proofs.HonestPart.{first_more, first_ends, HostileAfter, HonestWith, HonestEnded, honest_with, honest_kept, honest_report, honest_ended, served_before, disk_runs_first, disk_part, submitted_part, kept_after, not_honest, CutOrWhole, cut_or_whole}
+use Rattle.machine_pipeline.proofs.HonestPart.{HostileAfter, HonestWith, HonestEnded, honest_with, honest_kept, honest_report, honest_ended, served_before, disk_runs_first, disk_part, submitted_part, kept_after, not_honest, CutOrWhole, cut_or_whole}
 use Rattle.pipeline_laws.specs.Submissions.{IsAnswerAt}
 use Rattle.pipeline_laws.specs.Unbroken.{is_breach}
 use Rattle.pipeline_laws.specs.States.{IsStateAt}
@@ -175,7 +176,6 @@ pub agreed_before : (first rest : List Happening) (w : World) → AreAgreed (hon
 agreed_before [] rest w are = tt
 agreed_before (Pokes frame word value ∷ first) rest w are = tt
 agreed_before (OverwritesKey name text ∷ first) rest w are = tt
-agreed_before (Suspends ∷ first) rest w are = tt
 agreed_before (h ∷ first) rest w are = (are.0, agreed_before first rest (happens w h) are.1)
 
 -- both ends' states at `quiet`, where the moves are shown
@@ -232,11 +232,11 @@ honest_run config detail history before now h long runs of =
     later_run (submitted_of (honest_history history)) submitted.0 (submitted_of history) before.content _ submitted.1
     (whole_report config detail (honest_history history) before part.0 h.plain (allowed h) long part.1 of)
 
-report_honest : (config : Options) (detail : Detail) (history : List Happening) → IsTold config detail history → first_part (kept_of detail (report_of config detail history)) ≡ kept_of detail (report_of config detail (honest_history history))
+report_honest : (config : Options) (detail : Detail) (history : List Happening) → IsTold config detail history → honest_part (kept_of detail (report_of config detail history)) ≡ kept_of detail (report_of config detail (honest_history history))
 report_honest config detail history h = honest_kept detail (report_of config detail history) ∙ ap (kept_of detail) (honest_report config detail history h.possible)
 
 -- where no line of a kept report is hostile, nothing was overwritten
-all_honest : (config : Options) (detail : Detail) (history : List Happening) → IsTold config detail history → IsFirst (kept_of detail (report_of config detail history)) → honest_history history ≡ history
+all_honest : (config : Options) (detail : Detail) (history : List Happening) → IsTold config detail history → IsHonest (kept_of detail (report_of config detail history)) → honest_history history ≡ history
 all_honest config detail history h honest = by_part (honest_with history (start_of config) [] h.possible)
   where
     first : List Line
@@ -248,7 +248,7 @@ all_honest config detail history h honest = by_part (honest_with history (start_
         let cut : HostileAfter (report_of config detail history) first = record { line = k.line; rest = k.rest; hostile = k.hostile; split = ap (λ (l : List Line). Begin config detail ∷ l) (sym (append-nil (lines_of history (start_of config))) ∙ k.split) } in
         absurd (not_honest (kept_of detail (report_of config detail history)) (kept_of detail first) (kept_after detail (report_of config detail history) first cut) honest)
 
-all_ended : (config : Options) (detail : Detail) (history : List Happening) → IsTold config detail history → IsFirst (kept_of detail (ended_report_of config detail history)) → honest_history history ≡ history
+all_ended : (config : Options) (detail : Detail) (history : List Happening) → IsTold config detail history → IsHonest (kept_of detail (ended_report_of config detail history)) → honest_history history ≡ history
 all_ended config detail history h honest = by_part (honest_ended config detail history h.possible)
   where
     by_part : HonestEnded config detail history → honest_history history ≡ history
@@ -295,64 +295,64 @@ abbrev OfPart : (config : Options) (detail : Detail) (history : List Happening) 
 OfPart config detail history P =
     (honest_history history ≡ history → P (kept_of detail (ended_report_of config detail history)))
     → P (kept_of detail (report_of config detail (honest_history history)))
-    → P (first_part (kept_of detail (ended_report_of config detail history)))
+    → P (honest_part (kept_of detail (ended_report_of config detail history)))
 
 of_part : (config : Options) (detail : Detail) (history : List Happening) → IsTold config detail history → (P : List Line → Type 0) → OfPart config detail history P
 of_part config detail history h P whole first = by_part (honest_ended config detail history h.possible)
   where
-    kept : first_part (kept_of detail (ended_report_of config detail history)) ≡ kept_of detail (first_part (ended_report_of config detail history))
+    kept : honest_part (kept_of detail (ended_report_of config detail history)) ≡ kept_of detail (honest_part (ended_report_of config detail history))
     kept = honest_kept detail (ended_report_of config detail history)
 
-    by_part : HonestEnded config detail history → P (first_part (kept_of detail (ended_report_of config detail history)))
+    by_part : HonestEnded config detail history → P (honest_part (kept_of detail (ended_report_of config detail history)))
     by_part (inl all) = subst P (sym (kept ∙ ap (kept_of detail) all.1)) (whole all.0)
     by_part (inr k) = subst P (sym (kept ∙ ap (kept_of detail) k.1)) first
 
 pub report_honest_run : (config : Options) (detail : Detail) (history : List Happening) (before now : DiskSeen) → IsTold config detail history → HasLength before.content config.sectors → DiskRuns history (start_of config) before now
-    → IsOfADisk config.sectors before.content (first_part (kept_of detail (report_of config detail history)))
-    → HasRunSoFar (submitted_of history) before.content (first_part (kept_of detail (report_of config detail history)))
+    → IsOfADisk config.sectors before.content (honest_part (kept_of detail (report_of config detail history)))
+    → HasRunSoFar (submitted_of history) before.content (honest_part (kept_of detail (report_of config detail history)))
 report_honest_run config detail history before now h long runs =
     subst (λ (ls : List Line). IsOfADisk config.sectors before.content ls → HasRunSoFar (submitted_of history) before.content ls) (sym (report_honest config detail history h))
     (honest_run config detail history before now h long runs)
 
 pub ended_honest_run : (config : Options) (detail : Detail) (history : List Happening) (before now : DiskSeen) → IsTold config detail history → HasLength before.content config.sectors → DiskRuns history (start_of config) before now
-    → IsOfADisk config.sectors before.content (first_part (kept_of detail (ended_report_of config detail history)))
-    → HasRunSoFar (submitted_of history) before.content (first_part (kept_of detail (ended_report_of config detail history)))
+    → IsOfADisk config.sectors before.content (honest_part (kept_of detail (ended_report_of config detail history)))
+    → HasRunSoFar (submitted_of history) before.content (honest_part (kept_of detail (ended_report_of config detail history)))
 ended_honest_run config detail history before now h long runs =
     of_part config detail history h (λ (ls : List Line). IsOfADisk config.sectors before.content ls → HasRunSoFar (submitted_of history) before.content ls)
     (λ all. ended_report config detail history before now h.plain (served_whole h all) long runs)
     (honest_run config detail history before now h long runs)
 
 -- the honest part of the beginning of a report begins that of what happened before
-prefix_honest : (a b : List Line) → (r : List Line) × (first_part a ++ r ≡ first_part (a ++ b))
-prefix_honest [] b = (first_part b, refl)
-prefix_honest (line ∷ a) b = by_test (is_first line) refl (prefix_honest a b)
+prefix_honest : (a b : List Line) → (r : List Line) × (honest_part a ++ r ≡ honest_part (a ++ b))
+prefix_honest [] b = (honest_part b, refl)
+prefix_honest (line ∷ a) b = by_test (is_honest line) refl (prefix_honest a b)
   where
-    by_test : (x : Bool) → is_first line ≡ x → ((r : List Line) × (first_part a ++ r ≡ first_part (a ++ b))) → (r : List Line) × (first_part (line ∷ a) ++ r ≡ first_part (line ∷ (a ++ b)))
+    by_test : (x : Bool) → is_honest line ≡ x → ((r : List Line) × (honest_part a ++ r ≡ honest_part (a ++ b))) → (r : List Line) × (honest_part (line ∷ a) ++ r ≡ honest_part (line ∷ (a ++ b)))
     by_test true e rest = (
       rest.0,
-      ap (λ (l : List Line). l ++ rest.0) (first_more line a e) ∙ (ap (λ (l : List Line). line ∷ l) rest.1 ∙ sym (first_more line (a ++ b) e)),
+      ap (λ (l : List Line). l ++ rest.0) (honest_more line a e) ∙ (ap (λ (l : List Line). line ∷ l) rest.1 ∙ sym (honest_more line (a ++ b) e)),
     )
-    by_test false e rest = ([], append-nil (first_part (line ∷ a)) ∙ (first_ends line a e ∙ sym (first_ends line (a ++ b) e)))
+    by_test false e rest = ([], append-nil (honest_part (line ∷ a)) ∙ (honest_ends line a e ∙ sym (honest_ends line (a ++ b) e)))
 
 said_part : (config : Options) (detail : Detail) (history : List Happening) (said rest : List Line) → IsTold config detail history → said ++ rest ≡ ended_report_of config detail history
-    → (more : List Line) × (first_part (kept_of detail said) ++ more ≡ kept_of detail (ended_report_of config detail (honest_history history)))
+    → (more : List Line) × (honest_part (kept_of detail said) ++ more ≡ kept_of detail (ended_report_of config detail (honest_history history)))
 said_part config detail history said rest h all = by_part (honest_ended config detail history h.possible)
   where
     ended : List Line
     ended = ended_report_of config detail history
 
-    begins : (r : List Line) × (first_part (kept_of detail said) ++ r ≡ first_part (kept_of detail said ++ kept_of detail rest))
+    begins : (r : List Line) × (honest_part (kept_of detail said) ++ r ≡ honest_part (kept_of detail said ++ kept_of detail rest))
     begins = prefix_honest (kept_of detail said) (kept_of detail rest)
 
-    same : first_part (kept_of detail said ++ kept_of detail rest) ≡ kept_of detail (first_part ended)
-    same = ap first_part (sym (kept_of-append detail said rest) ∙ ap (kept_of detail) all) ∙ honest_kept detail ended
+    same : honest_part (kept_of detail said ++ kept_of detail rest) ≡ kept_of detail (honest_part ended)
+    same = ap honest_part (sym (kept_of-append detail said rest) ∙ ap (kept_of detail) all) ∙ honest_kept detail ended
 
-    by_part : HonestEnded config detail history → (more : List Line) × (first_part (kept_of detail said) ++ more ≡ kept_of detail (ended_report_of config detail (honest_history history)))
+    by_part : HonestEnded config detail history → (more : List Line) × (honest_part (kept_of detail said) ++ more ≡ kept_of detail (ended_report_of config detail (honest_history history)))
     by_part (inl whole) = (begins.0, begins.1 ∙ (same ∙ (ap (kept_of detail) whole.1 ∙ ap (λ (hs : List Happening). kept_of detail (ended_report_of config detail hs)) (sym whole.0))))
     by_part (inr k) =
         let first = report_of config detail (honest_history history) in (
           begins.0 ++ kept_of detail (End ∷ []),
-          sym (append_assoc (first_part (kept_of detail said)) begins.0 (kept_of detail (End ∷ [])))
+          sym (append_assoc (honest_part (kept_of detail said)) begins.0 (kept_of detail (End ∷ [])))
               ∙ (ap (λ (l : List Line). l ++ kept_of detail (End ∷ [])) (begins.1 ∙ (same ∙ ap (kept_of detail) k.1))
               ∙ sym (kept_of-append detail first (End ∷ []))),
         )
@@ -361,20 +361,20 @@ said_part config detail history said rest h all = by_part (honest_ended config d
 pub begun_honest : (config : Options) (detail : Detail) (history : List Happening) (last : Happening) (part rest : List Line) (before now : DiskSeen) → IsTold config detail (history ++ last ∷ [])
     → HasLength before.content config.sectors → DiskRuns (history ++ last ∷ []) (start_of config) before now
     → part ++ rest ≡ lines_at (after history (start_of config)) last
-    → IsOfADisk config.sectors before.content (first_part (kept_of detail (report_of config detail history ++ part)))
-    → HasRunSoFar (submitted_of (history ++ last ∷ [])) before.content (first_part (kept_of detail (report_of config detail history ++ part)))
+    → IsOfADisk config.sectors before.content (honest_part (kept_of detail (report_of config detail history ++ part)))
+    → HasRunSoFar (submitted_of (history ++ last ∷ [])) before.content (honest_part (kept_of detail (report_of config detail history ++ part)))
 begun_honest config detail history last part rest before now h long runs all of = by_part (cut_or_whole config detail history last part rest h.possible all)
   where
     said : List Line
     said = report_of config detail history ++ part
 
-    by_part : CutOrWhole config detail history last part → HasRunSoFar (submitted_of (history ++ last ∷ [])) before.content (first_part (kept_of detail said))
+    by_part : CutOrWhole config detail history last part → HasRunSoFar (submitted_of (history ++ last ∷ [])) before.content (honest_part (kept_of detail said))
     by_part (inl whole) =
-        let same : first_part (kept_of detail said) ≡ kept_of detail said = honest_kept detail said ∙ ap (kept_of detail) whole.1 in
+        let same : honest_part (kept_of detail said) ≡ kept_of detail said = honest_kept detail said ∙ ap (kept_of detail) whole.1 in
         subst (HasRunSoFar (submitted_of (history ++ last ∷ [])) before.content) (sym same)
         (begun_report config detail history last part rest before now h.plain (served_whole h whole.0) long runs all (subst (IsOfADisk config.sectors before.content) same of))
     by_part (inr cut) =
-        let same : first_part (kept_of detail said) ≡ kept_of detail (report_of config detail (honest_history history)) = honest_kept detail said ∙ ap (kept_of detail) cut in
+        let same : honest_part (kept_of detail said) ≡ kept_of detail (report_of config detail (honest_history history)) = honest_kept detail said ∙ ap (kept_of detail) cut in
         let first = disk_runs_first history (last ∷ []) (start_of config) before now runs in
         let part_disk = disk_part history (start_of config) before first.0 first.1 in
         let submitted = submitted_part history in
@@ -389,7 +389,7 @@ pub report_lawful : (config : Options) (detail : Detail) (history : List Happeni
 report_lawful config detail history before now h long runs =
     let report = kept_of detail (report_of config detail history) in
     let first = kept_of detail (report_of config detail (honest_history history)) in
-    let same : first_part report ≡ first = report_honest config detail history h in
+    let same : honest_part report ≡ first = report_honest config detail history h in
     record {
       begun = report_begun config detail history;
       kept = λ fixed. content_kept config history before now fixed runs;
@@ -434,7 +434,7 @@ ended_lawful config detail history before now h long runs =
 -- and the beginning of one
 pub begun_lawful : (config : Options) (detail : Detail) (history : List Happening) (before : Option (List (List ℕ))) (said rest : List Line) → IsTold config detail history
     → said ++ rest ≡ ended_report_of config detail history
-    → (IsOfADisk config.sectors before (first_part (kept_of detail said)) → HasRunSoFar (submitted_of history) before (first_part (kept_of detail said)))
+    → (IsOfADisk config.sectors before (honest_part (kept_of detail said)) → HasRunSoFar (submitted_of history) before (honest_part (kept_of detail said)))
     → IsLawfulSoFar config detail (submitted_of history) before (kept_of detail said)
 begun_lawful config detail history before said rest h all run =
     let one = kept_of detail said in
@@ -444,10 +444,10 @@ begun_lawful config detail history before said rest h all run =
     record {
       begun = begun_before config detail one other (subst (IsBegun config detail) (sym split) (ended_begun config detail history));
       grammar = grammar_before one other (subst IsInGrammar (sym split) (ended_grammar config detail history h.options h.possible h.brief.numbers));
-      honest = λ of. so_far_served (submitted_of history) before (first_part one) (run of);
-      ready = obeys_before IsReadyAt (first_part one) part.0 (subst (Obeys IsReadyAt) (sym part.1) (ended_ready config detail (honest_history history) (allowed h)));
-      ring = λ moves. obeys_before IsQuietRingAt (first_part one) part.0 (subst (Obeys IsQuietRingAt) (sym part.1) (ended_quiet config detail (honest_history history) h.plain (allowed h) moves));
-      agreed = λ moves. obeys_before IsAgreedAt (first_part one) part.0 (subst (Obeys IsAgreedAt) (sym part.1) (ended_alike detail config (honest_history history) h.agreed moves));
+      honest = λ of. so_far_served (submitted_of history) before (honest_part one) (run of);
+      ready = obeys_before IsReadyAt (honest_part one) part.0 (subst (Obeys IsReadyAt) (sym part.1) (ended_ready config detail (honest_history history) (allowed h)));
+      ring = λ moves. obeys_before IsQuietRingAt (honest_part one) part.0 (subst (Obeys IsQuietRingAt) (sym part.1) (ended_quiet config detail (honest_history history) h.plain (allowed h) moves));
+      agreed = λ moves. obeys_before IsAgreedAt (honest_part one) part.0 (subst (Obeys IsAgreedAt) (sym part.1) (ended_alike detail config (honest_history history) h.agreed moves));
       ports = λ moves. obeys_before IsFewPortsAt one other (subst (Obeys IsFewPortsAt) (sym split) (ended_ports config detail history));
       causes = λ moves. obeys_before IsCausedAt one other (subst (Obeys IsCausedAt) (sym split) (ended_caused detail config history h.caused moves));
       moves = λ moves. moves_before config.order one other (subst (ObeysMoves config.order) (sym split) (ended_shown detail config history h.plain h.possible moves));

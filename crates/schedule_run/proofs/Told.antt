@@ -30,7 +30,7 @@ use Rattle.vbd_laws.proofs.Served.{rings_possible, rings_served}
 use Rattle.vbd_laws.proofs.Quiet.{rings_agreed}
 use Rattle.vbd_laws.proofs.Causes.{rings_caused}
 use Rattle.disk_laws.proofs.Before.{HasRunSoFar}
-use Rattle.machine_pipeline.specs.First.{first_part}
+use Rattle.plain_disk.specs.Honest.{honest_part}
 use Rattle.pipeline_laws.specs.Effects.{IsOfADisk}
 use Rattle.schedule_run.specs.Outcome.{Outside, outside, IsServed, HasCarried}
 use Rattle.schedule_run.specs.Lawful.{IsLawful, IsLawfulSoFar, HasLawfulReport, HasLawfulBeginning, EventLeaves}
@@ -185,7 +185,7 @@ lacked_memory config events event why old began new history last long first both
       told = inl told.told;
       lawful = subst (λ (js : List Job). IsLawfulSoFar config detail js old.disk.content (kept_of detail said)) jobs
           (begun_lawful config detail (history ++ last ∷ []) old.disk.content said (lines_at (after history start) last ++ End ∷ []) both (before_last config detail history last)
-          (λ of. run_later config history last old.disk.content (first_part (kept_of detail said)) (report_honest_run config detail history old.disk new.disk (history_first config detail history last both) long s.disk of)));
+          (λ of. run_later config history last old.disk.content (honest_part (kept_of detail said)) (report_honest_run config detail history old.disk new.disk (history_first config detail history last both) long s.disk of)));
       kept = λ fixed. content_kept config history old.disk new.disk fixed s.disk;
     }
 
@@ -228,7 +228,7 @@ stopped_at_end config events why old before new same_disk long h s =
       told = inr (told.cut, told.stops);
       lawful = subst (λ (jobs : List Job). IsLawfulSoFar config detail jobs old.disk.content (kept_of detail said)) (events_submit events (start_of config) leads.history leads.is_kind)
           (begun_lawful config detail leads.history old.disk.content said (told.cut ∷ told.rest) whole all
-          (subst (λ (ls : List Line). IsOfADisk config.sectors old.disk.content (first_part (kept_of detail ls)) → HasRunSoFar (submitted config leads.history) old.disk.content (first_part (kept_of detail ls))) (sym same)
+          (subst (λ (ls : List Line). IsOfADisk config.sectors old.disk.content (honest_part (kept_of detail ls)) → HasRunSoFar (submitted config leads.history) old.disk.content (honest_part (kept_of detail ls))) (sym same)
           (report_honest_run config detail leads.history old.disk before.disk whole long leads.disk)));
       kept = λ fixed. ap (λ (d : DiskSeen). d.content) same_disk ∙ content_kept config leads.history old.disk before.disk fixed leads.disk;
     }

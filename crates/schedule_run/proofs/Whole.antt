@@ -8,7 +8,7 @@ use Rattle.schedule_text.specs.declared.line.Detail.{Detail}
 use Rattle.schedule_text.specs.declared.line.Line.{Line}
 use Rattle.schedule_text.specs.declared.line.Line.TheVariants.{Begin}
 use Rattle.schedule_text.specs.Recorder.{kept_of}
-use Rattle.machine_pipeline.specs.First.{first_part}
+use Rattle.plain_disk.specs.Honest.{honest_part}
 use Rattle.pipeline_laws.specs.Effects.{IsOfADisk}
 use Rattle.move_laws.proofs.ReadOnly as read_only
 use Rattle.split_model.specs.World as rings
@@ -74,23 +74,23 @@ ended_lawful config detail history before now h long runs =
 
 -- the run of the plain disk that its honest part is
 pub report_honest_run : (config : Options) (detail : Detail) (history : List Happening) (before now : DiskSeen) → IsTold config detail history → HasLength before.content config.sectors → DiskRuns history (start_of config) before now
-    → IsOfADisk config.sectors before.content (first_part (kept_of detail (report_of config detail history)))
-    → HasRunSoFar (submitted config history) before.content (first_part (kept_of detail (report_of config detail history)))
+    → IsOfADisk config.sectors before.content (honest_part (kept_of detail (report_of config detail history)))
+    → HasRunSoFar (submitted config history) before.content (honest_part (kept_of detail (report_of config detail history)))
 report_honest_run config detail history before now h long runs =
-    subst (λ (report : List Line). IsOfADisk config.sectors before.content (first_part (kept_of detail report)) → HasRunSoFar (submitted config history) before.content (first_part (kept_of detail report))) (sym (report_lift config detail history))
+    subst (λ (report : List Line). IsOfADisk config.sectors before.content (honest_part (kept_of detail report)) → HasRunSoFar (submitted config history) before.content (honest_part (kept_of detail report))) (sym (report_lift config detail history))
     (of_rings.report_honest_run config detail (to_rings config history) before now h long (disk_lift history (start_of config) before now runs))
 
 pub ended_honest_run : (config : Options) (detail : Detail) (history : List Happening) (before now : DiskSeen) → IsTold config detail history → HasLength before.content config.sectors → DiskRuns history (start_of config) before now
-    → IsOfADisk config.sectors before.content (first_part (kept_of detail (ended_report_of config detail history)))
-    → HasRunSoFar (submitted config history) before.content (first_part (kept_of detail (ended_report_of config detail history)))
+    → IsOfADisk config.sectors before.content (honest_part (kept_of detail (ended_report_of config detail history)))
+    → HasRunSoFar (submitted config history) before.content (honest_part (kept_of detail (ended_report_of config detail history)))
 ended_honest_run config detail history before now h long runs =
-    subst (λ (report : List Line). IsOfADisk config.sectors before.content (first_part (kept_of detail report)) → HasRunSoFar (submitted config history) before.content (first_part (kept_of detail report))) (sym (ended_report_lift config detail history))
+    subst (λ (report : List Line). IsOfADisk config.sectors before.content (honest_part (kept_of detail report)) → HasRunSoFar (submitted config history) before.content (honest_part (kept_of detail report))) (sym (ended_report_lift config detail history))
     (of_rings.ended_honest_run config detail (to_rings config history) before now h long (disk_lift history (start_of config) before now runs))
 
 -- the beginning of a report
 pub begun_lawful : (config : Options) (detail : Detail) (history : List Happening) (before : Option (List (List ℕ))) (said rest : List Line) → IsTold config detail history
     → said ++ rest ≡ ended_report_of config detail history
-    → (IsOfADisk config.sectors before (first_part (kept_of detail said)) → HasRunSoFar (submitted config history) before (first_part (kept_of detail said)))
+    → (IsOfADisk config.sectors before (honest_part (kept_of detail said)) → HasRunSoFar (submitted config history) before (honest_part (kept_of detail said)))
     → IsLawfulSoFar config detail (submitted config history) before (kept_of detail said)
 begun_lawful config detail history before said rest h all run = of_rings.begun_lawful config detail (to_rings config history) before said rest h (all ∙ ended_report_lift config detail history) run
 
@@ -149,8 +149,8 @@ more_report config detail history x part =
 -- the lines of all that happened to the ring's machine, cut among those of the last
 abbrev HasRunCut : Options → Detail → DiskSeen → List ring.Happening → List ring.Happening → List Line → Type 0
 HasRunCut config detail before all history part =
-    IsOfADisk config.sectors before.content (first_part (kept_of detail (ring_report.report_of config detail history ++ part)))
-    → HasRunSoFar (submitted_of all) before.content (first_part (kept_of detail (ring_report.report_of config detail history ++ part)))
+    IsOfADisk config.sectors before.content (honest_part (kept_of detail (ring_report.report_of config detail history ++ part)))
+    → HasRunSoFar (submitted_of all) before.content (honest_part (kept_of detail (ring_report.report_of config detail history ++ part)))
 
 -- in the lines of the first of what happened then, or in those of the others, of which `deeper` says it
 cut_at : (config : Options) (detail : Detail) (history : List ring.Happening) (x : ring.Happening) (done : List ring.Happening) (part : List Line) (cut : Line) (rest : List Line) (before now : DiskSeen) → of_rings.IsTold config detail ((history ++ x ∷ []) ++ done)
@@ -169,7 +169,7 @@ cut_at config detail history x done part cut rest before now h long runs deeper 
     let there : ring.after (history ++ x ∷ []) start ≡ ring.happens (ring.after history start) x = ring_running.after-append history (x ∷ []) start in
     let report : ring_report.report_of config detail (history ++ x ∷ []) ++ c.0 ≡ ring_report.report_of config detail history ++ part =
     more_report config detail history x c.0 ∙ ap (λ (l : List Line). ring_report.report_of config detail history ++ l) (sym c.1) in
-    subst (λ (l : List Line). IsOfADisk config.sectors before.content (first_part (kept_of detail l)) → HasRunSoFar (submitted_of ((history ++ x ∷ []) ++ done)) before.content (first_part (kept_of detail l))) report
+    subst (λ (l : List Line). IsOfADisk config.sectors before.content (honest_part (kept_of detail l)) → HasRunSoFar (submitted_of ((history ++ x ∷ []) ++ done)) before.content (honest_part (kept_of detail l))) report
     (deeper c.0 (subst (λ (w : rings.World). c.0 ++ cut ∷ rest ≡ ring.lines_of done w) (sym there) c.2))
 
 none_cut : (part : List Line) (cut : Line) (rest : List Line) → part ++ cut ∷ rest ≡ [] → ⊥
@@ -195,8 +195,8 @@ cut_honest config detail history (x ∷ done) part cut rest before now h long ru
 pub begun_honest : (config : Options) (detail : Detail) (history : List Happening) (last : Happening) (part : List Line) (cut : Line) (rest : List Line) (before now : DiskSeen) → IsTold config detail (history ++ last ∷ [])
     → HasLength before.content config.sectors → DiskRuns (history ++ last ∷ []) (start_of config) before now
     → part ++ cut ∷ rest ≡ lines_at (after history (start_of config)) last
-    → IsOfADisk config.sectors before.content (first_part (kept_of detail (report_of config detail history ++ part)))
-    → HasRunSoFar (submitted config (history ++ last ∷ [])) before.content (first_part (kept_of detail (report_of config detail history ++ part)))
+    → IsOfADisk config.sectors before.content (honest_part (kept_of detail (report_of config detail history ++ part)))
+    → HasRunSoFar (submitted config (history ++ last ∷ [])) before.content (honest_part (kept_of detail (report_of config detail history ++ part)))
 begun_honest config detail history last part cut rest before now h long runs all =
     let start = start_of config in
     let here : World = after history start in
@@ -204,7 +204,7 @@ begun_honest config detail history last part cut rest before now h long runs all
     let same : to_rings config (history ++ last ∷ []) ≡ to_rings config history ++ done = to_rings-append config history (last ∷ []) in
     let lines : part ++ cut ∷ rest ≡ ring.lines_of done (ring.after (to_rings config history) (rings.start_of config)) =
     all ∙ (ap (λ (hs : List ring.Happening). ring.lines_of hs here.rings) (sym (append-nil (does here last))) ∙ ap (ring.lines_of done) (after_rings history start)) in
-    subst (λ (l : List Line). IsOfADisk config.sectors before.content (first_part (kept_of detail (l ++ part))) → HasRunSoFar (submitted config (history ++ last ∷ [])) before.content (first_part (kept_of detail (l ++ part)))) (sym (report_lift config detail history))
+    subst (λ (l : List Line). IsOfADisk config.sectors before.content (honest_part (kept_of detail (l ++ part))) → HasRunSoFar (submitted config (history ++ last ∷ [])) before.content (honest_part (kept_of detail (l ++ part)))) (sym (report_lift config detail history))
     (subst (λ (hs : List ring.Happening). HasRunCut config detail before hs (to_rings config history) part) (sym same)
     (cut_honest config detail (to_rings config history) done part cut rest before now (subst (of_rings.IsTold config detail) same h) long
     (subst (λ (hs : List ring.Happening). ring.DiskRuns hs (rings.start_of config) before now) same (disk_lift (history ++ last ∷ []) start before now runs)) lines))

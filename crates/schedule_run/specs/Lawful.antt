@@ -25,7 +25,7 @@ use Rattle.ring_laws.specs.Layout.{IsNamedFirst}
 use Rattle.report_rules.specs.Reply.{AreReplies}
 use Rattle.move_laws.specs.Grantable.{AreGrantable}
 use Rattle.move_laws.specs.Dumped.{AreWholeDumps}
-use Rattle.machine_pipeline.specs.First.{first_part, IsFirst}
+use Rattle.plain_disk.specs.Honest.{honest_part, IsHonest}
 use Rattle.plain_disk.specs.Echo.{is_echo, AnswersAll, Echoes}
 use Rattle.pipeline_laws.specs.Run.{IsRun}
 use Rattle.pipeline_laws.specs.Effects.{IsOfADisk}
@@ -86,16 +86,16 @@ pub record ServesRequestsSoFar (jobs : List Job) (before : Option (List (List �
   pub unbroken : IsUnbroken report
   pub states : AreStates report
 
--- a report begins with the options; its lines are lines of the grammar that its text gives back; a read-only disk holds what it held; and where it shows the moves, they obey the rules, the front makes at most 4 ports in an epoch, and each `halt` and each `broken` line stands directly after the move that is its cause, whatever a hostile hand overwrites. A report of one epoch that no hostile hand touched serves its requests as the plain disk does, from what the disk held to what it holds, where the disk tells that, or what the report shows of it are the calls of a disk. Of any other, the lines before the first hostile one and the first `epoch` do so, the front was connected before the first `quiet` line of them, and where moves are shown the ring is served and read at each of their `quiet` lines, and both ends have said that they are connected, or, after a `closing` line, that they are closed
+-- a report begins with the options; its lines are lines of the grammar that its text gives back; a read-only disk holds what it held; and where it shows the moves, they obey the rules, the front makes at most 4 ports in an epoch, and each `halt` and each `broken` line stands directly after the move that is its cause, whatever a hostile hand overwrites. A report that no hostile hand touched serves its requests as the plain disk does, from what the disk held to what it holds, where the disk tells that, or what the report shows of it are the calls of a disk. Of any other, the lines before the first hostile one do so, the front was connected before the first `quiet` line of them, and where moves are shown the ring is served and read at each of their `quiet` lines, and both ends have said that they are connected, or, after a `closing` line, that they are closed
 pub record IsLawful (config : Options) (detail : Detail) (jobs : List Job) (before now : Option (List (List ℕ))) (report : List Line) : Type 0 where
   pub begun : IsBegun config detail report
   pub kept : config.read_only ≡ true → now ≡ before
   pub grammar : IsInGrammar report
-  pub requests : IsFirst report → IsOfADisk config.sectors before report → ServesRequests config jobs before now report
-  pub honest : IsOfADisk config.sectors before (first_part report) → ServesRequestsSoFar jobs before (first_part report)
-  pub ready : IsReadyFirst (first_part report)
-  pub ring : detail ≡ Moves → IsQuietRing (first_part report)
-  pub agreed : detail ≡ Moves → AreStatesAgreed (first_part report)
+  pub requests : IsHonest report → IsOfADisk config.sectors before report → ServesRequests config jobs before now report
+  pub honest : IsOfADisk config.sectors before (honest_part report) → ServesRequestsSoFar jobs before (honest_part report)
+  pub ready : IsReadyFirst (honest_part report)
+  pub ring : detail ≡ Moves → IsQuietRing (honest_part report)
+  pub agreed : detail ≡ Moves → AreStatesAgreed (honest_part report)
   pub ports : detail ≡ Moves → AreFewPorts report
   pub causes : detail ≡ Moves → AreCaused report
   pub moves : detail ≡ Moves → ObeysMoves config.order report
@@ -105,10 +105,10 @@ pub record IsLawful (config : Options) (detail : Detail) (jobs : List Job) (befo
 pub record IsLawfulSoFar (config : Options) (detail : Detail) (jobs : List Job) (before : Option (List (List ℕ))) (report : List Line) : Type 0 where
   pub begun : IsBegunSoFar config detail report
   pub grammar : IsInGrammar report
-  pub honest : IsOfADisk config.sectors before (first_part report) → ServesRequestsSoFar jobs before (first_part report)
-  pub ready : IsReadyFirst (first_part report)
-  pub ring : detail ≡ Moves → IsQuietRing (first_part report)
-  pub agreed : detail ≡ Moves → AreStatesAgreed (first_part report)
+  pub honest : IsOfADisk config.sectors before (honest_part report) → ServesRequestsSoFar jobs before (honest_part report)
+  pub ready : IsReadyFirst (honest_part report)
+  pub ring : detail ≡ Moves → IsQuietRing (honest_part report)
+  pub agreed : detail ≡ Moves → AreStatesAgreed (honest_part report)
   pub ports : detail ≡ Moves → AreFewPorts report
   pub causes : detail ≡ Moves → AreCaused report
   pub moves : detail ≡ Moves → ObeysMoves config.order report

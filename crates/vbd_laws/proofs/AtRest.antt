@@ -1,10 +1,9 @@
--- Where both ends wait and nothing is pending, before a hostile hand first overwrites a word or a key and the domain is first suspended, neither waits for its negotiation.
-use Rattle.std.proofs.Common.{◌⊎◌, inl, inr, ◌≡◌, ◌∙◌, ap, sym, subst, refl, ℕ, ◌<◌, ◌≤◌, ◌==◌, Bool, true, false, true≢false, if◌then◌else◌, length, arith}
-use Rattle.std.specs.Prelude.{Option, Some, None}
+-- Where both ends wait and nothing is pending, before a hostile hand first overwrites a word or a key, neither waits for its negotiation.
+use Rattle.std.proofs.Common.{◌⊎◌, inl, inr, ◌≡◌, ◌∙◌, ap, sym, subst, refl, ℕ, ◌<◌, ◌≤◌, ◌==◌, Bool, true, false, true≢false, if◌then◌else◌, List, [], ◌∷◌, length, arith}
+use Rattle.std.specs.Prelude.{Option, Some, None, IsSome}
 use Rattle.std.proofs.lemmas.Bool.{or_parts}
 use Rattle.std.proofs.lemmas.Bool.Decides.{nat_tests}
 use Rattle.line_text.proofs.Both.{both_true}
-use Rattle.blk_base.specs.Options.{Options}
 use Rattle.blk_base.specs.declared.parts.End.TheVariants as end
 use Rattle.blk_base.specs.declared.ask.FrontAsk.TheVariants as front_ask
 use Rattle.blk_base.specs.declared.ask.BackAsk.TheVariants as back_ask
@@ -13,6 +12,10 @@ use Rattle.key_directory.specs.Watches.{has_pending}
 use Rattle.hypervisor.specs.Act.{has_to_take}
 use Rattle.blk_front.specs.declared.stage.Stage.{Stage}
 use Rattle.blk_front.specs.declared.stage.Stage.TheVariants as ring_stage
+use Rattle.blk_front.specs.declared.stage.Ending.{Ending}
+use Rattle.blk_front.specs.declared.request.Request.{Request}
+use Rattle.blk_front.specs.View as front_ends
+use Rattle.blk_front.specs.Ask as front_ring
 use Rattle.blk_front.specs.Submit.{is_ready, is_led, is_idle, ending_of}
 use Rattle.blk_back.specs.declared.stage.Stage.{Stage as BackRing}
 use Rattle.blk_back.specs.declared.stage.Stage.TheVariants as back_stage
@@ -27,13 +30,6 @@ use Rattle.xenbus_state.specs.declared.front.FrontBusAsk.{FrontBusAsk}
 use Rattle.xenbus_state.specs.declared.front.FrontBusAsk.TheVariants as front_bus
 use Rattle.xenbus_state.specs.declared.back.BackBusAsk.TheVariants as back_bus
 use Rattle.blk_front.specs.Suspend.{is_left}
-use Rattle.pipeline_laws.specs.Pipeline.{Pipeline}
-use Rattle.split_model.specs.World as rings
-use Rattle.machine_pipeline.proofs.Flow.{Flow}
-use Rattle.machine_pipeline.proofs.Holds.{Holds}
-use Rattle.machine_pipeline.proofs.Over.{Over, IsKept}
-use Rattle.machine_pipeline.proofs.AtRest.{none_before as none_yet}
-use Rattle.machine_pipeline.proofs.Together.{IsStanding}
 use Rattle.negotiation_laws.specs.Negotiation.{Negotiation}
 use Rattle.negotiation_laws.specs.Laws.{IsAtRest, AreBoth, WaitsForRequests}
 use Rattle.negotiation_laws.proofs.Found.{connected_after}
@@ -44,9 +40,12 @@ use Rattle.vbd_back.specs.Ask as back
 use Rattle.vbd_model.specs.World.{World, frontend_of, backend_of}
 use Rattle.vbd_model.specs.Fit.{is_serving, FrontRests, FrontGoesWith, BackRests, BackGoesWith}
 use Rattle.vbd_laws.specs.Waits.{Check}
+use Rattle.vbd_laws.proofs.FitFrontMoves.{left_moves}
 use Rattle.vbd_laws.proofs.MovesTurns.{front_asks, back_asks}
 use Rattle.vbd_laws.proofs.NegotiatedRun.{Reached, Joined, negotiation_of}
-use Rattle.vbd_laws.proofs.WaitsFront.{Knows as FrontKnows, bus_waits as front_bus_waits, BusWaits as FrontBusWaits}
+use Rattle.vbd_laws.proofs.NegotiatedFront.{HasInHand}
+use Rattle.vbd_laws.proofs.NegotiatedBusy.{HasHeard, busy_connected}
+use Rattle.vbd_laws.proofs.WaitsFront.{Knows as FrontKnows, in_hand, bus_waits as front_bus_waits, BusWaits as FrontBusWaits}
 use Rattle.vbd_laws.proofs.WaitsFrontCases.{bus_asks, only_rests as front_only_rests, rests_whole, ready_asks}
 use Rattle.vbd_laws.proofs.WaitsBack.{Knows as BackKnows}
 use Rattle.vbd_laws.proofs.WaitsBackCases.{only_rests as back_only_rests, rests_so, unmaps_some, bus_waits as back_bus_waits, BusWaits as BackBusWaits}
@@ -89,21 +88,22 @@ serving_unled s serves = refl
 other : {A : Type 0} (own a b : BusState) → own ≡ a → own ≡ b → state_number a < state_number b → A
 other own a b is also less = absurd (let one : state_number own ≡ state_number a = ap state_number is in let two : state_number own ≡ state_number b = ap state_number also in omega (arith, one, two, less))
 
--- in its first epoch the front has no data left of an earlier one
-left_holds : (config : Options) (w : rings.World) (g : Flow) (d : Pipeline) (s : Stage) (b : BackRing) → Holds config w g d s b → is_left s ≡ false
-left_holds config w g d (ring_stage.LeftData n) b h = absurd h.front_at
-left_holds config w g d s b h = refl
+-- data that are left of an earlier epoch are read first
+reads_one : (e : Option Ending) (n : ℕ) → IsSome e → front_ring.read_ask e n ≡ front_ask.Wait → ⊥
+reads_one None n some waits = true≢false (sym some)
+reads_one (Some e) n some waits = absurd (cc)
 
-left_over : (config : Options) (w : rings.World) (d : Pipeline) (s : Stage) (b : BackRing) → Over config w d s b → is_left s ≡ false
-left_over config w d (ring_stage.LeftData n) b o = absurd o.front_at
-left_over config w d s b o = refl
+left_reads : (s : Stage) (v : front_ends.View) → is_left s ≡ true → HasInHand s v.ending → front_ring.ask_at s v ≡ front_ask.Wait → ⊥
+left_reads (ring_stage.LeftData n) v left hand waits = reads_one v.ending n hand waits
+left_reads s v left hand waits = true≢false (sym left)
 
-pub none_left : (config : Options) (w : rings.World) → IsStanding config w → is_left w.front.stage ≡ false
-none_left config w standing = by_kept standing.kept
-  where
-    by_kept : IsKept config w standing.pipeline → is_left w.front.stage ≡ false
-    by_kept (inl held) = left_holds config w held.0 standing.pipeline w.front.stage w.back.stage held.1
-    by_kept (inr over) = left_over config w standing.pipeline w.front.stage w.back.stage over
+left_asks : (w : World) → is_left w.rings.front.stage ≡ true → front.ask_of (frontend_of w) ≡ front_ring.ask_of w.rings.front
+left_asks w left =
+    ap (λ (is : Bool). front.ask_at (if is then front_bus.Wait else bus_asks w) (frontend_of w)) left
+    ∙ ap (λ (moves : Bool). front.ring_ask moves (frontend_of w)) (left_moves w.rings.front.stage left)
+
+some_none : (q : Request) (qs : List Request) → q ∷ qs ≡ [] → ⊥
+some_none q qs e = absurd (cc)
 
 -- both ends wait, and nothing is pending
 pub record AreWaiting (w : World) : Type 0 where
@@ -112,16 +112,22 @@ pub record AreWaiting (w : World) : Type 0 where
   pub front_taken : has_to_take w.rings.under end.Front ≡ false
   pub back_taken : has_to_take w.rings.under end.Back ≡ false
 
-module _ (config : Options) (w : World) (c d : Check) (k : FrontKnows w c) (j : BackKnows w d) (joined : Joined w) (standing : IsStanding config w.rings) (whole : front_view.is_broken w.rings.front.stage ≡ false)
-    (waiting : AreWaiting w) where
+module _ (w : World) (c d : Check) (k : FrontKnows w c) (j : BackKnows w d) (joined : Joined w) (heard : HasHeard w) (whole : front_view.is_broken w.rings.front.stage ≡ false) (waiting : AreWaiting w) where
   abbrev r : Stage
   r = w.rings.front.stage
 
   abbrev idle : Bool
   idle = front_view.is_unoccupied w.rings.front
 
+  unleft : is_left r ≡ false
+  unleft = by_test (is_left r) refl
+    where
+      by_test : (left : Bool) → is_left r ≡ left → left ≡ false
+      by_test true e = absurd (left_reads r w.rings.front e (in_hand w c k) (sym (left_asks w e) ∙ waiting.front))
+      by_test false e = refl
+
   asks : front_asks w ≡ bus_asks w
-  asks = ap (λ (left : Bool). if left then front_bus.Wait else bus_asks w) (none_left config w.rings standing)
+  asks = ap (λ (left : Bool). if left then front_bus.Wait else bus_asks w) unleft
 
   waits : front.ask_at (bus_asks w) (frontend_of w) ≡ front_ask.Wait
   waits = subst (λ (b : FrontBusAsk). front.ask_at b (frontend_of w) ≡ front_ask.Wait) asks waiting.front
@@ -165,10 +171,6 @@ module _ (config : Options) (w : World) (c d : Check) (k : FrontKnows w c) (j : 
     | inr closed ↦ other w.front.state state.Closing state.Closed own closed.0 (omega arith)
   ]
 
-  -- before it is connected it has no request
-  none_before : is_ready r ≡ false → length w.rings.front.requests ≡ 0
-  none_before unready = ap length (none_yet config w.rings unready standing)
-
   -- connected, it isn't led
   ready_idle : is_ready r ≡ true → is_idle w.rings.front ≡ true
   ready_idle ready = rw (ready_unled r ready, ready_asks w c k front_rests waits ready) refl
@@ -197,12 +199,19 @@ module _ (config : Options) (w : World) (c d : Check) (k : FrontKnows w c) (j : 
   by_requests : WaitsForRequests idle (negotiation_of w) → AreUnled
   by_requests waits = by_place place
     where
-      busy : {A : Type 0} → is_ready r ≡ false → (ending_of r ≡ 0) × (front_view.is_still r ≡ true) → A
-      busy unready still = absurd (true≢false (sym (unoccupied (none_before unready) still) ∙ waits.busy))
+      -- a front that has requests is connected
+      busy : {A : Type 0} → (requests : List Request) → w.rings.front.requests ≡ requests → state_number w.front.state < 4 → (ending_of r ≡ 0) × (front_view.is_still r ≡ true) → A
+      busy [] none early still = absurd (true≢false (sym (unoccupied (ap length none) still) ∙ waits.busy))
+      busy (q ∷ qs) some early still =
+          let late = busy_connected w idle waits.busy joined (heard (λ none. some_none q qs (sym some ∙ none))) at_rest in
+          absurd (omega (arith, early, late))
+
+      lower : (own : BusState) → w.front.state ≡ own → state_number own < 4 → state_number w.front.state < 4
+      lower own is low = let same : state_number w.front.state ≡ state_number own = ap state_number is in omega (arith, same, low)
 
       by_state : (own : BusState) (gone : Bool) (port : Option ℕ) → w.front.state ≡ own → state_number own < 5 → FrontRests own gone port r → AreUnled
-      by_state state.Initialising gone port own early rests = busy (ap is_ready rests.0) (ap ending_of rests.0, ap front_view.is_still rests.0)
-      by_state state.Initialised gone port own early rests = busy (ap is_ready rests.0) (ap ending_of rests.0, ap front_view.is_still rests.0)
+      by_state state.Initialising gone port own early rests = busy w.rings.front.requests refl (lower state.Initialising own (omega arith)) (ap ending_of rests.0, ap front_view.is_still rests.0)
+      by_state state.Initialised gone port own early rests = busy w.rings.front.requests refl (lower state.Initialised own (omega arith)) (ap ending_of rests.0, ap front_view.is_still rests.0)
       by_state state.Connected gone port own early rests = (ready_idle rests.0, back_unled (let high = leads_back (negotiation_of w) joined own in omega (arith, high)))
       by_state state.Closing gone port own early rests = absurd (omega (arith, early))
       by_state s gone port own early rests = absurd rests

@@ -205,7 +205,11 @@ closing_step v x = (steps_at v.stage v x refl).0
 pub unfinished_step : (v : View) (x : FrontAnswer) → unfinished (step_of v x) ≤ unfinished v
 unfinished_step v x = (steps_at v.stage v x refl).3
 
--- a closing front without requests has none after a move either
+-- a front without requests has none after a move either
+pub none_step : (v : View) (x : FrontAnswer) → length v.requests ≡ 0 → length (step_of v x).requests ≡ 0
+none_step v x = (steps_at v.stage v x refl).1
+
+-- so a closing one
 pub through_step : (v : View) (x : FrontAnswer) → is_through v ≡ true → is_through (step_of v x) ≡ true
 through_step v x is =
     let steps = steps_at v.stage v x refl in

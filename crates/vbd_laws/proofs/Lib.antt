@@ -26,6 +26,7 @@ pub mod NegotiatedRun
 pub mod NegotiatedFront
 pub mod NegotiatedBack
 pub mod NegotiatedRests
+pub mod NegotiatedBusy
 pub mod ServedTexts
 pub mod ServedFront
 pub mod NegotiatedAgreed
@@ -36,7 +37,8 @@ pub mod NegotiatedMaps
 pub mod ServedBack
 pub mod Offered
 pub mod ServedPossible
-pub mod ServedFirst
+pub mod ServedPort
+pub mod ServedGone
 pub mod ServedHonest
 pub mod Served
 pub mod Quiet

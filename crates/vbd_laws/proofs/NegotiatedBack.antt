@@ -46,7 +46,7 @@ use Rattle.vbd_back.specs.Step.{settled_at, settled, bus_halted, woken, followed
 use Rattle.vbd_model.specs.World.{World, backend_of}
 use Rattle.vbd_model.specs.Happening.{back_turn, is_backs_ring}
 use Rattle.vbd_model.specs.Fit.{IsGivingUp, IsUnmapping, BackGoesWith, BackHolds, IsFit}
-use Rattle.vbd_laws.proofs.NegotiatedRun.{negotiation_of, Reached, Joined, reached_one, reached_as}
+use Rattle.vbd_laws.proofs.NegotiatedRun.{negotiation_of, Reached, Joined, reached_one}
 
 -- the negotiation with this back, over these keys
 abbrev pub with_back : Negotiation → BackView → Directory → Negotiation
@@ -56,16 +56,7 @@ with_back n v keys = record { front = n.front; back = v; keys = keys }
 abbrev pub a_page : Mapping
 a_page = record { number = 0; gref = 0; mode = ReadWrite }
 
--- its negotiation was told what it asked for
-told_reached : (n : Negotiation) (b : BackBusAsk) (page : Mapping) (x : BackAnswer) (later : Directory) → ask_of n.back ≡ b → x ≡ back_answered b page n.keys → later ≡ back_done b n.keys → Reached n → Reached (with_back n (step_of n.back x) later)
-told_reached n b page x later asks answer after j =
-    let heard : x ≡ back_answered (ask_of n.back) page n.keys = answer ∙ ap (λ (c : BackBusAsk). back_answered c page n.keys) (sym asks) in
-    let keyed : later ≡ back_done (ask_of n.back) n.keys = after ∙ ap (λ (c : BackBusAsk). back_done c n.keys) (sym asks) in
-    reached_as (back_moved page n) (with_back n (step_of n.back x) later)
-    (ap (λ (y : BackAnswer). with_back n (step_of n.back y) later) heard ∙ ap (λ (d : Directory). with_back n (step_of n.back (back_answered (ask_of n.back) page n.keys)) d) keyed)
-    (reached_one n (BackMoves page) tt tt j)
-
--- where its end of the ring has no other mapping to give up it goes on
+-- a back that gives up its other mappings asks for that
 others_asked : (v : BackView) → v.stage ≡ stage.UnmapOthers → ask_of v ≡ bus_ask.UnmapOthers
 others_asked v here = rw here (by_test v.unplugged)
   where
@@ -73,13 +64,28 @@ others_asked v here = rw here (by_test v.unplugged)
     by_test true = refl
     by_test false = refl
 
-settles : (b : BackStage) (s : Stage) (n : Negotiation) → n.back.stage ≡ b → Reached n → Reached (with_back n (settled_at b s n.back) n.keys)
-settles stage.UnmapOthers (ring_stage.GiveUp m) n here j = j
-settles stage.UnmapOthers s n here j = told_reached n bus_ask.UnmapOthers a_page answer.Done n.keys (others_asked n.back here) refl refl j
-settles b s n here j = j
+-- what each move of the back's negotiation keeps
+module _ (P : Negotiation → Type 0) (keeps : (n : Negotiation) (page : Mapping) → P n → P (back_moved page n)) where
+  -- its negotiation was told what it asked for
+  told_holds : (n : Negotiation) (b : BackBusAsk) (page : Mapping) (x : BackAnswer) (later : Directory) → ask_of n.back ≡ b → x ≡ back_answered b page n.keys → later ≡ back_done b n.keys → P n → P (with_back n (step_of n.back x) later)
+  told_holds n b page x later asks answer after j =
+      let heard : x ≡ back_answered (ask_of n.back) page n.keys = answer ∙ ap (λ (c : BackBusAsk). back_answered c page n.keys) (sym asks) in
+      let keyed : later ≡ back_done (ask_of n.back) n.keys = after ∙ ap (λ (c : BackBusAsk). back_done c n.keys) (sym asks) in
+      subst P (sym (ap (λ (y : BackAnswer). with_back n (step_of n.back y) later) heard ∙ ap (λ (d : Directory). with_back n (step_of n.back (back_answered (ask_of n.back) page n.keys)) d) keyed))
+      (keeps n page j)
 
-settled_reached : (s : Stage) (n : Negotiation) → Reached n → Reached (with_back n (settled s n.back) n.keys)
-settled_reached s n j = settles n.back.stage s n refl j
+  -- where its end of the ring has no other mapping to give up it goes on
+  settles : (b : BackStage) (s : Stage) (n : Negotiation) → n.back.stage ≡ b → P n → P (with_back n (settled_at b s n.back) n.keys)
+  settles stage.UnmapOthers (ring_stage.GiveUp m) n here j = j
+  settles stage.UnmapOthers s n here j = told_holds n bus_ask.UnmapOthers a_page answer.Done n.keys (others_asked n.back here) refl refl j
+  settles b s n here j = j
+
+  settled_holds : (s : Stage) (n : Negotiation) → P n → P (with_back n (settled s n.back) n.keys)
+  settled_holds s n j = settles n.back.stage s n refl j
+
+  -- nothing becomes of it
+  still_holds : (n : Negotiation) (h : Hypervisor) (later : Directory) → n.keys ≡ h.keys → later ≡ h.keys → P n → P (with_back n n.back later)
+  still_holds n h later kept left j = subst P (sym (ap (λ (d : Directory). with_back n n.back d) (left ∙ sym kept))) j
 
 -- it asks for a key or a watch: what it is told, and what that leaves of the keys
 abbrev pub IsHeard : BackBusAsk → Directory → BackAct → Type 0
@@ -93,10 +99,11 @@ keys_heard (bus_ask.SetState s) h a says e = of_back (IsHeard (bus_ask.SetState 
 keys_heard (bus_ask.SetKey key value) h a says e = of_back (IsHeard (bus_ask.SetKey key value) h.keys) _ a (refl, refl) e
 keys_heard b h a says e = absurd (true≢false (sym says))
 
-keys_told : (b : BackBusAsk) (n : Negotiation) (h : Hypervisor) (a : BackAct) → ask_of n.back ≡ b → n.keys ≡ h.keys → speaks b ≡ true → back_act h back_mover.Back (key_ask b) Took ≡ Some a → Reached n → Reached (with_back n (step_of n.back a.answer) a.under.keys)
-keys_told b n h a asks kept says e j =
-    let told = keys_heard b h a says e in
-    told_reached n b a_page a.answer a.under.keys asks (told.0 ∙ ap (λ (d : Directory). back_answered b a_page d) (sym kept)) (told.1 ∙ ap (λ (d : Directory). back_done b d) (sym kept)) j
+module _ (P : Negotiation → Type 0) (keeps : (n : Negotiation) (page : Mapping) → P n → P (back_moved page n)) where
+  keys_told : (b : BackBusAsk) (n : Negotiation) (h : Hypervisor) (a : BackAct) → ask_of n.back ≡ b → n.keys ≡ h.keys → speaks b ≡ true → back_act h back_mover.Back (key_ask b) Took ≡ Some a → P n → P (with_back n (step_of n.back a.answer) a.under.keys)
+  keys_told b n h a asks kept says e j =
+      let told = keys_heard b h a says e in
+      told_holds P keeps n b a_page a.answer a.under.keys asks (told.0 ∙ ap (λ (d : Directory). back_answered b a_page d) (sym kept)) (told.1 ∙ ap (λ (d : Directory). back_done b d) (sym kept)) j
 
 -- an act of a back that asks for no key: it takes a watch, or leaves the keys
 abbrev IsUnwatched : BackAnswer → Type 0
@@ -134,23 +141,9 @@ quiet_act h ask.Send a own e = of_back (λ (x : BackAct). Leaves h x ⊎ Takes h
 quiet_act h ask.ClosePort a own e = of_back (λ (x : BackAct). Leaves h x ⊎ Takes h x) _ a (inl (record { unwatched = tt; keys = refl })) e
 quiet_act h asked a own e = absurd own
 
--- nothing becomes of it
-still_reached : (n : Negotiation) (h : Hypervisor) (later : Directory) → n.keys ≡ h.keys → later ≡ h.keys → Reached n → Reached (with_back n n.back later)
-still_reached n h later kept left j = reached_as n (with_back n n.back later) (ap (λ (d : Directory). with_back n n.back d) (left ∙ sym kept)) j
-
 unwoken : (v : BackView) (x : BackAnswer) → IsUnwatched x → woken v x ≡ v
 unwoken v (answer.Watched path) un = absurd un
 unwoken v x un = refl
-
--- a waiting negotiation is told of a watch alone
-waits_reached : (n : Negotiation) (h : Hypervisor) (a : BackAct) → n.keys ≡ h.keys → ask_of n.back ≡ bus_ask.Wait → Leaves h a ⊎ Takes h a → Reached n → Reached (with_back n (woken n.back a.answer) a.under.keys)
-waits_reached n h a kept asks (inl leaves) j =
-    subst (λ (v : BackView). Reached (with_back n v a.under.keys)) (sym (unwoken n.back a.answer leaves.unwatched)) (still_reached n h a.under.keys kept leaves.keys j)
-waits_reached n h a kept asks (inr takes) j =
-    let keyed : a.under.keys ≡ back_done bus_ask.Wait n.keys = takes.keys ∙ ap (λ (d : Directory). back_done bus_ask.Wait d) (sym kept) in
-    let first : a.answer ≡ back_answered bus_ask.Wait a_page n.keys = takes.answer ∙ sym (ap back_woken (ap (λ (d : Directory). next_watch d.back) kept ∙ takes.first)) in
-    let says : woken n.back a.answer ≡ step_of n.back a.answer = rw takes.answer refl in
-    subst (λ (v : BackView). Reached (with_back n v a.under.keys)) (sym says) (told_reached n bus_ask.Wait a_page a.answer a.under.keys asks first keyed j)
 
 -- no map and no bind was refused
 abbrev pub IsGiven : BackAnswer → Type 0
@@ -158,24 +151,34 @@ IsGiven (answer.MapRefused status) = ⊥
 IsGiven answer.BindRefused = ⊥
 IsGiven x = Unit {0}
 
-abbrev Follows : Negotiation → BackBusAsk → BackAct → Type 0
-Follows n b x = IsGiven x.answer → Reached (with_back n (followed b n.back x.answer) x.under.keys)
+module _ (P : Negotiation → Type 0) (keeps : (n : Negotiation) (page : Mapping) → P n → P (back_moved page n)) (n : Negotiation) (h : Hypervisor) (kept : n.keys ≡ h.keys) (j : P n) where
+  abbrev Follows : BackBusAsk → BackAct → Type 0
+  Follows b x = IsGiven x.answer → P (with_back n (followed b n.back x.answer) x.under.keys)
 
-module _ (n : Negotiation) (h : Hypervisor) (kept : n.keys ≡ h.keys) (j : Reached n) where
-  told_done : (b : BackBusAsk) (page : Mapping) (x : BackAnswer) → ask_of n.back ≡ b → x ≡ back_answered b page n.keys → back_done b n.keys ≡ n.keys → Reached (with_back n (step_of n.back x) h.keys)
-  told_done b page x asks heard done = told_reached n b page x h.keys asks heard (sym kept ∙ sym done) j
+  -- a waiting negotiation is told of a watch alone
+  waits_holds : (a : BackAct) → ask_of n.back ≡ bus_ask.Wait → Leaves h a ⊎ Takes h a → P (with_back n (woken n.back a.answer) a.under.keys)
+  waits_holds a asks (inl leaves) =
+      subst (λ (v : BackView). P (with_back n v a.under.keys)) (sym (unwoken n.back a.answer leaves.unwatched)) (still_holds P keeps n h a.under.keys kept leaves.keys j)
+  waits_holds a asks (inr takes) =
+      let keyed : a.under.keys ≡ back_done bus_ask.Wait n.keys = takes.keys ∙ ap (λ (d : Directory). back_done bus_ask.Wait d) (sym kept) in
+      let first : a.answer ≡ back_answered bus_ask.Wait a_page n.keys = takes.answer ∙ sym (ap back_woken (ap (λ (d : Directory). next_watch d.back) kept ∙ takes.first)) in
+      let says : woken n.back a.answer ≡ step_of n.back a.answer = rw takes.answer refl in
+      subst (λ (v : BackView). P (with_back n v a.under.keys)) (sym says) (told_holds P keeps n bus_ask.Wait a_page a.answer a.under.keys asks first keyed j)
 
-  map_follows : (gref own : ℕ) (verdict : Result ℕ MapRefusal) → ask_of n.back ≡ bus_ask.Map gref → Follows n (bus_ask.Map gref) (map_act h back_mover.Back own ReadWrite verdict)
+  told_done : (b : BackBusAsk) (page : Mapping) (x : BackAnswer) → ask_of n.back ≡ b → x ≡ back_answered b page n.keys → back_done b n.keys ≡ n.keys → P (with_back n (step_of n.back x) h.keys)
+  told_done b page x asks heard done = told_holds P keeps n b page x h.keys asks heard (sym kept ∙ sym done) j
+
+  map_follows : (gref own : ℕ) (verdict : Result ℕ MapRefusal) → ask_of n.back ≡ bus_ask.Map gref → Follows (bus_ask.Map gref) (map_act h back_mover.Back own ReadWrite verdict)
   map_follows gref own (Ok frame) asks given = told_done (bus_ask.Map gref) _ _ asks refl refl
   map_follows gref own (Err refusal) asks given = absurd given
 
-  bind_follows : (p own : ℕ) (s : PortState) → ask_of n.back ≡ bus_ask.Bind p → Follows n (bus_ask.Bind p) (bind_act h own s)
+  bind_follows : (p own : ℕ) (s : PortState) → ask_of n.back ≡ bus_ask.Bind p → Follows (bus_ask.Bind p) (bind_act h own s)
   bind_follows p own port.Unbound asks given = told_done (bus_ask.Bind p) a_page answer.Done asks refl refl
   bind_follows p own port.Closed asks given = absurd given
   bind_follows p own port.Bound asks given = absurd given
 
-  leaves_follows : (a : BackAct) → Leaves h a → Reached (with_back n n.back a.under.keys)
-  leaves_follows a leaves = still_reached n h a.under.keys kept leaves.keys j
+  leaves_follows : (a : BackAct) → Leaves h a → P (with_back n n.back a.under.keys)
+  leaves_follows a leaves = still_holds P keeps n h a.under.keys kept leaves.keys j
 
   -- within an entry and a reply its end of the ring leaves the keys
   push_leaves : (r : ring.View) (a : BackAct) (s : Stage) → is_between s ≡ false → back_act h back_mover.Back (ring_ask.ask_at s r) Took ≡ Some a → Leaves h a
@@ -189,20 +192,20 @@ module _ (n : Negotiation) (h : Hypervisor) (kept : n.keys ≡ h.keys) (j : Reac
   push_leaves r a s within e = absurd (true≢false within)
 
   -- a page that was mapped is given up
-  unmaps_follow : (m : Mapping) (pages : List Mapping) (a : BackAct) → ask_of n.back ≡ bus_ask.Unmap m → 0 < length pages → back_act h back_mover.Back (ring_ask.unmap_ask pages) Took ≡ Some a → Follows n (bus_ask.Unmap m) a
+  unmaps_follow : (m : Mapping) (pages : List Mapping) (a : BackAct) → ask_of n.back ≡ bus_ask.Unmap m → 0 < length pages → back_act h back_mover.Back (ring_ask.unmap_ask pages) Took ≡ Some a → Follows (bus_ask.Unmap m) a
   unmaps_follow m [] a asks some e = absurd (omega arith)
-  unmaps_follow m (page ∷ pages) a asks some e = of_back (Follows n (bus_ask.Unmap m)) _ a (λ given. told_done (bus_ask.Unmap m) a_page answer.Done asks refl refl) e
+  unmaps_follow m (page ∷ pages) a asks some e = of_back (Follows (bus_ask.Unmap m)) _ a (λ given. told_done (bus_ask.Unmap m) a_page answer.Done asks refl refl) e
 
   -- what its end of the ring did is told it where it asked for that
   ring_follows : (r : ring.View) (a : BackAct) (b : BackBusAsk) (s : Stage) → ask_of n.back ≡ b → r.stage ≡ s → bus_moves b s ≡ false → ring_moves b s ≡ true → (IsUnmapping s → 0 < length r.pages) → IsBacks (ring_ask.ask_at s r)
-      → back_act h back_mover.Back (ring_ask.ask_at s r) Took ≡ Some a → Follows n b a
-  ring_follows r a bus_ask.Wait s asks here quiet moves some own e = λ given. waits_reached n h a kept asks (quiet_act h (ring_ask.ask_at s r) a own e) j
-  ring_follows r a (bus_ask.Map gref) ring_stage.MapRing asks here quiet moves some own e = of_back (Follows n (bus_ask.Map gref)) _ a (map_follows gref (ring_ask.next_gref r) (verdict_at h.pages (ring_ask.next_gref r) ReadWrite) asks) e
-  ring_follows r a (bus_ask.Bind p) ring_stage.Bind asks here quiet moves some own e = of_back (Follows n (bus_ask.Bind p)) _ a (bind_follows p r.port (state_of h.channels r.port) asks) e
+      → back_act h back_mover.Back (ring_ask.ask_at s r) Took ≡ Some a → Follows b a
+  ring_follows r a bus_ask.Wait s asks here quiet moves some own e = λ given. waits_holds a asks (quiet_act h (ring_ask.ask_at s r) a own e)
+  ring_follows r a (bus_ask.Map gref) ring_stage.MapRing asks here quiet moves some own e = of_back (Follows (bus_ask.Map gref)) _ a (map_follows gref (ring_ask.next_gref r) (verdict_at h.pages (ring_ask.next_gref r) ReadWrite) asks) e
+  ring_follows r a (bus_ask.Bind p) ring_stage.Bind asks here quiet moves some own e = of_back (Follows (bus_ask.Bind p)) _ a (bind_follows p r.port (state_of h.channels r.port) asks) e
   ring_follows r a (bus_ask.Unmap m) ring_stage.UnmapRing asks here quiet moves some own e = unmaps_follow m r.pages a asks (some tt) e
   ring_follows r a (bus_ask.Unmap m) ring_stage.UnmapUnbound asks here quiet moves some own e = unmaps_follow m r.pages a asks (some tt) e
-  ring_follows r a bus_ask.ClosePort ring_stage.ClosePort asks here quiet moves some own e = of_back (Follows n bus_ask.ClosePort) _ a (λ given. told_done bus_ask.ClosePort a_page answer.Done asks refl refl) e
-  ring_follows r a bus_ask.UnmapOthers (ring_stage.GiveUp m) asks here quiet moves some own e = of_back (Follows n bus_ask.UnmapOthers) _ a (λ given. still_reached n h h.keys kept refl j) e
+  ring_follows r a bus_ask.ClosePort ring_stage.ClosePort asks here quiet moves some own e = of_back (Follows bus_ask.ClosePort) _ a (λ given. told_done bus_ask.ClosePort a_page answer.Done asks refl refl) e
+  ring_follows r a bus_ask.UnmapOthers (ring_stage.GiveUp m) asks here quiet moves some own e = of_back (Follows bus_ask.UnmapOthers) _ a (λ given. still_holds P keeps n h h.keys kept refl j) e
   ring_follows r a bus_ask.Watch s asks here quiet moves some own e = λ given. leaves_follows a (push_leaves r a s quiet e)
   ring_follows r a bus_ask.GetState s asks here quiet moves some own e = λ given. leaves_follows a (push_leaves r a s quiet e)
   ring_follows r a (bus_ask.GetKey key) s asks here quiet moves some own e = λ given. leaves_follows a (push_leaves r a s quiet e)
@@ -335,8 +338,8 @@ unmapping_some ring_stage.UnmapRing order pages bound held is = held.0
 unmapping_some ring_stage.UnmapUnbound order pages bound held is = held.0
 unmapping_some s order pages bound held is = absurd is
 
--- so the negotiation goes on as a run
-module _ (w : World) (a : BackAct) (fit : IsFit w) (j : Joined w) (given : IsGiven a.answer) where
+-- so a move of the back keeps it, where it is one of its negotiation, or two, or none
+module _ (P : Negotiation → Type 0) (keeps : (n : Negotiation) (page : Mapping) → P n → P (back_moved page n)) (w : World) (a : BackAct) (fit : IsFit w) (j : P (negotiation_of w)) (given : IsGiven a.answer) where
   abbrev v : View
   v = backend_of w
 
@@ -347,44 +350,51 @@ module _ (w : World) (a : BackAct) (fit : IsFit w) (j : Joined w) (given : IsGiv
   n = negotiation_of w
 
   abbrev GoesTo : View → Type 0
-  GoesTo x = Reached (with_back n x.bus a.under.keys)
+  GoesTo x = P (with_back n x.bus a.under.keys)
 
   moved_to : is_backs_ring w ≡ true → bus_moves b w.rings.back.stage ≡ false → ring_moves b w.rings.back.stage ≡ true
       → (is_backs_ring w ≡ true → (ring_step.step_of w.rings.back a.answer).halted ≡ w.rings.back.halted)
       → back_act w.rings.under back_mover.Back (ring_ask.ask_of w.rings.back) Took ≡ Some a → GoesTo (backend_step.ring_moved b (ring_step.step_of w.rings.back a.answer) v a.answer)
   moved_to mine quiet moves unhalted e =
       let later : ring.View = ring_step.step_of w.rings.back a.answer in
-      let told = ring_follows n w.rings.under refl j w.rings.back a b w.rings.back.stage refl refl quiet moves (λ is. subst (λ (pages : List Mapping). 0 < length pages) (sym fit.pages) (unmapping_some w.rings.back.stage w.back.terms.order (length w.back.pages) w.back.bound fit.held is)) (backs_of w.rings.back) e given in
+      let told = ring_follows P keeps n w.rings.under refl j w.rings.back a b w.rings.back.stage refl refl quiet moves (λ is. subst (λ (pages : List Mapping). 0 < length pages) (sym fit.pages) (unmapping_some w.rings.back.stage w.back.terms.order (length w.back.pages) w.back.bound fit.held is)) (backs_of w.rings.back) e given in
       let same = halted_same later.halted (followed b w.back a.answer) (λ some. followed_halting b w.back a.answer (sym fit.halted ∙ (ap is_some (sym (unhalted mine)) ∙ some))) in
-      subst (λ (u : BackView). Reached (with_back n (settled later.stage u) a.under.keys)) (sym same) (settled_reached later.stage (with_back n (followed b w.back a.answer) a.under.keys) told)
+      subst (λ (u : BackView). P (with_back n (settled later.stage u) a.under.keys)) (sym same) (settled_holds P keeps later.stage (with_back n (followed b w.back a.answer) a.under.keys) told)
 
   waited_to : IsStuck b w.rings.back.stage → back_act w.rings.under back_mover.Back ask.Wait Took ≡ Some a → GoesTo (backend_step.ring_step false b v a.answer)
   waited_to asks e =
-      subst (λ (c : BackBusAsk). Reached (with_back n (waited c w.back a.answer) a.under.keys)) (sym asks) (waits_reached n w.rings.under a refl asks (quiet_act w.rings.under ask.Wait a tt e) j)
+      subst (λ (c : BackBusAsk). P (with_back n (waited c w.back a.answer) a.under.keys)) (sym asks) (waits_holds P keeps n w.rings.under refl j a asks (quiet_act w.rings.under ask.Wait a tt e))
 
-abbrev Moves : World → BackAct → BackAsk → View → Type 0
-Moves w a asked after = back_act w.rings.under back_mover.Back asked Took ≡ Some a → Reached (with_back (negotiation_of w) after.bus a.under.keys)
+module _ (P : Negotiation → Type 0) (keeps : (n : Negotiation) (page : Mapping) → P n → P (back_moved page n)) where
+  abbrev Moves : World → BackAct → BackAsk → View → Type 0
+  Moves w a asked after = back_act w.rings.under back_mover.Back asked Took ≡ Some a → P (with_back (negotiation_of w) after.bus a.under.keys)
 
+  pub back_keeps : (w : World) (a : BackAct) → IsFit w → P (negotiation_of w) → back_turn w ≡ Some a → IsGiven a.answer
+      → (is_backs_ring w ≡ true → (ring_step.step_of w.rings.back a.answer).halted ≡ w.rings.back.halted)
+      → P (record { front = w.front; back = (backend_step.step_of (backend_of w) a.answer).bus; keys = a.under.keys })
+  back_keeps w a fit j e given unhalted = by_bus (bus_moves c s) refl e
+    where
+      x : View
+      x = backend_of w
+
+      c : BackBusAsk
+      c = bus_ask_of x
+
+      s : Stage
+      s = w.rings.back.stage
+
+      by_ring : (m : Bool) → ring_moves c s ≡ m → bus_moves c s ≡ false → Moves w a (backend_ask.ring_ask m x) (backend_step.ring_step m c x a.answer)
+      by_ring true moves quiet f = moved_to P keeps w a fit j given (rw (quiet, moves) refl) quiet moves unhalted f
+      by_ring false still quiet f = waited_to P keeps w a fit j given (stuck_of w.back s fit.back quiet still) f
+
+      by_bus : (m : Bool) → bus_moves c s ≡ m → Moves w a (if m then key_ask c else backend_ask.ring_ask (ring_moves c s) x) (if m then backend_step.spoken x a.answer else backend_step.ring_step (ring_moves c s) c x a.answer)
+      by_bus true says f =
+          settled_holds P keeps _ (with_back (negotiation_of w) (step_of w.back a.answer) a.under.keys)
+          (keys_told P keeps c (negotiation_of w) w.rings.under a refl refl (both_first (speaks c) (is_between s) says) f j)
+      by_bus false quiet f = by_ring (ring_moves c s) refl quiet f
+
+-- so the negotiation goes on as a run
 pub back_goes : (w : World) (a : BackAct) → IsFit w → Joined w → back_turn w ≡ Some a → IsGiven a.answer
     → (is_backs_ring w ≡ true → (ring_step.step_of w.rings.back a.answer).halted ≡ w.rings.back.halted)
     → Reached (record { front = w.front; back = (backend_step.step_of (backend_of w) a.answer).bus; keys = a.under.keys })
-back_goes w a fit j e given unhalted = by_bus (bus_moves c s) refl e
-  where
-    x : View
-    x = backend_of w
-
-    c : BackBusAsk
-    c = bus_ask_of x
-
-    s : Stage
-    s = w.rings.back.stage
-
-    by_ring : (m : Bool) → ring_moves c s ≡ m → bus_moves c s ≡ false → Moves w a (backend_ask.ring_ask m x) (backend_step.ring_step m c x a.answer)
-    by_ring true moves quiet f = moved_to w a fit j given (rw (quiet, moves) refl) quiet moves unhalted f
-    by_ring false still quiet f = waited_to w a fit j given (stuck_of w.back s fit.back quiet still) f
-
-    by_bus : (m : Bool) → bus_moves c s ≡ m → Moves w a (if m then key_ask c else backend_ask.ring_ask (ring_moves c s) x) (if m then backend_step.spoken x a.answer else backend_step.ring_step (ring_moves c s) c x a.answer)
-    by_bus true says f =
-        settled_reached _ (with_back (negotiation_of w) (step_of w.back a.answer) a.under.keys)
-        (keys_told c (negotiation_of w) w.rings.under a refl refl (both_first (speaks c) (is_between s) says) f j)
-    by_bus false quiet f = by_ring (ring_moves c s) refl quiet f
+back_goes w a fit j e given unhalted = back_keeps Reached (λ n page reached. reached_one n (BackMoves page) tt tt reached) w a fit j e given unhalted

@@ -1,5 +1,5 @@
 -- Until the back has mapped the ring and has its terms the negotiation is a run of its own, in each epoch, and from then on the front's ring and port are made, or the back has halted: so it stays as the front moves, and as an end is asked to close.
-use Rattle.std.proofs.Common.{◌⊎◌, inl, inr, ◌≡◌, ◌∙◌, ap, sym, subst, ℕ, ◌+◌, ◌%◌, ◌==◌, ◌^◌, Bool, true, false, true≢false, List, [], ◌∷◌, map, refl, if◌then◌else◌}
+use Rattle.std.proofs.Common.{◌⊎◌, inl, inr, ◌≡◌, ◌∙◌, ap, sym, subst, ℕ, ◌+◌, ◌%◌, ◌==◌, ◌^◌, Bool, true, false, true≢false, List, [], ◌∷◌, refl, if◌then◌else◌}
 use Rattle.std.specs.Prelude.{Option, Some, None, is_some, nat_lt, slice_set}
 use Rattle.std.specs.List.{AllByRecursion}
 use Rattle.blk_base.specs.declared.parts.End.{End}
@@ -28,16 +28,16 @@ use Rattle.xenbus_state.specs.declared.stage.BackStage.TheVariants as bus
 use Rattle.xenbus_state.specs.declared.keys.FrontKey.TheVariants as key
 use Rattle.xenbus_state.specs.Tables.{is_connected as bus_connected}
 use Rattle.xenbus_state.specs.BackView.{BackView, is_halting, unplugged}
+use Rattle.event_channel.specs.Channels.{ChannelState, with_port, fresh_channels}
+use Rattle.split_model.specs.Safe.{IsPorted}
+use Rattle.split_model.proofs.SafeFront.{IsUnported, step_fits, entered_kept}
 use Rattle.split_model.proofs.States.{is_unbound, enters_cases}
-use Rattle.split_model.specs.Happening as ring_happening
-use Rattle.machine_pipeline.proofs.Unsuspended.{AreUnsuspended}
-use Rattle.machine_pipeline.proofs.Connected.{connected_after}
 use Rattle.negotiation_laws.specs.Negotiation.{Negotiation}
 use Rattle.negotiation_laws.specs.Laws.{IsHalted}
 use Rattle.vbd_front.specs.View as front_view
 use Rattle.vbd_front.specs.Step as front_step
 use Rattle.vbd_model.specs.World.{World, frontend_of}
-use Rattle.vbd_model.specs.Happening.{FrontMoves, Closes, front_turn, entered_at, does, happens}
+use Rattle.vbd_model.specs.Happening.{FrontMoves, Closes, front_turn, happens}
 use Rattle.vbd_model.specs.Fit.{BackGoesWith, BackRests, BackReads, IsGivingUp, IsUnmapping, is_serving, IsFit}
 use Rattle.vbd_laws.specs.Moves.{IsNoMove, IsFrontMove}
 use Rattle.vbd_laws.proofs.FitBackRing.{is_past}
@@ -213,27 +213,56 @@ before_front w a fit hand turn b =
           (λ quiet moves e. step_early w.rings.front.stage w.rings.front a.answer refl b.early) (λ quiet still e. b.early) turn;
     }
 
--- no suspend is part of its move
-enters_unsuspended : (states : List FrontState) → AreUnsuspended (map ring_happening.FrontEnters states)
-enters_unsuspended [] = tt
-enters_unsuspended (s ∷ states) = (tt, enters_unsuspended states)
+-- a connected front stays connected: its stage fits an epoch in which a port was made
+abbrev one_port : ChannelState
+one_port = with_port fresh_channels
 
-front_unsuspended : (w : World) → AreUnsuspended (does w FrontMoves)
-front_unsuspended w = front_cases (λ does asked step. AreUnsuspended does) w (λ says. (tt, enters_unsuspended (entered_at w (front_turn w)))) (λ quiet moves. (tt, tt)) (λ quiet still. (tt, tt))
+some_port : one_port.ports ≡ [] → ⊥
+some_port none = absurd (cc)
+
+ported_connected : (s : FrontRing) → IsPorted s one_port → is_connected s ≡ true
+ported_connected (front_ring.LeftData n) none = absurd (some_port none.1)
+ported_connected (front_ring.RingWord k) none = absurd (some_port none.1)
+ported_connected (front_ring.RingFrame page) none = absurd (some_port none.1)
+ported_connected (front_ring.RingFence page) none = absurd (some_port none.1)
+ported_connected (front_ring.RingFlags page) none = absurd (some_port none.1)
+ported_connected front_ring.NewPort none = absurd (some_port none.1)
+ported_connected s none = refl
+
+connected_ported : (s : FrontRing) → is_connected s ≡ true → IsPorted s one_port × IsUnported s one_port
+connected_ported (front_ring.LeftData n) is = absurd (true≢false (sym is))
+connected_ported (front_ring.RingWord k) is = absurd (true≢false (sym is))
+connected_ported (front_ring.RingFrame page) is = absurd (true≢false (sym is))
+connected_ported (front_ring.RingFence page) is = absurd (true≢false (sym is))
+connected_ported (front_ring.RingFlags page) is = absurd (true≢false (sym is))
+connected_ported front_ring.NewPort is = absurd (true≢false (sym is))
+connected_ported s is = (tt, tt)
+
+step_connected : (r : front_ends.View) (x : FrontAnswer) → is_connected r.stage ≡ true → is_connected (front_ring_step.step_of r x).stage ≡ true
+step_connected r x is = ported_connected _ (step_fits r x one_port (connected_ported r.stage is).1).0
+
+enters_connected : (s : FrontState) (r : front_ends.View) → is_connected r.stage ≡ true → is_connected (enters s r).stage ≡ true
+enters_connected s r is = ported_connected _ ((entered_kept s r).ported one_port (connected_ported r.stage is).0)
+
+all_connected : (states : List FrontState) (r : front_ends.View) → is_connected r.stage ≡ true → is_connected (front_step.all_entered states r).stage ≡ true
+all_connected [] r is = is
+all_connected (s ∷ states) r is = all_connected states (enters s r) (enters_connected s r is)
+
+front_connected : (w : World) (a : FrontAct) → is_connected w.rings.front.stage ≡ true → is_connected (front_step.step_of (frontend_of w) a.answer).ring.stage ≡ true
+front_connected w a is =
+    front_cases (λ does asked step. is_connected (step a.answer).ring.stage ≡ true) w (λ says. all_connected (front_step.states_after (frontend_of w) a.answer) w.rings.front is)
+    (λ quiet moves. step_connected w.rings.front a.answer is) (λ quiet still. is)
 
 pub front_way : (w : World) → IsFit w → HasInHand w.rings.front.stage w.rings.front.ending → IsOnItsWay w → IsOnItsWay (happens w FrontMoves)
 front_way w fit hand way = by_act (front_turn w) refl
   where
-    by_way : (a : FrontAct) → front_turn w ≡ Some a → happens w FrontMoves ≡ front_to w a (front_step.step_of (frontend_of w) a.answer) → IsOnItsWay w
-        → IsOnItsWay (front_to w a (front_step.step_of (frontend_of w) a.answer))
-    by_way a e world (inl b) = inl (before_front w a fit hand e b)
-    by_way a e world (inr x) =
-        inr (after_at w.rings.back w.rings.back w.back w.back (is_connected w.rings.front.stage) _ refl refl refl
-        (λ made. subst (λ (v : World). is_connected v.rings.front.stage ≡ true) world (connected_after (does w FrontMoves) w.rings (front_unsuspended w) made)) x)
+    by_way : (a : FrontAct) → front_turn w ≡ Some a → IsOnItsWay w → IsOnItsWay (front_to w a (front_step.step_of (frontend_of w) a.answer))
+    by_way a e (inl b) = inl (before_front w a fit hand e b)
+    by_way a e (inr x) = inr (after_at w.rings.back w.rings.back w.back w.back (is_connected w.rings.front.stage) _ refl refl refl (front_connected w a) x)
 
     by_act : (act : Option FrontAct) → front_turn w ≡ act → IsOnItsWay (happens w FrontMoves)
     by_act None e = let still : IsNoMove w FrontMoves = front_move_none w fit e in rests_way (happens w FrontMoves) w (same_rests (happens w FrontMoves) w still.world) way
-    by_act (Some a) e = let moved : IsFrontMove w a = front_move_is w a fit e in subst IsOnItsWay (sym moved.world) (by_way a e moved.world way)
+    by_act (Some a) e = let moved : IsFrontMove w a = front_move_is w a fit e in subst IsOnItsWay (sym moved.world) (by_way a e way)
 
 -- an end is asked to close
 unplugged_same : (v : BackView) → (unplugged v).stage ≡ v.stage
@@ -251,5 +280,5 @@ close_way w end.Front (inl b) =
       early = enters_cases (λ (v : front_ends.View) (shown : List Line). is_early v.stage ≡ true) entered.Closing w.rings.front (λ may. b.early) b.early;
     })
 close_way w end.Back (inl b) = inl (record { joined = closes_joined w end.Back b.joined; ring = b.ring; early = b.early })
-close_way w end.Front (inr x) = inr (after_at w.rings.back w.rings.back w.back w.back (is_connected w.rings.front.stage) _ refl refl refl (connected_after (does w (Closes end.Front)) w.rings (tt, tt)) x)
+close_way w end.Front (inr x) = inr (after_at w.rings.back w.rings.back w.back w.back (is_connected w.rings.front.stage) _ refl refl refl (enters_connected entered.Closing w.rings.front) x)
 close_way w end.Back (inr x) = inr (after_at w.rings.back w.rings.back w.back (unplugged w.back) (is_connected w.rings.front.stage) _ refl refl (unplugged_same w.back) (λ made. made) x)

@@ -486,7 +486,7 @@ unmade : (s : Stage) (c : ChannelState) → IsPorted s c → s ≡ ring_stage.Ne
 unmade s c p e = let none : IsPorted ring_stage.NewPort c = subst (λ (x : Stage). IsPorted x c) e p in none.0
 
 -- what the front's move makes of the negotiation
-abbrev Moves : World → FrontAct → FrontAsk → View → Type 0
+abbrev pub Moves : World → FrontAct → FrontAsk → View → Type 0
 Moves w a asked after = front_act w.rings.under asked ≡ Some a → Goes (is_unoccupied w.rings.front) (negotiation_of w) (with_front (negotiation_of w) after.bus a.under.keys)
 
 -- where data are left after a suspend they are in hand
@@ -518,7 +518,7 @@ left_still w a left hand =
     subst (λ (v : FrontView). Goes idle (negotiation_of w) (with_front (negotiation_of w) v a.under.keys)) (sym (unwoken (is_broken later.stage) idle w.front a.answer leaves.unwatched))
     (still_goes (negotiation_of w) w.rings.under w.front idle a.under.keys refl refl leaves.keys))
 
-front_moves : (w : World) (a : FrontAct) → IsFit w → is_broken w.rings.front.stage ≡ false → HasInHand w.rings.front.stage w.rings.front.ending
+pub front_moves : (w : World) (a : FrontAct) → IsFit w → is_broken w.rings.front.stage ≡ false → HasInHand w.rings.front.stage w.rings.front.ending
     → Moves w a (frontend_ask.ask_of (frontend_of w)) (frontend_step.step_of (frontend_of w) a.answer)
 front_moves w a fit whole hand =
     asks_cases (λ (c : FrontBusAsk). Moves w a (frontend_ask.ask_at c f) (frontend_step.step_at c f a.answer)) w (λ left. left_still w a left hand) (λ none. by_speaks (speaks b) refl)

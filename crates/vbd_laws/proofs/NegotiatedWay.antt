@@ -61,7 +61,7 @@ use Rattle.vbd_laws.proofs.MovesTurns.{back_asks, back_cases}
 use Rattle.vbd_laws.proofs.MovesAttached.{halted_only, not_led, taken}
 use Rattle.vbd_laws.proofs.MovesBack.{back_move_is, back_move_none}
 use Rattle.vbd_laws.proofs.ServedFront as fronts
-use Rattle.vbd_laws.proofs.NegotiatedRun.{Reached, reached_as}
+use Rattle.vbd_laws.proofs.NegotiatedRun.{Reached, Joined, reached_as}
 use Rattle.vbd_laws.proofs.NegotiatedBack.{IsGiven, back_goes}
 use Rattle.vbd_laws.proofs.NegotiatedRests.{same_rests, apart_rests}
 use Rattle.vbd_laws.proofs.NegotiatedKept.{made_now, asks_map}
@@ -371,6 +371,26 @@ begins_joined w keys fit speaks sectors opened fresh =
       served = tt;
       stands = refl;
     })
+
+-- so it is where the front is open
+pub suspends_joined : (w : World) → IsFit w → fronts.Speaks w.front → w.back.disk.sectors < 2 ^ 64 → rings.may_suspend w.rings ≡ true → is_open w.rings.front.stage ≡ true → Joined (happens w Suspends)
+suspends_joined w fit speaks sectors may opened = by_may (rings.may_suspend w.rings) may
+  where
+    by_open : (o : Bool) → o ≡ true → Reached (record {
+      front = if o then front_suspended w.front else w.front;
+      back = renewed_bus o w.back;
+      keys = let h : Hypervisor = under_suspended (rings.state_after o) w.rings.under in h.keys;
+    })
+    by_open true is = begins_joined w _ fit speaks sectors opened refl
+    by_open false is = absurd (true≢false (sym is))
+
+    by_may : (m : Bool) → m ≡ true → Joined (record {
+      rings = if m then rings.suspended w.rings else w.rings;
+      front = if m && is_open w.rings.front.stage then front_suspended w.front else w.front;
+      back = if m then renewed_bus (is_open w.rings.front.stage) w.back else w.back;
+    })
+    by_may true is = by_open (is_open w.rings.front.stage) opened
+    by_may false is = absurd (true≢false (sym is))
 
 suspend_way : (w : World) → IsFit w → fronts.Speaks w.front → w.back.disk.sectors < 2 ^ 64 → IsOnItsWay w → IsOnItsWay (happens w Suspends)
 suspend_way w fit speaks sectors way = by_may (rings.may_suspend w.rings)

@@ -1,4 +1,4 @@
--- Where all is quiet, before a hostile hand first overwrites a word, both ends have written the same state last, and Closed only as the front closes, and the directory of keys says so.
+-- Where all is quiet, before a hostile hand first overwrites a word or a key, both ends have written the same state last, and Closed only as the front closes, and the directory of keys says so.
 use Rattle.std.proofs.Common.{◌⊎◌, inl, inr, ◌≡◌, ◌∙◌, ap, sym, subst, ◌+◌, ◌==◌, ◌&&◌, ℕ, Bool, true, false, true≢false, List, [], ◌∷◌, ◌++◌, map, length, refl, if◌then◌else◌}
 use Rattle.std.specs.Prelude.{Option, Some}
 use Rattle.std.specs.Fmt.{digits}
@@ -34,7 +34,8 @@ use Rattle.vbd_laws.specs.Quiet.{IsUntouched, HaveBoth, StatesAgree, StatesAgree
 use Rattle.vbd_laws.proofs.MovesTurns.{front_asks, back_asks, back_learns}
 use Rattle.vbd_laws.proofs.NegotiatedRun.{Reached, negotiation_of}
 use Rattle.vbd_laws.proofs.AtRest.{agrees_at, at_rest}
-use Rattle.vbd_laws.proofs.ServedHonest.{Honest, whole_now, waiting, quiet_ring, honest_start, honest_after, all_of}
+use Rattle.vbd_laws.proofs.ServedGone.{gone_agrees}
+use Rattle.vbd_laws.proofs.ServedHonest.{Going, Honest, whole_now, waiting, going_quiet, honest_start, honest_after, all_of}
 
 -- the directory says both states
 said_at : (n : Negotiation) → Reached n → AreStatesSaid n
@@ -82,22 +83,22 @@ closed_closes stage.Closed v r goes own whole = goes.2
 closed_closes (stage.Broken word) v r goes own whole = absurd (true≢false (sym goes ∙ whole))
 closed_closes b v r goes own whole = absurd goes
 
-module _ (config : Options) (w : World) (honest : Honest config w) (quiet : is_quiet w ≡ true) where
+module _ (config : Options) (w : World) (honest : Honest config w) (going : Going w) (quiet : is_quiet w ≡ true) where
   abbrev idle : Bool
   idle = front_view.is_unoccupied w.rings.front
 
   rest : IsIdleRing w.rings
-  rest = quiet_rests config w.rings (quiet_ring config w honest quiet) honest.standing
+  rest = quiet_rests config w.rings (going_quiet config w honest going quiet) honest.standing
 
   is_idle : idle ≡ true
   is_idle = still_at w.rings.front.requests w.rings.front.stage rest.no_request rest.front_at
 
   resting : IsAtRest idle (negotiation_of w)
-  resting = at_rest config w honest.front_checks.0 honest.back_checks.0 honest.front_checks.1 honest.back_checks.1 honest.joined honest.standing (whole_now config w.rings honest.standing) (waiting config w honest quiet)
+  resting = at_rest w honest.front_checks.0 honest.back_checks.0 honest.front_checks.1 honest.back_checks.1 going.joined going.heard (whole_now config w.rings honest.standing) (waiting config w honest going quiet)
 
   have_both : (s : BusState) → AreBoth (negotiation_of w) s → HaveBoth w s
   have_both s both =
-      let said = said_at (negotiation_of w) honest.joined in
+      let said = said_at (negotiation_of w) going.joined in
       record {
         front = both.0;
         back = both.1;
@@ -112,13 +113,17 @@ module _ (config : Options) (w : World) (honest : Honest config w) (quiet : is_q
       let whole : front_view.is_broken w.rings.front.stage ≡ false = whole_at w.rings.front.stage rest.front_at in
       fit.closing whole ∙ closed_closes w.front.stage w.front w.rings.front.stage fit.front own whole
 
-  quiet_agrees : StatesAgree w
-  quiet_agrees = by_state (agrees_at (negotiation_of w) idle honest.joined (λ closing. is_idle) resting)
+  going_agrees : StatesAgree w
+  going_agrees = by_state (agrees_at (negotiation_of w) idle going.joined (λ closing. is_idle) resting)
     where
       by_state : AreBoth (negotiation_of w) state.Connected ⊎ AreBoth (negotiation_of w) state.Closed ⊎ WaitsForRequests idle (negotiation_of w) → StatesAgree w
       by_state (inl both) = inl (have_both state.Connected both)
       by_state (inr (inl both)) = inr (have_both state.Closed both, closes both.0)
       by_state (inr (inr waits)) = absurd (true≢false (sym is_idle ∙ waits.busy))
+
+-- and so they have where the front was closed before the epoch
+quiet_agrees : (config : Options) (w : World) → Honest config w → is_quiet w ≡ true → StatesAgree w
+quiet_agrees config w honest quiet = elim honest.going [ inl going ↦ going_agrees config w honest going quiet | inr gone ↦ gone_agrees w honest.stands.fit gone ]
 
 pub states_agree_at_quiet : StatesAgreeAtQuiet
 states_agree_at_quiet config hs carried options are untouched quiet =
@@ -158,18 +163,16 @@ agreed_at : (config : Options) (w : World) (h : Happening) → IsUntouched h →
 agreed_at config w FrontMoves untouched honest is =
     move_agreed (is_fronts_ring w) (front.speaks (front_asks w)) ring.FrontMoves end.Front (front_key (front_asks w)) ring.FrontEnters (entered_at w (front_turn w)) w.rings tt (λ s u. tt)
 agreed_at config w BackMoves untouched honest is = back_agreed w (is_backs_ring w) (attaches w (back_learns w))
-agreed_at config w Suspends untouched honest is = absurd untouched
 agreed_at config w (Closes at) untouched honest is = closes_agreed at w.rings
 agreed_at config w (Looks quiet) untouched honest is = (λ e. alike w (quiet_agrees config w honest (is e)), tt)
 agreed_at config w (Settles quiet) untouched honest is = (λ e. alike w (quiet_agrees config w honest (is e)), tt)
 agreed_at config w h untouched honest is = (tt, tt)
 
--- all of it, up to the first word or key that is overwritten, or the first suspend
+-- all of it, up to the first word or key that is overwritten
 agreed_then : (hs rest : List ring.Happening) (w : rings.World) → AreAgreed hs w → AreAgreed (honest_history rest) (ring.after hs w) → AreAgreed (honest_history (hs ++ rest)) w
 agreed_then [] rest w are later = later
 agreed_then (ring.Pokes frame word value ∷ hs) rest w are later = tt
 agreed_then (ring.OverwritesKey name text ∷ hs) rest w are later = tt
-agreed_then (ring.Suspends ∷ hs) rest w are later = tt
 agreed_then (h ∷ hs) rest w are later = (are.0, agreed_then hs rest (ring.happens w h) are.1 later)
 
 pub rings_agreed : RingsAgreed

@@ -1,17 +1,12 @@
--- Whatever a schedule makes happen is possible for the ring's machine, and served until a word or a key is overwritten or the domain is suspended.
+-- Whatever a schedule makes happen is possible for the ring's machine, and served until a word or a key is overwritten.
 use Rattle.vbd_laws.proofs.NegotiatedEarly.{IsOnItsWay}
 use Rattle.vbd_laws.proofs.NegotiatedWay.{on_its_way}
 use Rattle.std.proofs.Common.{List, [], ◌∷◌}
-use Rattle.blk_front.specs.declared.stage.Stage.{Stage}
-use Rattle.blk_front.specs.declared.stage.Stage.TheVariants as stage
-use Rattle.blk_front.specs.View.{View}
 use Rattle.vbd_model.specs.World.{World, start_of}
 use Rattle.vbd_model.specs.Happening.{Happening, happens, after}
 use Rattle.vbd_laws.specs.Served.{RingsPossible, RingsServed, RingGoesByTheTerms, RingIsMadeFirst, AllKeepKeys}
 use Rattle.vbd_laws.specs.Waits.{Check, Awake, front_check_in}
-use Rattle.vbd_laws.proofs.WaitsFrontRing.{StandsAt}
-use Rattle.vbd_laws.proofs.WaitsFront.{Knows, knows_on, knows_start}
-use Rattle.vbd_laws.proofs.NegotiatedFront.{HasInHand}
+use Rattle.vbd_laws.proofs.WaitsFront.{Knows, knows_on, knows_start, in_hand}
 use Rattle.vbd_laws.proofs.NegotiatedMaps.{goes_by_terms, is_made_first}
 use Rattle.vbd_laws.proofs.ServedPossible.{way_start, Stands, stands_start, stands_on, all_possible}
 use Rattle.vbd_laws.proofs.ServedHonest.{honest_start, all_served}
@@ -21,11 +16,6 @@ rings_possible config hs carried options are = all_possible hs (start_of config)
 
 pub rings_served : RingsServed
 rings_served config hs carried options are = all_served config hs (start_of config) (honest_start config carried options) are
-
--- data that are left are in hand
-in_hand : (s : Stage) (v : View) (c : Check) → StandsAt s v c → HasInHand s v.ending
-in_hand (stage.LeftData n) v c is = is.1
-in_hand s v c is = tt
 
 -- whatever has happened
 stands_after : (hs : List Happening) (w : World) → Stands w → Stands (after hs w)
@@ -42,7 +32,7 @@ way_after : (hs : List Happening) (w : World) (c : Check) → AllKeepKeys hs →
 way_after [] w c keep stands knows way = way
 way_after (h ∷ hs) w c keep stands knows way =
     way_after hs (happens w h) (front_check_in w h c) keep.1 (stands_on w h stands) (knows_on w h c knows)
-    (on_its_way w h keep.0 stands.fit stands.front stands.back.sectors (in_hand w.rings.front.stage w.rings.front c knows.ring) way)
+    (on_its_way w h keep.0 stands.fit stands.front stands.back.sectors (in_hand w c knows) way)
 
 pub ring_is_made_first : RingIsMadeFirst
 ring_is_made_first config hs carried options keep =

@@ -1,4 +1,4 @@
--- What the front's negotiation says is of the grammar: its port is a number, the first where only one is made, and its ring has at most 16 pages.
+-- What the front's negotiation says is of the grammar: its port is a number, and its ring has at most 16 pages.
 use Rattle.std.proofs.Common.{◌≡◌, refl, ℕ, ◌+◌, ◌^◌, ◌<◌, ◌≤◌, ◌==◌, ◌&&◌, ◌||◌, Bool, true, false, List, arith, if◌then◌else◌}
 use Rattle.std.specs.Prelude.{Option, Some, None, nat_lt, unwrap_or}
 use Rattle.std.proofs.Math.Nat.{pow-le-pow_right}
@@ -64,10 +64,6 @@ IsNumber port = port < 2 ^ 32
 
 abbrev pub Speaks : FrontView → Type 0
 Speaks v = SpeaksWith IsNumber v
-
--- where only one is made it is the first
-abbrev pub IsFirst : ℕ → Type 0
-IsFirst port = port ≡ 1
 
 either_plain : (b : Bool) (s t : FrontStage) → IsPlain s → IsPlain t → IsPlain (if b then s else t)
 either_plain true s t p q = p
@@ -247,30 +243,24 @@ key_asks Fits made (front_ask.SetState s) = tt
 key_asks Fits made (front_ask.SetKey k value) = tt
 key_asks Fits made b = tt
 
-asks_number : (w : World) → IsFit w → AsksFor IsNumber w.rings.under.channels.made (front.ask_of (frontend_of w))
-asks_number w fit = by_test (front.speaks b)
+-- so is what fits wherever its end of the ring asks for one
+pub asks_port : (Fits : ℕ → Type 0) (w : World) → IsFit w → ((a : FrontAsk) → IsFronts w.rings.under.channels a → AsksFor Fits w.rings.under.channels.made a)
+    → AsksFor Fits w.rings.under.channels.made (front.ask_of (frontend_of w))
+asks_port Fits w fit each = by_test (front.speaks b)
   where
     b : FrontBusAsk
     b = front.bus_ask_of (frontend_of w)
 
-    by_ring : (moves : Bool) → AsksFor IsNumber w.rings.under.channels.made (front.ring_ask moves (frontend_of w))
-    by_ring true = fronts_number w.rings.under.channels _ (fronts_at w.rings.under.channels w.rings.front.stage w.rings.front fit.safe.ported)
+    by_ring : (moves : Bool) → AsksFor Fits w.rings.under.channels.made (front.ring_ask moves (frontend_of w))
+    by_ring true = each _ (fronts_at w.rings.under.channels w.rings.front.stage w.rings.front fit.safe.ported)
     by_ring false = tt
 
-    by_test : (speaks : Bool) → AsksFor IsNumber w.rings.under.channels.made (if speaks then front.key_ask b else front.ring_ask (front.ring_moves b w.rings.front.stage) (frontend_of w))
-    by_test true = key_asks IsNumber w.rings.under.channels.made b
+    by_test : (speaks : Bool) → AsksFor Fits w.rings.under.channels.made (if speaks then front.key_ask b else front.ring_ask (front.ring_moves b w.rings.front.stage) (frontend_of w))
+    by_test true = key_asks Fits w.rings.under.channels.made b
     by_test false = by_ring (front.ring_moves b w.rings.front.stage)
 
 pub front_speaks : (w : World) → IsFit w → Speaks w.front → Speaks (front_bus_after w (front_turn w))
-front_speaks w fit h = move_speaks IsNumber w (asks_number w fit) h
-
--- the first port is asked for where no other than one is made
-asks_first : (h : Hypervisor) (a : FrontAsk) → ((x : FrontAct) → front_act h a ≡ Some x → x.under.channels.made ≤ 1) → AsksFor IsFirst h.channels.made a
-asks_first h ask.NewPort few = let one : h.channels.made + 1 ≤ 1 = few _ refl in omega arith
-asks_first h a few = tt
-
-pub front_first : (w : World) → ((a : FrontAct) → front_turn w ≡ Some a → a.under.channels.made ≤ 1) → SpeaksWith IsFirst w.front → SpeaksWith IsFirst (front_bus_after w (front_turn w))
-front_first w few h = move_speaks IsFirst w (asks_first w.rings.under (front.ask_of (frontend_of w)) few) h
+front_speaks w fit h = move_speaks IsNumber w (asks_port IsNumber w fit (fronts_number w.rings.under.channels)) h
 
 -- what it does with the keys
 small_port : (port : Option ℕ) → IsPort IsNumber port → unwrap_or port 0 < 2 ^ 64

@@ -1,4 +1,4 @@
--- What happens before a hostile hand first overwrites a word or a key, and before the domain is first suspended, is served by the machine of the ring.
+-- What happens before a hostile hand first overwrites a word or a key is served by the machine of the ring.
 use Rattle.vbd_laws.specs.Served.{KeepsKeys}
 use Rattle.vbd_laws.proofs.NegotiatedEarly.{IsOnItsWay}
 use Rattle.std.proofs.Common.{◌⊎◌, inl, inr, ◌≡◌, ◌∙◌, ap, sym, subst, ℕ, zero, suc, ◌+◌, ◌^◌, ◌<◌, ◌≤◌, ◌==◌, ◌&&◌, ◌||◌, Bool, true, false, true≢false, List, [], ◌∷◌, ◌++◌, map, refl, arith, if◌then◌else◌}
@@ -30,7 +30,7 @@ use Rattle.blk_front.specs.declared.state.Offers.{Offers}
 use Rattle.blk_front.specs.View as front_ends
 use Rattle.blk_front.specs.Submit as front_submit
 use Rattle.blk_front.specs.Ask.{is_through}
-use Rattle.blk_front.specs.State.{is_made}
+use Rattle.blk_front.specs.State.{is_open, is_made}
 use Rattle.blk_front.specs.Suspend.{is_left}
 use Rattle.blk_front.specs.Submit.{is_connected}
 use Rattle.blk_back.specs.declared.stage.Reply.{Reply}
@@ -74,7 +74,6 @@ use Rattle.machine_pipeline.proofs.Holds.{Holds}
 use Rattle.machine_pipeline.proofs.Over.{IsGivingUp, Over, IsKept}
 use Rattle.machine_pipeline.proofs.BackMoves.{back_moves}
 use Rattle.machine_pipeline.proofs.Quiet.{AreQuiet, all_quiet}
-use Rattle.machine_pipeline.proofs.Unsuspended.{served_unsuspended}
 use Rattle.machine_pipeline.proofs.Together.{IsStanding, run_kept, always_stands}
 use Rattle.negotiation_laws.specs.Negotiation.{Negotiation}
 use Rattle.negotiation_laws.specs.Run.{now}
@@ -98,22 +97,24 @@ use Rattle.vbd_laws.proofs.MovesTurns.{front_asks, back_asks, back_learns, back_
 use Rattle.vbd_laws.proofs.MovesAttached.{taken}
 use Rattle.vbd_laws.proofs.MovesFront.{front_move_is, front_move_none}
 use Rattle.vbd_laws.proofs.MovesBack.{back_move_is, back_move_none}
-use Rattle.vbd_laws.proofs.ServedFront.{IsPort, IsFirst, front_spelled}
-use Rattle.vbd_laws.proofs.ServedFirst.{HasOnePort, one_port_on}
+use Rattle.vbd_laws.proofs.ServedFront.{IsPort, front_spelled}
+use Rattle.vbd_laws.proofs.ServedPort.{IsNext, earlier, HasFirstPort, first_port_on, first_port_begins}
+use Rattle.vbd_laws.proofs.ServedGone.{IsGone, gone_begins, gone_on, gone_served, gone_quiet}
 use Rattle.vbd_laws.proofs.FitFrontMoves.{with_port}
 use Rattle.vbd_laws.proofs.ServedBack.{IsRead, halt_read, halt_said, back_spelled}
 use Rattle.vbd_laws.proofs.NegotiatedRun.{Reached, Joined, negotiation_of, reached_as, halts_at, late_at}
-use Rattle.vbd_laws.proofs.NegotiatedFront.{HasInHand, none_in_hand, front_goes}
+use Rattle.vbd_laws.proofs.NegotiatedFront.{HasInHand, front_goes}
 use Rattle.vbd_laws.proofs.NegotiatedBack.{a_page, keys_heard, IsGiven, back_goes}
 use Rattle.vbd_laws.proofs.NegotiatedKept.{IsTimely, states_timely}
 use Rattle.vbd_laws.proofs.NegotiatedRests.{apart_rests, closes_joined}
 use Rattle.vbd_laws.proofs.NegotiatedAgreed.{keeps_order}
-use Rattle.vbd_laws.proofs.NegotiatedWay.{ring_made_now, key_given, wait_given, on_its_way}
+use Rattle.vbd_laws.proofs.NegotiatedWay.{ring_made_now, key_given, wait_given, suspends_joined, on_its_way}
+use Rattle.vbd_laws.proofs.NegotiatedBusy.{StaysInEpoch, IsUnrefused, HasHeard, heard_first, heard_on, heard_suspends}
 use Rattle.vbd_laws.specs.Waits.{Check, Awake, front_check_in, back_check_in}
-use Rattle.vbd_laws.proofs.WaitsFront.{Knows as FrontKnows, knows_on as front_knows_on, knows_start as front_knows_start}
+use Rattle.vbd_laws.proofs.WaitsFront.{Knows as FrontKnows, in_hand, knows_on as front_knows_on, knows_start as front_knows_start}
 use Rattle.vbd_laws.proofs.WaitsBack.{Knows as BackKnows, knows_on as back_knows_on, knows_start as back_knows_start}
-use Rattle.vbd_laws.proofs.AtRest.{none_left, AreWaiting, are_unled}
-use Rattle.vbd_laws.proofs.ServedPossible.{way_start, IsWord, same_is, entered_words, Stands, stands_start, stands_on, joined_start}
+use Rattle.vbd_laws.proofs.AtRest.{AreWaiting, are_unled}
+use Rattle.vbd_laws.proofs.ServedPossible.{way_start, IsWord, same_is, entered_words, closes_served, Stands, stands_start, stands_on, joined_start}
 
 -- each end is somewhere in its final check
 abbrev FrontChecks : World → Type 0
@@ -122,16 +123,21 @@ FrontChecks w = (c : Check) × FrontKnows w c
 abbrev BackChecks : World → Type 0
 BackChecks w = (c : Check) × BackKnows w c
 
--- the machine before a word is overwritten, and in its first epoch: its negotiation is a run, and the machine of its ring stands for a pipeline
+-- in an epoch that a front began, its negotiation is a run, in which a front that has requests has heard of its back, and its port is the first of the epoch
+pub record Going (w : World) : Type 0 where
+  pub joined : Joined w
+  pub heard : HasHeard w
+  pub first_port : HasFirstPort w
+
+-- the machine before a word is overwritten: the machine of its ring stands for a pipeline, and a front began the epoch or was closed before it
 pub record Honest (config : Options) (w : World) : Type 0 where
   pub stands : Stands w
   pub way : IsOnItsWay w
-  pub joined : Joined w
-  pub one_port : HasOnePort w
   pub plain : IsPlain config
   pub standing : IsStanding config w.rings
   pub front_checks : FrontChecks w
   pub back_checks : BackChecks w
+  pub going : Going w ⊎ IsGone w
 
 -- the front's end of the ring is never broken
 whole_holds : (config : Options) (w : rings.World) (g : Flow) (d : Pipeline) (s : FrontRing) (b : BackRing) → Holds config w g d s b → front_view.is_broken s ≡ false
@@ -149,9 +155,20 @@ whole_now config w standing = by_kept standing.kept
     by_kept (inl held) = whole_holds config w held.0 standing.pipeline w.front.stage w.back.stage held.1
     by_kept (inr over) = whole_over config w standing.pipeline w.front.stage w.back.stage over
 
--- and holds no data of an epoch before
-pub hand_now : (config : Options) (w : World) → IsStanding config w.rings → HasInHand w.rings.front.stage w.rings.front.ending
-hand_now config w standing = none_in_hand w.rings.front.stage w.rings.front.ending (none_left config w.rings standing)
+-- and data of an epoch before are in hand, which are told before the back halts
+pub hand_now : (config : Options) (w : World) → Honest config w → HasInHand w.rings.front.stage w.rings.front.ending
+hand_now config w honest = in_hand w honest.front_checks.0 honest.front_checks.1
+
+left_over : (config : Options) (w : rings.World) (d : Pipeline) (s : FrontRing) (b : BackRing) → Over config w d s b → is_left s ≡ false
+left_over config w d (front_ring.LeftData n) b o = absurd o.front_at
+left_over config w d s b o = refl
+
+halted_unleft : (config : Options) (w : rings.World) → IsStanding config w → is_some w.back.halted ≡ true → is_left w.front.stage ≡ false
+halted_unleft config w standing halted = by_kept standing.kept
+  where
+    by_kept : IsKept config w standing.pipeline → is_left w.front.stage ≡ false
+    by_kept (inl held) = absurd (true≢false (sym halted ∙ ap is_some held.1.unhalted))
+    by_kept (inr over) = left_over config w standing.pipeline w.front.stage w.back.stage over
 
 -- a front that makes its ring has written no state since it began
 abbrev IsMaking : FrontBusAsk → Type 0
@@ -195,9 +212,12 @@ making_at bus.Start v idle r fits making = absurd making
 making_at s v idle r fits making = absurd making
 
 -- once the back has halted the front's end of the ring moves only where its ring is made
-moves_made : (w : World) → IsFit w → is_left w.rings.front.stage ≡ false → Joined w → front.ring_moves (front_asks w) w.rings.front.stage ≡ true → is_some w.rings.back.halted ≡ true → is_connected w.rings.front.stage ≡ true
-moves_made w fit none j moves halted = by_kind (made_or_making b w.rings.front.stage none (subst (λ (c : FrontBusAsk). front.ring_moves c w.rings.front.stage ≡ true) asks moves))
+moves_made : (config : Options) (w : World) → IsFit w → IsStanding config w.rings → Joined w → front.ring_moves (front_asks w) w.rings.front.stage ≡ true → is_some w.rings.back.halted ≡ true → is_connected w.rings.front.stage ≡ true
+moves_made config w fit standing j moves halted = by_kind (made_or_making b w.rings.front.stage none (subst (λ (c : FrontBusAsk). front.ring_moves c w.rings.front.stage ≡ true) asks moves))
   where
+    none : is_left w.rings.front.stage ≡ false
+    none = halted_unleft config w.rings standing halted
+
     b : FrontBusAsk
     b = ask_of w.front (front_view.is_unoccupied w.rings.front)
 
@@ -236,17 +256,17 @@ enters_served w v n fit same own (s ∷ states) timely are = (
   enters_served w (ring_happening.happens v (ring_happening.FrontEnters s)) n fit same (keeps_order s v.front (same_is n v.front.shape.order s own are.0) ∙ own) states timely.1 are.1,
 )
 
-front_served : (config : Options) (w : World) → Honest config w → ring_allowed.AreServed (front_does w) w.rings
-front_served config w honest =
+front_served : (config : Options) (w : World) → Honest config w → Going w → ring_allowed.AreServed (front_does w) w.rings
+front_served config w honest going =
     front_cases (λ does asked step. ring_allowed.AreServed does w.rings) w (λ says. (front_spelled w honest.stands.front, by_act (front_turn w) refl says))
-    (λ quiet moves. (moves_made w honest.stands.fit (none_left config w.rings honest.standing) honest.joined moves, tt)) (λ quiet still. (front_spelled w honest.stands.front, tt))
+    (λ quiet moves. (moves_made config w honest.stands.fit honest.standing going.joined moves, tt)) (λ quiet still. (front_spelled w honest.stands.front, tt))
   where
     by_act : (act : Option FrontAct) → front_turn w ≡ act → front.speaks (front_asks w) ≡ true
         → (let v : rings.World = ring_happening.happens w.rings (ring_happening.Negotiates end.Front (front_key (front_asks w))) in ring_allowed.AreServed (map ring_happening.FrontEnters (entered_at w act)) v)
     by_act None e says = tt
     by_act (Some a) e says =
         enters_served w _ w.rings.front.shape.order honest.stands.fit refl refl (front_step.states_after (frontend_of w) a.answer)
-        (states_timely w a honest.stands.fit (whole_now config w.rings honest.standing) honest.joined e says) (entered_words w (Some a) honest.stands e says)
+        (states_timely w a honest.stands.fit (whole_now config w.rings honest.standing) going.joined e says) (entered_words w (Some a) honest.stands e says)
 
 -- a front leaves, and knows that the back is gone, only once the back is closed
 abbrev LeavesLate : Negotiation → Type 0
@@ -315,7 +335,7 @@ farewell_line : (unplugged : Bool) → is_farewell (halt_line (back_step.ring_ha
 farewell_line true = refl
 farewell_line false = refl
 
-module _ (config : Options) (w : World) (honest : Honest config w) where
+module _ (config : Options) (w : World) (honest : Honest config w) (going : Going w) where
   abbrev fit : IsFit w
   fit = honest.stands.fit
 
@@ -327,8 +347,8 @@ module _ (config : Options) (w : World) (honest : Honest config w) where
       → back_step.halt_of (backend_of w) a.answer ≡ Some why → IsFarewell v (back_step.ring_halt why)
   farewell v a why same says turn e =
       let heard = keys_heard (back_asks w) w.rings.under a says turn in
-      let gone = halts_at (negotiation_of w) a_page why honest.joined (subst (λ (x : BackAnswer). bus_step.halt_of w.back x ≡ Some why) heard.0 e) in
-      let late = late_leaves (negotiation_of w) honest.joined in
+      let gone = halts_at (negotiation_of w) a_page why going.joined (subst (λ (x : BackAnswer). bus_step.halt_of w.back x ≡ Some why) heard.0 e) in
+      let late = late_leaves (negotiation_of w) going.joined in
       let low = low_halt w.back a.answer w.rings.back.stage why e fit.back in
       record {
         gone = ap (λ (y : BackHalt). is_farewell (halt_line (back_step.ring_halt y))) gone.1 ∙ farewell_line w.back.unplugged;
@@ -402,7 +422,7 @@ up_quiet ring.Halted held r (answer.Watched path) up is = (tt, refl)
 up_quiet ring.Halted held r x up is = absurd is
 up_quiet s held r x up is = absurd up
 
-module _ (config : Options) (w : World) (a : BackAct) (honest : Honest config w) (turn : back_turn w ≡ Some a) where
+module _ (config : Options) (w : World) (a : BackAct) (honest : Honest config w) (going : Going w) (turn : back_turn w ≡ Some a) where
   -- where its end of the ring moves
   ring_quiet : (is_some w.rings.back.halted ≡ false → is_connected w.rings.front.stage ≡ true) → back_act w.rings.under back_mover.Back (ring_ask.ask_of w.rings.back) Took ≡ Some a → Quiet w.rings.back a.answer
   ring_quiet may e = by_kept honest.standing.kept
@@ -426,18 +446,21 @@ module _ (config : Options) (w : World) (a : BackAct) (honest : Honest config w)
       back_cases (λ does asked step. Given asked) w
       (λ says untaken e. (key_given w.rings.under (back_asks w) a e, λ mine. absurd (true≢false (sym mine ∙ rw says refl))))
       (λ says takes e. (key_given w.rings.under (back_asks w) a e, λ mine. absurd (true≢false (sym mine ∙ rw says refl))))
-      (λ quiet moves e. let q = ring_quiet (moves_allowed config w honest moves) e in (q.given, λ mine. q.same))
+      (λ quiet moves e. let q = ring_quiet (moves_allowed config w honest going moves) e in (q.given, λ mine. q.same))
       (λ quiet still e. (wait_given w.rings.under a e, λ mine. absurd (true≢false (sym mine ∙ rw (quiet, still) refl))))
 
   back_joined : Reached (record { front = w.front; back = (back_step.step_of (backend_of w) a.answer).bus; keys = a.under.keys })
-  back_joined = let given = back_given turn in back_goes w a honest.stands.fit honest.joined turn given.0 given.1
+  back_joined = let given = back_given turn in back_goes w a honest.stands.fit going.joined turn given.0 given.1
 
-back_joins : (config : Options) (w : World) → Honest config w → Joined (happens w BackMoves)
-back_joins config w honest = by_act (back_turn w) refl
+unrefused : (config : Options) (w : World) → Honest config w → Going w → IsUnrefused w
+unrefused config w honest going a e = back_given config w a honest going e e
+
+back_joins : (config : Options) (w : World) → Honest config w → Going w → Joined (happens w BackMoves)
+back_joins config w honest going = by_act (back_turn w) refl
   where
     by_act : (act : Option BackAct) → back_turn w ≡ act → Joined (happens w BackMoves)
-    by_act None e = let still : IsNoMove w BackMoves = back_move_none w honest.stands.fit e in subst Joined (sym still.world) honest.joined
-    by_act (Some a) e = let moved : IsBackMove w a = back_move_is w a honest.stands.fit e in subst Joined (sym moved.world) (back_joined config w a honest e)
+    by_act None e = let still : IsNoMove w BackMoves = back_move_none w honest.stands.fit e in subst Joined (sym still.world) going.joined
+    by_act (Some a) e = let moved : IsBackMove w a = back_move_is w a honest.stands.fit e in subst Joined (sym moved.world) (back_joined config w a honest going e)
 
 -- an end of the ring that maps is elsewhere than here
 abbrev is_mapping : BackRing → Bool
@@ -534,9 +557,9 @@ agreed_order (bus.Grant page) v n ordered some = ordered.0
 agreed_order bus.NewPort v n ordered some = ordered.0
 agreed_order s v n ordered some = (with_port v.port v.order v.features.order n some ordered).0
 
-first_port : (port : Option ℕ) → IsPort IsFirst port → IsSome port → unwrap_or port 0 ≡ 1
-first_port None first some = absurd (true≢false (sym some))
-first_port (Some p) first some = first
+next_port : (count : ℕ) (port : Option ℕ) → IsPort (IsNext count) port → IsSome port → unwrap_or port 0 ≡ count + 1
+next_port count None first some = absurd (true≢false (sym some))
+next_port count (Some p) first some = first
 
 -- the references count from 8
 counts_from : (first count : ℕ) → map ring_gref (numbers_from first count) ≡ range_with_len (8 + first) count
@@ -548,16 +571,16 @@ counts_from first (suc count) =
 same_shape : (a : Abi) (n : ℕ) (s : Shape) → a ≡ s.abi → n ≡ s.order → record { abi = a; order = n } ≡ s
 same_shape a n s x y = ap (λ (c : Abi). record { abi = c; order = n }) x ∙ ap (λ (k : ℕ). record { abi = s.abi; order = k }) y
 
-terms_are : (w : World) (b : BackView) → IsFit w → IsPort IsFirst w.front.port → GoesByTerms w.front b → AreTerms w.rings (back_step.shape_read b) b.grefs b.terms.port
+terms_are : (w : World) (b : BackView) → IsFit w → IsPort (IsNext (earlier w)) w.front.port → GoesByTerms w.front b → AreTerms w.rings (back_step.shape_read b) b.grefs b.terms.port
 terms_are w b fit first goes =
     let order = agreed_order w.front.stage w.front w.rings.front.shape.order fit.ordered goes.some in
     record {
       shape_is = same_shape b.terms.abi b.terms.order w.rings.front.shape (goes.abi ∙ sym fit.layout) (goes.order ∙ sym order);
       grefs_are = goes.grefs ∙ (counts_from 0 (2 ^ ring_order w.front) ∙ ap (λ (n : ℕ). range_with_len 8 (2 ^ n)) (sym goes.order));
-      port_is = goes.port ∙ first_port w.front.port first goes.some;
+      port_is = goes.port ∙ next_port (earlier w) w.front.port first goes.some;
     }
 
-module _ (config : Options) (w : World) (honest : Honest config w) where
+module _ (config : Options) (w : World) (honest : Honest config w) (going : Going w) where
   -- the terms that its end of the ring takes
   takes_terms : back.bus_moves (back_asks w) w.rings.back.stage ≡ true → attaches w (back_learns w) ≡ true → (act : Option BackAct) → back_turn w ≡ act → back_act w.rings.under back_mover.Back (back.key_ask (back_asks w)) Took ≡ act
       → AreTerms w.rings (back_step.shape_read (back_learns w)) (back_learns w).grefs (back_learns w).terms.port
@@ -571,19 +594,15 @@ module _ (config : Options) (w : World) (honest : Honest config w) where
       let maps : (let v : World = happens w BackMoves in v.rings.back.stage ≡ ring.MapRing) =
       ap (λ (does : List ring_happening.Happening). (ring_happening.after does w.rings).back.stage) does_so ∙ (ap (λ (v : rings.World). v.back.stage) is.after ∙ ap (λ (r : ring_view.View). r.stage) is.led) in
       let at = map_reads b.stage b.state (let v : World = happens w BackMoves in v.rings.back.stage) next.fit.back maps in
-      terms_are w b honest.stands.fit honest.one_port.front.port (maps_by_terms (negotiation_of (happens w BackMoves)) (back_joins config w honest) at)
+      terms_are w b honest.stands.fit going.first_port.port (maps_by_terms (negotiation_of (happens w BackMoves)) (back_joins config w honest going) at)
 
   back_served : ring_allowed.AreServed (back_does w) w.rings
   back_served =
       back_cases (λ does asked step. back_act w.rings.under back_mover.Back asked Took ≡ back_turn w → ring_allowed.AreServed does w.rings) w
       (λ says untaken e.
-      (back_spelled w honest.stands.fit.offers honest.stands.fit.limited honest.stands.back, halts_served config w honest _ (back_turn w) refl (both_true (back.speaks (back_asks w)) (back.is_between w.rings.back.stage) says).0 e))
-      (λ says takes e. (takes_terms says takes (back_turn w) refl e, tt)) (λ quiet moves e. (moves_allowed config w honest moves, tt))
+      (back_spelled w honest.stands.fit.offers honest.stands.fit.limited honest.stands.back, halts_served config w honest going _ (back_turn w) refl (both_true (back.speaks (back_asks w)) (back.is_between w.rings.back.stage) says).0 e))
+      (λ says takes e. (takes_terms says takes (back_turn w) refl e, tt)) (λ quiet moves e. (moves_allowed config w honest going moves, tt))
       (λ quiet still e. (back_spelled w honest.stands.fit.offers honest.stands.fit.limited honest.stands.back, tt)) refl
-
-closes_served : (w : rings.World) (at : End) → ring_allowed.AreServed (closes_does at) w
-closes_served w end.Front = (tt, tt)
-closes_served w end.Back = tt
 
 -- where all is quiet both negotiations rest, and so the ring's machine is quiet
 front_wait : (a : FrontAsk) → front_submit.is_wait a ≡ true → a ≡ front_asked.Wait
@@ -598,7 +617,7 @@ unled_idle : (led idle : Bool) → (led || idle) ≡ true → led ≡ false → 
 unled_idle true idle either unled = absurd (true≢false unled)
 unled_idle false idle either unled = either
 
-module _ (config : Options) (w : World) (honest : Honest config w) (quiet : is_quiet w ≡ true) where
+module _ (config : Options) (w : World) (honest : Honest config w) (going : Going w) (quiet : is_quiet w ≡ true) where
   parts : AreQuiet (front.is_waiting (frontend_of w)) (back.is_idle (backend_of w)) (has_to_take w.rings.under end.Front) (has_to_take w.rings.under end.Back)
   parts = all_quiet _ _ _ _ quiet
 
@@ -609,76 +628,101 @@ module _ (config : Options) (w : World) (honest : Honest config w) (quiet : is_q
   waiting = record { front = front_wait (front.ask_of (frontend_of w)) parts.front; back = back_wait (back.ask_of (backend_of w)) back_parts.0; front_taken = parts.no_front; back_taken = parts.no_back }
 
   unled : (front_submit.is_idle w.rings.front ≡ true) × (ring_ask.is_led w.rings.back.stage ≡ false)
-  unled = are_unled config w honest.front_checks.0 honest.back_checks.0 honest.front_checks.1 honest.back_checks.1 honest.joined honest.standing (whole_now config w.rings honest.standing) waiting
+  unled = are_unled w honest.front_checks.0 honest.back_checks.0 honest.front_checks.1 honest.back_checks.1 going.joined going.heard (whole_now config w.rings honest.standing) waiting
 
-  pub quiet_ring : rings.is_quiet w.rings ≡ true
-  quiet_ring = let back_idle = unled_idle (ring_ask.is_led w.rings.back.stage) (ring_ask.is_idle w.rings.back) back_parts.1 unled.1 in rw (unled.0, back_idle, parts.no_front, parts.no_back) refl
+  pub going_quiet : rings.is_quiet w.rings ≡ true
+  going_quiet = let back_idle = unled_idle (ring_ask.is_led w.rings.back.stage) (ring_ask.is_idle w.rings.back) back_parts.1 unled.1 in rw (unled.0, back_idle, parts.no_front, parts.no_back) refl
+
+pub quiet_ring : (config : Options) (w : World) → Honest config w → is_quiet w ≡ true → rings.is_quiet w.rings ≡ true
+quiet_ring config w honest quiet = elim honest.going [ inl going ↦ going_quiet config w honest going quiet | inr gone ↦ gone_quiet w honest.stands.fit gone ]
+
+going_served : (config : Options) (w : World) (h : Happening) → IsUntouched h → Honest config w → Going w → IsPossible w h → ring_allowed.AreServed (does w h) w.rings
+going_served config w FrontMoves untouched honest going is = front_served config w honest going
+going_served config w BackMoves untouched honest going is = back_served config w honest going
+going_served config w (JobMoves number outcome) untouched honest going is = (is, tt)
+going_served config w (Closes at) untouched honest going is = closes_served w.rings at
+going_served config w (Submits job) untouched honest going is = (is, tt)
+going_served config w (Notifies at) untouched honest going is = (tt, tt)
+going_served config w (Pokes frame word value) untouched honest going is = absurd untouched
+going_served config w (OverwritesKey name text) untouched honest going is = absurd untouched
+going_served config w Suspends untouched honest going is = (is, tt)
+going_served config w Dumps untouched honest going is = (tt, tt)
+going_served config w (Looks quiet) untouched honest going is = (λ e. going_quiet config w honest going (is e), tt)
+going_served config w (Settles quiet) untouched honest going is = (λ e. going_quiet config w honest going (is e), tt)
 
 served_at : (config : Options) (w : World) (h : Happening) → IsUntouched h → Honest config w → IsPossible w h → ring_allowed.AreServed (does w h) w.rings
-served_at config w FrontMoves untouched honest is = front_served config w honest
-served_at config w BackMoves untouched honest is = back_served config w honest
-served_at config w (JobMoves number outcome) untouched honest is = (is, tt)
-served_at config w (Closes at) untouched honest is = closes_served w.rings at
-served_at config w (Submits job) untouched honest is = (is, tt)
-served_at config w (Notifies at) untouched honest is = (tt, tt)
-served_at config w (Pokes frame word value) untouched honest is = absurd untouched
-served_at config w (OverwritesKey name text) untouched honest is = absurd untouched
-served_at config w Suspends untouched honest is = absurd untouched
-served_at config w Dumps untouched honest is = (tt, tt)
-served_at config w (Looks quiet) untouched honest is = (λ e. quiet_ring config w honest (is e), tt)
-served_at config w (Settles quiet) untouched honest is = (λ e. quiet_ring config w honest (is e), tt)
+served_at config w h untouched honest is =
+    elim honest.going [ inl going ↦ going_served config w h untouched honest going is | inr gone ↦ gone_served w honest.stands.fit gone h untouched is ]
 
 -- the negotiation goes on as a run
-front_joins : (config : Options) (w : World) → Honest config w → Joined (happens w FrontMoves)
-front_joins config w honest = by_act (front_turn w) refl
+front_joins : (config : Options) (w : World) → Honest config w → Going w → Joined (happens w FrontMoves)
+front_joins config w honest going = by_act (front_turn w) refl
   where
     by_act : (act : Option FrontAct) → front_turn w ≡ act → Joined (happens w FrontMoves)
-    by_act None e = let still : IsNoMove w FrontMoves = front_move_none w honest.stands.fit e in subst Joined (sym still.world) honest.joined
+    by_act None e = let still : IsNoMove w FrontMoves = front_move_none w honest.stands.fit e in subst Joined (sym still.world) going.joined
     by_act (Some a) e =
         let moved : IsFrontMove w a = front_move_is w a honest.stands.fit e in
-        subst Joined (sym moved.world) (front_goes w a honest.stands.fit (whole_now config w.rings honest.standing) (hand_now config w honest.standing) honest.joined e)
+        subst Joined (sym moved.world) (front_goes w a honest.stands.fit (whole_now config w.rings honest.standing) (hand_now config w honest) going.joined e)
 
-joins : (config : Options) (w : World) (h : Happening) → IsUntouched h → Honest config w → Joined (happens w h)
-joins config w FrontMoves untouched honest = front_joins config w honest
-joins config w BackMoves untouched honest = back_joins config w honest
-joins config w (Closes at) untouched honest = closes_joined w at honest.joined
-joins config w (OverwritesKey name text) untouched honest = absurd untouched
-joins config w Suspends untouched honest = absurd untouched
-joins config w h untouched honest = let rests = apart_rests w h tt in reached_as (negotiation_of w) (negotiation_of (happens w h)) rests.bus honest.joined
+joins : (config : Options) (w : World) (h : Happening) → IsUntouched h → StaysInEpoch h → Honest config w → Going w → Joined (happens w h)
+joins config w FrontMoves untouched stays honest going = front_joins config w honest going
+joins config w BackMoves untouched stays honest going = back_joins config w honest going
+joins config w (Closes at) untouched stays honest going = closes_joined w at going.joined
+joins config w (OverwritesKey name text) untouched stays honest going = absurd untouched
+joins config w Suspends untouched stays honest going = absurd stays
+joins config w h untouched stays honest going = let rests = apart_rests w h tt in reached_as (negotiation_of w) (negotiation_of (happens w h)) rests.bus going.joined
 
 untouched_keeps : (h : Happening) → IsUntouched h → KeepsKeys h
 untouched_keeps (OverwritesKey name text) untouched = untouched
 untouched_keeps h untouched = tt
 
+-- an epoch goes on, or another begins, unless the front is closed
+stays_going : (config : Options) (w : World) (h : Happening) → IsUntouched h → StaysInEpoch h → Honest config w → Going w → Going (happens w h)
+stays_going config w h untouched stays honest going = record {
+  joined = joins config w h untouched stays honest going;
+  heard = heard_on w h (untouched_keeps h untouched) stays honest.stands.fit (whole_now config w.rings honest.standing) (hand_now config w honest) going.joined (unrefused config w honest going) going.heard;
+  first_port = first_port_on w h stays honest.stands.fit going.first_port;
+}
+
+begins : (config : Options) (w : World) → rings.may_suspend w.rings ≡ true → Honest config w → Going w → Going (happens w Suspends) ⊎ IsGone (happens w Suspends)
+begins config w may honest going = by_open (is_open w.rings.front.stage) refl
+  where
+    by_open : (opened : Bool) → is_open w.rings.front.stage ≡ opened → Going (happens w Suspends) ⊎ IsGone (happens w Suspends)
+    by_open true e = inl (record {
+      joined = suspends_joined w honest.stands.fit honest.stands.front honest.stands.back.sectors may e;
+      heard = heard_suspends w honest.stands.fit e going.heard;
+      first_port = first_port_begins w honest.stands.fit e going.first_port;
+    })
+    by_open false e = inr (gone_begins w honest.stands.fit may e (whole_now config w.rings honest.standing))
+
+goes_on : (config : Options) (w : World) (h : Happening) → IsUntouched h → Honest config w → IsPossible w h → Going w → Going (happens w h) ⊎ IsGone (happens w h)
+goes_on config w Suspends untouched honest is going = begins config w is honest going
+goes_on config w h untouched honest is going = inl (stays_going config w h untouched tt honest going)
+
 -- the machine after one happening more, and after all of them
 honest_on : (config : Options) (w : World) (h : Happening) → IsUntouched h → Honest config w → IsPossible w h → Honest config (happens w h)
-honest_on config w h untouched honest is =
-    let standing = honest.standing in
-    let served = served_at config w h untouched honest is in
-    record {
-      stands = stands_on w h honest.stands;
-      way = on_its_way w h (untouched_keeps h untouched) honest.stands.fit honest.stands.front honest.stands.back.sectors (hand_now config w standing) honest.way;
-      joined = joins config w h untouched honest;
-      one_port = one_port_on w h honest.stands.fit (served_unsuspended (does w h) w.rings served) honest.one_port;
-      plain = honest.plain;
-      standing = run_kept config (does w h) w.rings honest.plain standing served;
-      front_checks = (front_check_in w h honest.front_checks.0, front_knows_on w h honest.front_checks.0 honest.front_checks.1);
-      back_checks = (back_check_in w h honest.back_checks.0, back_knows_on w h honest.back_checks.0 honest.back_checks.1);
-    }
+honest_on config w h untouched honest is = record {
+  stands = stands_on w h honest.stands;
+  way = on_its_way w h (untouched_keeps h untouched) honest.stands.fit honest.stands.front honest.stands.back.sectors (hand_now config w honest) honest.way;
+  plain = honest.plain;
+  standing = run_kept config (does w h) w.rings honest.plain honest.standing (served_at config w h untouched honest is);
+  front_checks = (front_check_in w h honest.front_checks.0, front_knows_on w h honest.front_checks.0 honest.front_checks.1);
+  back_checks = (back_check_in w h honest.back_checks.0, back_knows_on w h honest.back_checks.0 honest.back_checks.1);
+  going = elim honest.going [ inl going ↦ goes_on config w h untouched honest is going | inr gone ↦ inr (gone_on w honest.stands.fit gone h untouched) ];
+}
 
 pub honest_after : (config : Options) (hs : List Happening) (w : World) → AreUntouched hs → Honest config w → ArePossible hs w → Honest config (after hs w)
 honest_after config [] w untouched honest are = honest
 honest_after config (h ∷ hs) w untouched honest are = honest_after config hs (happens w h) untouched.1 (honest_on config w h untouched.0 honest are.0) are.1
 
--- all of it, up to the first word or key that is overwritten, and the first suspend
+-- all of it, up to the first word or key that is overwritten
 served_then : (hs rest : List ring_happening.Happening) (w : rings.World) → ring_allowed.AreServed hs w → ring_allowed.AreServed (honest_history rest) (ring_happening.after hs w) → ring_allowed.AreServed (honest_history (hs ++ rest)) w
 served_then [] rest w are later = later
 served_then (ring_happening.Pokes frame word value ∷ hs) rest w are later = absurd are.0
 served_then (ring_happening.OverwritesKey name text ∷ hs) rest w are later = absurd are.0
-served_then (ring_happening.Suspends ∷ hs) rest w are later = absurd are.0
 served_then (h ∷ hs) rest w are later = (are.0, served_then hs rest (ring_happening.happens w h) are.1 later)
 
--- what holds of the rings' happenings of each happening holds of all of them, up to the first word or key that is overwritten, and the first suspend
+-- what holds of the rings' happenings of each happening holds of all of them, up to the first word or key that is overwritten
 module _ (config : Options) (Are : List ring_happening.Happening → rings.World → Type 0) (none : (w : rings.World) → Are [] w)
     (more : (hs rest : List ring_happening.Happening) (w : rings.World) → Are hs w → Are (honest_history rest) (ring_happening.after hs w) → Are (honest_history (hs ++ rest)) w)
     (each : (w : World) (h : Happening) → IsUntouched h → Honest config w → IsPossible w h → Are (does w h) w.rings) where
@@ -686,7 +730,6 @@ module _ (config : Options) (Are : List ring_happening.Happening → rings.World
   all_of [] w honest are = none w.rings
   all_of (Pokes frame word value ∷ hs) w honest are = none w.rings
   all_of (OverwritesKey name text ∷ hs) w honest are = none w.rings
-  all_of (Suspends ∷ hs) w honest are = none w.rings
   all_of (h ∷ hs) w honest are =
       more (does w h) (all_does hs (happens w h)) w.rings (each w h tt honest are.0) (all_of hs (happens w h) (honest_on config w h tt honest are.0) are.1)
 
@@ -703,10 +746,9 @@ honest_start config carried are =
     record {
       stands = stands_start config are;
       way = way_start config are;
-      joined = joined_start config are;
-      one_port = record { ports = omega arith; front = record { order = are.0; port = tt; stage = tt } };
       plain = plain;
       standing = always_stands config [] plain tt;
       front_checks = (Awake, front_knows_start config are.2);
       back_checks = (Awake, back_knows_start config are.2);
+      going = inl (record { joined = joined_start config are; heard = heard_first config; first_port = record { order = are.0; port = tt; stage = tt } });
     }

@@ -127,6 +127,10 @@ back_possible w stands =
     (λ quiet moves e. (tt, tt))
     (λ quiet still e. (back_spelled w stands.fit.offers stands.fit.limited stands.back, tt)) refl
 
+pub closes_served : (w : rings.World) (at : End) → ring_allowed.AreServed (closes_does at) w
+closes_served w end.Front = (tt, tt)
+closes_served w end.Back = tt
+
 closes_possible : (w : rings.World) (at : End) → ring_allowed.ArePossible (closes_does at) w
 closes_possible w end.Front = (tt, tt)
 closes_possible w end.Back = tt

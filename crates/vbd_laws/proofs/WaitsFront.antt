@@ -46,12 +46,21 @@ use Rattle.vbd_laws.proofs.Fit.{fit_start, fit_happens}
 use Rattle.vbd_laws.proofs.MovesTurns.{front_asks, front_says, front_cases}
 use Rattle.vbd_laws.proofs.MovesFront.{front_waits, front_move_is, front_move_none}
 use Rattle.vbd_laws.proofs.MovesBack.{back_move_is, back_move_none}
+use Rattle.vbd_laws.proofs.NegotiatedFront.{HasInHand}
 use Rattle.vbd_laws.proofs.WaitsFrontRing.{StandsAt, Stands, stands_step, stands_enters, stands_submit, stands_resumed}
 
 -- the machine is fit, and the front's end of the ring sleeps where its last look found nothing
 pub record Knows (w : World) (c : Check) : Type 0 where
   pub fit : IsFit w
   pub ring : Stands w.rings.front c
+
+-- data that are left are in hand
+hand_at : (s : Stage) (f : ends.View) (c : Check) → StandsAt s f c → HasInHand s f.ending
+hand_at (ring_stage.LeftData n) f c is = is.1
+hand_at s f c is = tt
+
+pub in_hand : (w : World) (c : Check) → Knows w c → HasInHand w.rings.front.stage w.rings.front.ending
+in_hand w c k = hand_at w.rings.front.stage w.rings.front c k.ring
 
 -- what it is to tell is heard
 heard_at : (s : Stage) (f : ends.View) (c : Check) → StandsAt s f c → StandsAt s (record f { told = None }) c

@@ -10,15 +10,14 @@ use Rattle.split_model.specs.World as rings
 use Rattle.split_model.specs.Honest.{honest_history}
 use Rattle.report_laws.specs.Agreed.{AreAgreed}
 use Rattle.vbd_model.specs.World.{World, start_of, is_quiet}
-use Rattle.vbd_model.specs.Happening.{Happening, Pokes, OverwritesKey, Suspends, after, all_does}
+use Rattle.vbd_model.specs.Happening.{Happening, Pokes, OverwritesKey, after, all_does}
 use Rattle.vbd_model.specs.Possible.{ArePossible}
 use Rattle.vbd_model.specs.Kind.{are_carried}
 
--- no hostile hand overwrites a word or a key, and the domain isn't suspended
+-- no hostile hand overwrites a word or a key
 abbrev pub IsUntouched : Happening → Type 0
 IsUntouched (Pokes frame word value) = ⊥
 IsUntouched (OverwritesKey name text) = ⊥
-IsUntouched Suspends = ⊥
 IsUntouched h = Unit {0}
 
 abbrev pub AreUntouched : List Happening → Type 0
@@ -36,7 +35,7 @@ pub record HaveBoth (w : World) (s : BusState) : Type 0 where
 abbrev pub StatesAgree : World → Type 0
 StatesAgree w = HaveBoth w state.Connected ⊎ (HaveBoth w state.Closed × (w.rings.front.closing ≡ true))
 
--- so it is wherever all is quiet, with options that are carried out, before a hostile hand first overwrites a word or a key, and before the domain is first suspended
+-- so it is wherever all is quiet, with options that are carried out, before a hostile hand first overwrites a word or a key, however often the domain is suspended
 abbrev pub StatesAgreeAtQuiet : Type 0
 StatesAgreeAtQuiet =
     (config : Options) (hs : List Happening) → are_carried config ≡ true → AreOptions config → ArePossible hs (start_of config) → AreUntouched hs

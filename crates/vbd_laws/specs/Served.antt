@@ -1,4 +1,4 @@
--- What a schedule makes happen to the machine is possible for the machine of its ring, and served until a word or a key is overwritten or the domain is suspended.
+-- What a schedule makes happen to the machine is possible for the machine of its ring, and served until a word or a key is overwritten.
 use Rattle.std.specs.Prelude.{◌≡◌, ℕ, true, false, List, [], ◌∷◌, is_some}
 use Rattle.blk_base.specs.Options.{Options}
 use Rattle.blk_base.specs.declared.ask.BackAsk.TheVariants as ring_ask
@@ -23,7 +23,7 @@ RingsPossible =
     (config : Options) (hs : List Happening) → are_carried config ≡ true → AreOptions config → ArePossible hs (start_of config)
     → rings_allowed.ArePossible (all_does hs (start_of config)) (rings.start_of config)
 
--- and what happens before a hostile hand first overwrites a word or a key, and before the domain is first suspended, is served
+-- and what happens before a hostile hand first overwrites a word or a key is served, however often the domain is suspended
 abbrev pub RingsServed : Type 0
 RingsServed =
     (config : Options) (hs : List Happening) → are_carried config ≡ true → AreOptions config → ArePossible hs (start_of config)

@@ -1,9 +1,9 @@
 //! Laws of the machine whose ends negotiate (`io/xenbus.h`) and then serve a ring (`io/blkif.h`): it
 //! is fit whatever happens, each move of an end is what that end asks and is answered, and whatever
 //! happens is possible for the machine of the ring, of whose reports the other laws speak, and served
-//! until a word or a key is overwritten or the domain is suspended; until then both ends agree where
-//! all is quiet. Each end waits in three cases alone, and each halt and each word that breaks the front
-//! has its cause. The runner stands on it.
+//! until a word or a key is overwritten; until then both ends agree where all is quiet. Each end waits
+//! in three cases alone, and each halt and each word that breaks the front has its cause. The runner
+//! stands on it.
 #![tactic(auto)]
 
 ghost use Rattle.std.specs.Prelude.{◌≡◌, ℕ, ℤ, ◌+◌, ◌^◌, ◌<◌, ◌≤◌, List, ◌++◌, length, Some, None};
@@ -66,10 +66,12 @@ pub fn whatever_happens_is_possible()
     ensures { RingsPossible }
 {}
 
-/// What happens before a hostile hand first overwrites a word or a key, and before the domain is first
-/// suspended, is served by the machine of the ring: the front connects, closes and leaves in order and
-/// is never broken, and leaves after the back; the back halts only as its front closes, with no request
-/// left; and where all is found quiet neither end waits for its negotiation.
+/// What happens before a hostile hand first overwrites a word or a key is served by the machine of the
+/// ring, however often the domain is suspended: in each epoch the front connects, closes and leaves in
+/// order and is never broken, and leaves after the back; the back takes the front's terms, its first
+/// port of the epoch among them, and halts only as its front closes, with no request left, or from the
+/// beginning of an epoch whose front was closed before it; and where all is found quiet neither end
+/// waits for its negotiation.
 pub fn the_honest_part_is_served()
     ensures { RingsServed }
 {}
@@ -83,8 +85,8 @@ pub fn the_back_maps_what_the_front_granted()
     ensures made { RingIsMadeFirst }
 {}
 
-/// Where all is quiet, before a hostile hand first overwrites a word or a key and before the domain is
-/// first suspended, both ends wrote Connected (4) last, or both wrote Closed (6) (`io/xenbus.h`) and the
+/// Where all is quiet, before a hostile hand first overwrites a word or a key, however often the domain
+/// is suspended, both ends wrote Connected (4) last, or both wrote Closed (6) (`io/xenbus.h`) and the
 /// front closes, and the directory of keys says so. Until then the directory of the ring's machine says
 /// so wherever a look finds all quiet.
 pub fn at_quiet_both_states_agree()

@@ -1,0 +1,162 @@
+-- The data of a read that were in hand as the guest was suspended are told before anything else; then the ring is made.
+use Rattle.std.proofs.Common.{◌≡◌, ℕ, ◌+◌, ◌%◌, ◌^◌, ◌<◌, ◌≤◌, ◌==◌, ◌⊎◌, inl, inr, Bool, true, false, List, length, refl, ap, sym, ◌∙◌, subst, arith, true≢false}
+use Rattle.std.specs.Prelude.{Option, Some, None, nat_lt}
+use Rattle.std.proofs.lemmas.Option.{none-some}
+use Rattle.blk_base.specs.Options.{Options}
+use Rattle.pipeline_laws.specs.Pipeline.{Pipeline}
+use Rattle.blk_front.specs.declared.stage.Ending.{Ending}
+use Rattle.blk_front.specs.declared.stage.Stage.{Stage as FrontStage}
+use Rattle.blk_front.specs.declared.stage.Stage.TheVariants as front
+use Rattle.blk_front.specs.Ask.{read_ask}
+use Rattle.blk_front.specs.Request.{words_in}
+use Rattle.blk_front.specs.Step.{left_step}
+use Rattle.blk_front.specs.Submit.{is_ready, is_connected, ending_of}
+use Rattle.blk_front.specs.View.{next_request}
+use Rattle.split_model.specs.World.{World}
+use Rattle.machine_pipeline.proofs.Flow.{Flow, has_ring, is_issuing, filled, named_frames, granted_frames, named_pages, granted_pages, entered, ending_at, revoking_at, telling_at, is_front_arming, may_front_sleep, is_fetching, reply_at, is_bound_back}
+use Rattle.machine_pipeline.proofs.Holds.{FrontAt, FrontSends, RingBegun, IsOffered, ArePooled, AreDataWords, PortsAt, Holds}
+use Rattle.machine_pipeline.proofs.Stations.{AreStations}
+use Rattle.machine_pipeline.proofs.Turns.{FrontGoes}
+use Rattle.machine_pipeline.proofs.Indices.{indices_room}
+use Rattle.machine_pipeline.proofs.Ended.{ActGoes, finishing_at}
+use Rattle.machine_pipeline.proofs.Telling.{IsTelling, HoldsMore, HoldsAll, Becomes, word, next_at, told_by}
+
+-- a stage at which an epoch begins: nothing of the ring is made
+pub record IsUnbegun (s : FrontStage) : Type 0 where
+  pub unready : is_ready s ≡ false
+  pub unconnected : is_connected s ≡ false
+  pub restless : may_front_sleep s ≡ false
+  pub unarmed : is_front_arming s ≡ false
+  pub unissued : is_issuing s ≡ false
+  pub ringless : has_ring s ≡ false
+  pub named : (pages : ℕ) → named_pages s pages ≡ 0
+  pub granted : (pages : ℕ) → granted_pages s pages ≡ 0
+  pub begun : (start : ℕ) (pages : List ℕ) → RingBegun start pages s
+  pub unfilled : (frames n : ℕ) → n < filled s frames → ⊥
+  pub entered_none : entered s ≡ 0
+  pub unnamed : named_frames s ≡ 0
+  pub ungranted : granted_frames s ≡ 0
+  pub unrevoked : (ending : Option Ending) → revoking_at s ending ≡ None
+  pub quiet : (pushed fetched : ℕ) → FrontSends s pushed fetched → ⊥
+
+pub left_data : (n : ℕ) → IsUnbegun (front.LeftData n)
+left_data n = record {
+  unready = refl;
+  unconnected = refl;
+  restless = refl;
+  unarmed = refl;
+  unissued = refl;
+  ringless = refl;
+  named = λ pages. refl;
+  granted = λ pages. refl;
+  begun = λ start pages. tt;
+  unfilled = λ frames n lt. omega arith;
+  entered_none = refl;
+  unnamed = refl;
+  ungranted = refl;
+  unrevoked = λ ending. refl;
+  quiet = λ pushed fetched x. x;
+}
+
+pub first_word : IsUnbegun (front.RingWord 0)
+first_word = record {
+  unready = refl;
+  unconnected = refl;
+  restless = refl;
+  unarmed = refl;
+  unissued = refl;
+  ringless = refl;
+  named = λ pages. refl;
+  granted = λ pages. refl;
+  begun = λ start pages j lt. absurd (omega arith);
+  unfilled = λ frames n lt. omega arith;
+  entered_none = refl;
+  unnamed = refl;
+  ungranted = refl;
+  unrevoked = λ ending. refl;
+  quiet = λ pushed fetched x. x;
+}
+
+-- the data and the frames in hand alone change
+pub left_on : (config : Options) (w : World) (g : Flow) (d d' : Pipeline) (s s' : FrontStage) (ending : Option Ending) (pool : List Bool) (words : List ℕ)
+    → IsUnbegun s → IsUnbegun s' → ending_of s' ≤ ending_of s
+    → Holds config w g d s w.back.stage
+    → AreStations config g d' (is_ready s') (is_issuing s') (is_fetching w.back.stage) (ending_at s' ending) (telling_at s') (reply_at w.back.stage) w.front.requests w.back.jobs.works w.under.pages
+    → ArePooled pool w.front.requests (ending_at s' ending)
+    → FrontAt g.shape g.start g.pushed g.taken g.front_seen g.submitted g.replies (next_request w.front) w.front.entry ending s'
+    → AreDataWords w.under.pages words ending s'
+    → Holds config (finishing_at w s' ending pool words w.under.pages) g d' s' w.back.stage
+left_on config w g d d' s s' ending pool words i i' fewer h stations pooled at told = record {
+  started = h.started;
+  shaped = h.shaped;
+  sized = h.sized;
+  indices = indices_room g w.front.ring w.back.ring w.front.seen w.back.seen w.back.fetched w.front.last w.front.waiting (length w.front.requests) (ending_of s) (ending_of s') (let was = h.indices in let room = was.room in omega arith) h.indices;
+  queue = h.queue;
+  submitted = h.submitted;
+  pool = pooled;
+  stations = stations;
+  works = h.works;
+  counted = h.counted;
+  info = h.info;
+  replies = h.replies;
+  front_at = at;
+  offered = subst (λ (b : Bool). IsOffered b config.read_only config.indirect w.front.offers g.pushed) (i.unready ∙ sym i'.unready) h.offered;
+  back_at = h.back_at;
+  unhalted = h.unhalted;
+  memory = h.memory;
+  ring = record {
+    begun = i'.begun g.start w.under.pages;
+    requests = λ t. absurd (true≢false (sym t ∙ i'.ringless));
+    responses = λ t. absurd (true≢false (sym t ∙ i'.ringless));
+    named = λ page lt unmapped. absurd (let none = i'.named (2 ^ g.shape.order) in omega arith);
+    granted = λ page lt unmapped. absurd (let none = i'.granted (2 ^ g.shape.order) in omega arith);
+  };
+  slots = (let was = h.slots in record { entries = was.entries; entry = λ r e k lt in_it. absurd (let none = i'.entered_none in omega arith); responses = was.responses; response = was.response });
+  frames = λ k x lt. (let was = h.frames k x lt in record { whole = was.whole; begun = λ e n f. absurd (i'.unfilled _ n f) });
+  telling = told;
+  entries = record {
+    each = λ k x lt. (let was = h.entries.each k x lt in record {
+      named = was.named;
+      named_next = λ e place t. absurd (let none = i'.unnamed in omega arith);
+      flags = was.flags;
+      flags_next = λ e place t. absurd (let none = i'.ungranted in omega arith);
+    });
+    ending = λ e same. absurd (none-some e (sym (i'.unrevoked ending) ∙ same));
+  };
+  mapped = h.mapped;
+  paged = h.paged;
+  front_sleep = (let was = h.front_sleep in record {
+    arming = λ t. absurd (true≢false (sym t ∙ i'.unarmed));
+    armed = λ t. absurd (true≢false (sym t ∙ was.may i.restless));
+    may = λ t. was.may i.restless;
+    woken = was.woken;
+  });
+  back_sleep = (let was = h.back_sleep in record { arming = was.arming; armed = was.armed; may = was.may; woken = λ t. by_wake (was.woken t) });
+  ports = subst (λ (b : Bool). PortsAt g.before b (is_bound_back w.back.stage) w.under.channels.made w.under.channels.ports) (i.unconnected ∙ sym i'.unconnected) h.ports;
+}
+  where
+    by_wake : (g.pushed ≡ g.fetched) ⊎ (w.under.channels.back_pending ≡ true) ⊎ FrontSends s g.pushed g.fetched → (g.pushed ≡ g.fetched) ⊎ (w.under.channels.back_pending ≡ true) ⊎ FrontSends s' g.pushed g.fetched
+    by_wake (inl same) = inl same
+    by_wake (inr (inl t)) = inr (inl t)
+    by_wake (inr (inr sends)) = absurd (i.quiet g.pushed g.fetched sends)
+
+-- a word of them is read
+pub left_goes : (config : Options) (w : World) (g : Flow) (d : Pipeline) (n : ℕ)
+    → w.front.told ≡ None
+    → Holds config w g d (front.LeftData n) w.back.stage
+    → FrontGoes config w d (front.LeftData n)
+left_goes config w g d n untold h =
+    subst (λ (x : Option Ending). ActGoes config w d (front.LeftData n) (read_ask x n)) (sym h.front_at.1)
+    (subst (Becomes config w g d n (front.LeftData (n + 1)) (front.RingWord 0) false t) (sym stepped) (told_by config w g d n (front.LeftData (n + 1)) (front.RingWord 0) false t more all))
+  where
+    t : IsTelling config w g d false n
+    t = record { untold = untold; at = h.front_at; submitted = h.submitted; size = h.telling.size; so_far = h.telling.so_far; pool = h.pool; stations = h.stations }
+
+    stepped : left_step w.front.ending n (word config w g d n (front.LeftData (n + 1)) (front.RingWord 0) false t) w.front ≡ next_at config w g d n (front.LeftData (n + 1)) (front.RingWord 0) false t (nat_lt (n + 1) (words_in h.front_at.0.request)) (n % 128 == 127)
+    stepped = ap (λ (x : Option Ending). left_step x n (word config w g d n (front.LeftData (n + 1)) (front.RingWord 0) false t) w.front) h.front_at.1
+
+    more : HoldsMore config w g false n (front.LeftData (n + 1))
+    more p words at sized so_far now = left_on config w g d p (front.LeftData n) (front.LeftData (n + 1)) w.front.ending w.front.pool words (left_data n) (left_data (n + 1)) (omega arith) h now h.pool at (record { size = sized; so_far = so_far })
+
+    all : HoldsAll config w g false (front.RingWord 0)
+    all p pool words pooled sized now = left_on config w g d p (front.LeftData n) (front.RingWord 0) None pool words (left_data n) first_word (omega arith) h now pooled (omega arith) (record { size = sized; so_far = tt })

@@ -1,0 +1,175 @@
+-- The front's port is the first that is made in its epoch: as many ports were made before it as were before the epoch.
+use Rattle.std.proofs.Common.{◌≡◌, ◌∙◌, ap, sym, subst, refl, ℕ, ◌+◌, ◌-◌, ◌&&◌, Bool, true, false, if◌then◌else◌, List, [], ◌∷◌, ◌++◌, map, length, length-append, length-set, arith}
+use Rattle.std.specs.Prelude.{Option, Some, None, Result, Ok, Err, slice_set}
+use Rattle.std.proofs.Math.ListN.{length-map}
+use Rattle.blk_base.specs.declared.parts.End.TheVariants as end
+use Rattle.blk_base.specs.declared.parts.Mode.{Mode}
+use Rattle.blk_base.specs.declared.ask.FrontAsk.{FrontAsk}
+use Rattle.blk_base.specs.declared.ask.FrontAsk.TheVariants as front_ask
+use Rattle.blk_base.specs.declared.ask.BackAsk.{BackAsk}
+use Rattle.blk_base.specs.declared.ask.BackAsk.TheVariants as back_ask
+use Rattle.blk_base.specs.declared.moves.BackMover.{BackMover}
+use Rattle.blk_base.specs.declared.moves.BackMover.TheVariants as back_mover
+use Rattle.grant_table.specs.declared.entry.MapRefusal.{MapRefusal}
+use Rattle.grant_table.specs.Table.{verdict_at}
+use Rattle.event_channel.specs.declared.channels.PortState.{PortState}
+use Rattle.event_channel.specs.declared.channels.PortState.TheVariants as port_state
+use Rattle.event_channel.specs.Channels.{ChannelState, made_before, place_of, state_of, with_port, closed_port, unbound_port}
+use Rattle.hypervisor.specs.Hypervisor.{Hypervisor}
+use Rattle.hypervisor.specs.Act.{FrontAct, BackAct, Outcome, Took, front_act, back_act, map_act, bind_act}
+use Rattle.blk_front.specs.State.{is_open}
+use Rattle.blk_back.specs.Step.{job_ask_of}
+use Rattle.xenbus_state.specs.FrontView.{FrontView, suspended}
+use Rattle.split_model.specs.World as rings
+use Rattle.split_model.specs.Happening as ring
+use Rattle.split_model.proofs.Overwriting.{poke_cases, overwriting_cases}
+use Rattle.split_model.proofs.SafeActs.{IsFrontKeyAct, front_keys, back_keys, back_key_channels, of_front, of_back, of_read, of_disk, front_wait, back_wait}
+use Rattle.split_model.proofs.SafeAnswers.{IsFronts}
+use Rattle.vbd_front.specs.Ask as front
+use Rattle.vbd_back.specs.Ask as back
+use Rattle.vbd_model.specs.World.{World, frontend_of, backend_of}
+use Rattle.vbd_model.specs.Happening.{Happening, FrontMoves, BackMoves, JobMoves, Closes, Notifies, Pokes, OverwritesKey, Suspends, front_turn, back_turn, front_bus_after, renewed_bus, happens}
+use Rattle.vbd_model.specs.Fit.{IsFit}
+use Rattle.vbd_laws.specs.Moves.{IsNoMove, IsFrontMove, IsBackMove}
+use Rattle.vbd_laws.proofs.FitSuspended.{anew_at}
+use Rattle.vbd_laws.proofs.MovesFront.{front_move_is, front_move_none}
+use Rattle.vbd_laws.proofs.MovesBack.{back_move_is, back_move_none}
+use Rattle.vbd_laws.proofs.NegotiatedBusy.{StaysInEpoch}
+use Rattle.vbd_laws.proofs.ServedFront.{SpeaksWith, AsksFor, asks_port, move_speaks, closed_speaks}
+
+-- the next port after so many
+abbrev pub IsNext : (count : ℕ) → (port : ℕ) → Type 0
+IsNext count port = port ≡ count + 1
+
+-- so many ports were made before this epoch, and the front has no other than the next one
+abbrev pub earlier : World → ℕ
+earlier w = made_before w.rings.under.channels
+
+abbrev pub HasFirstPort : World → Type 0
+HasFirstPort w = SpeaksWith (IsNext (earlier w)) w.front
+
+-- so many they stay over each act: a port that is made is one of this epoch, and a port that is bound or closed is there still
+abbrev Keeps : Hypervisor → Hypervisor → Type 0
+Keeps h under = made_before under.channels ≡ made_before h.channels
+
+abbrev FrontKeeps : Hypervisor → FrontAct → Type 0
+FrontKeeps h x = Keeps h x.under
+
+abbrev BackKeeps : Hypervisor → BackAct → Type 0
+BackKeeps h x = Keeps h x.under
+
+one_more : (c : ChannelState) → made_before (with_port c) ≡ made_before c
+one_more c = let more : length (c.ports ++ port_state.Unbound ∷ []) ≡ length c.ports + 1 = length-append c.ports (port_state.Unbound ∷ []) in omega arith
+
+as_many : (c : ChannelState) (ports : List PortState) → length ports ≡ length c.ports → c.made - length ports ≡ made_before c
+as_many c ports same = ap (λ (n : ℕ). c.made - n) same
+
+key_keeps : (h : Hypervisor) (x : FrontAct) → IsFrontKeyAct h x → FrontKeeps h x
+key_keeps h x is = ap (λ (u : Hypervisor). made_before u.channels) is.under
+
+front_keeps : (h : Hypervisor) (a : FrontAsk) (x : FrontAct) → front_act h a ≡ Some x → FrontKeeps h x
+front_keeps h front_ask.Wait x e = front_wait (FrontKeeps h) h x refl (λ path. refl) e
+front_keeps h front_ask.Fence x e = of_front (FrontKeeps h) _ x refl e
+front_keeps h (front_ask.Read frame word) x e = of_front (FrontKeeps h) _ x refl e
+front_keeps h (front_ask.Write frame word value) x e = of_front (FrontKeeps h) _ x refl e
+front_keeps h (front_ask.Cas frame word old new) x e = of_front (FrontKeeps h) _ x refl e
+front_keeps h front_ask.NewPort x e = of_front (FrontKeeps h) _ x (one_more h.channels) e
+front_keeps h front_ask.Send x e = of_front (FrontKeeps h) _ x refl e
+front_keeps h front_ask.ClosePort x e = of_front (FrontKeeps h) _ x (let c : ChannelState = h.channels in as_many c (map closed_port c.ports) (length-map c.ports closed_port)) e
+front_keeps h (front_ask.GetKey path) x e = front_keys (FrontKeeps h) h (front_ask.GetKey path) x tt (key_keeps h) e
+front_keeps h (front_ask.SetKey path text) x e = front_keys (FrontKeeps h) h (front_ask.SetKey path text) x tt (key_keeps h) e
+front_keeps h (front_ask.Watch path) x e = front_keys (FrontKeeps h) h (front_ask.Watch path) x tt (key_keeps h) e
+
+map_keeps : (h : Hypervisor) (who : BackMover) (gref : ℕ) (mode : Mode) (verdict : Result ℕ MapRefusal) → BackKeeps h (map_act h who gref mode verdict)
+map_keeps h who gref mode (Ok frame) = refl
+map_keeps h who gref mode (Err refusal) = refl
+
+bind_keeps : (h : Hypervisor) (p : ℕ) (s : PortState) → BackKeeps h (bind_act h p s)
+bind_keeps h p port_state.Unbound = let c : ChannelState = h.channels in as_many c (slice_set c.ports (place_of c p) port_state.Bound) (length-set c.ports (place_of c p) port_state.Bound)
+bind_keeps h p port_state.Closed = refl
+bind_keeps h p port_state.Bound = refl
+
+same_keeps : (h : Hypervisor) (x : BackAct) → x.under ≡ h → BackKeeps h x
+same_keeps h x same = ap (λ (u : Hypervisor). made_before u.channels) same
+
+back_keeps : (h : Hypervisor) (who : BackMover) (a : BackAsk) (o : Outcome) (x : BackAct) → back_act h who a o ≡ Some x → BackKeeps h x
+back_keeps h who back_ask.Wait o x e = back_wait (BackKeeps h) h who x refl (λ path. refl) e
+back_keeps h who back_ask.Fence o x e = of_back (BackKeeps h) _ x refl e
+back_keeps h who (back_ask.Read m word) o x e = of_back (BackKeeps h) _ x refl e
+back_keeps h who (back_ask.Write m word value) o x e = of_back (BackKeeps h) _ x refl e
+back_keeps h who (back_ask.Map gref mode) o x e = of_back (BackKeeps h) _ x (map_keeps h who gref mode (verdict_at h.pages gref mode)) e
+back_keeps h who (back_ask.Unmap m) o x e = of_back (BackKeeps h) _ x refl e
+back_keeps h who (back_ask.Bind p) o x e = of_back (BackKeeps h) _ x (bind_keeps h p (state_of h.channels p)) e
+back_keeps h who back_ask.Send o x e = of_back (BackKeeps h) _ x refl e
+back_keeps h who back_ask.ClosePort o x e = of_back (BackKeeps h) _ x (let c : ChannelState = h.channels in as_many c (map unbound_port c.ports) (length-map c.ports unbound_port)) e
+back_keeps h who (back_ask.GetKey path) o x e = back_keys (BackKeeps h) h who (back_ask.GetKey path) o x tt (λ y is. ap made_before (back_key_channels h y is)) e
+back_keeps h who (back_ask.SetKey path text) o x e = back_keys (BackKeeps h) h who (back_ask.SetKey path text) o x tt (λ y is. ap made_before (back_key_channels h y is)) e
+back_keeps h who (back_ask.Watch path) o x e = back_keys (BackKeeps h) h who (back_ask.Watch path) o x tt (λ y is. ap made_before (back_key_channels h y is)) e
+back_keeps h who (back_ask.DiskRead sector) o x e = of_read (BackKeeps h) h _ o x (same_keeps h) e
+back_keeps h who (back_ask.DiskWrite sector words) o x e = of_disk (BackKeeps h) h _ o x (same_keeps h) e
+back_keeps h who back_ask.Flush o x e = of_disk (BackKeeps h) h _ o x (same_keeps h) e
+back_keeps h who (back_ask.Trim sector count) o x e = of_disk (BackKeeps h) h _ o x (same_keeps h) e
+
+-- and so over whatever happens in an epoch
+front_earlier : (w : World) → IsFit w → earlier (happens w FrontMoves) ≡ earlier w
+front_earlier w fit = by_act (front_turn w) refl
+  where
+    by_act : (act : Option FrontAct) → front_turn w ≡ act → earlier (happens w FrontMoves) ≡ earlier w
+    by_act None e = let still : IsNoMove w FrontMoves = front_move_none w fit e in ap earlier still.world
+    by_act (Some a) e = let moved : IsFrontMove w a = front_move_is w a fit e in ap earlier moved.world ∙ front_keeps w.rings.under (front.ask_of (frontend_of w)) a e
+
+back_earlier : (w : World) → IsFit w → earlier (happens w BackMoves) ≡ earlier w
+back_earlier w fit = by_act (back_turn w) refl
+  where
+    by_act : (act : Option BackAct) → back_turn w ≡ act → earlier (happens w BackMoves) ≡ earlier w
+    by_act None e = let still : IsNoMove w BackMoves = back_move_none w fit e in ap earlier still.world
+    by_act (Some a) e = let moved : IsBackMove w a = back_move_is w a fit e in ap earlier moved.world ∙ back_keeps w.rings.under back_mover.Back (back.ask_of (backend_of w)) Took a e
+
+job_earlier : (w : rings.World) (number : ℕ) (o : Outcome) (act : Option BackAct) → ring.job_turn w number o ≡ act → Keeps w.under (let v : rings.World = ring.job_after w number act in v.under)
+job_earlier w number o None e = refl
+job_earlier w number o (Some a) e = back_keeps w.under (back_mover.Job number) (job_ask_of w.back number) o a e
+
+earlier_stays : (w : World) (h : Happening) → StaysInEpoch h → IsFit w → earlier (happens w h) ≡ earlier w
+earlier_stays w FrontMoves stays fit = front_earlier w fit
+earlier_stays w BackMoves stays fit = back_earlier w fit
+earlier_stays w (JobMoves number outcome) stays fit = job_earlier w.rings number outcome (ring.job_turn w.rings number outcome) refl
+earlier_stays w (Closes end.Front) stays fit = refl
+earlier_stays w (Closes end.Back) stays fit = refl
+earlier_stays w (Notifies end.Front) stays fit = refl
+earlier_stays w (Notifies end.Back) stays fit = refl
+earlier_stays w (Pokes frame word value) stays fit = poke_cases (λ under shown. Keeps w.rings.under under) w.rings.under frame word value (λ framed worded. refl) refl
+earlier_stays w (OverwritesKey name text) stays fit = overwriting_cases (λ under shown. Keeps w.rings.under under) w.rings.under name text (λ allowed. refl) refl
+earlier_stays w Suspends stays fit = absurd stays
+earlier_stays w h stays fit = refl
+
+-- the front asks for a port where none is made yet
+fronts_next : (c : ChannelState) (a : FrontAsk) → IsFronts c a → AsksFor (IsNext (made_before c)) c.made a
+fronts_next c front_ask.NewPort is = let none : length c.ports ≡ 0 = ap length is.1 in omega arith
+fronts_next c a is = tt
+
+speaks_on : (w : World) (h : Happening) → StaysInEpoch h → IsFit w → HasFirstPort w → (let v : World = happens w h in SpeaksWith (IsNext (earlier w)) v.front)
+speaks_on w FrontMoves stays fit has = move_speaks (IsNext (earlier w)) w (asks_port (IsNext (earlier w)) w fit (fronts_next w.rings.under.channels)) has
+speaks_on w (Closes end.Front) stays fit has = closed_speaks (IsNext (earlier w)) w.front has
+speaks_on w (Closes end.Back) stays fit has = has
+speaks_on w Suspends stays fit has = absurd stays
+speaks_on w h stays fit has = has
+
+pub first_port_on : (w : World) (h : Happening) → StaysInEpoch h → IsFit w → HasFirstPort w → HasFirstPort (happens w h)
+first_port_on w h stays fit has = subst (λ (n : ℕ). let v : World = happens w h in SpeaksWith (IsNext n) v.front) (sym (earlier_stays w h stays fit)) (speaks_on w h stays fit has)
+
+-- after a suspend an open front has no port
+pub first_port_begins : (w : World) → IsFit w → is_open w.rings.front.stage ≡ true → HasFirstPort w → HasFirstPort (happens w Suspends)
+first_port_begins w fit opened has = by_may (rings.may_suspend w.rings)
+  where
+    anew : (n : ℕ) → SpeaksWith (IsNext n) (if is_open w.rings.front.stage then suspended w.front else w.front)
+    anew n =
+        subst (λ (b : Bool). SpeaksWith (IsNext n) (if b then suspended w.front else w.front)) (sym opened)
+        (subst (λ (v : FrontView). SpeaksWith (IsNext n) v) (sym (anew_at w.front.stage w.front w.rings.front.stage fit.front opened)) (record { order = has.order; port = tt; stage = tt }))
+
+    by_may : (may : Bool) → HasFirstPort (record {
+      rings = if may then rings.suspended w.rings else w.rings;
+      front = if may && is_open w.rings.front.stage then suspended w.front else w.front;
+      back = if may then renewed_bus (is_open w.rings.front.stage) w.back else w.back;
+    })
+    by_may true = anew _
+    by_may false = has
