@@ -255,10 +255,13 @@ paging number request size writes sector count pages = record {
 }
 
 -- there is room for the segments of 960 frames
-abbrev pub served_indirect : ℕ → RawRequest → ℕ → (op sector count : ℕ) → List ℕ → Work
-served_indirect number request size op sector count pages =
-    if nat_le count 960 then paging number request size (not (op == 0)) sector count pages
+abbrev pub served_paged : ℕ → RawRequest → ℕ → (writes : Bool) → (sector count : ℕ) → List ℕ → Work
+served_paged number request size writes sector count pages =
+    if nat_le count 960 then paging number request size writes sector count pages
     else ended number request size (stage.Done Error)
+
+abbrev pub served_indirect : ℕ → RawRequest → ℕ → (op sector count : ℕ) → List ℕ → Work
+served_indirect number request size op sector count pages = served_paged number request size (not (op == 0)) sector count pages
 
 -- a served request: of READ (0), WRITE (1) and WRITE_BARRIER (2) the segments are moved; FLUSH_DISKCACHE (3) flushes the disk and DISCARD trims its sectors; of INDIRECT the segments are copied from its pages first
 abbrev pub served_direct : ℕ → RawRequest → ℕ → ℕ → ℕ → List Segment → Work

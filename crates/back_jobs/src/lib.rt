@@ -16,6 +16,3 @@ pub use effect::Effect;
 pub use jobs::Jobs;
 pub use stage::Stage;
 pub use task::Task;
-
-#[cfg(test)]
-mod tests;

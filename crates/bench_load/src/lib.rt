@@ -14,6 +14,3 @@ pub use laws::{the_counts_are_those_of_the_lines, the_schedule_is_in_the_grammar
 pub use load::BenchLoad;
 pub use schedule::BenchSchedule;
 pub use summary::write_summary;
-
-#[cfg(test)]
-mod tests;

@@ -11,6 +11,3 @@ mod told;
 pub use back::Back;
 pub use stage::{Reply, Stage};
 pub use told::{BackTold, Halt};
-
-#[cfg(test)]
-mod tests;

@@ -23,6 +23,3 @@ pub use moves::{BackMover, Move, Mover};
 pub use operation::{Abi, Op, Status};
 pub use parts::{End, Mapping, Mode, SectorWords};
 pub use short_text::ShortText;
-
-#[cfg(test)]
-mod tests;

@@ -1,14 +1,12 @@
--- A request that is put back among others in order of number, and the one that is ending, apart from them.
-use Rattle.std.proofs.Common.{◌≡◌, ◌≢◌, ℕ, suc, ◌+◌, ◌-◌, ◌%◌, ◌^◌, ◌<◌, ◌≤◌, Bool, true, false, cond, not, ◌⊎◌, inl, inr, List, [], ◌∷◌, ◌++◌, length, get_or, refl, sym, ap, ◌∙◌, subst, arith}
-use Rattle.std.specs.Prelude.{Option, Some, None, unwrap_or, All, IfSome, insert, position, remove, nat_lt}
-use Rattle.std.specs.List.{position_or_len}
-use Rattle.std.proofs.lemmas.Bool.{cond_both, cases_lt}
-use Rattle.std.proofs.lemmas.Bool.Decides.{nat_tests}
+-- The front's requests in order of number after a suspend and beside the one that is ending, and what is true of the front then.
+use Rattle.std.proofs.Common.{◌≡◌, ◌≢◌, ℕ, ◌+◌, ◌-◌, ◌%◌, ◌^◌, ◌<◌, ◌≤◌, ◌⊎◌, inl, inr, List, [], ◌∷◌, ◌++◌, length, get_or, refl, sym, ap, ◌∙◌, subst, arith}
+use Rattle.std.specs.Prelude.{Option, Some, None, All, IfSome, remove}
+use Rattle.std.proofs.lemmas.Bool.{cases_lt}
 use Rattle.std.proofs.lemmas.List.{get_or_default}
 use Rattle.std.proofs.lemmas.List.Edits.{length-remove, get_or-remove_below, get_or-remove_above}
-use Rattle.std.proofs.lemmas.List.Elements.{All-head, All-tail, All-cons, All-push, All-weaker}
-use Rattle.std.proofs.lemmas.List.Kept.{AllPairs-cons}
-use Rattle.std.proofs.lemmas.List.Sums.{prefix_len-le-length}
+use Rattle.std.proofs.lemmas.List.Elements.{All-push}
+use Rattle.resume_shadow.proofs.Order.{all_by_number, one_more, ascending_by_number}
+use Rattle.blk_front.proofs.Numbers.{remove_all}
 use Rattle.blk_front.specs.declared.request.Request.{Request}
 use Rattle.blk_front.specs.declared.stage.Ending.{Ending}
 use Rattle.blk_front.specs.Sound.{AreAscending, IsApart, IsPlaced, IsUnissued, IsIssuing, IsReading, IsHeld, IsSound}
@@ -20,58 +18,9 @@ use Rattle.blk_front.specs.Submit.{ending_of}
 use Rattle.blk_front.specs.declared.state.FrontState.TheVariants.{Agreed}
 use Rattle.blk_front.specs.State.{in_state}
 use Rattle.blk_front.specs.View.{View}
-use Rattle.blk_front.specs.Suspend.{by_number, with_ending, requests_after, ending_after, stage_after, resumed}
+use Rattle.blk_front.specs.Suspend.{with_ending, requests_after, ending_after, stage_after, resumed}
 use Rattle.blk_base.specs.Distance.{distance_of}
 use Rattle.ring_words.specs.Shape.{Shape, entries_of}
-
--- where the first request with a number above its own stands, or after all
-abbrev pub belongs : Request → List Request → ℕ
-belongs r l = position_or_len (λ (s : Request). nat_lt r.number s.number) l
-
-later : (n : ℕ) → 1 + n ≡ suc n
-later n = omega arith
-
-inserted_at : (b : Bool) (r s : Request) (rest : List Request) → insert rest (belongs r rest) r ≡ by_number r rest →
-    insert (s ∷ rest) (cond (not b) (1 + belongs r rest) 0) r ≡ cond b (r ∷ s ∷ rest) (s ∷ by_number r rest)
-inserted_at true r s rest h = refl
-inserted_at false r s rest h = ap (λ k. insert (s ∷ rest) k r) (later (belongs r rest)) ∙ ap (λ l. s ∷ l) h
-
-pub inserted : (r : Request) (l : List Request) → insert l (belongs r l) r ≡ by_number r l
-inserted r [] = refl
-inserted r (s ∷ rest) = inserted_at (nat_lt r.number s.number) r s rest (inserted r rest)
-
--- what holds of it and of each of them holds of all
-pub all_by_number : (P : Request → Type 0) (r : Request) (l : List Request) → P r → All P l → All P (by_number r l)
-all_by_number P r [] h all = All-cons P r [] h all
-all_by_number P r (s ∷ rest) h all =
-    cond_both (nat_lt r.number s.number) (r ∷ s ∷ rest) (s ∷ by_number r rest) (All P)
-    (λ _. All-cons P r (s ∷ rest) h all)
-    (λ _. All-cons P s (by_number r rest) (All-head P s rest all) (all_by_number P r rest h (All-tail P s rest all)))
-
-pub one_more : (r : Request) (l : List Request) → length (by_number r l) ≡ suc (length l)
-one_more r [] = refl
-one_more r (s ∷ rest) = cond_both (nat_lt r.number s.number) (r ∷ s ∷ rest) (s ∷ by_number r rest) (λ l. length l ≡ suc (suc (length rest))) (λ _. refl) (λ _. ap suc (one_more r rest))
-
-pub tail_ascending : (s : Request) (rest : List Request) → AreAscending (s ∷ rest) → AreAscending rest
-tail_ascending s rest up i j d lt within = up (suc i) (suc j) d (omega arith) (omega arith)
-
-pub head_ascending : (s : Request) (rest : List Request) → AreAscending (s ∷ rest) → All (λ (t : Request). s.number < t.number) rest
-head_ascending s rest up k d within = up 0 (suc k) d (omega arith) (omega arith)
-
--- numbers that ascend go on ascending, where none of them is its own
-pub ascending_by_number : (r : Request) (l : List Request) → AreAscending l → All (λ (s : Request). s.number ≢ r.number) l → AreAscending (by_number r l)
-ascending_by_number r [] up other = λ i j d lt within. absurd (omega arith)
-ascending_by_number r (s ∷ rest) up other =
-    let above : Request → Request → Type 0 = λ (a b : Request). a.number < b.number in
-    let first : s.number ≢ r.number = All-head (λ (t : Request). t.number ≢ r.number) s rest other in
-    cond_both (nat_lt r.number s.number) (r ∷ s ∷ rest) (s ∷ by_number r rest) AreAscending
-    (λ less. let lower : r.number < s.number = grind (arith, nat_tests, less) in
-    AllPairs-cons above r (s ∷ rest)
-    (All-cons (above r) s rest lower (All-weaker (above s) (above r) (λ t h. omega arith) rest (head_ascending s rest up))) up)
-    (λ more. let higher : s.number < r.number = grind (arith, nat_tests, more, first) in
-    AllPairs-cons above s (by_number r rest)
-    (all_by_number (above s) r rest higher (head_ascending s rest up))
-    (ascending_by_number r rest (tail_ascending s rest up) (All-tail (λ (t : Request). t.number ≢ r.number) s rest other)))
 
 -- the one that was taken from them has a number of its own
 pub removed_apart : (l : List Request) (e : Ending) (place last : ℕ) → place < length l → AreAscending l → All (λ (s : Request). s.number ≤ last) l → e.request ≡ get_or l place e.request → IsApart (remove l place) last e
@@ -91,6 +40,11 @@ removed_apart l e place last within up given is = record {
         let there = ap (λ (r : Request). r.number) (get_or-remove_above l place d k above within) in
         let less = up place (k + 1) d (omega arith) lt in omega arith
 
+-- where another ends, none of those that are left is the one that is ending
+pub still_apart : (ending : Option Ending) (l : List Request) (place last : ℕ) → IfSome ending (IsApart l last) → IfSome ending (IsApart (remove l place) last)
+still_apart None l place last apart = tt
+still_apart (Some e) l place last apart = record { given = apart.given; other = remove_all (λ (r : Request). r.number ≢ e.request.number) l place apart.other }
+
 -- and one with the next number is another
 pub pushed_apart : (ending : Option Ending) (l : List Request) (r : Request) (last : ℕ) → IfSome ending (IsApart l last) → r.number ≡ last + 1 → IfSome ending (IsApart (l ++ r ∷ []) (last + 1))
 pushed_apart None l r last apart next = apart
@@ -99,20 +53,13 @@ pushed_apart (Some e) l r last apart next = record {
   other = All-push (λ (s : Request). s.number ≢ e.request.number) l r apart.other (λ same. let low = apart.given in omega arith);
 }
 
--- the place that is found is where it belongs
-at_place : (b : Bool) (place n : ℕ) (found : Option ℕ) → nat_lt place n ≡ b → place ≤ n → found ≡ cond b (Some place) None → unwrap_or found n ≡ place
-at_place true place n found less le is = ap (λ (o : Option ℕ). unwrap_or o n) is
-at_place false place n found more le is = ap (λ (o : Option ℕ). unwrap_or o n) is ∙ grind (arith, nat_tests, more, le)
-
-pub placed : (r : Request) (l : List Request) (found : Option ℕ) → found ≡ position (λ (s : Request). nat_lt r.number s.number) l → insert l (unwrap_or found (length l)) r ≡ by_number r l
-placed r l found is =
-    let within : belongs r l ≤ length l = prefix_len-le-length (λ (s : Request). not (nat_lt r.number s.number)) l in
-    ap (λ place. insert l place r) (at_place (nat_lt (belongs r l) (length l)) (belongs r l) (length l) found refl within is) ∙ inserted r l
+abbrev number : Request → ℕ
+number r = r.number
 
 -- the front's requests after a suspend, and how they go together
 with_ending_counted : (ending : Option Ending) (l : List Request) → length (with_ending ending l) + 0 ≡ length l + held ending
 with_ending_counted None l = refl
-with_ending_counted (Some e) l = omega (arith, one_more e.request l)
+with_ending_counted (Some e) l = omega (arith, one_more number e.request l)
 
 pub after_counted : (s : Stage) (ending : Option Ending) (l : List Request) → length (requests_after s ending l) + held (ending_after s ending) ≡ length l + held ending
 after_counted (stage.GrantRead place) ending l = with_ending_counted ending l
@@ -121,7 +68,7 @@ after_counted s ending l = refl
 
 with_ending_fits : (ending : Option Ending) (l : List Request) (n : ℕ) → length l + 1 ≤ n → length (with_ending ending l) + 0 ≤ n
 with_ending_fits None l n fits = omega arith
-with_ending_fits (Some e) l n fits = omega (arith, one_more e.request l)
+with_ending_fits (Some e) l n fits = omega (arith, one_more number e.request l)
 
 pub after_fits : (s : Stage) (ending : Option Ending) (l : List Request) (n : ℕ) → length l + ending_of s ≤ n → length (requests_after s ending l) + ending_of (stage_after s) ≤ n
 after_fits (stage.GrantRead place) ending l n fits = with_ending_fits ending l n fits
@@ -150,7 +97,7 @@ after_reading s m = tt
 
 with_ending_ascends : (ending : Option Ending) (l : List Request) (last : ℕ) → AreAscending l → IfSome ending (IsApart l last) → AreAscending (with_ending ending l)
 with_ending_ascends None l last up apart = up
-with_ending_ascends (Some e) l last up apart = ascending_by_number e.request l up apart.other
+with_ending_ascends (Some e) l last up apart = ascending_by_number number e.request l up apart.other
 
 pub after_ascending : (s : Stage) (ending : Option Ending) (l : List Request) (last : ℕ) → AreAscending l → IfSome ending (IsApart l last) → AreAscending (requests_after s ending l)
 after_ascending (stage.GrantRead place) ending l last up apart = with_ending_ascends ending l last up apart
@@ -159,7 +106,7 @@ after_ascending s ending l last up apart = up
 
 with_ending_all : (P : Request → Type 0) (ending : Option Ending) (l : List Request) → IfSome ending (λ (e : Ending). P e.request) → All P l → All P (with_ending ending l)
 with_ending_all P None l h all = all
-with_ending_all P (Some e) l h all = all_by_number P e.request l h all
+with_ending_all P (Some e) l h all = all_by_number number P e.request l h all
 
 pub after_all : (P : Request → Type 0) (s : Stage) (ending : Option Ending) (l : List Request) → IfSome ending (λ (e : Ending). P e.request) → All P l → All P (requests_after s ending l)
 after_all P (stage.GrantRead place) ending l h all = with_ending_all P ending l h all

@@ -1,5 +1,5 @@
 -- What the front asks.
-use Rattle.std.specs.Prelude.{ℕ, ◌+◌, ◌/◌, ◌%◌, ◌<◌, Option, Some, None, if◌then◌else◌, ◌==◌, ◌&&◌, ◌||◌, Bool, List, length, slice_index}
+use Rattle.std.specs.Prelude.{◌≡◌, ℕ, ◌+◌, ◌/◌, ◌%◌, ◌<◌, Option, Some, None, if◌then◌else◌, ◌==◌, ◌&&◌, ◌||◌, Bool, List, length, slice_index}
 use Rattle.blk_base.specs.declared.ask.FrontAsk.{FrontAsk}
 use Rattle.blk_base.specs.declared.ask.FrontAsk.TheVariants.{Wait, Fence, Read, Write, Cas, NewPort, Send, ClosePort}
 use Rattle.blk_base.specs.declared.ask.FrontAnswer.{FrontAnswer}
@@ -129,3 +129,8 @@ StaysInMemory (Read frame word) = IsPlace frame word
 StaysInMemory (Write frame word value) = IsPlace frame word
 StaysInMemory (Cas frame word old new) = IsPlace frame word
 StaysInMemory ask = Unit {0}
+
+-- this is asked, and it stays there
+pub record Asks (asked ask : FrontAsk) : Type 0 where
+  pub value : asked ≡ ask
+  pub within : StaysInMemory asked

@@ -19,7 +19,7 @@ view_of f = record {
   seen = f.seen;
   last = f.last;
   waiting = f.waiting;
-  requests = f.requests.items;
+  requests = f.requests.held;
   ending = f.ending;
   pool = f.pool;
   entry = f.entry.items;
@@ -33,7 +33,7 @@ held None = 0
 held (Some e) = 1
 
 abbrev pub lists : Inside → ℕ
-lists f = f.spare + length f.requests.items + held f.ending
+lists f = f.spare + length f.requests.held + held f.ending
 
 pub record IsStocked (f : Inside) : Type 0 where
   pub enough : entries_of f.order < lists f

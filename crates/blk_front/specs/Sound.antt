@@ -1,5 +1,5 @@
 -- What is true of the front at every moment.
-use Rattle.std.specs.Prelude.{◌≡◌, ◌≢◌, ℕ, ◌+◌, ◌^◌, ◌<◌, ◌≤◌, List, length, All, AllPairs, Option, IfSome, IsSome}
+use Rattle.std.specs.Prelude.{◌≡◌, ◌≢◌, ℕ, ◌+◌, ◌^◌, ◌<◌, ◌≤◌, List, length, All, Option, IfSome, IsSome}
 use Rattle.blk_base.specs.Distance.{distance_of}
 use Rattle.ring_words.specs.Shape.{Shape, entries_of, entry_words_of}
 use Rattle.blk_front.specs.declared.request.Request.{Request}
@@ -9,6 +9,7 @@ use Rattle.blk_front.specs.declared.stage.Stage.TheVariants as stage
 use Rattle.blk_front.specs.Request.{IsShaped}
 use Rattle.blk_front.specs.Submit.{ending_of}
 use Rattle.blk_front.specs.View.{View}
+use Rattle.resume_shadow.specs.Unfinished.{IsAscending}
 
 -- the word, the page or the frame that a stage is at is one of those that it goes through
 abbrev pub IsPlaced : Stage → Shape → Type 0
@@ -61,12 +62,16 @@ IsReading s ahead = Unit {0}
 
 -- each request's number is below those of the requests after it
 abbrev pub AreAscending : List Request → Type 0
-AreAscending requests = AllPairs (λ (r s : Request). r.number < s.number) requests
+AreAscending requests = IsAscending (λ (r : Request). r.number) requests
 
--- the request that is ending is none of the others, and its number was given
+-- the request that is ending is none of the others
+abbrev pub IsOther : List Request → Ending → Type 0
+IsOther requests e = All (λ (r : Request). r.number ≢ e.request.number) requests
+
+-- so it is, and its number was given
 pub record IsApart (requests : List Request) (last : ℕ) (e : Ending) : Type 0 where
   pub given : e.request.number ≤ last
-  pub other : All (λ (r : Request). r.number ≢ e.request.number) requests
+  pub other : IsOther requests e
 
 pub record IsSound (v : View) : Type 0 where
   pub order : v.shape.order ≤ 4

@@ -4,7 +4,7 @@ ghost use Rattle.blk_base.specs.declared.ask.FrontAsk.TheVariants.{Wait};
 ghost use Rattle.std.specs.Option.{option_copied};
 ghost use Rattle.ring_words.specs.Shape.{entry_words_of};
 ghost use Rattle.blk_front.specs.View.{start_of, next_request, ring_page_frame, slot_frame, slot_word, entry_frame, entry_word};
-ghost use Rattle.blk_front.specs.Ask.{ask_of, is_through, loop_ask, issue_ask, entry_ask, data_ask, page_ask, name_ask, grant_ask, revoke_ask, end_ask, read_ask, IsAnswer, IsPlace, StaysInMemory};
+ghost use Rattle.blk_front.specs.Ask.{ask_of, is_through, loop_ask, issue_ask, entry_ask, data_ask, page_ask, name_ask, grant_ask, revoke_ask, end_ask, read_ask, IsAnswer, IsPlace, StaysInMemory, Asks};
 ghost use Rattle.blk_front.specs.Step.{step_of, step_at, ring_read, ring_ended};
 ghost use Rattle.blk_front.specs.Entry.{entry_of};
 ghost use Rattle.blk_front.specs.Request.{IsShaped};
@@ -26,6 +26,7 @@ use arrayvec::ArrayVec;
 use blk_base::{Abi, Config, Endpoint, FrontAnswer, FrontAsk, Job, OutOfMemory};
 use blk_layout::request_words;
 use grant_table::GTF_PERMIT_ACCESS;
+use resume_shadow::Shadow;
 use ring_words::{FrontRing, REQ_EVENT, REQ_PROD, RSP_EVENT, RSP_PROD, RingShape};
 use std::alloc::Global;
 use std::marker::Model;
@@ -49,7 +50,7 @@ pub struct Front {
     seen: u32,
     last: u32,
     waiting: u32,
-    requests: Vec<Request>,
+    requests: Shadow<Request>,
     spare: SpareLists,
     ending: Option<Ending>,
     pool: Pool,
@@ -59,7 +60,7 @@ pub struct Front {
 }
 
 impl Model for Front {
-    ghost use Rattle.std.specs.Prelude.{◌≤◌, vec_capacity};
+    ghost use Rattle.std.specs.Prelude.{◌≤◌};
     ghost use Rattle.blk_front.specs.View.{View};
     ghost use Rattle.blk_front.specs.Inside.{view_of, IsStocked};
     ghost use Rattle.blk_front.specs.Sound.{IsSound};
@@ -68,7 +69,7 @@ impl Model for Front {
 
     ghost view = { view_of };
 
-    ghost invariant = { λ f. IsSound (view_of f) × (512 ≤ vec_capacity f.requests) × IsStocked f };
+    ghost invariant = { λ f. IsSound (view_of f) × (512 ≤ f.requests.room) × IsStocked f };
 }
 
 impl Front {
@@ -77,7 +78,7 @@ impl Front {
     pub fn new(alloc: Global, config: &Config) -> Result<Front, OutOfMemory>
         ensures { IfOk result (λ front. front ≡ start_of config.now) }
     {
-        let requests = Vec::with_capacity(alloc, 512)?;
+        let requests = Shadow::reserve(alloc, 512)?;
         let shape = RingShape::of(config.abi, config.order);
         let spare = SpareLists::new(alloc, shape.entries() + 1)?;
         Ok(Front {
@@ -136,8 +137,7 @@ impl Front {
 
     // What is asked where nothing was begun.
     fn ask_in_loop(&self) -> FrontAsk<'_>
-        ensures value { result ≡ loop_ask self.now (next_request self.now) }
-        ensures within { StaysInMemory result }
+        ensures { Asks result (loop_ask self.now (next_request self.now)) }
     {
         if let Some(r) = self.next_request() {
             return self.issue(r);
@@ -162,8 +162,7 @@ impl Front {
     #[tactic(auto, using(crate::proofs::Shapes::wide_entries))]
     fn read_response(&self, word: u32) -> FrontAsk<'_>
         requires { word < 27 }
-        ensures value { result ≡ FrontAsk.Read (slot_frame self.now.shape self.now.ring.cons word) (slot_word self.now.shape self.now.ring.cons word) }
-        ensures within { StaysInMemory result }
+        ensures { Asks result (FrontAsk.Read (slot_frame self.now.shape self.now.ring.cons word) (slot_word self.now.shape self.now.ring.cons word)) }
     {
         let (frame, place) = place::slot(self.shape(), self.ring.cons(), word);
         read(frame, place)
@@ -172,8 +171,7 @@ impl Front {
     // Writes a word of the next request's entry.
     fn write_slot(&self, word: u32) -> FrontAsk<'_>
         requires { word < entry_words_of self.now.shape.abi }
-        ensures value { result ≡ entry_ask self.now self.now.entry word }
-        ensures within { StaysInMemory result }
+        ensures { Asks result (entry_ask self.now self.now.entry word) }
     {
         self.write_entry(self.entry.as_slice(), word)
     }
@@ -182,8 +180,7 @@ impl Front {
     #[inline(always)]
     fn write_entry(&self, entry: &[u32], word: u32) -> FrontAsk<'_>
         requires { word < entry_words_of self.now.shape.abi }
-        ensures value { result ≡ entry_ask self.now entry.now word }
-        ensures within { StaysInMemory result }
+        ensures { Asks result (entry_ask self.now entry.now word) }
     {
         let (frame, place) = place::slot(self.shape(), self.ring.prod(), word);
         write(frame, place, entry.get(word as usize).copied().unwrap_or(0))
@@ -194,8 +191,7 @@ impl Front {
     #[inline(always)]
     fn issue(&self, r: &Request) -> FrontAsk<'_>
         requires { IsShaped r.now }
-        ensures value { result ≡ issue_ask self.now r.now r.now.transfer }
-        ensures within { StaysInMemory result }
+        ensures { Asks result (issue_ask self.now r.now r.now.transfer) }
     {
         match r.transfer {
             Transfer::Write(_) | Transfer::Barrier(_) => write_data(r, 0),
@@ -210,8 +206,7 @@ impl Front {
     #[tactic(auto, using(crate::proofs::Shapes::wide_entries))]
     fn write_first(&self, r: &Request) -> FrontAsk<'_>
         requires { IsShaped r.now }
-        ensures value { result ≡ entry_ask self.now (entry_of self.now.shape.abi r.now) 0 }
-        ensures within { StaysInMemory result }
+        ensures { Asks result (entry_ask self.now (entry_of self.now.shape.abi r.now) 0) }
     {
         let entry = request_words(self.abi, &wire(r));
         self.write_entry(entry.as_slice(), 0)
@@ -219,8 +214,7 @@ impl Front {
 
     // Writes a word of the data of the request that is issued next.
     fn issue_data(&self, n: u32) -> FrontAsk<'_>
-        ensures value { result ≡ data_ask (next_request self.now) n }
-        ensures within { StaysInMemory result }
+        ensures { Asks result (data_ask (next_request self.now) n) }
     {
         match self.next_request() {
             Some(r) => write_data(r, n),
@@ -231,8 +225,7 @@ impl Front {
     // Writes a word of its indirect pages.
     fn issue_page(&self, n: u32) -> FrontAsk<'_>
         requires { n < 1920 }
-        ensures value { result ≡ page_ask (next_request self.now) n }
-        ensures within { StaysInMemory result }
+        ensures { Asks result (page_ask (next_request self.now) n) }
     {
         match self.next_request() {
             Some(r) => write_page(r, n),
@@ -242,8 +235,7 @@ impl Front {
 
     // Names its frame of this place in the frame's grant entry.
     fn name_frame(&self, place: u32) -> FrontAsk<'_>
-        ensures value { result ≡ name_ask (next_request self.now) place }
-        ensures within { StaysInMemory result }
+        ensures { Asks result (name_ask (next_request self.now) place) }
     {
         match self.next_request() {
             Some(r) => write_frame(&r.frame(place)),
@@ -253,8 +245,7 @@ impl Front {
 
     // Grants its frame of this place.
     fn grant_frame(&self, place: u32) -> FrontAsk<'_>
-        ensures value { result ≡ grant_ask (next_request self.now) place }
-        ensures within { StaysInMemory result }
+        ensures { Asks result (grant_ask (next_request self.now) place) }
     {
         match self.next_request() {
             Some(r) => write_flags(&r.frame(place), r.flags_at(place)),
@@ -264,8 +255,7 @@ impl Front {
 
     // Reads the flags of the ending request's frame of this place.
     fn read_grant(&self, place: u32) -> FrontAsk<'_>
-        ensures value { result ≡ revoke_ask self.now.ending place }
-        ensures within { StaysInMemory result }
+        ensures { Asks result (revoke_ask self.now.ending place) }
     {
         match &self.ending {
             Some(ending) => read_flags(&ending.request.frame(place)),
@@ -275,8 +265,7 @@ impl Front {
 
     // Ends the grant of its frame of this place.
     fn end_grant_of(&self, place: u32, seen: u32) -> FrontAsk<'_>
-        ensures value { result ≡ end_ask self.now.ending place seen }
-        ensures within { StaysInMemory result }
+        ensures { Asks result (end_ask self.now.ending place seen) }
     {
         match &self.ending {
             Some(ending) => end_grant(&ending.request.frame(place), seen),
@@ -286,8 +275,7 @@ impl Front {
 
     // Reads a word of its data.
     fn read_word(&self, n: u32) -> FrontAsk<'_>
-        ensures value { result ≡ read_ask self.now.ending n }
-        ensures within { StaysInMemory result }
+        ensures { Asks result (read_ask self.now.ending n) }
     {
         match &self.ending {
             Some(ending) => read(ending.request.frame(n / 1024).number(), n % 1024),
@@ -298,8 +286,7 @@ impl Front {
 
 // A word of a write's data is written.
 fn write_data<'a>(r: &Request, n: u32) -> FrontAsk<'a>
-    ensures value { result ≡ data_ask (Some r.now) n }
-    ensures within { StaysInMemory result }
+    ensures { Asks result (data_ask (Some r.now) n) }
 {
     write(r.frame(n / 1024).number(), n % 1024, r.transfer.filling(n))
 }
@@ -307,8 +294,7 @@ fn write_data<'a>(r: &Request, n: u32) -> FrontAsk<'a>
 // A word of its segments is written into an indirect page.
 fn write_page<'a>(r: &Request, n: u32) -> FrontAsk<'a>
     requires { n < 1920 }
-    ensures value { result ≡ page_ask (Some r.now) n }
-    ensures within { StaysInMemory result }
+    ensures { Asks result (page_ask (Some r.now) n) }
 {
     write(r.page_at(n / 1024).number(), n % 1024, r.naming_at(n))
 }
@@ -316,8 +302,7 @@ fn write_page<'a>(r: &Request, n: u32) -> FrontAsk<'a>
 // One word of memory is read.
 fn read<'a>(frame: u32, word: u32) -> FrontAsk<'a>
     requires { IsPlace frame word }
-    ensures value { result ≡ FrontAsk.Read frame word }
-    ensures within { StaysInMemory result }
+    ensures { Asks result (FrontAsk.Read frame word) }
 {
     FrontAsk::Read { frame, word }
 }
@@ -325,16 +310,14 @@ fn read<'a>(frame: u32, word: u32) -> FrontAsk<'a>
 // One word of memory is written.
 fn write<'a>(frame: u32, word: u32, value: u32) -> FrontAsk<'a>
     requires { IsPlace frame word }
-    ensures value { result ≡ FrontAsk.Write frame word value }
-    ensures within { StaysInMemory result }
+    ensures { Asks result (FrontAsk.Write frame word value) }
 {
     FrontAsk::Write { frame, word, value }
 }
 
 // The first word of a frame's grant entry is written.
 fn write_flags<'a>(frame: &PoolFrame, flags: u32) -> FrontAsk<'a>
-    ensures value { result ≡ FrontAsk.Write (entry_frame frame.now) (entry_word frame.now) flags }
-    ensures within { StaysInMemory result }
+    ensures { Asks result (FrontAsk.Write (entry_frame frame.now) (entry_word frame.now) flags) }
 {
     let (entry, word) = place::entry(frame);
     write(entry, word, flags)
@@ -342,8 +325,7 @@ fn write_flags<'a>(frame: &PoolFrame, flags: u32) -> FrontAsk<'a>
 
 // The second word of a frame's grant entry is written.
 fn write_frame<'a>(frame: &PoolFrame) -> FrontAsk<'a>
-    ensures value { result ≡ FrontAsk.Write (entry_frame frame.now) (entry_word frame.now + 1) frame.now }
-    ensures within { StaysInMemory result }
+    ensures { Asks result (FrontAsk.Write (entry_frame frame.now) (entry_word frame.now + 1) frame.now) }
 {
     let (entry, word) = place::entry(frame);
     write(entry, word + 1, frame.number())
@@ -351,8 +333,7 @@ fn write_frame<'a>(frame: &PoolFrame) -> FrontAsk<'a>
 
 // The first word of a frame's grant entry is read.
 fn read_flags<'a>(frame: &PoolFrame) -> FrontAsk<'a>
-    ensures value { result ≡ FrontAsk.Read (entry_frame frame.now) (entry_word frame.now) }
-    ensures within { StaysInMemory result }
+    ensures { Asks result (FrontAsk.Read (entry_frame frame.now) (entry_word frame.now)) }
 {
     let (entry, word) = place::entry(frame);
     read(entry, word)
@@ -360,8 +341,7 @@ fn read_flags<'a>(frame: &PoolFrame) -> FrontAsk<'a>
 
 // The first word of a frame's grant entry becomes 0 if it is still this one.
 fn end_grant<'a>(frame: &PoolFrame, old: u32) -> FrontAsk<'a>
-    ensures value { result ≡ FrontAsk.Cas (entry_frame frame.now) (entry_word frame.now) old 0 }
-    ensures within { StaysInMemory result }
+    ensures { Asks result (FrontAsk.Cas (entry_frame frame.now) (entry_word frame.now) old 0) }
 {
     let (frame, word) = place::entry(frame);
     FrontAsk::Cas {
@@ -375,8 +355,7 @@ fn end_grant<'a>(frame: &PoolFrame, old: u32) -> FrontAsk<'a>
 // The second word of the grant entry of a page of the ring is written.
 fn name_page<'a>(page: u32) -> FrontAsk<'a>
     requires { page < 16 }
-    ensures value { let frame = ring_page_frame page in result ≡ FrontAsk.Write (entry_frame frame) (entry_word frame + 1) frame }
-    ensures within { StaysInMemory result }
+    ensures { let frame = ring_page_frame page in Asks result (FrontAsk.Write (entry_frame frame) (entry_word frame + 1) frame) }
 {
     let (entry, word) = place::ring_entry(page);
     write(entry, word + 1, place::ring_page(page))
@@ -385,8 +364,7 @@ fn name_page<'a>(page: u32) -> FrontAsk<'a>
 // Its first word is written.
 fn grant_page<'a>(page: u32) -> FrontAsk<'a>
     requires { page < 16 }
-    ensures value { let frame = ring_page_frame page in result ≡ FrontAsk.Write (entry_frame frame) (entry_word frame) 1 }
-    ensures within { StaysInMemory result }
+    ensures { let frame = ring_page_frame page in Asks result (FrontAsk.Write (entry_frame frame) (entry_word frame) 1) }
 {
     let (entry, word) = place::ring_entry(page);
     write(entry, word, GTF_PERMIT_ACCESS)
@@ -395,8 +373,7 @@ fn grant_page<'a>(page: u32) -> FrontAsk<'a>
 // Its first word is read.
 fn read_page_grant<'a>(page: u32) -> FrontAsk<'a>
     requires { page < 16 }
-    ensures value { let frame = ring_page_frame page in result ≡ FrontAsk.Read (entry_frame frame) (entry_word frame) }
-    ensures within { StaysInMemory result }
+    ensures { let frame = ring_page_frame page in Asks result (FrontAsk.Read (entry_frame frame) (entry_word frame)) }
 {
     let (entry, word) = place::ring_entry(page);
     read(entry, word)
@@ -405,8 +382,7 @@ fn read_page_grant<'a>(page: u32) -> FrontAsk<'a>
 // Its first word becomes 0 if it is still this one.
 fn end_page_grant<'a>(page: u32, old: u32) -> FrontAsk<'a>
     requires { page < 16 }
-    ensures value { let frame = ring_page_frame page in result ≡ FrontAsk.Cas (entry_frame frame) (entry_word frame) old 0 }
-    ensures within { StaysInMemory result }
+    ensures { let frame = ring_page_frame page in Asks result (FrontAsk.Cas (entry_frame frame) (entry_word frame) old 0) }
 {
     let (frame, word) = place::ring_entry(page);
     FrontAsk::Cas {

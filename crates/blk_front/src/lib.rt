@@ -10,8 +10,6 @@ mod pool;
 mod request;
 mod stage;
 mod state;
-#[cfg(test)]
-mod tests;
 mod told;
 
 pub use frames::FrameList;

@@ -6,6 +6,7 @@ use crate::frames::FrameList;
 use crate::pool::PoolFrame;
 use blk_layout::{Segment, segment_words};
 use grant_table::{GTF_PERMIT_ACCESS, GTF_READONLY};
+use resume_shadow::Numbered;
 
 /// Words in a sector, and sectors in a frame.
 pub const SECTOR_WORDS: u32 = 128;
@@ -129,6 +130,14 @@ pub struct Request {
     pub count: u32,
     pub transfer: Transfer,
     pub frames: FrameList,
+}
+
+impl Numbered for Request {
+    ghost number_of = { λ r. r.number };
+
+    fn number(&self) -> u32 {
+        self.number
+    }
 }
 
 impl Request {

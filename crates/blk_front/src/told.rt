@@ -35,7 +35,7 @@ pub enum Refusal {
     /// A sector is past the disk's end.
     Range,
     /// More sectors than its segments have: 11 segments, which have 88; of a read or a write as many
-    /// segments as the back takes in indirect pages, 960 at most, which have 7680.
+    /// as the back takes in indirect pages, where these are more, 960 at most, which have 7680.
     Long,
     /// As many requests are unfinished as the ring has entries.
     Full,

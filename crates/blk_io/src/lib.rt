@@ -18,6 +18,3 @@ pub use memory::{MemorySink, MemorySource};
 pub use sink::Sink;
 pub use source::Source;
 pub use standard::{BufferedSink, ReaderSource, WriterSink};
-
-#[cfg(test)]
-mod tests;

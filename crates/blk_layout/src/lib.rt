@@ -17,6 +17,3 @@ pub use request::{DirectOp, IndirectOp, RawRequest, Request};
 pub use response::{Response, read_response, response_words};
 pub use segment::{Segment, read_segment, segment_words};
 pub use writer::request_words;
-
-#[cfg(test)]
-mod tests;

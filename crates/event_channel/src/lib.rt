@@ -5,7 +5,5 @@
 #![tactic(auto)]
 
 mod channels;
-#[cfg(test)]
-mod tests;
 
 pub use channels::{BadPort, Channels, Port};

@@ -4,9 +4,6 @@ ghost use Rattle.grant_table.specs.Entry.{verdict_of, status_of, mapped_entry, u
 
 use blk_base::Mode;
 
-#[cfg(test)]
-mod tests;
-
 /// Grant references run from 0 to 1023: the table of domain 1 has two frames of 512 entries.
 pub(crate) const LAST_REFERENCE: u32 = 1023;
 

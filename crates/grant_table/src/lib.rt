@@ -6,8 +6,6 @@
 mod entry;
 mod grants;
 mod held;
-#[cfg(test)]
-mod tests;
 
 pub use entry::{GTF_PERMIT_ACCESS, GTF_READONLY, MapRefusal, verdict};
 pub use grants::Grants;

@@ -5,7 +5,5 @@
 #![tactic(auto)]
 
 mod hypervisor;
-#[cfg(test)]
-mod tests;
 
 pub use hypervisor::{Hypervisor, Room, front_shown};

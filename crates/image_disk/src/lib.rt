@@ -11,6 +11,3 @@ mod memory;
 pub use failing::{CallCounts, FailsAtCalls, ListedCalls};
 pub use file::FileDisk;
 pub use memory::MemoryDisk;
-
-#[cfg(test)]
-mod tests;

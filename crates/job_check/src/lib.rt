@@ -20,6 +20,3 @@ pub use laws::{
 };
 pub use sight::JobSight;
 pub use verdict::keeps_layout;
-
-#[cfg(test)]
-mod tests;

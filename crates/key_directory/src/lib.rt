@@ -5,8 +5,6 @@
 
 mod keys;
 mod paths;
-#[cfg(test)]
-mod tests;
 mod watches;
 
 pub use keys::{KeyStop, Keys};

@@ -16,6 +16,3 @@ pub use strict::{after, number_before, whole_hex};
 pub use texts::{is_key_name, is_key_path, is_key_text, short_text};
 pub use words::{Words, are_equal, is};
 pub use writing::{LineText, begin, put, put_hex, put_number, put_signed};
-
-#[cfg(test)]
-mod tests;

@@ -17,6 +17,3 @@ pub use laws::{
     the_verdict_on_touches_is_the_rule,
 };
 pub use state::Memory;
-
-#[cfg(test)]
-mod tests;

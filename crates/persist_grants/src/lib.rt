@@ -6,6 +6,3 @@
 mod kept;
 
 pub use kept::{Kept, PutBack};
-
-#[cfg(test)]
-mod tests;

@@ -19,6 +19,3 @@ pub use looking::{
 };
 pub use request::{Noted, Place, Request, Stage, Written};
 pub use sight::Sight;
-
-#[cfg(test)]
-mod tests;

@@ -9,6 +9,3 @@ mod reader;
 
 pub use lines::ReportLines;
 pub use reader::ReadStop;
-
-#[cfg(test)]
-mod tests;

@@ -29,6 +29,3 @@ pub use stretch::{is_back_move, of_entries};
 pub use value::{Cell, entry_mapped, entry_unmapped};
 pub use walk::{Spot, advanced, gref_of, is_unmapped_step, stepper, touched_by};
 pub use work::{Task, status_by, work_response, work_tasks, work_verdict};
-
-#[cfg(test)]
-mod tests;

@@ -21,6 +21,3 @@ pub use laws::{
     the_verdicts_are_the_rules,
 };
 pub use state::RequestCheck;
-
-#[cfg(test)]
-mod tests;

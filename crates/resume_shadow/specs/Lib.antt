@@ -1,3 +1,2 @@
 pub mod Unfinished
-pub mod Places
 pub mod Stored

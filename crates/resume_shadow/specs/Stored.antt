@@ -1,11 +1,9 @@
 -- How the unfinished requests lie in memory.
-use Rattle.std.specs.Prelude.{◌≤◌, length, vec_capacity}
-use Rattle.std.specs.Map.{keys_of}
-use Rattle.std.specs.List.Sorted.{IsStrictlyIncreasing}
-use Rattle.resume_shadow.specs.declared.shadow.Shadow.TheInside.{Inside}
+use Rattle.std.specs.Prelude.{ℕ, ◌≤◌, List, length}
+use Rattle.resume_shadow.specs.Unfinished.{IsAscending}
 
--- the room is reserved, and each number is below the next
-pub record IsStored (s : Inside) : Type 0 where
-  pub reserved : s.room ≤ vec_capacity s.held
-  pub within : length s.held.items ≤ s.room
-  pub ascending : IsStrictlyIncreasing (keys_of s.held.items)
+-- the room is reserved, and each number is below those after it
+pub record IsStored {T : Type 0} (number : T → ℕ) (room capacity : ℕ) (held : List T) : Type 0 where
+  pub reserved : room ≤ capacity
+  pub within : length held ≤ room
+  pub ascending : IsAscending number held

@@ -14,6 +14,3 @@ pub use laws::{
     what_is_kept_is_what_the_lines_say,
 };
 pub use sight::RingSight;
-
-#[cfg(test)]
-mod tests;

@@ -10,6 +10,3 @@ mod stop;
 
 pub use print::inspect;
 pub use stop::InspectStop;
-
-#[cfg(test)]
-mod tests;

@@ -14,6 +14,3 @@ pub use front::FrontRing;
 pub use push::notify;
 pub use shape::RingShape;
 pub use words::{REQ_EVENT, REQ_PROD, RSP_EVENT, RSP_PROD};
-
-#[cfg(test)]
-mod tests;

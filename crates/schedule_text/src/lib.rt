@@ -24,6 +24,3 @@ pub use recorder::{RecordStop, Recorder, Shown, Tally, Verdict};
 pub use recorders::{LineList, LineSink, LineTally};
 pub use schedule::write_event;
 pub use writing::write_line;
-
-#[cfg(test)]
-mod tests;

@@ -12,6 +12,3 @@ pub use packing::Cut;
 pub use place::{Extent, Place};
 pub use sectors::{cut, extent};
 pub use verdict::{DiskInfo, Kind, Plan, Verdict, Why, check, finish_indirect};
-
-#[cfg(test)]
-mod tests;

@@ -18,6 +18,3 @@ pub use laws::{
 };
 pub use rule::Rule;
 pub use text::write_finding;
-
-#[cfg(test)]
-mod tests;

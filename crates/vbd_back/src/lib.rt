@@ -10,6 +10,3 @@ mod moves;
 mod turn;
 
 pub use backend::Backend;
-
-#[cfg(test)]
-mod tests;

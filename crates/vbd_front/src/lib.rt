@@ -7,8 +7,6 @@ mod ends;
 mod frontend;
 mod key;
 mod news;
-#[cfg(test)]
-mod tests;
 mod turn;
 
 pub use frontend::Frontend;

@@ -1,6 +1,6 @@
 // The job of a request that was fetched, before its first move.
-ghost use Rattle.std.specs.Prelude.{◌≡◌, ◌≢◌, ◌<◌, ◌≤◌, ◌+◌, cond, length, take, vec_capacity, nat_le, if◌then◌else◌};
-ghost use Rattle.back_jobs.specs.Task.{first_of, IsDoneStage, id_of, response_op, served, moving, paging, ended, frameless};
+ghost use Rattle.std.specs.Prelude.{◌≡◌, ◌≢◌, ◌<◌, ◌≤◌, ◌+◌, cond, length, take, vec_capacity};
+ghost use Rattle.back_jobs.specs.Task.{first_of, IsDoneStage, id_of, response_op, served, served_paged, moving, paging, ended, frameless};
 ghost use Rattle.back_jobs.specs.Segments.{is_paged};
 ghost use Rattle.back_jobs.specs.Sound.{AreMovable, IsFrameless};
 ghost use Rattle.segment_list.specs.declared.verdict.Plan.{Plan};
@@ -113,7 +113,7 @@ fn served_indirect(
 ) -> Task
     requires some { 0 < count }
     requires has_room { 0 < length rooms.old.items }
-    ensures value { result ≡ (if nat_le count 960 then paging number request.now size writes sector count pages.now else ended number request.now size (stage.Done Error)) }
+    ensures value { result ≡ served_paged number request.now size writes sector count pages.now }
     ensures rooms { length rooms.new.items + cond (is_paged result) 1 0 ≡ length rooms.old.items }
     ensures capacity { vec_capacity rooms.new ≡ vec_capacity rooms.old }
 {

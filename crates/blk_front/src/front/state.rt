@@ -13,10 +13,9 @@ use ring_words::{FrontRing, RingShape};
 impl Front {
     /// Enters a state where it may, and says whether it did; no other front changes. An order no
     /// greater than it wished, of a ring with an entry for each request, is agreed before its ring is
-    /// begun. It connects where it waits for
-    /// that, and begins to close once. It leaves, and is closed, only while it closes with no request
-    /// left, and is closed only without a ring. A closed or broken front enters none. It takes no
-    /// memory.
+    /// begun. It connects where it waits for that, and begins to close once. It leaves, and is closed,
+    /// only while it closes with no request left, and is closed only without a ring. A closed or broken
+    /// front enters none. It takes no memory.
     pub fn enter(&mut self, state: FrontState) -> bool
         ensures front { self.new ≡ enters state self.old }
         ensures done { result ≡ may_enter state self.old }

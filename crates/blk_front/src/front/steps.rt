@@ -259,7 +259,7 @@ impl Front {
         ensures within { IfSome result (λ place. place < length self.now.requests) }
     {
         let count = self.requests.len() - self.waiting as usize;
-        place_of(&self.requests[..count], id)
+        self.requests.place_among(count, id)
     }
 
     /// A response was read whole.
@@ -457,17 +457,6 @@ fn id_of(low: u32, high: u32) -> u64
     ensures { result ≡ low + high * 2 ^ 32 }
 {
     u64::from(low) | u64::from(high) << 32
-}
-
-// Where the request of an id stands, among requests whose numbers ascend: a binary search.
-fn place_of(requests: &[Request], id: u64) -> Option<usize>
-    requires { AreAscending requests.now }
-    ensures value { result ≡ position (λ (r : Request). r.number == id) requests.now }
-    ensures within { IfSome result (λ place. place < length requests.now) }
-{
-    requests
-        .binary_search_by_key(&id, |r| u64::from(r.number))
-        .ok()
 }
 
 // The request as its entry has it.

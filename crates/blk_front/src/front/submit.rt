@@ -72,7 +72,7 @@ impl Front {
         };
         let number = self.last + 1;
         self.pool = pool;
-        self.requests.push_reserved(Request {
+        self.requests.add(Request {
             number,
             sector: wish.sector,
             count: wish.count,

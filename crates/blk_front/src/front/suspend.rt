@@ -1,13 +1,14 @@
 // What a suspend makes of the front.
-ghost use Rattle.std.specs.Prelude.{◌≡◌, ◌<◌, ◌≤◌, ◌+◌, length, None, vec_capacity, insert, position, nat_lt};
+ghost use Rattle.std.specs.Prelude.{◌≡◌, ◌<◌, ◌≤◌, ◌+◌, length, None, IfSome};
+ghost use Rattle.blk_front.specs.Sound.{IsOther};
 ghost use Rattle.blk_front.specs.Submit.{ending_of};
-ghost use Rattle.blk_front.specs.Suspend.{by_number, with_ending, requests_after, ending_after, stage_after, suspended};
-ghost use Rattle.blk_front.specs.declared.request.Request.{Request};
+ghost use Rattle.blk_front.specs.Suspend.{with_ending, requests_after, ending_after, stage_after, suspended};
 
 use super::Front;
 use crate::request::Request;
 use crate::stage::{Ending, Stage};
 use crate::state::Offers;
+use resume_shadow::Shadow;
 use ring_words::{FrontRing, RingShape};
 
 impl Front {
@@ -43,43 +44,26 @@ fn stage_after(stage: Stage) -> Stage
 }
 
 // A request whose grants were being ended is one of the others again.
-fn put_back(stage: Stage, requests: &mut Vec<Request>, ending: &mut Option<Ending>)
-    requires { length requests.old.items + ending_of stage ≤ vec_capacity requests.old }
-    ensures requests { requests.new.items ≡ requests_after stage ending.old requests.old.items }
+fn put_back(stage: Stage, requests: &mut Shadow<Request>, ending: &mut Option<Ending>)
+    requires room { length requests.old.held + ending_of stage ≤ requests.old.room }
+    requires apart { IfSome ending.old (IsOther requests.old.held) }
+    ensures requests { requests.new.held ≡ requests_after stage ending.old requests.old.held }
     ensures ending { ending.new ≡ ending_after stage ending.old }
-    ensures capacity { vec_capacity requests.old ≤ vec_capacity requests.new }
+    ensures room { requests.new.room ≡ requests.old.room }
 {
     if let Stage::GrantRead(_) | Stage::GrantEnd(..) = stage {
         put_ending_back(requests, ending);
     }
 }
 
-fn put_ending_back(requests: &mut Vec<Request>, ending: &mut Option<Ending>)
-    requires { length requests.old.items < vec_capacity requests.old }
-    ensures requests { requests.new.items ≡ with_ending ending.old requests.old.items }
+fn put_ending_back(requests: &mut Shadow<Request>, ending: &mut Option<Ending>)
+    requires room { length requests.old.held < requests.old.room }
+    requires apart { IfSome ending.old (IsOther requests.old.held) }
+    ensures requests { requests.new.held ≡ with_ending ending.old requests.old.held }
     ensures ending { ending.new ≡ None }
-    ensures capacity { vec_capacity requests.old ≤ vec_capacity requests.new }
+    ensures room { requests.new.room ≡ requests.old.room }
 {
     if let Some(Ending { request, .. }) = ending.take() {
-        let place = place_for(&requests[..], request.number);
-        requests.insert(place, request).unwrap();
+        requests.put_back(request);
     }
-}
-
-// Where a request of this number belongs, among requests that are in order of number.
-fn place_for(requests: &[Request], number: u32) -> usize
-    ensures within { result ≤ length requests.now }
-    ensures place { (r : Request) → r.number ≡ number → insert requests.now result r ≡ by_number r requests.now }
-{
-    match first_above(requests, number) {
-        Some(place) => place,
-        None => requests.len(),
-    }
-}
-
-// The first of them whose number is above this one.
-fn first_above(requests: &[Request], number: u32) -> Option<usize>
-    ensures { result ≡ position (λ (r : Request). nat_lt number r.number) requests.now }
-{
-    requests.iter().position(|r| number < r.number)
 }

@@ -1,17 +1,11 @@
-use Rattle.std.proofs.Common.{rules}
+use Rattle.std.proofs.Common.{rules, ◌∙◌}
 use Rattle.std.proofs.lemmas.List.Sorted.{answers_always}
-use Rattle.resume_shadow.proofs.Places.{ascends, searched}
+use Rattle.resume_shadow.proofs.Order.{searched}
 use Rattle.resume_shadow.proofs.shadow.place_of.Goals as goal
 
--- the closure gives a pair's number
-pub returns-clause-found : goal.returns-clause-found
-returns-clause-found c =
+-- the closure gives a request's number
+pub returns-clause-value : goal.returns-clause-value
+returns-clause-value g c =
     let facts = c.binary_search_by_key.ensures in
-    let by_number = facts.position (λ e. e.0) (answers_always _ _ _ (λ f a r g called. search rules)) in
-    rw c.ok.ensures.value (searched c.args.held.now (ascends _ c.requires) c.args.id _ facts.bound by_number).found
-
-pub returns-clause-absent : goal.returns-clause-absent
-returns-clause-absent c =
-    let facts = c.binary_search_by_key.ensures in
-    let by_number = facts.position (λ e. e.0) (answers_always _ _ _ (λ f a r g called. search rules)) in
-    rw c.ok.ensures.value (searched c.args.held.now (ascends _ c.requires) c.args.id _ facts.bound by_number).absent
+    let by_number = facts.position (λ r. g.T.Numbered.number_of r) (answers_always _ _ _ (λ f a r g called. search rules)) in
+    c.ok.ensures.value ∙ searched g.T.Numbered.number_of c.args.held.now c.args.id c.requires c.binary_search_by_key.result facts.bound by_number

@@ -1,7 +1,7 @@
 use Rattle.std.proofs.Common.{refl, arith, rules}
 use Rattle.std.proofs.lemmas.Grind.{common_steps}
 use Rattle.blk_front.proofs.Shapes.{few_pages}
-use Rattle.blk_front.proofs.Numbers.{push_ascending, push_given}
+use Rattle.blk_front.proofs.Numbers.{push_given}
 use Rattle.blk_front.proofs.Order.{pushed_apart}
 use Rattle.std.proofs.lemmas.List.Elements.{All-push}
 use Rattle.blk_front.specs.Request.{IsShaped}
@@ -10,7 +10,7 @@ use Rattle.blk_front.proofs.front.Front.accept.Goals as goal
 pub invariant_of-self-2 : goal.invariant_of-self-2
 invariant_of-self-2 c =
     let sound = c.self.invariant.0 in
-    let items = c.push_reserved.ensures.items in (
+    let requests = c.add.ensures.held in (
       record {
         order = sound.order;
         entries = sound.entries;
@@ -21,12 +21,12 @@ invariant_of-self-2 c =
         unissued = search rules;
         issuing = search rules;
         reading = sound.reading;
-        ascending = rw items (push_ascending _ _ c.self.inside.last sound.ascending sound.given refl);
-        given = rw items (push_given _ _ c.self.inside.last sound.given refl);
-        shaped = rw items (All-push IsShaped _ _ sound.shaped (record { counted = c.requires.counted; frames = search rules }));
+        ascending = c.add.ensures.ascending;
+        given = rw requests (push_given _ _ c.self.inside.last sound.given refl);
+        shaped = rw requests (All-push IsShaped _ _ sound.shaped (record { counted = c.requires.counted; frames = search rules }));
         held = sound.held;
         ending = sound.ending;
-        apart = rw items (pushed_apart c.self.inside.ending _ _ c.self.inside.last sound.apart refl);
+        apart = rw requests (pushed_apart c.self.inside.ending _ _ c.self.inside.last sound.apart refl);
       },
       grind (arith, common_steps),
       record { enough = omega arith; room = omega arith },

@@ -1,15 +1,16 @@
 use Rattle.std.proofs.Common.{◌<◌, length, refl, arith, rules}
 use Rattle.std.proofs.lemmas.Option.{slice_get_read}
 use Rattle.std.proofs.lemmas.Grind.{common_steps}
-use Rattle.blk_front.proofs.Numbers.{remove_ascending, remove_given, remove_shaped}
-use Rattle.blk_front.proofs.Order.{removed_apart}
+use Rattle.blk_front.specs.Request.{IsShaped}
+use Rattle.blk_front.proofs.Numbers.{remove_given, remove_all}
+use Rattle.blk_front.proofs.Order.{removed_apart, still_apart}
 use Rattle.blk_front.proofs.front.Front.take.Goals as goal
 
 pub invariant_of-self-else-is_empty : goal.invariant_of-self-else-is_empty
 invariant_of-self-else-is_empty c =
     let sound = c.self.invariant.0 in
-    let within : c.args.place < length c.self.inside.requests.items = search rules in
-    let items = c.remove-request.ensures.items in (
+    let within : c.args.place < length c.self.inside.requests.held = search rules in
+    let requests = c.remove-request.ensures.rest in (
       record {
         order = sound.order;
         entries = grind (arith, common_steps);
@@ -20,12 +21,38 @@ invariant_of-self-else-is_empty c =
         unissued = tt;
         issuing = tt;
         reading = tt;
-        ascending = rw items (remove_ascending _ _ within sound.ascending);
-        given = rw items (remove_given _ _ _ within sound.given);
-        shaped = rw items (remove_shaped _ _ sound.shaped);
+        ascending = c.remove-request.ensures.ascending;
+        given = rw requests (remove_given _ _ _ within sound.given);
+        shaped = rw requests (remove_all IsShaped _ _ sound.shaped);
         held = tt;
         ending = rw c.replace.ensures.ending (grind (arith, common_steps));
-        apart = rw (c.replace.ensures.ending, items) (removed_apart _ _ _ _ within sound.ascending sound.given c.remove-request.ensures.value);
+        apart = rw (c.replace.ensures.ending, requests) (removed_apart _ _ _ _ within sound.ascending sound.given c.remove-request.ensures.value);
+      },
+      grind (arith, common_steps),
+      record { enough = grind (arith, common_steps); room = grind (arith, common_steps) },
+    )
+
+pub invariant_of-self : goal.invariant_of-self
+invariant_of-self c =
+    let sound = c.self.invariant.0 in
+    let within : c.args.place < length c.self.inside.requests.held = search rules in
+    let requests = c.remove-request.ensures.rest in (
+      record {
+        order = sound.order;
+        entries = grind (arith, common_steps);
+        counted = grind (arith, common_steps);
+        room = grind (arith, common_steps);
+        seen = grind (arith, common_steps);
+        placed = tt;
+        unissued = tt;
+        issuing = tt;
+        reading = tt;
+        ascending = c.remove-request.ensures.ascending;
+        given = rw requests (remove_given _ _ _ within sound.given);
+        shaped = rw requests (remove_all IsShaped _ _ sound.shaped);
+        held = tt;
+        ending = sound.ending;
+        apart = rw requests (still_apart c.self.inside.ending _ c.args.place _ sound.apart);
       },
       grind (arith, common_steps),
       record { enough = grind (arith, common_steps); room = grind (arith, common_steps) },
@@ -33,12 +60,12 @@ invariant_of-self-else-is_empty c =
 
 pub returns-then-is_empty : goal.returns-then-is_empty
 returns-then-is_empty c =
-    let within : c.args.place < length c.self.inside.requests.items = search rules in
-    let found = slice_get_read c.self.inside.requests.items _ c.args.place c.remove-request.result refl within c.remove-request.ensures.value in
+    let within : c.args.place < length c.self.inside.requests.held = search rules in
+    let found = slice_get_read c.self.inside.requests.held _ c.args.place c.remove-request.result refl within c.remove-request.ensures.value in
     rw (← c.self.view_is, found) (search rules)
 
 pub returns-else-is_empty : goal.returns-else-is_empty
 returns-else-is_empty c =
-    let within : c.args.place < length c.self.inside.requests.items = search rules in
-    let found = slice_get_read c.self.inside.requests.items _ c.args.place c.remove-request.result refl within c.remove-request.ensures.value in
+    let within : c.args.place < length c.self.inside.requests.held = search rules in
+    let found = slice_get_read c.self.inside.requests.held _ c.args.place c.remove-request.result refl within c.remove-request.ensures.value in
     rw (← c.self.view_is, found) (search rules)

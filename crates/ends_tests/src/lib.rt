@@ -1,0 +1,12 @@
+//! Tests of the back's end of the ring and its jobs, of the frontend and of the backend, by their
+//! public calls.
+#![tactic(auto)]
+
+#[cfg(test)]
+mod back;
+#[cfg(test)]
+mod backend;
+#[cfg(test)]
+mod frontend;
+#[cfg(test)]
+mod jobs;

@@ -1,0 +1,5 @@
+//! Tests of what lies under both ends (`hypervisor`), by its public calls.
+#![tactic(auto)]
+
+#[cfg(test)]
+mod under;

@@ -1,0 +1,33 @@
+use line_text::{LineText, Words, begin, put, put_hex, put_number, put_sector, put_signed, sector};
+
+#[test]
+fn words_stand_apart_by_one_space(rt: HostRuntime) {
+    let mut text = LineText::new();
+    begin(&mut text, "answer");
+    put_number(&mut text, 18446744073709551615);
+    put(&mut text, "ok");
+    put_hex(&mut text, 0x20);
+    put_signed(&mut text, -3);
+    assert_eq!(rt; text.as_str(), "answer 18446744073709551615 ok 00000020 -3");
+    let mut words = Words::new(text.as_str().as_bytes());
+    assert_eq!(rt; words.next(), b"answer".as_slice());
+    assert_eq!(rt; words.number(), 18446744073709551615);
+    assert_eq!(rt; words.next(), b"ok".as_slice());
+    assert_eq!(rt; words.hex(), 0x20);
+    assert_eq!(rt; words.signed(), -3);
+    assert_eq!(rt; words.next().len(), 0);
+}
+
+#[test]
+fn a_sector_shows_the_lowest_byte_first(rt: HostRuntime) {
+    let mut all = [0; 128];
+    all[0] = 0xca00_0101;
+    let mut text = LineText::new();
+    begin(&mut text, "data");
+    put_sector(&mut text, &all);
+    assert!(rt; text.as_str().starts_with("data 010100ca00000000"));
+    let mut words = Words::new(text.as_str().as_bytes());
+    let _name = words.next();
+    let first = words.next();
+    assert_eq!(rt; sector(first, &mut words), all);
+}
