@@ -210,7 +210,7 @@ ruled_frames count = by_size (nat_lt 11 ((count + 7) / 8))
     by_size false = omega arith
 
 -- a request needs a frame for each eight of the sectors that it moves, and its indirect pages
-all_frames : (way : Transfer) (sector count : ℕ) → IsCounted way count → job_frames (job_of way sector count) ≡ frames_for count + pages_for count
+pub all_frames : (way : Transfer) (sector count : ℕ) → IsCounted way count → job_frames (job_of way sector count) ≡ frames_for count + pages_for count
 all_frames transfer.Flush sector count counted = let none = counted.none refl in rw none refl
 all_frames (transfer.Discard sectors) sector count counted = let none = counted.none refl in rw none refl
 all_frames transfer.Read sector count counted = ruled_frames count

@@ -194,57 +194,67 @@ same_answer v wish one false false true unsupported offered refuses past long fu
     by_offer false false some e = absurd (true≢false (sym e))
     by_offer true true some e = absurd (true≢false e)
 
--- the rule's answer is the front's
-ruled : (config : Options) (w : World) (g : Flow) (d : Pipeline) (job : Job) → IsPlain config → Holds config w g d w.front.stage w.back.stage → IsServable job → refusal_by (record { config = Some config; connected = is_ready w.front.stage; closing = w.front.closing; broken = false }) config (map asked d.requests) job ≡ answer_of (submit_of w.front job).0
-ruled config w g d job plain h one = by_job job one
+-- what the rule looks at, of a list of requests, is what the front looks at
+pub record AreAlike (config : Options) (v : View) (requests : List Asked) : Type 0 where
+  pub spent : length requests ≡ v.last
+  pub opened : count_by (λ (q : Asked). not (is_finished q.stage)) requests ≡ unfinished v
+  pub held : sum_by frames_held requests ≡ count_by (λ (b : Bool). b) v.pool
+  pub size : length v.pool ≡ 1000
+  pub sectors : v.sectors ≡ config.sectors
+  pub read_only : v.read_only ≡ config.read_only
+  pub order : config.order ≡ v.shape.order
+  pub offers : is_ready v.stage ≡ true → AreOffered config.read_only config.indirect v.offers
+
+-- so the rule's answer is the front's
+pub ruled_alike : (config : Options) (v : View) (requests : List Asked) (job : Job) → config.indirect ≤ 960 → AreAlike config v requests → refusal_by (record { config = Some config; connected = is_ready v.stage; closing = v.closing; broken = false }) config requests job ≡ answer_of (submit_of v job).0
+ruled_alike config v requests job narrow alike = by_job job
   where
-    known : AreKnown g.submitted d.requests
-    known = h.stations.known
-
-    spent : length (map asked d.requests) ≡ w.front.last
-    spent = length-map d.requests asked ∙ known.as_many ∙ (let all = h.submitted in all.counted)
-
-    open_ones : count_by (λ (q : Asked). not (is_finished q.stage)) (map asked d.requests) ≡ unfinished w.front
-    open_ones = as_unfinished d.requests ∙ h.stations.opened.unfinished ∙ ap (λ (n : ℕ). length w.front.requests + n)
-        (same_ending g.shape g.start g.pushed g.taken g.front_seen g.submitted g.replies (next_request w.front) w.front.entry w.front.ending w.front.stage h.front_at)
-
-    past : (n : ℕ) → nat_lt config.sectors n ≡ nat_lt w.front.sectors n
-    past n = ap (λ (m : ℕ). nat_lt m n) (sym h.sized.sectors)
-
-    order : config.order ≡ w.front.shape.order
-    order = sym (ap (λ (x : Shape). x.order) (h.shaped.known ∙ h.shaped.whole))
-
-    offers : is_ready w.front.stage ≡ true → AreOffered config.read_only config.indirect w.front.offers
-    offers ready = offered_is (is_ready w.front.stage) config.read_only config.indirect w.front.offers g.pushed ready h.offered
+    past : (n : ℕ) → nat_lt config.sectors n ≡ nat_lt v.sectors n
+    past n = ap (λ (m : ℕ). nat_lt m n) (sym alike.sectors)
 
     -- the front's limit is the rule's
-    most : is_ready w.front.stage ≡ true → max 11 (min 960 w.front.offers.indirect) ≡ max 11 config.indirect
-    most ready = let limit = (offers ready).indirect in let few = plain.indirect in omega arith
+    most : is_ready v.stage ≡ true → max 11 (min 960 v.offers.indirect) ≡ max 11 config.indirect
+    most ready = let limit = (alike.offers ready).indirect in omega arith
 
-    free : (count : ℕ) → AreTaken (frames_taken count) w.front.pool (nat_lt 1000 (sum_by frames_held (map asked d.requests) + frames_taken count))
-    free count = rw (frames_alike config w g d h) (frames_fit (frames_taken count) w.front.pool h.pool.size)
+    free : (count : ℕ) → AreTaken (frames_taken count) v.pool (nat_lt 1000 (sum_by frames_held requests + frames_taken count))
+    free count = rw alike.held (frames_fit (frames_taken count) v.pool alike.size)
 
-    fits : (count : ℕ) → AreTaken (frames_taken count) w.front.pool (nat_lt 1000 (sum_by frames_held (map asked d.requests) +
-        (if nat_lt 11 ((count + 7) / 8) then (count + 7) / 8 + ((count + 7) / 8 + 511) / 512 else (count + 7) / 8)))
+    fits : (count : ℕ) → AreTaken (frames_taken count) v.pool (nat_lt 1000 (sum_by frames_held requests + (if nat_lt 11 ((count + 7) / 8) then (count + 7) / 8 + ((count + 7) / 8 + 511) / 512 else (count + 7) / 8)))
     fits count = rw (ruled_frames count) (free count)
 
-    bare : (count : ℕ) → nat_lt 11 (frames_for count) ≡ false → AreTaken (frames_taken count) w.front.pool (nat_lt 1000 (sum_by frames_held (map asked d.requests) + (count + 7) / 8))
+    bare : (count : ℕ) → nat_lt 11 (frames_for count) ≡ false → AreTaken (frames_taken count) v.pool (nat_lt 1000 (sum_by frames_held requests + (count + 7) / 8))
     bare count short =
         let all : frames_taken count ≡ (count + 7) / 8 = rw short (omega arith) in
-        subst (λ (n : ℕ). AreTaken (frames_taken count) w.front.pool (nat_lt 1000 (sum_by frames_held (map asked d.requests) + n))) all (free count)
+        subst (λ (n : ℕ). AreTaken (frames_taken count) v.pool (nat_lt 1000 (sum_by frames_held requests + n))) all (free count)
 
-    by_job : (x : Job) → IsServable x → refusal_by (record { config = Some config; connected = is_ready w.front.stage; closing = w.front.closing; broken = false }) config (map asked d.requests) x ≡ answer_of (submit_of w.front x).0
-    by_job (Read sector count) some = rw (spent, order, past (sector + count), open_ones)
-        (same_answer w.front (record { sector = sector; count = count; transfer = transfer.Read }) (submit_one w.front) _ _ _ false true false _ _ _ _ _ refl (λ ready served. rw (most ready) refl) (λ ready. refl) (λ short full. fits count))
-    by_job (Write sector count tag) some = rw (spent, sym h.sized.read_only, order, past (sector + count), open_ones)
-        (same_answer w.front (record { sector = sector; count = count; transfer = transfer.Write tag }) (submit_one w.front) _ _ _ false true _ _ _ _ _ _ refl (λ ready served. rw (most ready) refl) (λ ready. refl) (λ short full. fits count))
-    by_job (Barrier sector count tag) some = rw (spent, order, past (sector + count), open_ones)
-        (same_answer w.front (record { sector = sector; count = count; transfer = transfer.Barrier tag }) (submit_one w.front) _ _ _ config.read_only w.front.offers.barrier false _ _ _ _ _ refl (λ ready served. rw (h.sized.read_only ∙ served) refl) (λ ready. (offers ready).barrier) (λ short full. bare count short))
-    by_job Flush some = rw (spent, order, past 0, open_ones)
-        (same_answer w.front (record { sector = 0; count = 0; transfer = transfer.Flush }) (submit_one w.front) _ _ _ config.read_only w.front.offers.flush false _ false _ _ _ refl (λ ready served. refl) (λ ready. (offers ready).flush) (λ short full. fits 0))
-    by_job (Discard sector count) some = rw (spent, order, past (sector + count), open_ones)
-        (same_answer w.front (record { sector = sector; count = 0; transfer = transfer.Discard count }) (submit_one w.front) _ _ _ config.read_only w.front.offers.discard false _ false _ _ _ refl (λ ready served. refl) (λ ready. (offers ready).discard) (λ short full. fits 0))
+    by_job : (x : Job) → refusal_by (record { config = Some config; connected = is_ready v.stage; closing = v.closing; broken = false }) config requests x ≡ answer_of (submit_of v x).0
+    by_job (Read sector count) = rw (alike.spent, alike.order, past (sector + count), alike.opened)
+        (same_answer v (record { sector = sector; count = count; transfer = transfer.Read }) (submit_one v) _ _ _ false true false _ _ _ _ _ refl (λ ready served. rw (most ready) refl) (λ ready. refl) (λ short full. fits count))
+    by_job (Write sector count tag) = rw (alike.spent, sym alike.read_only, alike.order, past (sector + count), alike.opened)
+        (same_answer v (record { sector = sector; count = count; transfer = transfer.Write tag }) (submit_one v) _ _ _ false true _ _ _ _ _ _ refl (λ ready served. rw (most ready) refl) (λ ready. refl) (λ short full. fits count))
+    by_job (Barrier sector count tag) = rw (alike.spent, alike.order, past (sector + count), alike.opened)
+        (same_answer v (record { sector = sector; count = count; transfer = transfer.Barrier tag }) (submit_one v) _ _ _ config.read_only v.offers.barrier false _ _ _ _ _ refl (λ ready served. rw (alike.read_only ∙ served) refl) (λ ready. (alike.offers ready).barrier) (λ short full. bare count short))
+    by_job Flush = rw (alike.spent, alike.order, past 0, alike.opened)
+        (same_answer v (record { sector = 0; count = 0; transfer = transfer.Flush }) (submit_one v) _ _ _ config.read_only v.offers.flush false _ false _ _ _ refl (λ ready served. refl) (λ ready. (alike.offers ready).flush) (λ short full. fits 0))
+    by_job (Discard sector count) = rw (alike.spent, alike.order, past (sector + count), alike.opened)
+        (same_answer v (record { sector = sector; count = 0; transfer = transfer.Discard count }) (submit_one v) _ _ _ config.read_only v.offers.discard false _ false _ _ _ refl (λ ready served. refl) (λ ready. (alike.offers ready).discard) (λ short full. fits 0))
+
+-- of a machine that stands for a pipeline
+ruled : (config : Options) (w : World) (g : Flow) (d : Pipeline) (job : Job) → IsPlain config → Holds config w g d w.front.stage w.back.stage → refusal_by (record { config = Some config; connected = is_ready w.front.stage; closing = w.front.closing; broken = false }) config (map asked d.requests) job ≡ answer_of (submit_of w.front job).0
+ruled config w g d job plain h =
+    let known : AreKnown g.submitted d.requests = h.stations.known in
+    ruled_alike config w.front (map asked d.requests) job plain.indirect (record {
+      spent = length-map d.requests asked ∙ known.as_many ∙ (let all = h.submitted in all.counted);
+      opened = as_unfinished d.requests ∙ h.stations.opened.unfinished ∙ ap (λ (n : ℕ). length w.front.requests + n)
+          (same_ending g.shape g.start g.pushed g.taken g.front_seen g.submitted g.replies (next_request w.front) w.front.entry w.front.ending w.front.stage h.front_at);
+      held = frames_alike config w g d h;
+      size = h.pool.size;
+      sectors = h.sized.sectors;
+      read_only = h.sized.read_only;
+      order = sym (ap (λ (x : Shape). x.order) (h.shaped.known ∙ h.shaped.whole));
+      offers = λ ready. offered_is (is_ready w.front.stage) config.read_only config.indirect w.front.offers g.pushed ready h.offered;
+    })
 
 -- so is the pipeline's
 pub refused_rightly : (config : Options) (w : World) (g : Flow) (d : Pipeline) (job : Job) → IsPlain config → Holds config w g d w.front.stage w.back.stage → IsServable job → refusal_now d job ≡ answer_of (submit_of w.front job).0
-refused_rightly config w g d job plain h one = rw (h.stations.options, h.stations.front, h.started.closing) (ruled config w g d job plain h one)
+refused_rightly config w g d job plain h one = rw (h.stations.options, h.stations.front, h.started.closing) (ruled config w g d job plain h)

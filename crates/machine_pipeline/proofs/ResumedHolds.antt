@@ -56,7 +56,7 @@ series_of submitted requests pushed waiting sectors last queue all = record {
     known i r e = all_at (λ (x : Request). slice_get submitted (x.number - 1) ≡ Some x) requests i r queue.known e
 
 -- a request is put in its place among others that are in order of number
-placed : (r : Request) (requests : List Request) → IsPutBack requests (by_number r requests) r
+pub placed : (r : Request) (requests : List Request) → IsPutBack requests (by_number r requests) r
 placed r [] = record { before = []; later = []; were = refl; are = refl }
 placed r (s ∷ rest) = by_test (nat_lt r.number s.number) (placed r rest)
   where

@@ -38,7 +38,7 @@ free_at (suc n) (suc f) = free_at n f
 none_used : (n : ℕ) → count_by (λ (b : Bool). b) (replicate n false) ≡ 0
 none_used n = omega (arith, sum_by-replicate (λ (b : Bool). cond b 1 0) n false)
 
-empty_pooled : ArePooled empty_pool [] None
+pub empty_pooled : ArePooled empty_pool [] None
 empty_pooled = record {
   size = length-replicate 1000 false;
   each = λ f lt. sym (ap (λ (b : Bool). cond b 1 0) (free_at 1000 f));

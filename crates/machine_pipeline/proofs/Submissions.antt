@@ -214,7 +214,7 @@ submit_wish config w g d wish offered asks serves counted numbers h =
         by_frames (serves refl) ready unspent may on_disk short free (taking (frames_taken wish.count) w.front.pool []) refl))))
 
 -- a read, a write or a barrier moves a sector, and has no more segments than it may; another request moves none
-moves_some : (offers : Offers) (way : Transfer) (count : ℕ) → is_moving way ≡ true → 1 ≤ count → nat_lt (most_segments offers way) (frames_for count) ≡ false → IsCounted way count
+pub moves_some : (offers : Offers) (way : Transfer) (count : ℕ) → is_moving way ≡ true → 1 ≤ count → nat_lt (most_segments offers way) (frames_for count) ≡ false → IsCounted way count
 moves_some offers way count moving some short = by_way (may_be_indirect way) refl short
   where
     by_way : (b : Bool) → may_be_indirect way ≡ b → nat_lt (if b then max 11 (min 960 offers.indirect) else 11) (frames_for count) ≡ false → IsCounted way count
@@ -228,7 +228,7 @@ moves_some offers way count moving some short = by_way (may_be_indirect way) ref
         let few : frames_for count ≤ 11 = grind (arith, nat_tests) in
         record { some = λ t. some; none = λ t. absurd (true≢false (sym moving ∙ t)); few = omega arith; direct = λ t. omega arith }
 
-moves_none : (way : Transfer) → is_moving way ≡ false → IsCounted way 0
+pub moves_none : (way : Transfer) → is_moving way ≡ false → IsCounted way 0
 moves_none way still = record { some = λ t. absurd (true≢false (sym t ∙ still)); none = λ t. refl; few = omega arith; direct = λ t. omega arith }
 
 -- a flush or a discard is offered where the disk may be written alone

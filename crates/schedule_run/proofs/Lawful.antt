@@ -61,6 +61,10 @@ use Rattle.report_laws.proofs.QuietRing.{report_quiet, ended_quiet}
 use Rattle.report_laws.proofs.States.{report_agreed, ended_agreed}
 use Rattle.report_laws.proofs.FewPorts.{report_ports, ended_ports}
 use Rattle.vbd_laws.specs.Causes.{IsCausedAt, AreCaused}
+use Rattle.refusal_laws.specs.Ruled.{IsRuledAt, AreRuled}
+use Rattle.refusal_laws.proofs.Serves.{AreServing}
+use Rattle.refusal_laws.proofs.Runs.{report_ruled}
+use Rattle.refusal_laws.proofs.Kept.{kept_ruled}
 use Rattle.schedule_run.proofs.Wished.{possible_wished}
 use Rattle.schedule_run.proofs.FewReads.{IsBrief}
 use Rattle.schedule_run.specs.Lawful.{ObeysMoves, ShowsWork, ServesRequests, ServesRequestsSoFar, IsLawful, IsLawfulSoFar}
@@ -165,6 +169,7 @@ pub record IsTold (config : Options) (detail : Detail) (history : List Happening
   pub served : AreServed (honest_history history) (start_of config)
   pub agreed : AreAgreed (honest_history history) (start_of config)
   pub caused : AreCaused (report_of config Moves history)
+  pub serving : AreServing config history
   pub brief : IsBrief config detail history
 
 -- what happened before a hostile hand first overwrote a word or a key
@@ -200,6 +205,22 @@ pub caused_before : (config : Options) (first rest : List Happening) → AreCaus
 caused_before config first rest are =
     obeys_before IsCausedAt (report_of config Moves first) (lines_of rest (after first (start_of config)))
     (subst (λ (ls : List Line). AreCaused (Begin config Moves ∷ ls)) (lines_of-append first rest (start_of config)) are)
+
+-- each submission is answered by the first rule that applies
+whole_ruled : (config : Options) (detail : Detail) (history : List Happening) → IsTold config detail history → AreRuled (submitted_of history) (report_of config detail history)
+whole_ruled config detail history h = let plain = h.plain in report_ruled config detail history plain.indirect h.possible h.serving
+
+ruled : (config : Options) (detail : Detail) (history : List Happening) → IsTold config detail history → AreRuled (submitted_of history) (kept_of detail (report_of config detail history))
+ruled config detail history h = kept_ruled (submitted_of history) detail (report_of config detail history) (whole_ruled config detail history h)
+
+ended_ruled : (config : Options) (detail : Detail) (history : List Happening) → IsTold config detail history → AreRuled (submitted_of history) (kept_of detail (ended_report_of config detail history))
+ended_ruled config detail history h =
+    kept_ruled (submitted_of history) detail (ended_report_of config detail history) (obeys_more (IsRuledAt (submitted_of history)) (report_of config detail history) End (whole_ruled config detail history h) tt)
+
+-- the first part of a history is one whose front knows what the back serves
+pub serving_before : (config : Options) (first rest : List Happening) → AreServing config (first ++ rest) → AreServing config first
+serving_before config [] rest all = tt
+serving_before config (h ∷ first) rest all = (all.0, serving_before config first rest all.1)
 
 -- what the beginning of a report tells of its requests, where a run has that report
 so_far_served : (jobs : List Job) (before : Option (List (List ℕ))) (report : List Line) → HasRunSoFar jobs before report → ServesRequestsSoFar jobs before report
@@ -394,6 +415,7 @@ report_lawful config detail history before now h long runs =
       begun = report_begun config detail history;
       kept = λ fixed. content_kept config history before now fixed runs;
       grammar = report_grammar config detail history h.options h.possible h.brief.numbers;
+      refusals = ruled config detail history h;
       requests = λ honest of. report_serves config detail history before now h long runs (all_honest config detail history h honest) of;
       honest = λ of.
           subst (ServesRequestsSoFar (submitted_of history) before.content) (sym same)
@@ -414,6 +436,7 @@ ended_lawful config detail history before now h long runs =
       begun = ended_begun config detail history;
       kept = λ fixed. content_kept config history before now fixed runs;
       grammar = ended_grammar config detail history h.options h.possible h.brief.numbers;
+      refusals = ended_ruled config detail history h;
       requests = λ honest of. ended_serves config detail history before now h long runs (all_ended config detail history h honest) of;
       honest = λ of. so_far_served (submitted_of history) before.content _ (ended_honest_run config detail history before now h long runs of);
       ready =
@@ -444,6 +467,7 @@ begun_lawful config detail history before said rest h all run =
     record {
       begun = begun_before config detail one other (subst (IsBegun config detail) (sym split) (ended_begun config detail history));
       grammar = grammar_before one other (subst IsInGrammar (sym split) (ended_grammar config detail history h.options h.possible h.brief.numbers));
+      refusals = obeys_before (IsRuledAt (submitted_of history)) one other (subst (AreRuled (submitted_of history)) (sym split) (ended_ruled config detail history h));
       honest = λ of. so_far_served (submitted_of history) before (honest_part one) (run of);
       ready = obeys_before IsReadyAt (honest_part one) part.0 (subst (Obeys IsReadyAt) (sym part.1) (ended_ready config detail (honest_history history) (allowed h)));
       ring = λ moves. obeys_before IsQuietRingAt (honest_part one) part.0 (subst (Obeys IsQuietRingAt) (sym part.1) (ended_quiet config detail (honest_history history) h.plain (allowed h) moves));
@@ -469,6 +493,7 @@ nothing_lawful config detail jobs before =
     record {
       begun = tt;
       grammar = record { lines = All-nil IsInRange; exact = λ other all same. none_read_otherwise other same };
+      refusals = obeys_none (IsRuledAt jobs);
       honest = λ of. record {
         disk = run;
         submissions = obeys_none (IsAnswerAt jobs);

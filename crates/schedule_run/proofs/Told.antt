@@ -29,6 +29,7 @@ use Rattle.vbd_model.proofs.Submitting.{events_submit, events_so_far_submit}
 use Rattle.vbd_laws.proofs.Served.{rings_possible, rings_served}
 use Rattle.vbd_laws.proofs.Quiet.{rings_agreed}
 use Rattle.vbd_laws.proofs.Causes.{rings_caused}
+use Rattle.refusal_laws.proofs.Serves.{machine_serves}
 use Rattle.disk_laws.proofs.Before.{HasRunSoFar}
 use Rattle.plain_disk.specs.Honest.{honest_part}
 use Rattle.pipeline_laws.specs.Effects.{IsOfADisk}
@@ -57,6 +58,7 @@ is_told config events old now h =
       served = rings_served config leads.history served.carried served.options (events_possible events (start_of config) leads.history leads.is_kind);
       agreed = rings_agreed config leads.history served.carried served.options (events_possible events (start_of config) leads.history leads.is_kind);
       caused = rings_caused config leads.history served.options.2;
+      serving = machine_serves config leads.history served.options;
       brief = events_brief config old.recorder.detail events leads.history (plain_of config served) leads.is_kind h.few;
     }
 
@@ -144,6 +146,7 @@ both_told config detail events event hs served few k =
       served = rings_served config (k.0 ++ k.1) served.carried served.options (events_so_far_possible events event start k.0 k.1 k.3 k.4);
       agreed = rings_agreed config (k.0 ++ k.1) served.carried served.options (events_so_far_possible events event start k.0 k.1 k.3 k.4);
       caused = rings_caused config (k.0 ++ k.1) served.options.2;
+      serving = machine_serves config (k.0 ++ k.1) served.options;
       brief = events_so_far_brief config detail events event k.0 k.1 plain k.3 k.4 few;
     })
 

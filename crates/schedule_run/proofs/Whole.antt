@@ -50,6 +50,7 @@ told_first config detail first rest h = record {
   served = served_before first rest (rings.start_of config) h.served;
   agreed = of_rings.agreed_before first rest (rings.start_of config) h.agreed;
   caused = of_rings.caused_before config first rest h.caused;
+  serving = of_rings.serving_before config first rest h.serving;
   brief = brief_first config detail first rest h.brief;
 }
 

@@ -42,6 +42,7 @@ use Rattle.report_laws.specs.QuietRing.{IsQuietRing}
 use Rattle.report_laws.specs.States.{AreStatesAgreed}
 use Rattle.report_laws.specs.Ports.{AreFewPorts}
 use Rattle.vbd_laws.specs.Causes.{AreCaused}
+use Rattle.refusal_laws.specs.Ruled.{AreRuled}
 use Rattle.vbd_model.specs.Leads.{Moment}
 use Rattle.schedule_run.specs.Reading.{IsWholeSchedule, HasBadLine, IsTooLong, HasReadTo, IsReadSoFar, Tells, TellsRest}
 use Rattle.schedule_run.specs.Outcome.{Outside, HasCarried}
@@ -86,11 +87,12 @@ pub record ServesRequestsSoFar (jobs : List Job) (before : Option (List (List �
   pub unbroken : IsUnbroken report
   pub states : AreStates report
 
--- a report begins with the options; its lines are lines of the grammar that its text gives back; a read-only disk holds what it held; and where it shows the moves, they obey the rules, the front makes at most 4 ports in an epoch, and each `halt` and each `broken` line stands directly after the move that is its cause, whatever a hostile hand overwrites. A report that no hostile hand touched serves its requests as the plain disk does, from what the disk held to what it holds, where the disk tells that, or what the report shows of it are the calls of a disk. Of any other, the lines before the first hostile one do so, the front was connected before the first `quiet` line of them, and where moves are shown the ring is served and read at each of their `quiet` lines, and both ends have said that they are connected, or, after a `closing` line, that they are closed
+-- a report begins with the options; its lines are lines of the grammar that its text gives back; a read-only disk holds what it held; each submission has the answer of the first rule that applies, as the lines before it say, also after a hostile line; and where it shows the moves, they obey the rules, the front makes at most 4 ports in an epoch, and each `halt` and each `broken` line stands directly after the move that is its cause, whatever a hostile hand overwrites. A report that no hostile hand touched serves its requests as the plain disk does, from what the disk held to what it holds, where the disk tells that, or what the report shows of it are the calls of a disk. Of any other, the lines before the first hostile one do so, the front was connected before the first `quiet` line of them, and where moves are shown the ring is served and read at each of their `quiet` lines, and both ends have said that they are connected, or, after a `closing` line, that they are closed
 pub record IsLawful (config : Options) (detail : Detail) (jobs : List Job) (before now : Option (List (List ℕ))) (report : List Line) : Type 0 where
   pub begun : IsBegun config detail report
   pub kept : config.read_only ≡ true → now ≡ before
   pub grammar : IsInGrammar report
+  pub refusals : AreRuled jobs report
   pub requests : IsHonest report → IsOfADisk config.sectors before report → ServesRequests config jobs before now report
   pub honest : IsOfADisk config.sectors before (honest_part report) → ServesRequestsSoFar jobs before (honest_part report)
   pub ready : IsReadyFirst (honest_part report)
@@ -105,6 +107,7 @@ pub record IsLawful (config : Options) (detail : Detail) (jobs : List Job) (befo
 pub record IsLawfulSoFar (config : Options) (detail : Detail) (jobs : List Job) (before : Option (List (List ℕ))) (report : List Line) : Type 0 where
   pub begun : IsBegunSoFar config detail report
   pub grammar : IsInGrammar report
+  pub refusals : AreRuled jobs report
   pub honest : IsOfADisk config.sectors before (honest_part report) → ServesRequestsSoFar jobs before (honest_part report)
   pub ready : IsReadyFirst (honest_part report)
   pub ring : detail ≡ Moves → IsQuietRing (honest_part report)

@@ -218,6 +218,10 @@ facts_settled s v x = settled_is (HasFacts (facts_in v)) (facts_told (facts_in v
 pub facts_moved : (moves : Bool) (b : BackBusAsk) (x : View) (a : BackAnswer) → (let y : View = back_step.ring_step moves b x a in facts_in y.bus) ≡ facts_in x.bus
 facts_moved moves b x a = ring_is (HasFacts (facts_in x.bus)) (facts_told (facts_in x.bus)) (facts_stopped (facts_in x.bus)) moves b x a refl
 
+-- so does a whole move
+pub facts_stepped : (x : View) (a : BackAnswer) → (let y : View = back_step.step_of x a in facts_in y.bus) ≡ facts_in x.bus
+facts_stepped x a = step_is (HasFacts (facts_in x.bus)) (facts_told (facts_in x.bus)) (facts_stopped (facts_in x.bus)) x a refl
+
 pub past_settled : (s : BackRing) (v : BackView) (x : BackAnswer) → is_publishing v.stage ≡ false → (let u : BackView = back_step.settled s (step_of v x) in is_publishing u.stage) ≡ false
 past_settled s v x past = settled_is IsPast past_told past_stopped (let u : BackView = step_of v x in u.stage) s (step_of v x) (past_told v x past)
 

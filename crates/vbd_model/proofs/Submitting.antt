@@ -21,7 +21,7 @@ ring_moves_submit [] m = refl
 ring_moves_submit (ring.Submits job ∷ hs) m = absurd (cc)
 ring_moves_submit (h ∷ hs) m = ring_moves_submit hs m.1
 
-moves_submit : (hs : List Happening) (w : World) → AllByRecursion (λ (h : Happening). is_move h ≡ true) hs → submitted_of (all_does hs w) ≡ []
+pub moves_submit : (hs : List Happening) (w : World) → AllByRecursion (λ (h : Happening). is_move h ≡ true) hs → submitted_of (all_does hs w) ≡ []
 moves_submit hs w m = ring_moves_submit (all_does hs w) (all_do_moves hs w m)
 
 both_submit : (a b : List Happening) (w : World) → submitted_of (all_does (a ++ b) w) ≡ submitted_of (all_does a w) ++ submitted_of (all_does b (after a w))

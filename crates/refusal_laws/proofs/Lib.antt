@@ -1,0 +1,11 @@
+pub mod Asked
+pub mod Stands
+pub mod Steps
+pub mod Enters
+pub mod Submits
+pub mod Learning
+pub mod Serves
+pub mod Runs
+pub mod Kept
+pub mod Laws
+pub mod Refused
