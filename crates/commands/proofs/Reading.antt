@@ -4,13 +4,12 @@ use Rattle.std.specs.Prelude.{option_map, option_and_then, nat_le, if◌then◌e
 use Rattle.std.specs.Str.{bytes_eq}
 use Rattle.std.proofs.lemmas.Bool.{leb-true}
 use Rattle.blk_base.specs.declared.operation.Abi.{Abi}
-use Rattle.schedule_text.specs.declared.line.Detail.{Detail}
 use Rattle.clap.specs.Words.{Kinds, Row, Text, fault_of, subcommand_of, is_simple, is_simple_and_free, HasKind, kind_of}
 use Rattle.clap.specs.declared.error.Error.{Error}
 use Rattle.clap.specs.declared.error.kind.ErrorKind.TheVariants as kind
 use Rattle.commands.specs.declared.words.Command.{Command}
 use Rattle.commands.specs.declared.words.RunOptions.{RunOptions}
-use Rattle.commands.specs.declared.words.Command.TheVariants.{Inspect, Run}
+use Rattle.commands.specs.declared.words.Command.TheVariants.{Inspect}
 use Rattle.commands.specs.Words.{Wish, a_run, a_ring, a_check, number_in, order_of, indirect_of, run_with, run_in, ring_with, ring_in, bench_with, bench_in, wish_in, wish_where, wish_of, wish_by, command_set}
 
 -- where `clap` finds no fault, the words ask for what the subcommand asks for

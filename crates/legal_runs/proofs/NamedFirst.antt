@@ -1,11 +1,11 @@
 -- Where the back reads the layout of entries before it maps a page of the ring, the layout stays.
-use Rattle.std.proofs.Common.{◌≡◌, true, List}
+use Rattle.std.proofs.Common.{◌≡◌, List}
 use Rattle.schedule_text.specs.declared.line.Line.{Line}
 use Rattle.report_rules.specs.Obeys.{Obeys}
 use Rattle.ring_laws.specs.Layout.{IsNamedFirstAt, IsNamedFirst}
 use Rattle.ring_laws.proofs.Sight.{no_words}
 use Rattle.job_check.specs.Laws.{IsLayoutAt}
-use Rattle.legal_laws.specs.Protocol.{reads_protocol, IsProtocolFirstAt}
+use Rattle.legal_laws.specs.Protocol.{IsProtocolFirstAt}
 use Rattle.legal_laws.proofs.Protocol.{layout_kept}
 
 -- no word of an entry is read before

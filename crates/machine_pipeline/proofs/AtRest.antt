@@ -1,6 +1,5 @@
 -- Where all is quiet, whether the ends serve or have left: the ring is read, and nothing is left.
-use Rattle.std.specs.Prelude.{Option}
-use Rattle.std.proofs.Common.{◌≡◌, ◌≢◌, ℕ, ◌⊎◌, inl, inr, not, Bool, true, false, List, [], length, refl, ap, sym, true≢false}
+use Rattle.std.proofs.Common.{◌≡◌, ◌≢◌, ℕ, ◌⊎◌, inl, inr, not, Bool, true, false, [], length, refl, ap, sym, true≢false}
 use Rattle.blk_base.specs.Options.{Options}
 use Rattle.blk_front.specs.declared.stage.Stage.{Stage as FrontStage}
 use Rattle.blk_front.specs.declared.stage.Stage.TheVariants as front
@@ -11,8 +10,7 @@ use Rattle.blk_back.specs.declared.stage.Stage.{Stage as BackStage}
 use Rattle.pipeline_laws.specs.Pipeline.{Pipeline}
 use Rattle.split_model.specs.World.{World, is_quiet}
 use Rattle.machine_pipeline.proofs.Flow.{has_ring}
-use Rattle.machine_pipeline.proofs.Holds.{Holds}
-use Rattle.machine_pipeline.proofs.Over.{IsDrained, IsLeaving, Over, IsKept}
+use Rattle.machine_pipeline.proofs.Over.{IsDrained, IsLeaving, IsKept}
 use Rattle.machine_pipeline.proofs.Drained.{no_element, drained_at}
 use Rattle.line_text.proofs.Both.{both_true}
 use Rattle.machine_pipeline.proofs.Together.{IsStanding}

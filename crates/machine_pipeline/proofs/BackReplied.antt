@@ -3,7 +3,6 @@ use Rattle.std.proofs.Common.{◌≡◌, ℕ, zero, suc, ◌+◌, ◌-◌, ◌<�
 use Rattle.std.specs.Prelude.{Option, Some, None, slice_get, ◌⊎◌}
 use Rattle.std.proofs.lemmas.Option.{none-some, same_Some, slice_get-get_or}
 use Rattle.blk_base.specs.Options.{Options}
-use Rattle.schedule_text.specs.declared.line.Line.TheVariants.{Move}
 use Rattle.pipeline_laws.specs.Pipeline.{Pipeline, after_steps}
 use Rattle.ring_words.specs.Ring.{Ring, next_of}
 use Rattle.xen_pages.specs.Pages.{with_word}

@@ -8,7 +8,6 @@ use Rattle.ring_words.specs.Shape.{Shape}
 use Rattle.blk_base.specs.declared.parts.Mapping.{Mapping}
 use Rattle.grant_table.specs.declared.held.Held.{Held}
 use Rattle.pipeline_laws.specs.Pipeline.{Pipeline}
-use Rattle.blk_base.specs.declared.operation.Status.TheVariants.{Okay}
 use Rattle.blk_front.specs.declared.request.Request.{Request}
 use Rattle.blk_front.specs.declared.request.Transfer.TheVariants as transfer
 use Rattle.blk_front.specs.Request.{frame_at, words_in}

@@ -1,5 +1,5 @@
 -- Whatever else happens once the back has halted: submissions are refused, and the front is closed once it left.
-use Rattle.std.proofs.Common.{◌≡◌, ◌≢◌, ℕ, ◌==◌, ◌&&◌, inr, not, if◌then◌else◌, Bool, true, false, List, [], ◌∷◌, length, map, refl, ap, sym, ◌∙◌, subst, arith, true≢false}
+use Rattle.std.proofs.Common.{◌≡◌, ◌≢◌, ℕ, ◌==◌, ◌&&◌, inr, not, if◌then◌else◌, Bool, true, false, List, [], ◌∷◌, length, map, refl, ap, sym, ◌∙◌, subst, true≢false}
 use Rattle.std.specs.Prelude.{Some, None, Result, Err, nat_le}
 use Rattle.blk_base.specs.declared.parts.Mapping.{Mapping}
 use Rattle.ring_words.specs.Shape.{Shape}

@@ -1,6 +1,6 @@
 -- The guest is suspended: all that holds begins anew, with the requests that the front had, or goes on being over.
 use Rattle.std.proofs.Common.{◌≡◌, ◌≢◌, ℕ, zero, suc, ◌+◌, ◌-◌, ◌/◌, ◌<◌, ◌≤◌, ◌==◌, inl, inr, if◌then◌else◌, not, Bool, true, false, true≢false, List, [], ◌∷◌, ◌++◌, length, map, refl, ap, sym, ◌∙◌, subst, arith}
-use Rattle.std.specs.Prelude.{All, AllPairs, Option, Some, None, slice_get, nat_lt, count_by}
+use Rattle.std.specs.Prelude.{All, AllPairs, Option, Some, None, slice_get, nat_lt}
 use Rattle.std.proofs.lemmas.Bool.Decides.{nat_tests}
 use Rattle.std.proofs.lemmas.Option.{none-some, same_Some}
 use Rattle.std.proofs.lemmas.List.{length-map}
@@ -8,7 +8,6 @@ use Rattle.std.proofs.lemmas.List.Elements.{All-head, All-tail, All-cons}
 use Rattle.std.proofs.lemmas.List.Kept.{AllPairs-cons}
 use Rattle.blk_base.specs.Options.{Options}
 use Rattle.ring_words.specs.Shape.{Shape, entries_of}
-use Rattle.schedule_text.specs.declared.line.Line.{Line}
 use Rattle.schedule_text.specs.declared.line.Line.TheVariants as lines
 use Rattle.hypervisor.specs.Suspend.{cleared_to, tables_cleared, suspended as under_suspended}
 use Rattle.hypervisor.proofs.Cleared.{kept_word}
@@ -17,30 +16,29 @@ use Rattle.blk_front.specs.declared.stage.Stage.{Stage as FrontStage}
 use Rattle.blk_front.specs.declared.stage.Stage.TheVariants as front
 use Rattle.blk_front.specs.declared.stage.Ending.{Ending}
 use Rattle.blk_front.specs.State.{is_open}
-use Rattle.blk_front.specs.Submit.{is_ready, ending_of}
+use Rattle.blk_front.specs.Submit.{ending_of}
 use Rattle.blk_front.specs.Suspend.{by_number, with_ending, requests_after, ending_after, stage_after}
 use Rattle.blk_front.specs.View.{View, no_offers}
 use Rattle.blk_back.specs.declared.stage.Stage.{Stage as BackStage}
 use Rattle.blk_back.specs.declared.stage.Stage.TheVariants as back
-use Rattle.split_model.specs.World.{World, state_after, suspended}
+use Rattle.split_model.specs.World.{World, state_after}
 use Rattle.split_model.specs.Happening.{Suspends, happens, lines_at}
-use Rattle.split_model.proofs.Suspending.{begun_back, gone_back, begun_world, gone_world, suspend_cases, suspended_cases}
+use Rattle.split_model.proofs.Suspending.{begun_back, begun_world, gone_world, suspend_cases, suspended_cases}
 use Rattle.pipeline_laws.specs.Station.{Taking, Telling, Request as Asked, is_finished}
 use Rattle.pipeline_laws.specs.Pipeline.{Pipeline, Front, Resumes, next, again}
-use Rattle.pipeline_laws.specs.Allowed.{AreFinished}
 use Rattle.machine_pipeline.specs.Plain.{IsPlain}
 use Rattle.machine_pipeline.specs.Step.{IsSame}
-use Rattle.machine_pipeline.proofs.Flow.{Flow, is_issuing, is_fetching, ending_at, telling_at, reply_at, data_word}
+use Rattle.machine_pipeline.proofs.Flow.{Flow, ending_at, telling_at}
 use Rattle.machine_pipeline.proofs.Series.{IsSeries}
 use Rattle.machine_pipeline.proofs.Lists.{all_at, all_from, pair_at, count_none}
 use Rattle.machine_pipeline.proofs.Holds.{FrontAt, IsToldAt, AreQueued, AreSubmitted, ArePooled, AreDataWords, IsReadSoFar, IsEnding, Holds}
-use Rattle.machine_pipeline.proofs.Kept.{SameFrame, data_same, data_kept}
+use Rattle.machine_pipeline.proofs.Kept.{data_same, data_kept}
 use Rattle.machine_pipeline.proofs.Frames.{ending_is, told_few}
 use Rattle.machine_pipeline.proofs.ReadsKept.{stations_elsewhere}
 use Rattle.machine_pipeline.proofs.Turns.{Stepped, no_move, does_alone}
-use Rattle.machine_pipeline.proofs.Stations.{StandsAt, AreStations, AreKnown, AreOpen, AreGoing, finishing, kind_of, apart}
+use Rattle.machine_pipeline.proofs.Stations.{StandsAt, AreOpen, finishing, kind_of}
 use Rattle.machine_pipeline.proofs.Left.{IsUnbegun, left_data, first_word}
-use Rattle.machine_pipeline.proofs.Over.{Over, IsOver, IsLeaving, MayBegin, may_begin, lasting_of, is_closed, HasGone}
+use Rattle.machine_pipeline.proofs.Over.{Over, IsLeaving, MayBegin, may_begin, lasting_of, is_closed, HasGone}
 use Rattle.machine_pipeline.proofs.StartingHolds.{shape_of, begun_flow, BeginsEpoch, epoch_holds}
 use Rattle.machine_pipeline.proofs.Resumed.{AreAgain, MayResume, resumes, known_again, finished_again, finished_all, unfinished, all_again, IsPutBack, back_was, back_many, back_pooled, put_back_again, told_again_beside}
 

@@ -27,7 +27,7 @@ use Rattle.xenbus_state.specs.FrontView.{FrontView, closed, is_broken}
 use Rattle.xenbus_state.specs.FrontAsk as front_asks
 use Rattle.xenbus_state.specs.FrontAsk.{due, ask_at}
 use Rattle.xenbus_state.specs.FrontStep as front_step
-use Rattle.xenbus_state.specs.FrontStep.{at, step_at, acted, feature_step, fact_step}
+use Rattle.xenbus_state.specs.FrontStep.{at, step_at, acted, fact_step}
 use Rattle.xenbus_state.specs.FrontSound as front_sound
 use Rattle.xenbus_state.specs.BackView.{BackView, is_halting, unplugged}
 use Rattle.xenbus_state.specs.BackAsk as back_asks

@@ -1,9 +1,7 @@
 -- The report says rightly how the front connects and closes, and no end breaks the protocol.
-use Rattle.std.proofs.Common.{◌≡◌, ℕ, true, false, Bool, ◌&&◌, ◌||◌, List, [], ◌∷◌, ◌++◌, take, drop, get_or, suc, refl, ap, sym, ◌∙◌}
-use Rattle.std.specs.Prelude.{Option, Some, None, is_none, fold}
-use Rattle.std.specs.List.{list_any}
+use Rattle.std.proofs.Common.{◌≡◌, ℕ, true, false, Bool, ◌&&◌, ◌||◌, List, [], ◌∷◌, ◌++◌, take, drop, get_or, suc, refl, ap, ◌∙◌}
+use Rattle.std.specs.Prelude.{Option, Some, None, is_none}
 use Rattle.std.proofs.Math.Seq.{split_at}
-use Rattle.std.proofs.lemmas.List.Folds.{list_any-append}
 use Rattle.std.proofs.lemmas.Option.{none-some, cond_some}
 use Rattle.blk_base.specs.declared.operation.Status.TheVariants.{Unsupported}
 use Rattle.schedule_text.specs.declared.line.Line.{Line}
@@ -13,11 +11,10 @@ use Rattle.plain_disk.specs.declared.sight.Sight.{Sight}
 use Rattle.plain_disk.specs.Request.{is_open}
 use Rattle.plain_disk.specs.Disk.{Disk, disk_of, request_of}
 use Rattle.plain_disk.specs.Step.{after, replied_of}
-use Rattle.plain_disk.specs.Refusal.{seen, nothing_seen}
 use Rattle.report_rules.proofs.Obeys.{obeys_more}
 use Rattle.pipeline_laws.specs.Pipeline.{Pipeline, Submits, Refuses, Moves, Connects, StartsToClose, Closes, Leaves, Resumes, Rests, Shows}
 use Rattle.pipeline_laws.specs.Allowed.{AreFinished, is_aside}
-use Rattle.pipeline_laws.specs.States.{is_closing, sight_after, IsServed, IsStateAt, AreStates}
+use Rattle.pipeline_laws.specs.States.{IsServed, IsStateAt, AreStates}
 use Rattle.pipeline_laws.specs.Unbroken.{is_breach, IsUnbroken}
 use Rattle.pipeline_laws.proofs.AnsweredRuns.{StandsBehind, stands_behind}
 use Rattle.pipeline_laws.proofs.PlainRuns.{after_append}

@@ -30,5 +30,6 @@ pub fn each_submission_is_answered_by_the_first_rule()
 pub fn wrong_answers_are_refused()
     ensures full { (config : Options) (detail : Detail) → ¬ AreRuled (Read 0 1 ∷ []) (full_though_empty config detail) }
     ensures closing { (config : Options) (detail : Detail) → ¬ AreRuled (Read 0 1 ∷ []) (taken_while_closing config detail) }
-    ensures read_only { (config : Options) (detail : Detail) (tag : ℕ) → config.read_only ≡ true → ¬ AreRuled (Write 0 1 tag ∷ []) (range_though_read_only config detail) }
+    ensures read_only { (config : Options) (detail : Detail) (tag : ℕ) → config.read_only ≡ true
+        → ¬ AreRuled (Write 0 1 tag ∷ []) (range_though_read_only config detail) }
 {}

@@ -13,7 +13,7 @@ use Rattle.plain_disk.specs.declared.request.Place.{Place}
 use Rattle.plain_disk.specs.declared.request.Stage.{Stage}
 use Rattle.plain_disk.specs.declared.request.Stage.TheVariants as stages
 use Rattle.plain_disk.specs.Request as requests
-use Rattle.plain_disk.specs.Request.{is_read, is_write, is_flush, is_discard, is_ordered, is_open, is_finished, is_done, may_serve, places_of, sector_of, filling}
+use Rattle.plain_disk.specs.Request.{is_read, is_write, is_flush, is_discard, is_ordered, is_open, is_finished, is_done, may_serve, places_of, filling}
 use Rattle.plain_disk.specs.Disk.{Disk, request_of, noted_at}
 use Rattle.plain_disk.specs.Step.{step, submitted_of, effect_of, read_of, flushed_of, trimmed_of, fault_of, lost_of, replied_of, answered_of, data_of, epoch_of, place, served, one_sector, all_sectors, is_in_order, may_hold, place_words, may_reply, is_status, is_okay, told_stage, next_stage, is_next, are_noted, with_request}
 use Rattle.plain_disk.specs.Refusal.{frames_of}

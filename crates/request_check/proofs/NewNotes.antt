@@ -13,7 +13,7 @@ use Rattle.plain_disk.specs.declared.request.Request.{Request}
 use Rattle.plain_disk.specs.declared.request.Noted.{Noted}
 use Rattle.plain_disk.specs.declared.request.Written.{Written}
 use Rattle.plain_disk.specs.Request as requests
-use Rattle.plain_disk.specs.Request.{is_read, is_write, is_flush, is_discard, is_ordered, is_open, is_finished, is_done, may_serve, places_of, sector_of, filling}
+use Rattle.plain_disk.specs.Request.{is_open, is_finished, is_done}
 use Rattle.plain_disk.specs.Disk.{Disk, request_of, noted_at}
 use Rattle.plain_disk.specs.Step.{epoch_of, place, with_request, reopened}
 use Rattle.plain_disk.specs.Refusal.{frames_of}

@@ -13,7 +13,7 @@ use Rattle.plain_disk.specs.declared.sight.Sight.{Sight}
 use Rattle.plain_disk.specs.Disk.{Disk, disk_of}
 use Rattle.plain_disk.specs.Step.{step, after}
 use Rattle.plain_disk.specs.Refusal as refusals
-use Rattle.plain_disk.specs.Refusal.{nothing_seen, requests_in, refusal_by, refusal_at, refusal_of, frames_of, is_unsupported, is_refused_write, is_past_end, is_long, is_full, lacks_frames}
+use Rattle.plain_disk.specs.Refusal.{nothing_seen, requests_in, refusal_at, frames_of, is_unsupported, is_refused_write, is_past_end, is_long, is_full, lacks_frames}
 use Rattle.request_check.specs.Rules.{disk_after, IsSubmitAt, KeepsRequests}
 use Rattle.request_check.specs.State.{State, start, stepped, seen, state_after}
 use Rattle.request_check.proofs.Opens.{Notes}

@@ -1,8 +1,7 @@
 -- The runner's machine after a suspend, or where none came.
-use Rattle.std.proofs.Common.{◌≡◌, ℕ, ◌+◌, ◌≤◌, Bool, true, false, if◌then◌else◌, List, [], ◌∷◌, inl, inr, refl, sym, ap, ◌∙◌, subst, arith}
-use Rattle.std.specs.Prelude.{Result, Ok, Err, None}
+use Rattle.std.proofs.Common.{◌≡◌, ◌+◌, ◌≤◌, Bool, true, false, if◌then◌else◌, [], ◌∷◌, inl, inr, refl, sym, ap, ◌∙◌, subst}
+use Rattle.std.specs.Prelude.{Result, Err, None}
 use Rattle.blk_io.specs.Disk.{DiskSeen}
-use Rattle.schedule_text.specs.declared.line.Line.{Line}
 use Rattle.schedule_text.specs.declared.line.Line.TheVariants.{Epoch}
 use Rattle.schedule_text.specs.declared.recorder.RecordStop.{RecordStop}
 use Rattle.schedule_text.specs.declared.recorder.RecordStop.TheVariants.{OutOfMemory}
@@ -20,7 +19,7 @@ use Rattle.vbd_front.specs.Step as front_step
 use Rattle.vbd_back.specs.View as back_view
 use Rattle.vbd_model.specs.World.{World}
 use Rattle.vbd_model.specs.Fit.{IsFit}
-use Rattle.vbd_model.specs.Happening.{Suspends, Looks, happens, lines_at}
+use Rattle.vbd_model.specs.Happening.{Suspends, Looks, happens}
 use Rattle.vbd_model.specs.Kind.{IsSuspend, IsSuspendSoFar}
 use Rattle.vbd_model.specs.Leads.{moment, Goes}
 use Rattle.vbd_model.specs.Mappings.{mappings_of}

@@ -42,7 +42,7 @@ use Rattle.vbd_back.specs.View.{View}
 use Rattle.vbd_back.specs.Ask.{bus_ask_of, speaks, key_ask, is_between, bus_moves, ring_moves}
 use Rattle.vbd_back.specs.Ask as backend_ask
 use Rattle.vbd_back.specs.Step as backend_step
-use Rattle.vbd_back.specs.Step.{settled_at, settled, bus_halted, woken, followed, waited, caught_up}
+use Rattle.vbd_back.specs.Step.{settled_at, settled, bus_halted, woken, followed, waited}
 use Rattle.vbd_model.specs.World.{World, backend_of}
 use Rattle.vbd_model.specs.Happening.{back_turn, is_backs_ring}
 use Rattle.vbd_model.specs.Fit.{IsGivingUp, IsUnmapping, BackGoesWith, BackHolds, IsFit}

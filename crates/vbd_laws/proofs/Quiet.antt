@@ -27,7 +27,7 @@ use Rattle.vbd_front.specs.View as front_view
 use Rattle.vbd_front.specs.Ask as front
 use Rattle.vbd_back.specs.Ask as back
 use Rattle.vbd_model.specs.World.{World, start_of, is_quiet}
-use Rattle.vbd_model.specs.Happening.{Happening, FrontMoves, BackMoves, Closes, Suspends, Looks, Settles, front_turn, back_turn, entered_at, halted_at, front_key, back_key, closes_does, is_fronts_ring, is_backs_ring, attaches, back_negotiates, does, after}
+use Rattle.vbd_model.specs.Happening.{Happening, FrontMoves, BackMoves, Closes, Looks, Settles, front_turn, back_turn, entered_at, halted_at, front_key, back_key, closes_does, is_fronts_ring, is_backs_ring, attaches, back_negotiates, does, after}
 use Rattle.vbd_model.specs.Fit.{FrontRests, FrontGoesWith, IsFit}
 use Rattle.vbd_model.specs.Possible.{IsPossible}
 use Rattle.vbd_laws.specs.Quiet.{IsUntouched, HaveBoth, StatesAgree, StatesAgreeAtQuiet, RingsAgreed}

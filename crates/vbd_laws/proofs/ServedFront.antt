@@ -33,7 +33,6 @@ use Rattle.xenbus_state.specs.FrontAsk.{due, due_at, leaving, closing_stage, ask
 use Rattle.xenbus_state.specs.FrontStep.{at, acted, feature_step, fact_step, after, after_feature, after_fact, after_published, after_grants, after_state, closing_news, action_news, read_news, written_news, news_at, news_of, step_at, step_of}
 use Rattle.split_model.proofs.SafeAnswers.{IsFronts, fronts_at}
 use Rattle.machine_pipeline.specs.Allowed.{IsSpelled}
-use Rattle.vbd_front.specs.View.{View}
 use Rattle.vbd_front.specs.View as view
 use Rattle.vbd_front.specs.Ask as front
 use Rattle.vbd_front.specs.Step as front_step

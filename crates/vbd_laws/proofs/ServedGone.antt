@@ -1,12 +1,10 @@
 -- A front that was closed as the domain was suspended: the new back has halted, the directory says that both are closed, and nothing follows.
-use Rattle.std.proofs.Common.{◌⊎◌, inl, inr, ◌≡◌, ◌∙◌, ap, sym, subst, refl, ℕ, ◌==◌, ◌&&◌, ◌||◌, not, Bool, true, false, true≢false, if◌then◌else◌, List, [], ◌∷◌, map, length, arith}
+use Rattle.std.proofs.Common.{◌⊎◌, inl, inr, ◌≡◌, ◌∙◌, ap, sym, subst, refl, ℕ, ◌==◌, ◌&&◌, ◌||◌, Bool, true, false, true≢false, if◌then◌else◌, List, [], ◌∷◌, arith}
 use Rattle.std.specs.Prelude.{Option, Some, None, is_some, codes}
-use Rattle.std.specs.List.{list_any}
 use Rattle.std.proofs.lemmas.Fmt.{decimal_digit}
 use Rattle.blk_base.specs.declared.parts.End.{End}
 use Rattle.blk_base.specs.declared.parts.End.TheVariants as end
 use Rattle.blk_base.specs.declared.moves.BackMover.TheVariants as back_mover
-use Rattle.blk_base.specs.declared.ask.FrontAsk.{FrontAsk}
 use Rattle.blk_base.specs.declared.ask.FrontAsk.TheVariants as front_ask
 use Rattle.blk_base.specs.declared.ask.BackAsk.{BackAsk}
 use Rattle.blk_base.specs.declared.ask.BackAsk.TheVariants as back_ask
@@ -14,7 +12,7 @@ use Rattle.event_channel.specs.Channels.{ChannelState, sent, reset}
 use Rattle.key_directory.specs.Watches.{next_watch, has_pending}
 use Rattle.key_directory.specs.Directory.{Directory, fresh_directory, key_of}
 use Rattle.hypervisor.specs.Hypervisor.{Hypervisor}
-use Rattle.hypervisor.specs.Act.{FrontAct, BackAct, Outcome, Took, front_act, back_act, front_watched, back_watched, watch_next, has_to_take}
+use Rattle.hypervisor.specs.Act.{BackAct, Outcome, Took, front_act, back_act, front_watched, back_watched, watch_next, has_to_take}
 use Rattle.hypervisor.specs.Suspend.{suspended as under_suspended}
 use Rattle.back_jobs.specs.Jobs.{ask_job}
 use Rattle.blk_front.specs.declared.stage.Stage.{Stage as FrontRing}
@@ -55,7 +53,7 @@ use Rattle.vbd_model.specs.Happening.{Happening, FrontMoves, BackMoves, JobMoves
 use Rattle.vbd_model.specs.Possible.{IsPossible}
 use Rattle.vbd_model.specs.Fit.{IsEndingPage, FrontRests, IsGranting, IsUnbegun, FrontGoesWith, BackGoesWith, IsFit}
 use Rattle.vbd_laws.specs.Moves.{IsNoMove}
-use Rattle.vbd_laws.specs.Quiet.{IsUntouched, HaveBoth, StatesAgree}
+use Rattle.vbd_laws.specs.Quiet.{IsUntouched, StatesAgree}
 use Rattle.vbd_laws.proofs.MovesTurns.{front_asks, back_asks, front_cases, back_cases}
 use Rattle.vbd_laws.proofs.MovesFront.{front_move_none}
 use Rattle.vbd_laws.proofs.MovesBack.{back_move_none}

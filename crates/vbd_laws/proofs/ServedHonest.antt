@@ -6,7 +6,6 @@ use Rattle.std.specs.Prelude.{Option, Some, None, IsSome, is_some, unwrap_or}
 use Rattle.std.specs.List.{AllByRecursion, range_with_len}
 use Rattle.std.proofs.lemmas.Option.{none-some}
 use Rattle.blk_base.specs.Options.{Options}
-use Rattle.blk_base.specs.declared.parts.End.{End}
 use Rattle.blk_base.specs.declared.parts.End.TheVariants as end
 use Rattle.blk_base.specs.declared.operation.Abi.{Abi}
 use Rattle.blk_base.specs.declared.parts.Mapping.{Mapping}
@@ -86,7 +85,7 @@ use Rattle.vbd_front.specs.Step as front_step
 use Rattle.vbd_back.specs.Ask as back
 use Rattle.vbd_back.specs.Step as back_step
 use Rattle.vbd_model.specs.World.{World, start_of, frontend_of, backend_of, is_quiet}
-use Rattle.vbd_model.specs.Happening.{Happening, FrontMoves, BackMoves, JobMoves, Closes, Submits, Notifies, Pokes, OverwritesKey, Suspends, Dumps, Looks, Settles, front_turn, back_turn, entered_at, halted_at, reasons_of, front_key, closes_does, front_does, back_does, is_backs_ring, attaches, back_negotiates, does, happens, after, all_does}
+use Rattle.vbd_model.specs.Happening.{Happening, FrontMoves, BackMoves, JobMoves, Closes, Submits, Notifies, Pokes, OverwritesKey, Suspends, Dumps, Looks, Settles, front_turn, back_turn, entered_at, halted_at, reasons_of, front_key, front_does, back_does, is_backs_ring, attaches, back_negotiates, does, happens, after, all_does}
 use Rattle.vbd_model.specs.Possible.{IsPossible, ArePossible}
 use Rattle.vbd_model.specs.Kind.{are_carried}
 use Rattle.vbd_model.specs.Fit.{FrontRests, FrontGoesWith, FrontOrdered, IsGivingUp as GivesUp, IsUnmapping, is_serving, BackRests, BackReads, BackGoesWith, IsFit}

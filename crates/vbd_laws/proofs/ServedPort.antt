@@ -28,7 +28,7 @@ use Rattle.split_model.proofs.SafeAnswers.{IsFronts}
 use Rattle.vbd_front.specs.Ask as front
 use Rattle.vbd_back.specs.Ask as back
 use Rattle.vbd_model.specs.World.{World, frontend_of, backend_of}
-use Rattle.vbd_model.specs.Happening.{Happening, FrontMoves, BackMoves, JobMoves, Closes, Notifies, Pokes, OverwritesKey, Suspends, front_turn, back_turn, front_bus_after, renewed_bus, happens}
+use Rattle.vbd_model.specs.Happening.{Happening, FrontMoves, BackMoves, JobMoves, Closes, Notifies, Pokes, OverwritesKey, Suspends, front_turn, back_turn, renewed_bus, happens}
 use Rattle.vbd_model.specs.Fit.{IsFit}
 use Rattle.vbd_laws.specs.Moves.{IsNoMove, IsFrontMove, IsBackMove}
 use Rattle.vbd_laws.proofs.FitSuspended.{anew_at}

@@ -24,7 +24,6 @@ use Rattle.xenbus_state.specs.FrontAsk.{due, ask_of}
 use Rattle.split_model.specs.World as rings
 use Rattle.split_model.specs.Happening as ring_happening
 use Rattle.machine_pipeline.specs.Allowed as ring_allowed
-use Rattle.machine_pipeline.specs.Allowed.{IsSaid}
 use Rattle.vbd_front.specs.View as front_view
 use Rattle.vbd_front.specs.Ask as front
 use Rattle.vbd_front.specs.Step as front_step

@@ -35,7 +35,6 @@ use Rattle.split_model.proofs.SafeAnswers.{front_answered}
 use Rattle.vbd_front.specs.View as front_view
 use Rattle.vbd_front.specs.Ask as front
 use Rattle.vbd_front.specs.Step as front_step
-use Rattle.vbd_front.specs.Step.{settled_at, settled}
 use Rattle.vbd_model.specs.World.{World, start_of, frontend_of}
 use Rattle.vbd_model.specs.Happening.{Happening, FrontMoves, BackMoves, JobMoves, Closes, Submits, Suspends, front_turn, back_turn, front_does, happens, after}
 use Rattle.vbd_model.specs.Fit.{FrontRests, FrontGoesWith}

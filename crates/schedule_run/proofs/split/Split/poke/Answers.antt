@@ -2,7 +2,7 @@ use Rattle.std.proofs.Common.{◌∷◌, [], refl}
 use Rattle.split_model.specs.Happening as ring
 use Rattle.split_model.proofs.Moving.{poked_goes}
 use Rattle.vbd_model.specs.World.{World}
-use Rattle.vbd_model.specs.Happening.{Pokes, OverwritesKey}
+use Rattle.vbd_model.specs.Happening.{Pokes}
 use Rattle.vbd_model.specs.Leads.{Is}
 use Rattle.vbd_model.proofs.Mappings.{ring_left}
 use Rattle.schedule_run.specs.Inside.{world_of}
