@@ -1,3 +1,4 @@
+use crate::expected::same;
 use blk_io::{FailsAt, MemorySource};
 use line_text::LineText;
 use std::alloc::{AllocError, Global};
@@ -14,7 +15,11 @@ fn a_report_of_no_requests_is_legal(rt: HostRuntime) -> Result<(), Fail> {
         rt.alloc(),
         "begin 64 0 0 0 0 rw 8 lines\nready\nquiet\nend\n",
     )?;
-    assert_eq!(rt; check(rt.alloc(), 4096, &mut source), Ok(Finding::Legal));
+    same(
+        &rt,
+        check(rt.alloc(), 4096, &mut source),
+        Ok(Finding::Legal),
+    );
     Ok(())
 }
 
@@ -28,7 +33,7 @@ fn an_answer_that_was_not_replied_breaks_a_rule(rt: HostRuntime) -> Result<(), F
         line: 4,
         rule: Rule::Answer,
     };
-    assert_eq!(rt; check(rt.alloc(), 4096, &mut source), Ok(broken));
+    same(&rt, check(rt.alloc(), 4096, &mut source), Ok(broken));
     Ok(())
 }
 
@@ -39,16 +44,17 @@ fn an_empty_report_lacks_its_first_line(rt: HostRuntime) -> Result<(), Fail> {
         line: 1,
         rule: Rule::Order,
     };
-    assert_eq!(rt; check(rt.alloc(), 4096, &mut source), Ok(broken));
+    same(&rt, check(rt.alloc(), 4096, &mut source), Ok(broken));
     Ok(())
 }
 
 #[test]
 fn words_of_no_report_are_a_bad_line(rt: HostRuntime) -> Result<(), Fail> {
     let mut source = source_of(rt.alloc(), "hello\n")?;
-    assert_eq!(rt;
+    same(
+        &rt,
         check(rt.alloc(), 4096, &mut source),
-        Err(CheckStop::BadLine(1))
+        Err(CheckStop::BadLine(1)),
     );
     Ok(())
 }
@@ -59,14 +65,22 @@ fn after_a_hostile_line_the_back_may_halt_of_an_overrun(rt: HostRuntime) -> Resu
         rt.alloc(),
         "begin 64 0 0 0 0 rw 8 lines\nready\nquiet\npoke 2 0 33\nhalt overrun 33 0\nclosing\nclosed\nquiet\nend\n",
     )?;
-    assert_eq!(rt; check(rt.alloc(), 4096, &mut source), Ok(Finding::Legal));
+    same(
+        &rt,
+        check(rt.alloc(), 4096, &mut source),
+        Ok(Finding::Legal),
+    );
     Ok(())
 }
 
 #[test]
 fn an_input_of_as_many_bytes_as_may_be_taken_is_too_long(rt: HostRuntime) -> Result<(), Fail> {
     let mut source = source_of(rt.alloc(), "begin 64 0 0 0 0 rw 8 lines\nend\n")?;
-    assert_eq!(rt; check(rt.alloc(), 32, &mut source), Err(CheckStop::TooLong));
+    same(
+        &rt,
+        check(rt.alloc(), 32, &mut source),
+        Err(CheckStop::TooLong),
+    );
     Ok(())
 }
 
@@ -74,9 +88,10 @@ fn an_input_of_as_many_bytes_as_may_be_taken_is_too_long(rt: HostRuntime) -> Res
 fn a_source_that_fails_is_said(rt: HostRuntime) -> Result<(), Fail> {
     let inside = source_of(rt.alloc(), "begin 64 0 0 0 0 rw 8 lines\nend\n")?;
     let mut source = FailsAt::new(inside, vec![in rt.alloc(); 1]?);
-    assert_eq!(rt;
+    same(
+        &rt,
         check(rt.alloc(), 4096, &mut source),
-        Err(CheckStop::Source)
+        Err(CheckStop::Source),
     );
     Ok(())
 }
@@ -85,12 +100,12 @@ fn a_source_that_fails_is_said(rt: HostRuntime) -> Result<(), Fail> {
 fn a_finding_is_a_line(rt: HostRuntime) -> Result<(), Fail> {
     let mut text = LineText::new();
     write_finding(Finding::Legal, &mut text);
-    assert_eq!(rt; text.as_str(), "legal\n");
+    same(&rt, text.as_str(), "legal\n");
     let broken = Finding::Broken {
         line: 12,
         rule: Rule::Overrun,
     };
     write_finding(broken, &mut text);
-    assert_eq!(rt; text.as_str(), "broken 12 overrun\n");
+    same(&rt, text.as_str(), "broken 12 overrun\n");
     Ok(())
 }

@@ -1,3 +1,4 @@
+use crate::expected::same;
 use blk_base::{Abi, Config, Job, OutOfMemory, SectorCount, Status};
 use plain_disk::{PlainDisk, Sight, Stand};
 use schedule_text::{Detail, Line, Refusal};
@@ -65,9 +66,9 @@ fn writes_one_sector(rt: HostRuntime) -> Result<(), Fail> {
         answer(1, ok),
         Line::Quiet,
     ];
-    assert_eq!(rt; standing(&mut disk, &report)?, 7);
-    assert_eq!(rt; disk.words_at(0), Some([7u32; 128]));
-    assert_eq!(rt; disk.words_at(1), None);
+    same(&rt, standing(&mut disk, &report)?, 7);
+    same(&rt, disk.words_at(0), Some([7u32; 128]));
+    same(&rt, disk.words_at(1), None);
     Ok(())
 }
 
@@ -76,21 +77,28 @@ fn each_request_has_its_effects_its_reply_and_its_answer_once(rt: HostRuntime) -
     let alloc = rt.alloc();
     let ok = Status::Okay;
     let first = submit(1, write(0, 2, 7)?);
-    assert_eq!(rt; count_standing(alloc, &[submit(2, write(0, 1, 7)?)])?, 0);
-    assert_eq!(rt;
+    same(
+        &rt,
+        count_standing(alloc, &[submit(2, write(0, 1, 7)?)])?,
+        0,
+    );
+    same(
+        &rt,
         count_standing(alloc, &[first, effect(1, 0), reply(1, ok)])?,
-        2
+        2,
     );
-    assert_eq!(rt;
+    same(
+        &rt,
         count_standing(alloc, &[first, effect(1, 0), effect(1, 0)])?,
-        2
+        2,
     );
-    assert_eq!(rt; count_standing(alloc, &[first, effect(1, 2)])?, 1);
-    assert_eq!(rt; count_standing(alloc, &[first, answer(1, ok)])?, 1);
-    assert_eq!(rt; count_standing(alloc, &[first, Line::Quiet])?, 1);
-    assert_eq!(rt;
+    same(&rt, count_standing(alloc, &[first, effect(1, 2)])?, 1);
+    same(&rt, count_standing(alloc, &[first, answer(1, ok)])?, 1);
+    same(&rt, count_standing(alloc, &[first, Line::Quiet])?, 1);
+    same(
+        &rt,
         count_standing(alloc, &[first, reply(1, Status::Unsupported)])?,
-        1
+        1,
     );
     let whole = [
         first,
@@ -100,7 +108,7 @@ fn each_request_has_its_effects_its_reply_and_its_answer_once(rt: HostRuntime) -
         answer(1, ok),
         answer(1, ok),
     ];
-    assert_eq!(rt; count_standing(alloc, &whole)?, 5);
+    same(&rt, count_standing(alloc, &whole)?, 5);
     Ok(())
 }
 
@@ -118,42 +126,46 @@ fn reads_back_what_was_written(rt: HostRuntime) -> Result<(), Fail> {
         submit(2, read(0, 1)?),
     ];
     let mut disk = PlainDisk::new(alloc, Vec::new(alloc));
-    assert_eq!(rt; standing(&mut disk, &begin)?, 5);
-    assert_eq!(rt;
+    same(&rt, standing(&mut disk, &begin)?, 5);
+    same(
+        &rt,
         disk.step(&Line::EffectRead {
             id: 2,
             index: 0,
-            words: wrong
+            words: wrong,
         })?,
-        Stand::Falls
+        Stand::Falls,
     );
     let shown = Line::EffectRead {
         id: 2,
         index: 0,
         words: right,
     };
-    assert_eq!(rt;
+    same(
+        &rt,
         standing(&mut disk, &[shown, reply(2, ok), answer(2, ok)])?,
-        3
+        3,
     );
-    assert_eq!(rt; disk.step(&Line::Quiet)?, Stand::Falls);
-    assert_eq!(rt;
+    same(&rt, disk.step(&Line::Quiet)?, Stand::Falls);
+    same(
+        &rt,
         disk.step(&Line::Data {
             id: 2,
             index: 0,
-            words: wrong
+            words: wrong,
         })?,
-        Stand::Falls
+        Stand::Falls,
     );
-    assert_eq!(rt;
+    same(
+        &rt,
         disk.step(&Line::Data {
             id: 2,
             index: 0,
-            words: right
+            words: right,
         })?,
-        Stand::Stands
+        Stand::Stands,
     );
-    assert_eq!(rt; disk.step(&Line::Quiet)?, Stand::Stands);
+    same(&rt, disk.step(&Line::Quiet)?, Stand::Stands);
     Ok(())
 }
 
@@ -170,12 +182,13 @@ fn a_failed_write_leaves_its_sector_unknown(rt: HostRuntime) -> Result<(), Fail>
         answer(1, error),
         Line::Quiet,
     ];
-    assert_eq!(rt; standing(&mut disk, &report)?, 5);
-    assert_eq!(rt; disk.words_at(0), Some([0u32; 128]));
-    assert_eq!(rt; disk.words_at(1), None);
-    assert_eq!(rt;
+    same(&rt, standing(&mut disk, &report)?, 5);
+    same(&rt, disk.words_at(0), Some([0u32; 128]));
+    same(&rt, disk.words_at(1), None);
+    same(
+        &rt,
         count_standing(alloc, &[submit(1, write(1, 1, 2)?), reply(1, error)])?,
-        1
+        1,
     );
     Ok(())
 }
@@ -195,12 +208,13 @@ fn a_barrier_orders_what_is_before_and_behind_it(rt: HostRuntime) -> Result<(), 
         submit(3, write(2, 1, 3)?),
     ];
     let mut disk = PlainDisk::new(alloc, Vec::new(alloc));
-    assert_eq!(rt; standing(&mut disk, &begin)?, 3);
-    assert_eq!(rt; disk.step(&effect(2, 0))?, Stand::Falls);
-    assert_eq!(rt; disk.step(&effect(3, 0))?, Stand::Falls);
-    assert_eq!(rt;
+    same(&rt, standing(&mut disk, &begin)?, 3);
+    same(&rt, disk.step(&effect(2, 0))?, Stand::Falls);
+    same(&rt, disk.step(&effect(3, 0))?, Stand::Falls);
+    same(
+        &rt,
         standing(&mut disk, &[effect(1, 0), effect(2, 0), effect(3, 0)])?,
-        3
+        3,
     );
     Ok(())
 }
@@ -219,9 +233,9 @@ fn a_new_epoch_serves_what_was_not_answered_again(rt: HostRuntime) -> Result<(),
         answer(1, ok),
         Line::Quiet,
     ];
-    assert_eq!(rt; count_standing(alloc, &again)?, 7);
+    same(&rt, count_standing(alloc, &again)?, 7);
     let lost = [first, effect(1, 0), Line::Epoch, reply(1, ok)];
-    assert_eq!(rt; count_standing(alloc, &lost)?, 3);
+    same(&rt, count_standing(alloc, &lost)?, 3);
     Ok(())
 }
 
@@ -241,9 +255,9 @@ fn a_discarded_sector_is_zeros(rt: HostRuntime) -> Result<(), Fail> {
         reply(2, ok),
         reply(1, ok),
     ];
-    assert_eq!(rt; standing(&mut disk, &report)?, 6);
-    assert_eq!(rt; disk.words_at(3), Some([0u32; 128]));
-    assert_eq!(rt; disk.step(&Line::Trimmed { id: 1 })?, Stand::Falls);
+    same(&rt, standing(&mut disk, &report)?, 6);
+    same(&rt, disk.words_at(3), Some([0u32; 128]));
+    same(&rt, disk.step(&Line::Trimmed { id: 1 })?, Stand::Falls);
     Ok(())
 }
 
@@ -273,27 +287,46 @@ fn connected(read_only: bool, order: u32) -> Sight {
 fn submissions_are_refused_in_order(rt: HostRuntime) -> Result<(), Fail> {
     let none = [];
     let mut sight = connected(false, 0);
-    assert_eq!(rt;
+    same(
+        &rt,
         Sight::new().refusal(&none, &read(0, 1)?),
-        Some(Refusal::NotReady)
+        Some(Refusal::NotReady),
     );
-    assert_eq!(rt; sight.refusal(&none, &read(199, 1)?), None);
-    assert_eq!(rt; sight.refusal(&none, &read(199, 2)?), Some(Refusal::Range));
-    assert_eq!(rt; sight.refusal(&none, &read(0, 89)?), Some(Refusal::Long));
-    assert_eq!(rt; sight.refusal(&none, &write(0, 88, 0)?), None);
-    assert_eq!(rt; sight.refusal(&none, &Job::Flush), None);
+    same(&rt, sight.refusal(&none, &read(199, 1)?), None);
+    same(
+        &rt,
+        sight.refusal(&none, &read(199, 2)?),
+        Some(Refusal::Range),
+    );
+    same(
+        &rt,
+        sight.refusal(&none, &read(0, 89)?),
+        Some(Refusal::Long),
+    );
+    same(&rt, sight.refusal(&none, &write(0, 88, 0)?), None);
+    same(&rt, sight.refusal(&none, &Job::Flush), None);
     sight.see(&Line::Epoch);
-    assert_eq!(rt; sight.refusal(&none, &read(0, 1)?), Some(Refusal::NotReady));
-    sight.see(&Line::Closing);
-    assert_eq!(rt; sight.refusal(&none, &read(0, 1)?), Some(Refusal::Closing));
-    let read_only = connected(true, 0);
-    assert_eq!(rt;
-        read_only.refusal(&none, &Job::Flush),
-        Some(Refusal::Unsupported)
+    same(
+        &rt,
+        sight.refusal(&none, &read(0, 1)?),
+        Some(Refusal::NotReady),
     );
-    assert_eq!(rt;
+    sight.see(&Line::Closing);
+    same(
+        &rt,
+        sight.refusal(&none, &read(0, 1)?),
+        Some(Refusal::Closing),
+    );
+    let read_only = connected(true, 0);
+    same(
+        &rt,
+        read_only.refusal(&none, &Job::Flush),
+        Some(Refusal::Unsupported),
+    );
+    same(
+        &rt,
         read_only.refusal(&none, &write(0, 1, 1)?),
-        Some(Refusal::ReadOnly)
+        Some(Refusal::ReadOnly),
     );
     Ok(())
 }
@@ -305,21 +338,24 @@ fn a_full_ring_and_a_drained_pool_refuse(rt: HostRuntime) -> Result<(), Fail> {
     for id in 1..33u64 {
         let _ = disk.step(&submit(id, read(0, 1)?))?;
     }
-    assert_eq!(rt;
+    same(
+        &rt,
         connected(false, 0).refusal(disk.requests(), &read(0, 1)?),
-        Some(Refusal::Full)
+        Some(Refusal::Full),
     );
-    assert_eq!(rt;
+    same(
+        &rt,
         connected(false, 1).refusal(disk.requests(), &read(0, 1)?),
-        None
+        None,
     );
     let mut wide = PlainDisk::new(alloc, Vec::new(alloc));
     for id in 1..501u64 {
         let _ = wide.step(&submit(id, read(0, 16)?))?;
     }
-    assert_eq!(rt;
+    same(
+        &rt,
         connected(false, 4).refusal(wide.requests(), &read(0, 16)?),
-        Some(Refusal::Buffers)
+        Some(Refusal::Buffers),
     );
     Ok(())
 }

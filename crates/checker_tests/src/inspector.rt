@@ -1,5 +1,6 @@
 // A client with a ring in memory, and outsides that fail.
 
+use crate::expected::{holds, same};
 use blk_base::{Abi, Idx};
 use blk_io::{FailsAt, MemorySink, MemorySource};
 use blk_layout::{DirectOp, Request, Segment, request_words};
@@ -40,9 +41,10 @@ fn shows_one_write(rt: HostRuntime) -> Result<(), Fail> {
     let mut source = MemorySource::new(page(alloc, &ONE_WRITE)?);
     let mut sink = MemorySink::with_room(alloc, 4096)?;
     inspect(alloc, &mut source, Abi::X64, 0, &mut sink)?;
-    assert_eq!(rt;
+    same(
+        &rt,
         sink.bytes(),
-        b"indices 1 1 0 1\nentries 32\nrequests 1\nrequest 0 op 1 count 1 device 51712 id 1 sector 0\nsegment 24 0 0\n".as_slice()
+        b"indices 1 1 0 1\nentries 32\nrequests 1\nrequest 0 op 1 count 1 device 51712 id 1 sector 0\nsegment 24 0 0\n".as_slice(),
     );
     Ok(())
 }
@@ -54,8 +56,8 @@ fn a_ring_of_another_length_is_told_by_its_length(rt: HostRuntime) -> Result<(),
         let mut source = MemorySource::new(vec![in alloc; 0u8; length]?);
         let mut sink = MemorySink::with_room(alloc, 4096)?;
         let shown = inspect(alloc, &mut source, Abi::X32, 0, &mut sink);
-        assert_eq!(rt; shown, Err(InspectStop::Length(told)));
-        assert_eq!(rt; sink.bytes().len(), 0);
+        same(&rt, shown, Err(InspectStop::Length(told)));
+        same(&rt, sink.bytes().len(), 0);
     }
     Ok(())
 }
@@ -67,17 +69,18 @@ fn a_failing_outside_is_named(rt: HostRuntime) -> Result<(), Fail> {
     let mut source = FailsAt::new(bytes, [2].to_vec(alloc)?);
     let mut sink = MemorySink::with_room(alloc, 4096)?;
     let shown = inspect(alloc, &mut source, Abi::X64, 0, &mut sink);
-    assert_eq!(rt; shown, Err(InspectStop::Source));
-    assert_eq!(rt; sink.bytes().len(), 0);
+    same(&rt, shown, Err(InspectStop::Source));
+    same(&rt, sink.bytes().len(), 0);
 
     let mut source = MemorySource::new(page(alloc, &ONE_WRITE)?);
     let shelf = MemorySink::with_room(alloc, 4096)?;
     let mut sink = FailsAt::new(shelf, [4].to_vec(alloc)?);
     let shown = inspect(alloc, &mut source, Abi::X64, 0, &mut sink);
-    assert_eq!(rt; shown, Err(InspectStop::Sink));
-    assert_eq!(rt;
+    same(&rt, shown, Err(InspectStop::Sink));
+    same(
+        &rt,
         sink.inside.bytes(),
-        b"indices 1 1 0 1\nentries 32\nrequests 1\n".as_slice()
+        b"indices 1 1 0 1\nentries 32\nrequests 1\n".as_slice(),
     );
     Ok(())
 }
@@ -100,11 +103,11 @@ fn push(
     };
     let words = request_words(Abi::X32, &flush);
     for (i, word) in (0..27).zip(words.as_slice()) {
-        assert!(rt; i < 27);
+        holds(&rt, i < 27);
         let (_, at) = shape.slot_word(front.prod(), i);
         put(bytes, at as usize, *word);
     }
-    assert!(rt; front.free() > 0);
+    holds(&rt, front.free() > 0);
     front.produce();
 }
 
@@ -117,14 +120,15 @@ fn three_flushes_round_the_wrap_are_shown(rt: HostRuntime) -> Result<(), Fail> {
     for id in 7..10 {
         push(&rt, bytes.as_mut_slice(), shape, &mut front, id);
     }
-    assert_eq!(rt; Idx(4294967294).dist(Idx(front.prod())), 3);
+    same(&rt, Idx(4294967294).dist(Idx(front.prod())), 3);
     put(bytes.as_mut_slice(), 0, front.prod());
     let mut source = MemorySource::new(bytes);
     let mut sink = MemorySink::with_room(alloc, 4096)?;
     inspect(alloc, &mut source, Abi::X32, 0, &mut sink)?;
-    assert_eq!(rt;
+    same(
+        &rt,
         sink.bytes(),
-        b"indices 1 4294967295 4294967294 4294967295\nentries 32\nrequests 3\nrequest 4294967294 op 3 count 0 device 1 id 7 sector 0\nrequest 4294967295 op 3 count 0 device 1 id 8 sector 0\nrequest 0 op 3 count 0 device 1 id 9 sector 0\n".as_slice()
+        b"indices 1 4294967295 4294967294 4294967295\nentries 32\nrequests 3\nrequest 4294967294 op 3 count 0 device 1 id 7 sector 0\nrequest 4294967295 op 3 count 0 device 1 id 8 sector 0\nrequest 0 op 3 count 0 device 1 id 9 sector 0\n".as_slice(),
     );
     Ok(())
 }

@@ -6,6 +6,8 @@ mod checker;
 #[cfg(test)]
 mod disk;
 #[cfg(test)]
+mod expected;
+#[cfg(test)]
 mod inspector;
 #[cfg(test)]
 mod jobs;

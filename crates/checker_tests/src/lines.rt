@@ -1,3 +1,4 @@
+use crate::expected::holds;
 use blk_io::{FailsAt, MemorySource};
 use report_lines::{ReadStop, ReportLines};
 use schedule_text::Line;
@@ -27,9 +28,12 @@ fn is_stop(next: &Result<Option<Line>, ReadStop>, stop: ReadStop) -> bool {
 fn two_lines_come_in_order_and_then_the_end(rt: HostRuntime) -> Result<(), Fail> {
     let mut source = source_of(rt.alloc(), "ready\nclosed\n")?;
     let mut lines = ReportLines::new(rt.alloc(), 100);
-    assert!(rt; is_ready(&lines.next(&mut source)));
-    assert!(rt; matches!(lines.next(&mut source), Ok(Some(Line::Closed))));
-    assert!(rt; is_end(&lines.next(&mut source)));
+    holds(&rt, is_ready(&lines.next(&mut source)));
+    holds(
+        &rt,
+        matches!(lines.next(&mut source), Ok(Some(Line::Closed))),
+    );
+    holds(&rt, is_end(&lines.next(&mut source)));
     Ok(())
 }
 
@@ -37,7 +41,7 @@ fn two_lines_come_in_order_and_then_the_end(rt: HostRuntime) -> Result<(), Fail>
 fn an_empty_source_has_no_line(rt: HostRuntime) -> Result<(), Fail> {
     let mut source = source_of(rt.alloc(), "")?;
     let mut lines = ReportLines::new(rt.alloc(), 100);
-    assert!(rt; is_end(&lines.next(&mut source)));
+    holds(&rt, is_end(&lines.next(&mut source)));
     Ok(())
 }
 
@@ -45,8 +49,8 @@ fn an_empty_source_has_no_line(rt: HostRuntime) -> Result<(), Fail> {
 fn a_last_line_without_its_feed_is_none(rt: HostRuntime) -> Result<(), Fail> {
     let mut source = source_of(rt.alloc(), "ready\nready")?;
     let mut lines = ReportLines::new(rt.alloc(), 100);
-    assert!(rt; is_ready(&lines.next(&mut source)));
-    assert!(rt; is_stop(&lines.next(&mut source), ReadStop::BadLine));
+    holds(&rt, is_ready(&lines.next(&mut source)));
+    holds(&rt, is_stop(&lines.next(&mut source), ReadStop::BadLine));
     Ok(())
 }
 
@@ -54,7 +58,7 @@ fn a_last_line_without_its_feed_is_none(rt: HostRuntime) -> Result<(), Fail> {
 fn words_that_no_line_has_are_none(rt: HostRuntime) -> Result<(), Fail> {
     let mut source = source_of(rt.alloc(), "hello\nready\n")?;
     let mut lines = ReportLines::new(rt.alloc(), 100);
-    assert!(rt; is_stop(&lines.next(&mut source), ReadStop::BadLine));
+    holds(&rt, is_stop(&lines.next(&mut source), ReadStop::BadLine));
     Ok(())
 }
 
@@ -63,7 +67,7 @@ fn a_line_that_goes_on_past_1152_bytes_is_none(rt: HostRuntime) -> Result<(), Fa
     let bytes = vec![in rt.alloc(); b'r'; 1153]?;
     let mut source = MemorySource::new(bytes);
     let mut lines = ReportLines::new(rt.alloc(), 1153);
-    assert!(rt; is_stop(&lines.next(&mut source), ReadStop::BadLine));
+    holds(&rt, is_stop(&lines.next(&mut source), ReadStop::BadLine));
     Ok(())
 }
 
@@ -71,8 +75,8 @@ fn a_line_that_goes_on_past_1152_bytes_is_none(rt: HostRuntime) -> Result<(), Fa
 fn no_more_is_taken_than_the_limit(rt: HostRuntime) -> Result<(), Fail> {
     let mut source = source_of(rt.alloc(), "ready\nready\n")?;
     let mut lines = ReportLines::new(rt.alloc(), 11);
-    assert!(rt; is_ready(&lines.next(&mut source)));
-    assert!(rt; is_stop(&lines.next(&mut source), ReadStop::TooLong));
+    holds(&rt, is_ready(&lines.next(&mut source)));
+    holds(&rt, is_stop(&lines.next(&mut source), ReadStop::TooLong));
     Ok(())
 }
 
@@ -81,7 +85,7 @@ fn a_source_that_fails_is_said(rt: HostRuntime) -> Result<(), Fail> {
     let inside = source_of(rt.alloc(), "ready\n")?;
     let mut source = FailsAt::new(inside, vec![in rt.alloc(); 1]?);
     let mut lines = ReportLines::new(rt.alloc(), 100);
-    assert!(rt; is_stop(&lines.next(&mut source), ReadStop::Source));
+    holds(&rt, is_stop(&lines.next(&mut source), ReadStop::Source));
     Ok(())
 }
 
@@ -94,8 +98,8 @@ fn lines_run_on_from_one_piece_to_the_next(rt: HostRuntime) -> Result<(), Fail> 
     let mut source = MemorySource::new(text);
     let mut lines = ReportLines::new(rt.alloc(), 100000);
     for _ in 0..6000 {
-        assert!(rt; is_ready(&lines.next(&mut source)));
+        holds(&rt, is_ready(&lines.next(&mut source)));
     }
-    assert!(rt; is_end(&lines.next(&mut source)));
+    holds(&rt, is_end(&lines.next(&mut source)));
     Ok(())
 }

@@ -1,3 +1,4 @@
+use crate::expected::{holds, same};
 use bench_load::{BenchLoad, BenchSchedule, write_summary};
 use blk_io::Source;
 use line_text::LineText;
@@ -41,16 +42,21 @@ settle
 
 #[test]
 fn no_lines_are_two_settles(rt: HostRuntime) -> Result<(), Fail> {
-    assert_eq!(rt;
+    same(
+        &rt,
         schedule(rt.alloc(), 7, 0)?.as_slice(),
-        b"settle\nsettle\n".as_slice()
+        b"settle\nsettle\n".as_slice(),
     );
     Ok(())
 }
 
 #[test]
 fn ten_lines_of_seed_7(rt: HostRuntime) -> Result<(), Fail> {
-    assert_eq!(rt; schedule(rt.alloc(), 7, 10)?.as_slice(), SEED_7.as_bytes());
+    same(
+        &rt,
+        schedule(rt.alloc(), 7, 10)?.as_slice(),
+        SEED_7.as_bytes(),
+    );
     Ok(())
 }
 
@@ -58,7 +64,7 @@ fn ten_lines_of_seed_7(rt: HostRuntime) -> Result<(), Fail> {
 fn six_lines_of_the_least_seed(rt: HostRuntime) -> Result<(), Fail> {
     let text = "settle\nturn 93\nsubmit read 2697 4\nsubmit write 2972 14 24d8217a\n\
         submit write 2468 14 e981425e\nturn 159\njob 6 157\nsettle\n";
-    assert_eq!(rt; schedule(rt.alloc(), 0, 6)?.as_slice(), text.as_bytes());
+    same(&rt, schedule(rt.alloc(), 0, 6)?.as_slice(), text.as_bytes());
     Ok(())
 }
 
@@ -66,9 +72,10 @@ fn six_lines_of_the_least_seed(rt: HostRuntime) -> Result<(), Fail> {
 fn six_lines_of_the_greatest_seed(rt: HostRuntime) -> Result<(), Fail> {
     let text = "settle\nturn 70\nturn 390\nturn 100\nsubmit write 1974 1 aa9871fa\n\
         settle\nsettle\nsettle\n";
-    assert_eq!(rt;
+    same(
+        &rt,
         schedule(rt.alloc(), u64::MAX, 6)?.as_slice(),
-        text.as_bytes()
+        text.as_bytes(),
     );
     Ok(())
 }
@@ -76,29 +83,29 @@ fn six_lines_of_the_greatest_seed(rt: HostRuntime) -> Result<(), Fail> {
 #[test]
 fn a_smaller_count_is_a_beginning_but_for_the_last_line(rt: HostRuntime) -> Result<(), Fail> {
     let text = "settle\nsubmit write 2014 1 840d99ca\nsettle\n";
-    assert_eq!(rt; schedule(rt.alloc(), 7, 1)?.as_slice(), text.as_bytes());
+    same(&rt, schedule(rt.alloc(), 7, 1)?.as_slice(), text.as_bytes());
     Ok(())
 }
 
 #[test]
 fn a_byte_at_a_time_is_the_same_text(rt: HostRuntime) -> Result<(), Fail> {
     let text = all_of(rt.alloc(), &mut BenchLoad::new(7, 10), 1)?;
-    assert_eq!(rt; text.as_slice(), SEED_7.as_bytes());
+    same(&rt, text.as_slice(), SEED_7.as_bytes());
     let text = all_of(rt.alloc(), &mut BenchLoad::new(7, 10), 5)?;
-    assert_eq!(rt; text.as_slice(), SEED_7.as_bytes());
+    same(&rt, text.as_slice(), SEED_7.as_bytes());
     Ok(())
 }
 
 #[test]
 fn a_read_without_room_takes_nothing(rt: HostRuntime) -> Result<(), Fail> {
     let mut source = BenchLoad::new(7, 10);
-    assert_eq!(rt; source.read(&mut [])?, 0);
+    same(&rt, source.read(&mut [])?, 0);
     let mut piece = [0; 3];
-    assert_eq!(rt; source.read(&mut piece)?, 3);
-    assert_eq!(rt; piece, *b"set");
-    assert_eq!(rt; source.read(&mut [])?, 0);
-    assert_eq!(rt; source.read(&mut piece)?, 3);
-    assert_eq!(rt; piece, *b"tle");
+    same(&rt, source.read(&mut piece)?, 3);
+    same(&rt, piece, *b"set");
+    same(&rt, source.read(&mut [])?, 0);
+    same(&rt, source.read(&mut piece)?, 3);
+    same(&rt, piece, *b"tle");
     Ok(())
 }
 
@@ -106,22 +113,22 @@ fn a_read_without_room_takes_nothing(rt: HostRuntime) -> Result<(), Fail> {
 fn nothing_comes_after_the_end(rt: HostRuntime) -> Result<(), Fail> {
     let mut source = BenchLoad::new(7, 0);
     let mut piece = [0; 64];
-    assert_eq!(rt; source.read(&mut piece)?, 7);
-    assert_eq!(rt; source.read(&mut piece)?, 7);
-    assert_eq!(rt; source.read(&mut piece)?, 0);
-    assert_eq!(rt; source.read(&mut piece)?, 0);
+    same(&rt, source.read(&mut piece)?, 7);
+    same(&rt, source.read(&mut piece)?, 7);
+    same(&rt, source.read(&mut piece)?, 0);
+    same(&rt, source.read(&mut piece)?, 0);
     Ok(())
 }
 
 #[test]
 fn the_events_come_in_order(rt: HostRuntime) {
     let mut events = BenchSchedule::new(0, 2);
-    assert_eq!(rt; events.next_event(), Some(Event::Settle));
-    assert_eq!(rt; events.next_event(), Some(Event::Turn(93)));
-    assert!(rt; matches!(events.next_event(), Some(Event::Submit(_))));
-    assert_eq!(rt; events.next_event(), Some(Event::Settle));
-    assert_eq!(rt; events.next_event(), None);
-    assert_eq!(rt; events.next_event(), None);
+    same(&rt, events.next_event(), Some(Event::Settle));
+    same(&rt, events.next_event(), Some(Event::Turn(93)));
+    holds(&rt, matches!(events.next_event(), Some(Event::Submit(_))));
+    same(&rt, events.next_event(), Some(Event::Settle));
+    same(&rt, events.next_event(), None);
+    same(&rt, events.next_event(), None);
 }
 
 #[test]
@@ -132,12 +139,12 @@ fn each_line_is_read_as_its_event(rt: HostRuntime) {
             Some(event) => {
                 let mut text = LineText::new();
                 write_event(&event, &mut text);
-                assert_eq!(rt; read_event(text.as_str().as_bytes()), Ok(Some(event)));
+                same(&rt, read_event(text.as_str().as_bytes()), Ok(Some(event)));
             }
-            None => assert!(rt; false),
+            None => holds(&rt, false),
         }
     }
-    assert_eq!(rt; events.next_event(), None);
+    same(&rt, events.next_event(), None);
 }
 
 // A tally of these lines.
@@ -152,10 +159,10 @@ fn tallied(lines: &[Line]) -> LineTally {
 #[test]
 fn a_refused_request_is_tallied_as_refused_alone(rt: HostRuntime) {
     let tally = tallied(&[Line::Refuse(Refusal::Full), Line::Ready]).tally;
-    assert_eq!(rt; tally.refused, 1);
-    assert_eq!(rt; tally.submitted, 0);
-    assert_eq!(rt; tally.answered, 0);
-    assert_eq!(rt; tally.last, None);
+    same(&rt, tally.refused, 1);
+    same(&rt, tally.submitted, 0);
+    same(&rt, tally.answered, 0);
+    same(&rt, tally.last, None);
 }
 
 #[test]
@@ -179,8 +186,8 @@ fn both_forms_of_an_effect_are_tallied_and_the_last_word_stands(rt: HostRuntime)
         Line::End,
     ])
     .tally;
-    assert_eq!(rt; tally.effects, 2);
-    assert_eq!(rt; tally.last, Some(Verdict::Quiet));
+    same(&rt, tally.effects, 2);
+    same(&rt, tally.last, Some(Verdict::Quiet));
 }
 
 #[test]
@@ -191,5 +198,5 @@ fn a_summary_has_a_line_for_each_count_and_the_last_word(rt: HostRuntime) {
         &mut text,
     );
     let wanted = "submitted 0\nrefused 0\neffects 1\nanswered 0\nunsettled\n";
-    assert_eq!(rt; text.as_str(), wanted);
+    same(&rt, text.as_str(), wanted);
 }

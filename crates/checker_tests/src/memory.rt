@@ -1,3 +1,4 @@
+use crate::expected::{holds, same};
 use blk_base::{BackMover, Mode, Move, OutOfMemory};
 use memory_check::Memory;
 use report_rules::Standing;
@@ -121,7 +122,7 @@ fn a_word_reads_as_it_was_last_written(rt: HostRuntime) -> Result<(), Fail> {
         },
         front_read(5, 8, 11),
     ];
-    assert_eq!(rt; count_allowed(rt.alloc(), &report)?, 6);
+    same(&rt, count_allowed(rt.alloc(), &report)?, 6);
     Ok(())
 }
 
@@ -129,8 +130,8 @@ fn a_word_reads_as_it_was_last_written(rt: HostRuntime) -> Result<(), Fail> {
 fn an_exchange_writes_where_it_saw_what_it_asked_for(rt: HostRuntime) -> Result<(), Fail> {
     let mut memory = granted(rt.alloc())?;
     let report = [exchange(2, 5, 1), exchange(1, 6, 1), exchange(6, 7, 5)];
-    assert_eq!(rt; see_all(&mut memory, &report)?, 2);
-    assert_eq!(rt; memory.word(0, 16), 6);
+    same(&rt, see_all(&mut memory, &report)?, 2);
+    same(&rt, memory.word(0, 16), 6);
     Ok(())
 }
 
@@ -138,9 +139,9 @@ fn an_exchange_writes_where_it_saw_what_it_asked_for(rt: HostRuntime) -> Result<
 fn a_map_gives_the_frame_of_its_entry(rt: HostRuntime) -> Result<(), Fail> {
     let mut memory = granted(rt.alloc())?;
     let made = map(8, Mode::ReadWrite, 1, FRAME);
-    assert!(rt; memory.answers_map(&made));
-    assert!(rt; !memory.answers_map(&map(8, Mode::ReadWrite, 1, 701)));
-    assert!(rt; !memory.answers_map(&map(9, Mode::ReadWrite, 1, FRAME)));
+    holds(&rt, memory.answers_map(&made));
+    holds(&rt, !memory.answers_map(&map(8, Mode::ReadWrite, 1, 701)));
+    holds(&rt, !memory.answers_map(&map(9, Mode::ReadWrite, 1, FRAME)));
     memory.see(&made)?;
     assert_eq!(rt;
         memory.word(0, 16),
@@ -153,17 +154,17 @@ fn a_map_gives_the_frame_of_its_entry(rt: HostRuntime) -> Result<(), Fail> {
         mode: Mode::ReadWrite,
         frame: FRAME,
     };
-    assert_eq!(rt; memory.standing(1), Some(standing));
-    assert_eq!(rt; memory.standing(2), None);
+    same(&rt, memory.standing(1), Some(standing));
+    same(&rt, memory.standing(2), None);
     Ok(())
 }
 
 #[test]
 fn a_refused_map_has_the_status_of_its_refusal(rt: HostRuntime) -> Result<(), Fail> {
     let memory = granted(rt.alloc())?;
-    assert!(rt; memory.answers_map(&refused(9, -1)));
-    assert!(rt; memory.answers_map(&refused(1024, -3)));
-    assert!(rt; !memory.answers_map(&refused(9, -3)));
+    holds(&rt, memory.answers_map(&refused(9, -1)));
+    holds(&rt, memory.answers_map(&refused(1024, -3)));
+    holds(&rt, !memory.answers_map(&refused(9, -3)));
     assert!(rt;
         !memory.answers_map(&refused(8, -1)),
         "the entry grants its frame"
@@ -181,9 +182,15 @@ fn a_map_has_a_new_number(rt: HostRuntime) -> Result<(), Fail> {
         unmap(5),
         map(8, Mode::ReadOnly, 5, FRAME),
     ];
-    assert_eq!(rt; see_all(&mut memory, &report)?, 4);
-    assert!(rt; memory.was_made(5) && memory.was_made(6) && memory.was_made(9));
-    assert!(rt; !memory.was_made(0) && !memory.was_made(7) && !memory.was_made(10));
+    same(&rt, see_all(&mut memory, &report)?, 4);
+    holds(
+        &rt,
+        memory.was_made(5) && memory.was_made(6) && memory.was_made(9),
+    );
+    holds(
+        &rt,
+        !memory.was_made(0) && !memory.was_made(7) && !memory.was_made(10),
+    );
     Ok(())
 }
 
@@ -197,7 +204,7 @@ fn a_touch_goes_through_a_mapping_that_stands(rt: HostRuntime) -> Result<(), Fai
         unmap(1),
         read(1, FRAME, 3, 4),
     ];
-    assert_eq!(rt; see_all(&mut memory, &report)?, 4);
+    same(&rt, see_all(&mut memory, &report)?, 4);
     Ok(())
 }
 
@@ -205,9 +212,9 @@ fn a_touch_goes_through_a_mapping_that_stands(rt: HostRuntime) -> Result<(), Fai
 fn a_touch_shows_the_frame_of_its_mapping(rt: HostRuntime) -> Result<(), Fail> {
     let mut memory = granted(rt.alloc())?;
     memory.see(&map(8, Mode::ReadWrite, 1, FRAME))?;
-    assert!(rt; memory.touches_a_mapping(&read(1, FRAME, 0, 0)));
-    assert!(rt; !memory.touches_a_mapping(&read(1, 701, 0, 0)));
-    assert!(rt; !memory.touches_a_mapping(&write(1, 701, 0, 0)));
+    holds(&rt, memory.touches_a_mapping(&read(1, FRAME, 0, 0)));
+    holds(&rt, !memory.touches_a_mapping(&read(1, 701, 0, 0)));
+    holds(&rt, !memory.touches_a_mapping(&write(1, 701, 0, 0)));
     Ok(())
 }
 
@@ -215,8 +222,8 @@ fn a_touch_shows_the_frame_of_its_mapping(rt: HostRuntime) -> Result<(), Fail> {
 fn no_write_goes_through_a_mapping_for_reading(rt: HostRuntime) -> Result<(), Fail> {
     let mut memory = granted(rt.alloc())?;
     memory.see(&map(8, Mode::ReadOnly, 1, FRAME))?;
-    assert!(rt; memory.touches_a_mapping(&read(1, FRAME, 0, 0)));
-    assert!(rt; !memory.touches_a_mapping(&write(1, FRAME, 0, 0)));
+    holds(&rt, memory.touches_a_mapping(&read(1, FRAME, 0, 0)));
+    holds(&rt, !memory.touches_a_mapping(&write(1, FRAME, 0, 0)));
     Ok(())
 }
 
@@ -233,7 +240,7 @@ fn the_flags_of_an_entry_tell_which_mappings_are_left(rt: HostRuntime) -> Result
         unmap(3),
         front_read(0, 16, 1),
     ];
-    assert_eq!(rt; see_all(&mut memory, &report)?, 8);
+    same(&rt, see_all(&mut memory, &report)?, 8);
     Ok(())
 }
 
@@ -250,8 +257,8 @@ fn an_epoch_clears_the_table_and_ends_all_mappings(rt: HostRuntime) -> Result<()
         front_read(FRAME, 3, 4),
         read(1, FRAME, 3, 4),
     ];
-    assert_eq!(rt; see_all(&mut memory, &report)?, 7);
-    assert!(rt; memory.was_made(1));
+    same(&rt, see_all(&mut memory, &report)?, 7);
+    holds(&rt, memory.was_made(1));
     Ok(())
 }
 
@@ -265,6 +272,6 @@ fn words_elsewhere_are_kept_too(rt: HostRuntime) -> Result<(), Fail> {
         front_read(5000, 8, 0),
         front_read(1023, 1023, 0),
     ];
-    assert_eq!(rt; count_allowed(rt.alloc(), &report)?, 6);
+    same(&rt, count_allowed(rt.alloc(), &report)?, 6);
     Ok(())
 }

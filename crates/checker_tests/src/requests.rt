@@ -1,5 +1,6 @@
 // Lines by hand. Functions that promise nothing make them and call the reader, and long tests are cut:
 // so tests are proved without what the contracts say, and a small body is proved sooner.
+use crate::expected::holds;
 use blk_base::{Abi, Config, Job, OutOfMemory, SectorCount, Status};
 use request_check::RequestCheck;
 use schedule_text::{Detail, Halt, Line};
@@ -139,18 +140,18 @@ fn is_reply(check: &RequestCheck, id: u64, status: Status) -> bool {
 }
 
 fn a_fresh_front_may_be_ready_or_close(rt: &impl Abort, fresh: &RequestCheck) {
-    assert!(rt; is_ready(fresh));
-    assert!(rt; is_closing(fresh));
-    assert!(rt; !is_closed(fresh));
-    assert!(rt; !is_unsettled(fresh));
-    assert!(rt; !is_halt(fresh, Halt::BadOrder(1)));
-    assert!(rt; is_halt(fresh, Halt::Gone(6)));
+    holds(rt, is_ready(fresh));
+    holds(rt, is_closing(fresh));
+    holds(rt, !is_closed(fresh));
+    holds(rt, !is_unsettled(fresh));
+    holds(rt, !is_halt(fresh, Halt::BadOrder(1)));
+    holds(rt, is_halt(fresh, Halt::Gone(6)));
 }
 
 fn a_closing_front_may_have_closed(rt: &impl Abort, closing: &RequestCheck) {
-    assert!(rt; !is_ready(closing));
-    assert!(rt; !is_closing(closing));
-    assert!(rt; is_closed(closing));
+    holds(rt, !is_ready(closing));
+    holds(rt, !is_closing(closing));
+    holds(rt, is_closed(closing));
 }
 
 #[test]
@@ -159,7 +160,7 @@ fn the_front_tells_its_states_in_order(rt: HostRuntime) -> Result<(), Fail> {
     a_fresh_front_may_be_ready_or_close(&rt, &begun(alloc)?);
     a_closing_front_may_have_closed(&rt, &closing(alloc)?);
     let closed = anew(alloc)?;
-    assert!(rt; !is_ready(&closed));
+    holds(&rt, !is_ready(&closed));
     Ok(())
 }
 
@@ -169,15 +170,15 @@ fn a_write_is_within_the_limits(
     one: SectorCount,
     many: SectorCount,
 ) {
-    assert!(rt; is_submit(ready, 1, write(0, one, 7)));
-    assert!(rt; !is_submit(ready, 2, write(0, one, 7)));
-    assert!(rt; !is_submit(ready, 1, write(200, one, 7)));
-    assert!(rt; !is_submit(ready, 1, barrier(0, many, 7)));
+    holds(rt, is_submit(ready, 1, write(0, one, 7)));
+    holds(rt, !is_submit(ready, 2, write(0, one, 7)));
+    holds(rt, !is_submit(ready, 1, write(200, one, 7)));
+    holds(rt, !is_submit(ready, 1, barrier(0, many, 7)));
 }
 
 fn a_disk_that_is_fixed_is_read(rt: &impl Abort, fixed: &RequestCheck, one: SectorCount) {
-    assert!(rt; !is_submit(fixed, 1, write(0, one, 7)));
-    assert!(rt; is_submit(fixed, 1, read(0, one)));
+    holds(rt, !is_submit(fixed, 1, write(0, one, 7)));
+    holds(rt, is_submit(fixed, 1, read(0, one)));
 }
 
 #[test]
@@ -192,23 +193,23 @@ fn a_submission_has_the_next_number_and_is_within_the_limits(rt: HostRuntime) ->
 #[test]
 fn a_write_waits_for_the_barrier_before_it(rt: HostRuntime) -> Result<(), Fail> {
     let mut check = waiting(rt.alloc())?;
-    assert!(rt; !is_barrier(&check, 2, 0));
-    assert!(rt; is_effect(&check, 2, 0));
-    assert!(rt; is_barrier(&check, 1, 0));
+    holds(&rt, !is_barrier(&check, 2, 0));
+    holds(&rt, is_effect(&check, 2, 0));
+    holds(&rt, is_barrier(&check, 1, 0));
     see_effect(&mut check, 1, 0)?;
-    assert!(rt; is_barrier(&check, 2, 0));
+    holds(&rt, is_barrier(&check, 2, 0));
     Ok(())
 }
 
 #[test]
 fn a_reply_says_what_was_done(rt: HostRuntime) -> Result<(), Fail> {
     let mut check = written(rt.alloc())?;
-    assert!(rt; !is_reply(&check, 1, Status::Okay));
-    assert!(rt; !is_reply(&check, 1, Status::Error));
-    assert!(rt; !is_reply(&check, 1, Status::Unsupported));
+    holds(&rt, !is_reply(&check, 1, Status::Okay));
+    holds(&rt, !is_reply(&check, 1, Status::Error));
+    holds(&rt, !is_reply(&check, 1, Status::Unsupported));
     see_effect(&mut check, 1, 0)?;
-    assert!(rt; is_reply(&check, 1, Status::Okay));
+    holds(&rt, is_reply(&check, 1, Status::Okay));
     see_reply(&mut check, 1, Status::Okay)?;
-    assert!(rt; !is_reply(&check, 1, Status::Okay));
+    holds(&rt, !is_reply(&check, 1, Status::Okay));
     Ok(())
 }

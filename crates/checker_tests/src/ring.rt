@@ -1,5 +1,6 @@
 // Lines by hand. The calls go through functions that promise nothing, so that the tests are proved
 // without what their contracts say; a long test is cut, since a small body is proved sooner.
+use crate::expected::same;
 use blk_base::{Abi, BackMover, Move};
 use report_rules::Overrun;
 use ring_check::RingSight;
@@ -159,15 +160,15 @@ fn overrun_after(alloc: Global, first: &str, next: &str) -> Result<bool, Fail> {
 }
 
 fn is_of_no_pages(rt: &impl Abort, sight: &RingSight) {
-    assert_eq!(rt; start(sight), 0);
-    assert_eq!(rt; layout(sight), Some(Abi::X64));
-    assert_eq!(rt; order(sight), None);
+    same(rt, start(sight), 0);
+    same(rt, layout(sight), Some(Abi::X64));
+    same(rt, order(sight), None);
 }
 
 fn is_of_no_shape(rt: &impl Abort, sight: &RingSight) {
-    assert_eq!(rt; shape(sight).is_none(), true);
-    assert_eq!(rt; word_of(sight, 1, 0), None);
-    assert_eq!(rt; overrun(sight).is_none(), true);
+    same(rt, shape(sight).is_none(), true);
+    same(rt, word_of(sight, 1, 0), None);
+    same(rt, overrun(sight).is_none(), true);
 }
 
 #[test]
@@ -179,26 +180,26 @@ fn before_the_first_line_there_is_no_ring(rt: HostRuntime) -> Result<(), Fail> {
 }
 
 fn words_run_on(rt: &impl Abort, sight: &RingSight) {
-    assert_eq!(rt; order(sight), Some(1));
-    assert_eq!(rt; word_of(sight, 5, 3), Some(3));
-    assert_eq!(rt; word_of(sight, 6, 3), None);
-    assert_eq!(rt; word_of(sight, 7, 3), Some(1027));
+    same(rt, order(sight), Some(1));
+    same(rt, word_of(sight, 5, 3), Some(3));
+    same(rt, word_of(sight, 6, 3), None);
+    same(rt, word_of(sight, 7, 3), Some(1027));
 }
 
 fn the_second_page_is_no_first(rt: &impl Abort, sight: &RingSight) {
-    assert_eq!(rt; is_page(sight, 7), true);
-    assert_eq!(rt; is_first_page(sight, 7), false);
+    same(rt, is_page(sight, 7), true);
+    same(rt, is_first_page(sight, 7), false);
 }
 
 #[test]
 fn pages_run_on_from_one_to_the_next(rt: HostRuntime) -> Result<(), Fail> {
     let mut sight = after(rt.alloc(), "m back map 8 w ok 5 2\nm job 1 map 9 w ok 6 3")?;
-    assert_eq!(rt; order(&sight), Some(0));
+    same(&rt, order(&sight), Some(0));
     see(&mut sight, "m back map 10 w ok 7 4")?;
     words_run_on(&rt, &sight);
     the_second_page_is_no_first(&rt, &sight);
     see(&mut sight, "m back map 11 w ok 8 5")?;
-    assert_eq!(rt; order(&sight), None);
+    same(&rt, order(&sight), None);
     Ok(())
 }
 
@@ -229,8 +230,8 @@ fn the_producers_are_words_0_and_2_of_page_0(rt: HostRuntime) -> Result<(), Fail
         rt.alloc(),
         "begin 64 0 0 0 7 rw 8 moves\nm back map 8 w ok 1 2",
     )?;
-    assert_eq!(rt; produced(&sight), 7);
-    assert_eq!(rt; replied(&sight), 7);
+    same(&rt, produced(&sight), 7);
+    same(&rt, replied(&sight), 7);
     see(
         &mut sight,
         "m back read 1 2 0 00000009\nm back write 1 2 2 00000008",
@@ -243,24 +244,24 @@ fn the_producers_are_words_0_and_2_of_page_0(rt: HostRuntime) -> Result<(), Fail
         &mut sight,
         "m back read 2 3 0 00000001\nm job 1 write 1 2 2 00000001",
     )?;
-    assert_eq!(rt; produced(&sight), 9);
-    assert_eq!(rt; replied(&sight), 8);
+    same(&rt, produced(&sight), 9);
+    same(&rt, replied(&sight), 8);
     Ok(())
 }
 
 fn is_anew(rt: &impl Abort, sight: &RingSight) {
-    assert_eq!(rt; words_read(sight), 0);
-    assert_eq!(rt; overran(sight), false);
-    assert_eq!(rt; produced(sight), 0);
-    assert_eq!(rt; is_page(sight, 1), false);
+    same(rt, words_read(sight), 0);
+    same(rt, overran(sight), false);
+    same(rt, produced(sight), 0);
+    same(rt, is_page(sight, 1), false);
 }
 
 #[test]
 fn an_epoch_begins_all_anew_but_the_start(rt: HostRuntime) -> Result<(), Fail> {
     let mut sight = after_words(rt.alloc(), SHOWN, 3)?;
     see(&mut sight, "m back read 1 2 0 00000030")?;
-    assert_eq!(rt; words_read(&sight), 3);
-    assert_eq!(rt; overran(&sight), true);
+    same(&rt, words_read(&sight), 3);
+    same(&rt, overran(&sight), true);
     see(&mut sight, "epoch")?;
     is_anew(&rt, &sight);
     Ok(())
@@ -270,12 +271,17 @@ fn an_epoch_begins_all_anew_but_the_start(rt: HostRuntime) -> Result<(), Fail> {
 fn the_next_entry_comes_after_28_words(rt: HostRuntime) -> Result<(), Fail> {
     let sight = after_words(rt.alloc(), SHOWN, 30)?;
     let shape = shape(&sight).ok_or("no shape")?;
-    assert_eq!(rt; next_index(&sight, &shape), 1);
-    assert_eq!(rt; words_within(&sight, &shape), 2);
-    assert_eq!(rt; entry_word(&sight, "m back read 1 2 15 00000000")?, None);
-    assert_eq!(rt;
+    same(&rt, next_index(&sight, &shape), 1);
+    same(&rt, words_within(&sight, &shape), 2);
+    same(
+        &rt,
+        entry_word(&sight, "m back read 1 2 15 00000000")?,
+        None,
+    );
+    same(
+        &rt,
         entry_word(&sight, "m back read 1 2 16 00000000")?,
-        Some(16)
+        Some(16),
     );
     Ok(())
 }
@@ -358,9 +364,9 @@ fn the_line_after_an_overrun_is_its_halt(rt: HostRuntime) -> Result<(), Fail> {
 fn nothing_is_served_after_an_overrun(rt: HostRuntime) -> Result<(), Fail> {
     let mut sight = after(rt.alloc(), SHOWN)?;
     see(&mut sight, "m back read 1 2 0 00000021\nhalt overrun 33 0")?;
-    assert_eq!(rt; is_overrun(&sight, "reply 1 error")?, false);
-    assert_eq!(rt; is_overrun(&sight, "m back fence")?, true);
+    same(&rt, is_overrun(&sight, "reply 1 error")?, false);
+    same(&rt, is_overrun(&sight, "m back fence")?, true);
     see(&mut sight, "epoch")?;
-    assert_eq!(rt; is_overrun(&sight, "reply 1 error")?, true);
+    same(&rt, is_overrun(&sight, "reply 1 error")?, true);
     Ok(())
 }

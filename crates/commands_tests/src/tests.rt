@@ -2,6 +2,7 @@
 
 mod checking;
 
+use crate::expected::{holds, same};
 use blk_base::Abi;
 use blk_io::{FailsAt, MemorySink, MemorySource};
 use commands::{Command, RunOptions, blkring, read_command};
@@ -61,7 +62,10 @@ fn words_that_ask_for_a_run(rt: HostRuntime) -> Result<(), Fail> {
             indirect: 0,
             read_only,
         };
-        assert!(rt; ask_for(alloc, line, Some(Command::Run { image, options }))?);
+        holds(
+            &rt,
+            ask_for(alloc, line, Some(Command::Run { image, options }))?,
+        );
     }
     Ok(())
 }
@@ -86,7 +90,7 @@ fn words_that_ask_for_a_run_on_a_read_only_disk(rt: HostRuntime) -> Result<(), F
             image: "disk",
             options,
         };
-        assert!(rt; ask_for(alloc, line, Some(command))?);
+        holds(&rt, ask_for(alloc, line, Some(command))?);
     }
     Ok(())
 }
@@ -119,7 +123,7 @@ fn words_that_ask_for_a_run_on_a_ring_of_a_shape(rt: HostRuntime) -> Result<(), 
             image: "disk",
             options,
         };
-        assert!(rt; ask_for(alloc, line, Some(command))?);
+        holds(&rt, ask_for(alloc, line, Some(command))?);
     }
     Ok(())
 }
@@ -139,7 +143,10 @@ fn words_that_ask_for_a_ring(rt: HostRuntime) -> Result<(), Fail> {
         ("inspect --abi 64 --order 1", Abi::X64, 1),
         ("inspect --order 3 --abi 32", Abi::X32, 3),
     ] {
-        assert!(rt; ask_for(alloc, line, Some(Command::Inspect { abi, order }))?);
+        holds(
+            &rt,
+            ask_for(alloc, line, Some(Command::Inspect { abi, order }))?,
+        );
     }
     Ok(())
 }
@@ -157,7 +164,10 @@ fn words_that_ask_for_a_bench(rt: HostRuntime) -> Result<(), Fail> {
             u64::MAX,
         ),
     ] {
-        assert!(rt; ask_for(alloc, line, Some(Command::Bench { seed, count }))?);
+        holds(
+            &rt,
+            ask_for(alloc, line, Some(Command::Bench { seed, count }))?,
+        );
     }
     for line in [
         "bench",
@@ -169,7 +179,7 @@ fn words_that_ask_for_a_bench(rt: HostRuntime) -> Result<(), Fail> {
         "bench 7 -1",
         "bench 7 10 --moves",
     ] {
-        assert!(rt; ask_for(alloc, line, None)?);
+        holds(&rt, ask_for(alloc, line, None)?);
     }
     Ok(())
 }
@@ -197,7 +207,7 @@ fn words_that_ask_for_no_ring(rt: HostRuntime) -> Result<(), Fail> {
         "inspect --moves",
         "--order 1 inspect",
     ] {
-        assert!(rt; ask_for(alloc, line, None)?);
+        holds(&rt, ask_for(alloc, line, None)?);
     }
     Ok(())
 }
@@ -233,7 +243,7 @@ fn words_that_ask_for_no_run(rt: HostRuntime) -> Result<(), Fail> {
         "run -x",
         "--moves run disk",
     ] {
-        assert!(rt; ask_for(alloc, line, None)?);
+        holds(&rt, ask_for(alloc, line, None)?);
     }
     Ok(())
 }
@@ -256,7 +266,7 @@ fn a_wish_for_help_or_the_version_asks_for_nothing(rt: HostRuntime) -> Result<()
         "-V",
         "run --version",
     ] {
-        assert!(rt; ask_for(alloc, line, None)?);
+        holds(&rt, ask_for(alloc, line, None)?);
     }
     Ok(())
 }
@@ -291,22 +301,28 @@ fn run(alloc: Global, line: &str, zeros: usize) -> Result<Left, Fail> {
 fn a_ring_is_shown_and_a_wrong_one_is_said(rt: HostRuntime) -> Result<(), Fail> {
     let alloc = rt.alloc();
     let left = run(alloc, "inspect --order 1", 8192)?;
-    assert_eq!(rt; left.status, 0);
-    assert_eq!(rt;
+    same(&rt, left.status, 0);
+    same(
+        &rt,
         left.out.bytes(),
-        b"indices 0 0 0 0\nentries 64\nrequests 0\n".as_slice()
+        b"indices 0 0 0 0\nentries 64\nrequests 0\n".as_slice(),
     );
-    assert_eq!(rt; left.err.bytes(), b"".as_slice());
+    same(&rt, left.err.bytes(), b"".as_slice());
     let left = run(alloc, "inspect", 4095)?;
-    assert_eq!(rt; left.status, 1);
-    assert_eq!(rt; left.out.bytes(), b"".as_slice());
-    assert_eq!(rt;
+    same(&rt, left.status, 1);
+    same(&rt, left.out.bytes(), b"".as_slice());
+    same(
+        &rt,
         left.err.bytes(),
-        b"blkring: 4095 bytes, expected 4096\n".as_slice()
+        b"blkring: 4095 bytes, expected 4096\n".as_slice(),
     );
     let left = run(alloc, "fly", 4096)?;
-    assert_eq!(rt; left.status, 2);
-    assert_eq!(rt; left.err.bytes(), b"blkring: bad command line\n".as_slice());
+    same(&rt, left.status, 2);
+    same(
+        &rt,
+        left.err.bytes(),
+        b"blkring: bad command line\n".as_slice(),
+    );
     Ok(())
 }
 
@@ -340,25 +356,32 @@ fn run_schedule(alloc: Global, line: &str, schedule: &str, attaches: &[u64]) -> 
 fn a_schedule_is_run_and_reported(rt: HostRuntime) -> Result<(), Fail> {
     let alloc = rt.alloc();
     let left = run_schedule(alloc, "run disk", "settle\nsubmit wri\n", &[])?;
-    assert_eq!(rt; left.status, 3);
-    assert_eq!(rt;
+    same(&rt, left.status, 3);
+    same(
+        &rt,
         left.out.bytes(),
-        b"begin 64 0 0 0 0 rw 8 lines\nready\nquiet\n".as_slice()
+        b"begin 64 0 0 0 0 rw 8 lines\nready\nquiet\n".as_slice(),
     );
-    assert_eq!(rt;
+    same(
+        &rt,
         left.err.bytes(),
-        b"blkring: line 2: not in the grammar\n".as_slice()
+        b"blkring: line 2: not in the grammar\n".as_slice(),
     );
     let left = run_schedule(alloc, "run disk --moves", "", &[])?;
-    assert_eq!(rt; left.status, 0);
-    assert_eq!(rt;
+    same(&rt, left.status, 0);
+    same(
+        &rt,
         left.out.bytes(),
-        b"begin 64 0 0 0 0 rw 8 moves\nend\n".as_slice()
+        b"begin 64 0 0 0 0 rw 8 moves\nend\n".as_slice(),
     );
     let left = run_schedule(alloc, "run disk", "settle\n", &[1])?;
-    assert_eq!(rt; left.status, 7);
-    assert_eq!(rt; left.out.bytes(), b"".as_slice());
-    assert_eq!(rt; left.err.bytes(), b"blkring: the image failed\n".as_slice());
+    same(&rt, left.status, 7);
+    same(&rt, left.out.bytes(), b"".as_slice());
+    same(
+        &rt,
+        left.err.bytes(),
+        b"blkring: the image failed\n".as_slice(),
+    );
     Ok(())
 }
 
@@ -382,10 +405,11 @@ fn a_failing_outside_gives_its_status_and_a_failing_error_output_none(
         &mut out,
         &mut err,
     );
-    assert_eq!(rt; status, 4);
-    assert_eq!(rt;
+    same(&rt, status, 4);
+    same(
+        &rt,
         err.inside.bytes(),
-        b"blkring: the input failed\n".as_slice()
+        b"blkring: the input failed\n".as_slice(),
     );
     let mut full = MemorySink::with_room(alloc, 20)?;
     let status = blkring(
@@ -396,11 +420,12 @@ fn a_failing_outside_gives_its_status_and_a_failing_error_output_none(
         &mut full,
         &mut err,
     );
-    assert_eq!(rt; status, 5);
-    assert_eq!(rt; full.bytes(), b"indices 0 0 0 0\n".as_slice());
-    assert_eq!(rt;
+    same(&rt, status, 5);
+    same(&rt, full.bytes(), b"indices 0 0 0 0\n".as_slice());
+    same(
+        &rt,
         err.inside.bytes(),
-        b"blkring: the input failed\n".as_slice()
+        b"blkring: the input failed\n".as_slice(),
     );
     Ok(())
 }
@@ -424,13 +449,14 @@ fn the_first_reason_stands_though_the_output_fails_after_it(rt: HostRuntime) -> 
         &mut out,
         &mut err,
     );
-    assert_eq!(rt; status, 4);
-    assert_eq!(rt; out.faults, 1);
-    assert_eq!(rt;
+    same(&rt, status, 4);
+    same(&rt, out.faults, 1);
+    same(
+        &rt,
         out.inside.bytes(),
-        b"begin 64 0 0 0 0 rw 8 lines\n".as_slice()
+        b"begin 64 0 0 0 0 rw 8 lines\n".as_slice(),
     );
-    assert_eq!(rt; err.bytes(), b"blkring: the input failed\n".as_slice());
+    same(&rt, err.bytes(), b"blkring: the input failed\n".as_slice());
     Ok(())
 }
 
@@ -450,13 +476,14 @@ fn a_bench_says_its_counts_and_leaves_input_and_disk(rt: HostRuntime) -> Result<
         &mut out,
         &mut err,
     );
-    assert_eq!(rt; status, 0);
-    assert_eq!(rt;
+    same(&rt, status, 0);
+    same(
+        &rt,
         out.bytes(),
-        b"submitted 8\nrefused 0\neffects 62\nanswered 8\nquiet\n".as_slice()
+        b"submitted 8\nrefused 0\neffects 62\nanswered 8\nquiet\n".as_slice(),
     );
-    assert_eq!(rt; src.faults, 0);
-    assert_eq!(rt; disk.content()[0], [1u32; 128]);
+    same(&rt, src.faults, 0);
+    same(&rt, disk.content()[0], [1u32; 128]);
     let mut full = MemorySink::with_room(alloc, 20)?;
     let status = blkring(
         alloc,
@@ -466,7 +493,7 @@ fn a_bench_says_its_counts_and_leaves_input_and_disk(rt: HostRuntime) -> Result<
         &mut full,
         &mut err,
     );
-    assert_eq!(rt; status, 5);
-    assert_eq!(rt; err.bytes(), b"blkring: the output failed\n".as_slice());
+    same(&rt, status, 5);
+    same(&rt, err.bytes(), b"blkring: the output failed\n".as_slice());
     Ok(())
 }

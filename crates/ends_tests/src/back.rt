@@ -2,6 +2,7 @@
 // without what their contracts say; long tests are cut, since a small body is proved sooner.
 mod shapes;
 
+use crate::expected::{holds, same};
 use blk_back::{Back, BackTold, Halt};
 use blk_base::{Abi, BackAnswer, BackAsk, Config, Endpoint, Mapping, Mode, OutOfMemory, Status};
 use std::alloc::Global;
@@ -87,12 +88,13 @@ fn attach(back: &mut Back, abi: Abi, order: u32, grefs: &[u32]) {
 
 // The back maps a page of the ring.
 fn map(rt: &impl Abort, back: &mut Back, page: Mapping) -> Result<(), OutOfMemory> {
-    assert_eq!(rt;
+    same(
+        rt,
         ask(back),
         BackAsk::Map {
             gref: page.gref,
-            mode: Mode::ReadWrite
-        }
+            mode: Mode::ReadWrite,
+        },
     );
     let _ = tell(back, BackAnswer::Mapped(page))?;
     Ok(())
@@ -100,7 +102,7 @@ fn map(rt: &impl Abort, back: &mut Back, page: Mapping) -> Result<(), OutOfMemor
 
 // The back binds the port.
 fn bind(rt: &impl Abort, back: &mut Back) -> Result<(), OutOfMemory> {
-    assert_eq!(rt; ask(back), BackAsk::Bind(1));
+    same(rt, ask(back), BackAsk::Bind(1));
     let _ = tell(back, BackAnswer::Done)?;
     Ok(())
 }
@@ -119,7 +121,7 @@ fn read_of(
     (mapping, word): (Mapping, u32),
     value: u32,
 ) -> Result<(), OutOfMemory> {
-    assert_eq!(rt; ask(back), BackAsk::Read { mapping, word });
+    same(rt, ask(back), BackAsk::Read { mapping, word });
     let _ = tell(back, BackAnswer::Word(value))?;
     Ok(())
 }
@@ -131,13 +133,14 @@ fn read(rt: &impl Abort, back: &mut Back, word: u32, value: u32) -> Result<(), O
 
 // The back writes this word of the ring's page.
 fn write(rt: &impl Abort, back: &mut Back, word: u32, value: u32) -> Result<(), OutOfMemory> {
-    assert_eq!(rt;
+    same(
+        rt,
         ask(back),
         BackAsk::Write {
             mapping: RING,
             word,
-            value
-        }
+            value,
+        },
     );
     let _ = tell(back, BackAnswer::Done)?;
     Ok(())
@@ -145,8 +148,8 @@ fn write(rt: &impl Abort, back: &mut Back, word: u32, value: u32) -> Result<(), 
 
 // It waits for the terms of its front, and isn't idle.
 fn waits_for_terms(rt: &impl Abort, back: &Back) {
-    assert_eq!(rt; ask(back), BackAsk::Wait);
-    assert!(rt; waits(back) && !idle(back));
+    same(rt, ask(back), BackAsk::Wait);
+    holds(rt, waits(back) && !idle(back));
 }
 
 #[test]
@@ -156,7 +159,7 @@ fn a_new_back_waits_for_its_terms_and_maps_its_ring(rt: HostRuntime) -> Result<(
     let _ = tell(&mut back, BackAnswer::Event)?;
     waits_for_terms(&rt, &back);
     connect(&rt, &mut back)?;
-    assert!(rt; !waits(&back));
+    holds(&rt, !waits(&back));
     Ok(())
 }
 
@@ -177,13 +180,14 @@ fn write_reply(rt: &impl Abort, back: &mut Back) -> Result<(), OutOfMemory> {
     write(rt, back, 16, 1)?;
     write(rt, back, 17, 0)?;
     write(rt, back, 18, 0xffff0004)?;
-    assert_eq!(rt;
+    same(
+        rt,
         ask(back),
         BackAsk::Write {
             mapping: RING,
             word: 2,
-            value: 1
-        }
+            value: 1,
+        },
     );
     Ok(())
 }
@@ -191,12 +195,13 @@ fn write_reply(rt: &impl Abort, back: &mut Back) -> Result<(), OutOfMemory> {
 // It pushes the reply.
 fn push_reply(rt: &impl Abort, back: &mut Back) -> Result<(), OutOfMemory> {
     let told = tell(back, BackAnswer::Done)?;
-    assert_eq!(rt;
+    same(
+        rt,
         told,
         Some(BackTold::Reply {
             id: 1,
-            status: Status::Error
-        })
+            status: Status::Error,
+        }),
     );
     Ok(())
 }
@@ -206,13 +211,13 @@ fn an_entry_is_copied_once_and_replied_to(rt: HostRuntime) -> Result<(), Fail> {
     let mut back = back(rt.alloc())?;
     connect(&rt, &mut back)?;
     fetch(&rt, &mut back)?;
-    assert_eq!(rt; next_job(&back, 0), Some(1));
+    same(&rt, next_job(&back, 0), Some(1));
     write_reply(&rt, &mut back)?;
     push_reply(&rt, &mut back)?;
-    assert_eq!(rt; ask(&back), BackAsk::Fence);
+    same(&rt, ask(&back), BackAsk::Fence);
     let _ = tell(&mut back, BackAnswer::Done)?;
     read(&rt, &mut back, 3, 1)?;
-    assert_eq!(rt; ask(&back), BackAsk::Send);
+    same(&rt, ask(&back), BackAsk::Send);
     Ok(())
 }
 
@@ -220,9 +225,9 @@ fn an_entry_is_copied_once_and_replied_to(rt: HostRuntime) -> Result<(), Fail> {
 fn look(rt: &impl Abort, back: &mut Back) -> Result<(), OutOfMemory> {
     read(rt, back, 0, 0)?;
     write(rt, back, 1, 1)?;
-    assert_eq!(rt; ask(back), BackAsk::Fence);
+    same(rt, ask(back), BackAsk::Fence);
     let _ = tell(back, BackAnswer::Done)?;
-    assert!(rt; !idle(back));
+    holds(rt, !idle(back));
     Ok(())
 }
 
@@ -232,22 +237,23 @@ fn it_sleeps_after_a_second_look_and_an_event_wakes_it(rt: HostRuntime) -> Resul
     connect(&rt, &mut back)?;
     look(&rt, &mut back)?;
     read(&rt, &mut back, 0, 0)?;
-    assert!(rt; waits(&back));
-    assert!(rt; idle(&back));
+    holds(&rt, waits(&back));
+    holds(&rt, idle(&back));
     let _ = tell(&mut back, BackAnswer::Event)?;
-    assert_eq!(rt;
+    same(
+        &rt,
         ask(&back),
         BackAsk::Read {
             mapping: RING,
-            word: 0
-        }
+            word: 0,
+        },
     );
     Ok(())
 }
 
 // It unmaps a page of the ring.
 fn unmap(rt: &impl Abort, back: &mut Back, page: Mapping) -> Result<(), OutOfMemory> {
-    assert_eq!(rt; ask(back), BackAsk::Unmap(page));
+    same(rt, ask(back), BackAsk::Unmap(page));
     let _ = tell(back, BackAnswer::Done)?;
     Ok(())
 }
@@ -260,9 +266,9 @@ fn give_up(rt: &impl Abort, back: &mut Back) -> Result<(), OutOfMemory> {
 
 // It closes its port, and does nothing more.
 fn close(rt: &impl Abort, back: &mut Back) -> Result<(), OutOfMemory> {
-    assert_eq!(rt; ask(back), BackAsk::ClosePort);
+    same(rt, ask(back), BackAsk::ClosePort);
     let _ = tell(back, BackAnswer::Done)?;
-    assert!(rt; idle(back));
+    holds(rt, idle(back));
     Ok(())
 }
 
@@ -270,33 +276,35 @@ fn close(rt: &impl Abort, back: &mut Back) -> Result<(), OutOfMemory> {
 fn a_producer_further_than_the_ring_halts_it(rt: HostRuntime) -> Result<(), Fail> {
     let mut back = back(rt.alloc())?;
     connect(&rt, &mut back)?;
-    assert_eq!(rt; halted(&back), None);
+    same(&rt, halted(&back), None);
     read(&rt, &mut back, 0, 33)?;
-    assert_eq!(rt;
+    same(
+        &rt,
         halted(&back),
         Some(Halt::Overrun {
             prod: 33,
-            rsp_prod: 0
-        })
+            rsp_prod: 0,
+        }),
     );
     give_up(&rt, &mut back)?;
     let _ = tell(&mut back, BackAnswer::Event)?;
-    assert!(rt; idle(&back));
-    assert_eq!(rt; job_ask(&back, 1), BackAsk::Wait);
+    holds(&rt, idle(&back));
+    same(&rt, job_ask(&back, 1), BackAsk::Wait);
     Ok(())
 }
 
 fn ring_is_refused(rt: &impl Abort, unmapped: &mut Back) -> Result<(), OutOfMemory> {
     attach(unmapped, Abi::X64, 0, &[8]);
     let _ = tell(unmapped, BackAnswer::MapRefused(-1))?;
-    assert_eq!(rt;
+    same(
+        rt,
         halted(unmapped),
         Some(Halt::MapRefused {
             gref: 8,
-            status: -1
-        })
+            status: -1,
+        }),
     );
-    assert!(rt; idle(unmapped));
+    holds(rt, idle(unmapped));
     Ok(())
 }
 
@@ -304,9 +312,9 @@ fn port_is_refused(rt: &impl Abort, unbound: &mut Back) -> Result<(), OutOfMemor
     attach(unbound, Abi::X64, 0, &[8]);
     map(rt, unbound, RING)?;
     let _ = tell(unbound, BackAnswer::BindRefused)?;
-    assert_eq!(rt; halted(unbound), Some(Halt::BadPort(1)));
+    same(rt, halted(unbound), Some(Halt::BadPort(1)));
     unmap(rt, unbound, RING)?;
-    assert!(rt; idle(unbound));
+    holds(rt, idle(unbound));
     Ok(())
 }
 
@@ -326,10 +334,10 @@ fn halt(back: &mut Back, why: Halt) {
 // Its negotiation has it halt where it waits for its terms: it has nothing to give up.
 fn halts_unmapped(rt: &impl Abort, unmapped: &mut Back) {
     halt(unmapped, Halt::Gone(5));
-    assert_eq!(rt; halted(unmapped), Some(Halt::Gone(5)));
-    assert!(rt; idle(unmapped));
+    same(rt, halted(unmapped), Some(Halt::Gone(5)));
+    holds(rt, idle(unmapped));
     attach(unmapped, Abi::X64, 0, &[8]);
-    assert_eq!(rt; ask(unmapped), BackAsk::Wait);
+    same(rt, ask(unmapped), BackAsk::Wait);
 }
 
 // Where it is connected it gives up its page and its port. An overrun it finds itself.
@@ -342,11 +350,11 @@ fn halts_connected(rt: &impl Abort, back: &mut Back) -> Result<(), Fail> {
             rsp_prod: 0,
         },
     );
-    assert_eq!(rt; halted(back), None);
+    same(rt, halted(back), None);
     halt(back, Halt::Unplugged(5));
-    assert_eq!(rt; halted(back), Some(Halt::Unplugged(5)));
+    same(rt, halted(back), Some(Halt::Unplugged(5)));
     give_up(rt, back)?;
-    assert!(rt; idle(back));
+    holds(rt, idle(back));
     Ok(())
 }
 

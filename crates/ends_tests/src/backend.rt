@@ -1,5 +1,6 @@
 // A backend by hand. Its calls go through functions that promise nothing, so that the tests are
 // proved without what their contracts say; long tests are cut, since a small body is proved sooner.
+use crate::expected::{holds, same};
 use blk_back::Halt;
 use blk_base::{
     Abi, BackAnswer, BackAsk, Config, Endpoint, Lent, Mapping, Mode, OutOfMemory, ShortText,
@@ -110,14 +111,14 @@ fn sets(rt: &impl Abort, backend: &mut Backend, path: &str, text: &str) -> Resul
 // It reads a key, which has this text.
 fn gets(rt: &impl Abort, backend: &mut Backend, path: &str, text: &str) -> Result<(), OutOfMemory> {
     let (path, text) = (short(path), short(text));
-    assert_eq!(rt; ask(backend), BackAsk::GetKey(Lent::at(&path)));
+    same(rt, ask(backend), BackAsk::GetKey(Lent::at(&path)));
     tell(backend, BackAnswer::Key(Some(Lent::at(&text))))
 }
 
 // It reads a key, which isn't there.
 fn misses(rt: &impl Abort, backend: &mut Backend, path: &str) -> Result<(), OutOfMemory> {
     let path = short(path);
-    assert_eq!(rt; ask(backend), BackAsk::GetKey(Lent::at(&path)));
+    same(rt, ask(backend), BackAsk::GetKey(Lent::at(&path)));
     tell(backend, BackAnswer::Key(None))
 }
 
@@ -158,11 +159,11 @@ fn offer(rt: &impl Abort, backend: &mut Backend) -> Result<(), OutOfMemory> {
 fn begin(rt: &impl Abort, backend: &mut Backend) -> Result<(), OutOfMemory> {
     offer(rt, backend)?;
     let path = short(FRONT_STATE);
-    assert_eq!(rt; ask(backend), BackAsk::Watch(Lent::at(&path)));
-    assert!(rt; !waits(backend) && !idle(backend));
+    same(rt, ask(backend), BackAsk::Watch(Lent::at(&path)));
+    holds(rt, !waits(backend) && !idle(backend));
     tell(backend, BackAnswer::Done)?;
-    assert!(rt; waits(backend) && idle(backend));
-    assert_eq!(rt; ask(backend), BackAsk::Wait);
+    holds(rt, waits(backend) && idle(backend));
+    same(rt, ask(backend), BackAsk::Wait);
     Ok(())
 }
 
@@ -183,7 +184,7 @@ fn read(rt: &impl Abort, backend: &mut Backend) -> Result<(), OutOfMemory> {
     ] {
         gets(rt, backend, path, text)?;
     }
-    assert_eq!(rt; ask(backend), maps(RING));
+    same(rt, ask(backend), maps(RING));
     Ok(())
 }
 
@@ -197,7 +198,7 @@ fn maps(page: Mapping) -> BackAsk<'static> {
 
 // It binds the port.
 fn binds(rt: &impl Abort, backend: &mut Backend) -> Result<(), OutOfMemory> {
-    assert_eq!(rt; ask(backend), BackAsk::Bind(1));
+    same(rt, ask(backend), BackAsk::Bind(1));
     tell(backend, BackAnswer::Done)
 }
 
@@ -222,12 +223,13 @@ fn it_offers_and_waits_and_connects_as_the_front_says(rt: HostRuntime) -> Result
     begin(&rt, &mut backend)?;
     read(&rt, &mut backend)?;
     connect(&rt, &mut backend)?;
-    assert_eq!(rt;
+    same(
+        &rt,
         ask(&backend),
         BackAsk::Read {
             mapping: RING,
-            word: 0
-        }
+            word: 0,
+        },
     );
     Ok(())
 }
@@ -254,9 +256,9 @@ fn both_pages_of_a_ring_are_mapped_before_its_port_is_bound(rt: HostRuntime) -> 
     let mut backend = backend(rt.alloc())?;
     begin(&rt, &mut backend)?;
     read_two(&rt, &mut backend)?;
-    assert_eq!(rt; ask(&backend), maps(RING));
+    same(&rt, ask(&backend), maps(RING));
     tell(&mut backend, BackAnswer::Mapped(RING))?;
-    assert_eq!(rt; ask(&backend), maps(SECOND));
+    same(&rt, ask(&backend), maps(SECOND));
     tell(&mut backend, BackAnswer::Mapped(SECOND))?;
     binds(&rt, &mut backend)?;
     Ok(())
@@ -267,9 +269,9 @@ fn sleep(rt: &impl Abort, backend: &mut Backend) -> Result<(), OutOfMemory> {
     tell(backend, BackAnswer::Word(0))?;
     tell(backend, BackAnswer::Done)?;
     tell(backend, BackAnswer::Done)?;
-    assert!(rt; !idle(backend));
+    holds(rt, !idle(backend));
     tell(backend, BackAnswer::Word(0))?;
-    assert!(rt; idle(backend));
+    holds(rt, idle(backend));
     Ok(())
 }
 
@@ -282,7 +284,7 @@ fn a_watch_is_looked_at_and_leaves_it_asleep(rt: HostRuntime) -> Result<(), Fail
     sleep(&rt, &mut backend)?;
     watched(&mut backend)?;
     gets(&rt, &mut backend, FRONT_STATE, "4")?;
-    assert!(rt; idle(&backend));
+    holds(&rt, idle(&backend));
     Ok(())
 }
 
@@ -291,18 +293,19 @@ fn a_ring_that_cant_be_mapped_halts_it(rt: HostRuntime) -> Result<(), Fail> {
     let mut backend = backend(rt.alloc())?;
     begin(&rt, &mut backend)?;
     read(&rt, &mut backend)?;
-    assert_eq!(rt; halted(&backend), None);
+    same(&rt, halted(&backend), None);
     tell(&mut backend, BackAnswer::MapRefused(-1))?;
-    assert_eq!(rt;
+    same(
+        &rt,
         halted(&backend),
         Some(Halt::MapRefused {
             gref: 8,
-            status: -1
-        })
+            status: -1,
+        }),
     );
     says_closed(&rt, &mut backend)?;
     watched(&mut backend)?;
-    assert!(rt; idle(&backend));
+    holds(&rt, idle(&backend));
     Ok(())
 }
 
@@ -314,9 +317,9 @@ fn says_closed(rt: &impl Abort, backend: &mut Backend) -> Result<(), OutOfMemory
 
 // It gives up its ring and its port.
 fn gives_up(rt: &impl Abort, backend: &mut Backend) -> Result<(), OutOfMemory> {
-    assert_eq!(rt; ask(backend), BackAsk::Unmap(RING));
+    same(rt, ask(backend), BackAsk::Unmap(RING));
     tell(backend, BackAnswer::Done)?;
-    assert_eq!(rt; ask(backend), BackAsk::ClosePort);
+    same(rt, ask(backend), BackAsk::ClosePort);
     tell(backend, BackAnswer::Done)
 }
 
@@ -335,10 +338,10 @@ fn a_front_that_is_gone_halts_it(rt: HostRuntime) -> Result<(), Fail> {
     sleep(&rt, &mut backend)?;
     watched(&mut backend)?;
     gets(&rt, &mut backend, FRONT_STATE, "6")?;
-    assert_eq!(rt; halted(&backend), Some(Halt::Gone(6)));
+    same(&rt, halted(&backend), Some(Halt::Gone(6)));
     gives_up(&rt, &mut backend)?;
     says_closed(&rt, &mut backend)?;
-    assert!(rt; idle(&backend));
+    holds(&rt, idle(&backend));
     Ok(())
 }
 
@@ -350,7 +353,7 @@ fn an_overrun_halts_the_negotiation(rt: HostRuntime) -> Result<(), Fail> {
         prod: 33,
         rsp_prod: 0,
     };
-    assert_eq!(rt; halted(&backend), Some(overrun));
+    same(&rt, halted(&backend), Some(overrun));
     gives_up(&rt, &mut backend)?;
     says_closed(&rt, &mut backend)?;
     Ok(())
@@ -381,7 +384,7 @@ fn a_push_is_ended_before_it_says_that_it_closes(rt: HostRuntime) -> Result<(), 
     tell(&mut backend, BackAnswer::Word(1))?;
     watched(&mut backend)?;
     gets(&rt, &mut backend, FRONT_STATE, "5")?;
-    assert_eq!(rt; halted(&backend), Some(Halt::Unplugged(5)));
+    same(&rt, halted(&backend), Some(Halt::Unplugged(5)));
     gives_up(&rt, &mut backend)?;
     sets(&rt, &mut backend, STATE, "6")?;
     Ok(())
@@ -400,7 +403,7 @@ fn after_a_suspend_a_new_backend_offers_the_same_and_none_whose_front_is_gone_mo
     let mut new = renewed(&old, rt.alloc(), true)?;
     begin(&rt, &mut new)?;
     let gone = renewed(&old, rt.alloc(), false)?;
-    assert!(rt; waits(&gone) && idle(&gone));
-    assert_eq!(rt; halted(&gone), Some(Halt::Gone(6)));
+    holds(&rt, waits(&gone) && idle(&gone));
+    same(&rt, halted(&gone), Some(Halt::Gone(6)));
     Ok(())
 }

@@ -2,6 +2,7 @@
 ghost use Rattle.std.specs.Prelude.{◌≤◌, IfSome};
 ghost use Rattle.vbd_front.specs.Ask.{IsAnswer};
 
+use crate::expected::{holds, same};
 use arrayvec::ArrayString;
 use blk_base::{
     Abi, Config, End, Endpoint, FrontAnswer, FrontAsk, Job, Lent, Path, SectorCount, Text,
@@ -79,7 +80,7 @@ fn move_at(
     asked: &FrontAsk,
     other: &Other,
 ) -> Result<(Option<Told>, Option<FrontNews>), Fail> {
-    assert_eq!(rt; front.take_told(), (None, None));
+    same(rt, front.take_told(), (None, None));
     let ask = front.ask();
     assert_eq!(rt; ask, *asked);
     let answer = other.answer(&ask).ok_or("never asked")?;
@@ -94,7 +95,7 @@ fn asks(
     asked: &FrontAsk,
     other: &Other,
 ) -> Result<(), Fail> {
-    assert_eq!(rt; move_at(rt, front, asked, other)?, (None, None));
+    same(rt, move_at(rt, front, asked, other)?, (None, None));
     Ok(())
 }
 
@@ -255,8 +256,8 @@ fn connects(rt: &impl Abort, front: &mut Frontend) -> Result<(), Fail> {
         front,
         &[("sectors", "8"), ("sector-size", "512"), ("info", "0")],
     )?;
-    assert_eq!(rt; submit(front)?, Err(Refusal::NotReady));
-    assert_eq!(rt; says(rt, front, "4")?, (None, Some(FrontNews::Ready)));
+    same(rt, submit(front)?, Err(Refusal::NotReady));
+    same(rt, says(rt, front, "4")?, (None, Some(FrontNews::Ready)));
     Ok(())
 }
 
@@ -283,7 +284,7 @@ fn looks(
 fn the_state_is_read_after_each_watch_until_the_back_offers(rt: HostRuntime) -> Result<(), Fail> {
     let mut front = watching(&rt, rt.alloc())?;
     sees(&rt, &mut front, "1")?;
-    assert!(rt; front.waits());
+    holds(&rt, front.waits());
     reads_offer(&rt, &mut front)?;
     writes(&rt, &mut front, 2, 0, 7)
 }
@@ -294,8 +295,8 @@ fn the_ring_is_published_and_waits_for_the_back(rt: HostRuntime) -> Result<(), F
     reads_offer(&rt, &mut front)?;
     publishes(&rt, &mut front)?;
     sees(&rt, &mut front, "2")?;
-    assert_eq!(rt; front.ask(), FrontAsk::Wait);
-    assert!(rt; front.waits());
+    same(&rt, front.ask(), FrontAsk::Wait);
+    holds(&rt, front.waits());
     Ok(())
 }
 
@@ -311,26 +312,30 @@ fn a_front_that_wishes_for_more_pages_has_as_many_as_are_offered(
 #[test]
 fn a_ready_front_issues_sleeps_and_takes_its_watch(rt: HostRuntime) -> Result<(), Fail> {
     let mut front = ready(&rt, rt.alloc())?;
-    assert_eq!(rt; looks(&rt, &mut front, 7)?, (None, None));
+    same(&rt, looks(&rt, &mut front, 7)?, (None, None));
     writes(&rt, &mut front, 2, 3, 8)?;
     asks(&rt, &mut front, &FrontAsk::Fence, &nothing())?;
-    assert!(rt; !front.waits());
-    assert_eq!(rt; looks(&rt, &mut front, 7)?, (None, None));
-    assert!(rt; front.waits());
+    holds(&rt, !front.waits());
+    same(&rt, looks(&rt, &mut front, 7)?, (None, None));
+    holds(&rt, front.waits());
     sees(&rt, &mut front, "4")?;
-    assert!(rt; front.waits());
-    assert_eq!(rt; submit(&mut front)?, Ok(1));
-    assert_eq!(rt; front.owed(), (1, 1));
+    holds(&rt, front.waits());
+    same(&rt, submit(&mut front)?, Ok(1));
+    same(&rt, front.owed(), (1, 1));
     writes(&rt, &mut front, 18, 0, 7)
 }
 
 #[test]
 fn a_broken_front_takes_its_watch_and_reads_nothing(rt: HostRuntime) -> Result<(), Fail> {
     let mut front = ready(&rt, rt.alloc())?;
-    assert!(rt; !front.has_told());
-    assert_eq!(rt; looks(&rt, &mut front, 8)?, (Some(Told::Broken(8)), None));
+    holds(&rt, !front.has_told());
+    same(
+        &rt,
+        looks(&rt, &mut front, 8)?,
+        (Some(Told::Broken(8)), None),
+    );
     for _ in 0..2 {
-        assert!(rt; front.waits());
+        holds(&rt, front.waits());
         asks(&rt, &mut front, &FrontAsk::Wait, &nothing())?;
     }
     Ok(())
@@ -355,17 +360,17 @@ fn leaves(rt: &impl Abort, front: &mut Frontend) -> Result<(), Fail> {
 fn a_front_that_closes_leaves_once_the_back_is_gone(rt: HostRuntime) -> Result<(), Fail> {
     let mut front = ready(&rt, rt.alloc())?;
     front.close();
-    assert_eq!(rt; front.take_told(), (None, Some(FrontNews::Closing)));
-    assert_eq!(rt; submit(&mut front)?, Err(Refusal::Closing));
-    assert_eq!(rt; says(&rt, &mut front, "5")?, (None, None));
+    same(&rt, front.take_told(), (None, Some(FrontNews::Closing)));
+    same(&rt, submit(&mut front)?, Err(Refusal::Closing));
+    same(&rt, says(&rt, &mut front, "5")?, (None, None));
     sees(&rt, &mut front, "5")?;
-    assert!(rt; front.waits());
+    holds(&rt, front.waits());
     sees(&rt, &mut front, "6")?;
-    assert!(rt; !front.waits());
+    holds(&rt, !front.waits());
     leaves(&rt, &mut front)?;
     let closed = says(&rt, &mut front, "6")?;
-    assert_eq!(rt; closed, (None, Some(FrontNews::Closed)));
-    assert!(rt; front.waits());
+    same(&rt, closed, (None, Some(FrontNews::Closed)));
+    holds(&rt, front.waits());
     Ok(())
 }
 
@@ -373,11 +378,11 @@ fn a_front_that_closes_leaves_once_the_back_is_gone(rt: HostRuntime) -> Result<(
 fn a_front_without_a_ring_closes_too(rt: HostRuntime) -> Result<(), Fail> {
     let mut front = watching(&rt, rt.alloc())?;
     front.close();
-    assert_eq!(rt; front.take_told(), (None, Some(FrontNews::Closing)));
-    assert_eq!(rt; says(&rt, &mut front, "5")?, (None, None));
+    same(&rt, front.take_told(), (None, Some(FrontNews::Closing)));
+    same(&rt, says(&rt, &mut front, "5")?, (None, None));
     sees(&rt, &mut front, "6")?;
     let closed = says(&rt, &mut front, "6")?;
-    assert_eq!(rt; closed, (None, Some(FrontNews::Closed)));
+    same(&rt, closed, (None, Some(FrontNews::Closed)));
     Ok(())
 }
 
@@ -392,7 +397,7 @@ fn a_front_that_reads_no_state_is_broken(rt: HostRuntime) -> Result<(), Fail> {
     let path = path(BACK, "state");
     let read = FrontAsk::GetKey(Lent::at(&path));
     let told = move_at(&rt, &mut front, &read, &Other::new("four", 0))?;
-    assert_eq!(rt; told, (None, Some(FrontNews::Broken(9))));
-    assert!(rt; front.waits());
+    same(&rt, told, (None, Some(FrontNews::Broken(9))));
+    holds(&rt, front.waits());
     Ok(())
 }

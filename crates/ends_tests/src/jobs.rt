@@ -2,6 +2,7 @@
 // without what their contracts say; long tests are cut, since a small body is proved sooner.
 ghost use Rattle.std.specs.Prelude.{◌<◌, length};
 
+use crate::expected::{holds, same};
 use back_jobs::{Effect, Jobs};
 use blk_base::{Abi, BackAnswer, BackAsk, Lent, Mapping, Mode, OutOfMemory, Status};
 use blk_layout::{RawRequest, Segment};
@@ -134,7 +135,7 @@ fn read_words(rt: &impl Abort, jobs: &mut Jobs, sector: u32) {
     let mapping = mapping(Mode::ReadOnly);
     for k in 0..128u32 {
         let word = sector.wrapping_mul(128).wrapping_add(k);
-        assert_eq!(rt; ask(jobs), BackAsk::Read { mapping, word });
+        same(rt, ask(jobs), BackAsk::Read { mapping, word });
         let _ = answer(jobs, BackAnswer::Word(k));
     }
 }
@@ -142,41 +143,42 @@ fn read_words(rt: &impl Abort, jobs: &mut Jobs, sector: u32) {
 // Job 1 reads its first sector, and writes it to the disk.
 fn first_is_written(rt: &impl Abort, jobs: &mut Jobs) {
     read_words(rt, jobs, 2);
-    assert!(rt; matches!(ask(jobs), BackAsk::DiskWrite(6, _)));
+    holds(rt, matches!(ask(jobs), BackAsk::DiskWrite(6, _)));
     let effect = Effect::Moved { id: 5, index: 0 };
-    assert_eq!(rt; answer(jobs, BackAnswer::Done), Some(effect));
+    same(rt, answer(jobs, BackAnswer::Done), Some(effect));
 }
 
 // It reads the other one, and the disk fails it.
 fn second_is_failed(rt: &impl Abort, jobs: &mut Jobs) {
     read_words(rt, jobs, 3);
-    assert!(rt; matches!(ask(jobs), BackAsk::DiskWrite(7, _)));
+    holds(rt, matches!(ask(jobs), BackAsk::DiskWrite(7, _)));
     let failed = Effect::Failed { id: 5, index: 1 };
-    assert_eq!(rt; answer(jobs, BackAnswer::DiskFailed), Some(failed));
-    assert_eq!(rt; done(jobs), None);
+    same(rt, answer(jobs, BackAnswer::DiskFailed), Some(failed));
+    same(rt, done(jobs), None);
 }
 
 // It unmaps its frame, and leaves.
 fn unmaps_and_leaves(rt: &impl Abort, jobs: &mut Jobs) {
-    assert_eq!(rt; ask(jobs), BackAsk::Unmap(mapping(Mode::ReadOnly)));
+    same(rt, ask(jobs), BackAsk::Unmap(mapping(Mode::ReadOnly)));
     let _ = answer(jobs, BackAnswer::Done);
-    assert_eq!(rt; done(jobs), Some((1, 5, 1, Status::Error)));
-    assert_eq!(rt; take_done(jobs), Some((1, 5, 1, Status::Error)));
-    assert_eq!(rt; count(jobs), 0);
+    same(rt, done(jobs), Some((1, 5, 1, Status::Error)));
+    same(rt, take_done(jobs), Some((1, 5, 1, Status::Error)));
+    same(rt, count(jobs), 0);
 }
 
 #[test]
 fn a_write_maps_reads_writes_and_unmaps(rt: HostRuntime) -> Result<(), Fail> {
     let mut jobs = jobs(rt.alloc())?;
-    assert!(rt; jobs.has_room());
+    holds(&rt, jobs.has_room());
     start(&mut jobs, 1, 1, 6);
-    assert_eq!(rt; at(&jobs), Some((5, 0)));
-    assert_eq!(rt;
+    same(&rt, at(&jobs), Some((5, 0)));
+    same(
+        &rt,
         ask(&jobs),
         BackAsk::Map {
             gref: 24,
-            mode: Mode::ReadOnly
-        }
+            mode: Mode::ReadOnly,
+        },
     );
     let _ = answer(&mut jobs, BackAnswer::Mapped(mapping(Mode::ReadOnly)));
     first_is_written(&rt, &mut jobs);
@@ -190,13 +192,14 @@ fn write_words(rt: &impl Abort, jobs: &mut Jobs, mapping: Mapping, sector: u32) 
     let _ = answer(jobs, BackAnswer::Sector(Lent::at(&[9; 128])));
     for k in 0..128u32 {
         let word = sector.wrapping_mul(128).wrapping_add(k);
-        assert_eq!(rt;
+        same(
+            rt,
             ask(jobs),
             BackAsk::Write {
                 mapping,
                 word,
-                value: 9
-            }
+                value: 9,
+            },
         );
         let _ = answer(jobs, BackAnswer::Done);
     }
@@ -206,39 +209,43 @@ fn write_words(rt: &impl Abort, jobs: &mut Jobs, mapping: Mapping, sector: u32) 
 fn a_read_writes_its_sectors_to_the_frame(rt: HostRuntime) -> Result<(), Fail> {
     let mut jobs = jobs(rt.alloc())?;
     let mapping = mapping(Mode::ReadWrite);
-    assert!(rt; jobs.has_room());
+    holds(&rt, jobs.has_room());
     start(&mut jobs, 1, 0, 6);
     let _ = answer(&mut jobs, BackAnswer::Mapped(mapping));
     for sector in 2..4u32 {
-        assert!(rt; matches!(ask(&jobs), BackAsk::DiskRead(_)));
+        holds(&rt, matches!(ask(&jobs), BackAsk::DiskRead(_)));
         write_words(&rt, &mut jobs, mapping, sector);
     }
-    assert_eq!(rt; ask(&jobs), BackAsk::Unmap(mapping));
+    same(&rt, ask(&jobs), BackAsk::Unmap(mapping));
     let _ = answer(&mut jobs, BackAnswer::Done);
-    assert_eq!(rt; done(&jobs), Some((1, 5, 0, Status::Okay)));
+    same(&rt, done(&jobs), Some((1, 5, 0, Status::Okay)));
     Ok(())
 }
 
 // The map that job 1 asks for is refused, and no other job is held.
 fn map_is_refused(rt: &impl Abort, jobs: &mut Jobs) {
     let _ = answer(jobs, BackAnswer::MapRefused(-1));
-    assert_eq!(rt; done(jobs), Some((1, 5, 1, Status::Error)));
-    assert_eq!(rt; next_after(jobs, 0), Some(1));
-    assert_eq!(rt; next_after(jobs, 1), None);
-    assert_eq!(rt; give_up(jobs), None);
+    same(rt, done(jobs), Some((1, 5, 1, Status::Error)));
+    same(rt, next_after(jobs, 0), Some(1));
+    same(rt, next_after(jobs, 1), None);
+    same(rt, give_up(jobs), None);
 }
 
 #[test]
 fn what_is_not_served_is_done_at_once(rt: HostRuntime) -> Result<(), Fail> {
     let mut jobs = jobs(rt.alloc())?;
-    assert!(rt; jobs.has_room());
+    holds(&rt, jobs.has_room());
     start(&mut jobs, 1, 1, 7);
-    assert_eq!(rt; done(&jobs), Some((1, 5, 1, Status::Error)));
+    same(&rt, done(&jobs), Some((1, 5, 1, Status::Error)));
     let _ = take_done(&mut jobs);
-    assert!(rt; jobs.has_room());
+    holds(&rt, jobs.has_room());
     start(&mut jobs, 1, 3, 0);
-    assert_eq!(rt; take_done(&mut jobs), Some((1, 5, 3, Status::Unsupported)));
-    assert!(rt; jobs.has_room());
+    same(
+        &rt,
+        take_done(&mut jobs),
+        Some((1, 5, 3, Status::Unsupported)),
+    );
+    holds(&rt, jobs.has_room());
     start(&mut jobs, 1, 1, 0);
     map_is_refused(&rt, &mut jobs);
     Ok(())
@@ -246,26 +253,26 @@ fn what_is_not_served_is_done_at_once(rt: HostRuntime) -> Result<(), Fail> {
 
 // The lowest that is done leaves first.
 fn lowest_leaves(rt: &impl Abort, jobs: &mut Jobs) {
-    assert_eq!(rt; take_done(jobs), Some((2, 5, 3, Status::Unsupported)));
+    same(rt, take_done(jobs), Some((2, 5, 3, Status::Unsupported)));
     let _ = answer(jobs, BackAnswer::MapRefused(-1));
-    assert_eq!(rt; done(jobs), Some((1, 5, 1, Status::Error)));
-    assert_eq!(rt; take_done(jobs), Some((1, 5, 1, Status::Error)));
+    same(rt, done(jobs), Some((1, 5, 1, Status::Error)));
+    same(rt, take_done(jobs), Some((1, 5, 1, Status::Error)));
 }
 
 // Those that are left leave in order.
 fn others_leave(rt: &impl Abort, jobs: &mut Jobs) {
-    assert_eq!(rt; take_done(jobs), Some((3, 5, 3, Status::Unsupported)));
-    assert_eq!(rt; take_done(jobs), Some((4, 5, 3, Status::Unsupported)));
-    assert_eq!(rt; take_done(jobs), None);
+    same(rt, take_done(jobs), Some((3, 5, 3, Status::Unsupported)));
+    same(rt, take_done(jobs), Some((4, 5, 3, Status::Unsupported)));
+    same(rt, take_done(jobs), None);
 }
 
 #[test]
 fn those_that_are_done_leave_in_order(rt: HostRuntime) -> Result<(), Fail> {
     let mut jobs = jobs(rt.alloc())?;
-    assert!(rt; jobs.has_room());
+    holds(&rt, jobs.has_room());
     start(&mut jobs, 1, 1, 0);
     for number in 2..5u64 {
-        assert!(rt; jobs.has_room());
+        holds(&rt, jobs.has_room());
         start(&mut jobs, number, 3, 0);
     }
     lowest_leaves(&rt, &mut jobs);
@@ -305,23 +312,24 @@ fn flush(jobs: &mut Jobs)
 // The disk fails at the one call of job 1.
 fn fails(rt: &impl Abort, jobs: &mut Jobs, op: u8) {
     let failed = Effect::Failed { id: 5, index: 0 };
-    assert_eq!(rt; answer(jobs, BackAnswer::DiskFailed), Some(failed));
-    assert_eq!(rt; take_done(jobs), Some((1, 5, op, Status::Error)));
+    same(rt, answer(jobs, BackAnswer::DiskFailed), Some(failed));
+    same(rt, take_done(jobs), Some((1, 5, op, Status::Error)));
 }
 
 #[test]
 fn a_flush_is_one_call_of_the_disk(rt: HostRuntime) -> Result<(), Fail> {
     let mut jobs = jobs_offering(rt.alloc(), true)?;
-    assert!(rt; jobs.has_room());
+    holds(&rt, jobs.has_room());
     flush(&mut jobs);
-    assert_eq!(rt; ask(&jobs), BackAsk::Flush);
-    assert_eq!(rt; done(&jobs), None);
-    assert_eq!(rt;
+    same(&rt, ask(&jobs), BackAsk::Flush);
+    same(&rt, done(&jobs), None);
+    same(
+        &rt,
         answer(&mut jobs, BackAnswer::Done),
-        Some(Effect::Flushed { id: 5 })
+        Some(Effect::Flushed { id: 5 }),
     );
-    assert_eq!(rt; take_done(&mut jobs), Some((1, 5, 3, Status::Okay)));
-    assert!(rt; jobs.has_room());
+    same(&rt, take_done(&mut jobs), Some((1, 5, 3, Status::Okay)));
+    holds(&rt, jobs.has_room());
     flush(&mut jobs);
     fails(&rt, &mut jobs, 3);
     Ok(())
@@ -330,20 +338,21 @@ fn a_flush_is_one_call_of_the_disk(rt: HostRuntime) -> Result<(), Fail> {
 #[test]
 fn a_discard_trims_its_sectors(rt: HostRuntime) -> Result<(), Fail> {
     let mut jobs = jobs_offering(rt.alloc(), true)?;
-    assert!(rt; jobs.has_room());
+    holds(&rt, jobs.has_room());
     discard(&mut jobs, 2, 6);
-    assert_eq!(rt; ask(&jobs), BackAsk::Trim(2, 6));
-    assert_eq!(rt;
+    same(&rt, ask(&jobs), BackAsk::Trim(2, 6));
+    same(
+        &rt,
         answer(&mut jobs, BackAnswer::Done),
-        Some(Effect::Trimmed { id: 5 })
+        Some(Effect::Trimmed { id: 5 }),
     );
-    assert_eq!(rt; take_done(&mut jobs), Some((1, 5, 5, Status::Okay)));
-    assert!(rt; jobs.has_room());
+    same(&rt, take_done(&mut jobs), Some((1, 5, 5, Status::Okay)));
+    holds(&rt, jobs.has_room());
     discard(&mut jobs, 0, 8);
     fails(&rt, &mut jobs, 5);
-    assert!(rt; jobs.has_room());
+    holds(&rt, jobs.has_room());
     discard(&mut jobs, 3, 6);
-    assert_eq!(rt; take_done(&mut jobs), Some((1, 5, 5, Status::Error)));
+    same(&rt, take_done(&mut jobs), Some((1, 5, 5, Status::Error)));
     Ok(())
 }
 
@@ -351,8 +360,8 @@ fn a_discard_trims_its_sectors(rt: HostRuntime) -> Result<(), Fail> {
 fn go_on(rt: &impl Abort, jobs: &Jobs, wanted: [bool; 5]) {
     for (number, goes_on) in (1..6u64).zip(wanted) {
         let asked = ask_of(jobs, number);
-        assert_eq!(rt; matches!(asked, BackAsk::Map { .. }), goes_on);
-        assert_eq!(rt; asked == BackAsk::Wait, !goes_on);
+        same(rt, matches!(asked, BackAsk::Map { .. }), goes_on);
+        same(rt, asked == BackAsk::Wait, !goes_on);
     }
 }
 
@@ -360,7 +369,7 @@ fn go_on(rt: &impl Abort, jobs: &Jobs, wanted: [bool; 5]) {
 fn a_barrier_stands_between_the_writes_before_and_after_it(rt: HostRuntime) -> Result<(), Fail> {
     let mut jobs = jobs_offering(rt.alloc(), true)?;
     for (number, op) in (1..6u64).zip([1, 1, 2, 0, 1]) {
-        assert!(rt; jobs.has_room());
+        holds(&rt, jobs.has_room());
         start(&mut jobs, number, op, 0);
     }
     go_on(&rt, &jobs, [true, true, false, true, false]);
@@ -397,34 +406,34 @@ fn copies(rt: &impl Abort, jobs: &mut Jobs, gref: u32, count: u32, sectors: u32)
         gref,
         mode,
     };
-    assert_eq!(rt; ask(jobs), BackAsk::Map { gref, mode });
+    same(rt, ask(jobs), BackAsk::Map { gref, mode });
     let _ = answer(jobs, BackAnswer::Mapped(mapping));
     for k in 0..count {
         let word = k.wrapping_mul(2);
-        assert_eq!(rt; ask(jobs), BackAsk::Read { mapping, word });
+        same(rt, ask(jobs), BackAsk::Read { mapping, word });
         let _ = answer(jobs, BackAnswer::Word(24));
         let word = word.wrapping_add(1);
-        assert_eq!(rt; ask(jobs), BackAsk::Read { mapping, word });
+        same(rt, ask(jobs), BackAsk::Read { mapping, word });
         let _ = answer(jobs, BackAnswer::Word(sectors));
     }
-    assert_eq!(rt; done(jobs), None);
-    assert_eq!(rt; ask(jobs), BackAsk::Unmap(mapping));
+    same(rt, done(jobs), None);
+    same(rt, ask(jobs), BackAsk::Unmap(mapping));
     let _ = answer(jobs, BackAnswer::Done);
 }
 
 // Job 1 maps the frame of its first segment.
 fn first_frame(rt: &impl Abort, jobs: &Jobs) {
     let mode = Mode::ReadOnly;
-    assert_eq!(rt; ask(jobs), BackAsk::Map { gref: 24, mode });
+    same(rt, ask(jobs), BackAsk::Map { gref: 24, mode });
 }
 
 #[test]
 fn segments_are_copied_from_a_page(rt: HostRuntime) -> Result<(), Fail> {
     let mut jobs = jobs_on(rt.alloc(), 12, false, 12)?;
-    assert!(rt; jobs.has_room());
+    holds(&rt, jobs.has_room());
     indirect(&mut jobs, 13);
-    assert_eq!(rt; take_done(&mut jobs), Some((1, 5, 1, Status::Error)));
-    assert!(rt; jobs.has_room());
+    same(&rt, take_done(&mut jobs), Some((1, 5, 1, Status::Error)));
+    holds(&rt, jobs.has_room());
     indirect(&mut jobs, 12);
     copies(&rt, &mut jobs, 40, 12, 0);
     first_frame(&rt, &jobs);
@@ -435,10 +444,10 @@ fn segments_are_copied_from_a_page(rt: HostRuntime) -> Result<(), Fail> {
 fn copied_segments_are_tested_when_all_are_copied(rt: HostRuntime) -> Result<(), Fail> {
     let mut jobs = jobs_on(rt.alloc(), 12, false, 12)?;
     for sectors in [0x800, 0x100] {
-        assert!(rt; jobs.has_room());
+        holds(&rt, jobs.has_room());
         indirect(&mut jobs, 7);
         copies(&rt, &mut jobs, 40, 7, sectors);
-        assert_eq!(rt; take_done(&mut jobs), Some((1, 5, 1, Status::Error)));
+        same(&rt, take_done(&mut jobs), Some((1, 5, 1, Status::Error)));
     }
     Ok(())
 }
@@ -446,7 +455,7 @@ fn copied_segments_are_tested_when_all_are_copied(rt: HostRuntime) -> Result<(),
 #[test]
 fn a_second_page_goes_on_where_the_first_ends(rt: HostRuntime) -> Result<(), Fail> {
     let mut jobs = jobs_on(rt.alloc(), 513, false, 960)?;
-    assert!(rt; jobs.has_room());
+    holds(&rt, jobs.has_room());
     indirect(&mut jobs, 513);
     copies(&rt, &mut jobs, 40, 512, 0);
     copies(&rt, &mut jobs, 41, 1, 0);

@@ -7,6 +7,8 @@ mod back;
 #[cfg(test)]
 mod backend;
 #[cfg(test)]
+mod expected;
+#[cfg(test)]
 mod frontend;
 #[cfg(test)]
 mod jobs;

@@ -9,6 +9,7 @@ mod reads;
 mod shapes;
 mod suspend;
 
+use crate::expected::{holds, same};
 use blk_base::{FrontAsk, Job, SectorCount};
 use blk_front::{FrontState, Refusal, Told};
 use guest::{
@@ -32,7 +33,7 @@ fn the_start_writes_a_fresh_ring_and_grants_it_by_reference_8(rt: HostRuntime) -
                 1 | 3 => next,
                 _ => 0,
             };
-            assert_eq!(rt; front.submit(write(0, 7)?), Err(Refusal::NotReady));
+            same(&rt, front.submit(write(0, 7)?), Err(Refusal::NotReady));
             asks(
                 &rt,
                 &mut front,
@@ -58,7 +59,7 @@ fn the_start_writes_a_fresh_ring_and_grants_it_by_reference_8(rt: HostRuntime) -
             },
         ];
         asks(&rt, &mut front, &mut memory, &grant)?;
-        assert_eq!(rt; front.submit(write(0, 7)?), Err(Refusal::NotReady));
+        same(&rt, front.submit(write(0, 7)?), Err(Refusal::NotReady));
         asks(&rt, &mut front, &mut memory, &[FrontAsk::NewPort])?;
     }
     Ok(())
@@ -68,17 +69,17 @@ fn the_start_writes_a_fresh_ring_and_grants_it_by_reference_8(rt: HostRuntime) -
 fn it_waits_with_its_port_until_it_is_connected_once(rt: HostRuntime) -> Result<(), Fail> {
     let mut memory = Memory::new(rt.alloc())?;
     let mut front = front_of(rt.alloc(), 0)?;
-    assert!(rt; !front.enter(FrontState::Connected(NOTHING)));
+    holds(&rt, !front.enter(FrontState::Connected(NOTHING)));
     quiet_moves(&rt, &mut front, &mut memory, 20)?;
     for _ in 0..2 {
         asks(&rt, &mut front, &mut memory, &[FrontAsk::Wait])?;
-        assert_eq!(rt; front.submit(write(0, 7)?), Err(Refusal::NotReady));
-        assert!(rt; front.is_connected());
-        assert!(rt; !front.idle());
+        same(&rt, front.submit(write(0, 7)?), Err(Refusal::NotReady));
+        holds(&rt, front.is_connected());
+        holds(&rt, !front.idle());
     }
-    assert!(rt; front.enter(FrontState::Connected(NOTHING)));
-    assert!(rt; !front.enter(FrontState::Connected(NOTHING)));
-    assert_eq!(rt; front.submit(write(0, 7)?), Ok(1));
+    holds(&rt, front.enter(FrontState::Connected(NOTHING)));
+    holds(&rt, !front.enter(FrontState::Connected(NOTHING)));
+    same(&rt, front.submit(write(0, 7)?), Ok(1));
     Ok(())
 }
 
@@ -101,14 +102,14 @@ fn it_sleeps_after_the_second_look_and_an_event_wakes_it(rt: HostRuntime) -> Res
     let mut memory = Memory::new(rt.alloc())?;
     let mut front = connected(&rt, rt.alloc(), &mut memory, 0)?;
     for _ in 0..2 {
-        assert!(rt; !front.idle());
+        holds(&rt, !front.idle());
         asks(
             &rt,
             &mut front,
             &mut memory,
             &[look(), event(), FrontAsk::Fence, look()],
         )?;
-        assert!(rt; front.idle());
+        holds(&rt, front.idle());
         asks(&rt, &mut front, &mut memory, &[FrontAsk::Wait])?;
     }
 
@@ -135,7 +136,7 @@ fn it_sleeps_after_the_second_look_and_an_event_wakes_it(rt: HostRuntime) -> Res
 fn the_first_write_takes_163_moves_and_sends_an_event(rt: HostRuntime) -> Result<(), Fail> {
     let mut memory = Memory::new(rt.alloc())?;
     let mut front = asleep(&rt, rt.alloc(), &mut memory, 0)?;
-    assert_eq!(rt; front.submit(write(0, 7)?), Ok(1));
+    same(&rt, front.submit(write(0, 7)?), Ok(1));
     for word in 0..128 {
         let data = FrontAsk::Write {
             frame: 18,
@@ -187,7 +188,11 @@ fn the_second_write_sends_no_event_where_none_is_waited_for(rt: HostRuntime) -> 
     let mut front = asleep(&rt, rt.alloc(), &mut memory, 0)?;
     front.submit(write(0, 1)?)?;
     quiet_moves(&rt, &mut front, &mut memory, 162)?;
-    assert_eq!(rt; one_move(&rt, &mut front, &mut memory)?.0, FrontAsk::Send);
+    same(
+        &rt,
+        one_move(&rt, &mut front, &mut memory)?.0,
+        FrontAsk::Send,
+    );
     front.submit(write(1, 2)?)?;
     quiet_moves(&rt, &mut front, &mut memory, 159)?;
     let push = [
@@ -201,9 +206,10 @@ fn the_second_write_sends_no_event_where_none_is_waited_for(rt: HostRuntime) -> 
         FrontAsk::Wait,
     ];
     asks(&rt, &mut front, &mut memory, &push)?;
-    assert_eq!(rt;
+    same(
+        &rt,
         (memory.read(2, 46), memory.read(2, 48), memory.read(2, 50)),
-        (2, 1, 0x19)
+        (2, 1, 0x19),
     );
     Ok(())
 }
@@ -234,11 +240,11 @@ fn what_it_cannot_do_is_refused_and_changes_nothing(rt: HostRuntime) -> Result<(
             Refusal::Range,
         ),
     ] {
-        assert_eq!(rt; front.submit(job), Err(refusal));
-        assert_eq!(rt; (front.owed(), front.idle()), ((0, 0), true));
+        same(&rt, front.submit(job), Err(refusal));
+        same(&rt, (front.owed(), front.idle()), ((0, 0), true));
     }
-    assert_eq!(rt; front.submit(read_of(7, 1)?), Ok(1));
-    assert_eq!(rt; front.submit(write_of(0, 8, 7)?), Ok(2));
+    same(&rt, front.submit(read_of(7, 1)?), Ok(1));
+    same(&rt, front.submit(write_of(0, 8, 7)?), Ok(2));
     Ok(())
 }
 
@@ -246,12 +252,12 @@ fn what_it_cannot_do_is_refused_and_changes_nothing(rt: HostRuntime) -> Result<(
 fn a_write_to_a_read_only_disk_is_refused(rt: HostRuntime) -> Result<(), Fail> {
     let mut memory = Memory::new(rt.alloc())?;
     let mut front = front_of_read_only(rt.alloc())?;
-    assert_eq!(rt; front.submit(write(0, 7)?), Err(Refusal::NotReady));
+    same(&rt, front.submit(write(0, 7)?), Err(Refusal::NotReady));
     connect(&rt, &mut front, &mut memory)?;
-    assert_eq!(rt; front.submit(write(0, 7)?), Err(Refusal::ReadOnly));
-    assert_eq!(rt; front.submit(write(8, 7)?), Err(Refusal::ReadOnly));
-    assert_eq!(rt; front.submit(read(8)?), Err(Refusal::Range));
-    assert_eq!(rt; front.submit(read(7)?), Ok(1));
+    same(&rt, front.submit(write(0, 7)?), Err(Refusal::ReadOnly));
+    same(&rt, front.submit(write(8, 7)?), Err(Refusal::ReadOnly));
+    same(&rt, front.submit(read(8)?), Err(Refusal::Range));
+    same(&rt, front.submit(read(7)?), Ok(1));
     Ok(())
 }
 
@@ -260,16 +266,16 @@ fn a_33rd_request_is_refused(rt: HostRuntime) -> Result<(), Fail> {
     let mut memory = Memory::new(rt.alloc())?;
     let mut front = asleep(&rt, rt.alloc(), &mut memory, 0)?;
     for number in 1..33 {
-        assert_eq!(rt; front.submit(write(7, 7)?), Ok(number));
+        same(&rt, front.submit(write(7, 7)?), Ok(number));
     }
-    assert_eq!(rt; front.submit(write(0, 7)?), Err(Refusal::Full));
-    assert_eq!(rt; front.owed(), (32, 32));
+    same(&rt, front.submit(write(0, 7)?), Err(Refusal::Full));
+    same(&rt, front.owed(), (32, 32));
 
     // the last of the 32 is issued from frame 49 into the ring's last slot, and no more is begun
     quiet_moves(&rt, &mut front, &mut memory, 163 + 31 * 162)?;
-    assert_eq!(rt; (memory.read(49, 127), memory.read(0, 111)), (7, 49));
-    assert_eq!(rt; (memory.read(2, 886), memory.read(2, 0)), (32, 32));
-    assert!(rt; front.idle());
+    same(&rt, (memory.read(49, 127), memory.read(0, 111)), (7, 49));
+    same(&rt, (memory.read(2, 886), memory.read(2, 0)), (32, 32));
+    holds(&rt, front.idle());
     Ok(())
 }
 
@@ -278,10 +284,10 @@ fn has_told_says_whether_something_is_left_to_tell(rt: HostRuntime) -> Result<()
     let mut memory = Memory::new(rt.alloc())?;
     let mut front = connected(&rt, rt.alloc(), &mut memory, 0)?;
     memory.write(2, 2, 1);
-    assert_eq!(rt; front.has_told(), false);
-    assert_eq!(rt; untold_move(&rt, &mut front, &mut memory)?, look());
-    assert_eq!(rt; front.has_told(), true);
-    assert_eq!(rt; front.take_told(), Some(Told::Broken(1)));
-    assert_eq!(rt; front.has_told(), false);
+    same(&rt, front.has_told(), false);
+    same(&rt, untold_move(&rt, &mut front, &mut memory)?, look());
+    same(&rt, front.has_told(), true);
+    same(&rt, front.take_told(), Some(Told::Broken(1)));
+    same(&rt, front.has_told(), false);
     Ok(())
 }

@@ -5,6 +5,7 @@ ghost use Rattle.blk_io.specs.Disk.{attached_of};
 ghost use Rattle.hypervisor.specs.Hypervisor.{Hypervisor};
 ghost use Rattle.hypervisor.specs.May.{FrontMay, BackMay, MayShow, HasPortLeft, HasMappingLeft, IsPlace};
 
+use crate::expected::{holds, same};
 use blk_base::{
     BackAnswer, BackAsk, BackMover, End, FrontAnswer, FrontAsk, Lent, Mode, Move, Mover,
     OutOfMemory, Path, Text,
@@ -186,23 +187,25 @@ fn bind<D: SectorDisk>(
     requires { HasPortLeft under.old.channels }
 {
     let made = front(under, &FrontAsk::NewPort, room)?;
-    assert_eq!(rt; made, Some(FrontAnswer::Port(1)));
-    assert_eq!(rt;
+    same(rt, &made, &Some(FrontAnswer::Port(1)));
+    same(
+        rt,
         of_front(&FrontAsk::NewPort, &made),
-        Some(Move::FrontPort { port: 1 })
+        Some(Move::FrontPort { port: 1 }),
     );
     let (bound, shown) = back(under, BackMover::Back, &BackAsk::Bind(1), disk, room)?;
-    assert_eq!(rt; bound, Some(BackAnswer::Done));
-    assert_eq!(rt; shown, Some(Move::Bind { port: 1 }));
+    same(rt, bound, Some(BackAnswer::Done));
+    same(rt, shown, Some(Move::Bind { port: 1 }));
     Ok(())
 }
 
 fn send(rt: &impl Abort, under: &mut Hypervisor, room: &mut Room) -> Result<(), OutOfMemory> {
     let sent = front(under, &FrontAsk::Send, room)?;
-    assert_eq!(rt; sent, Some(FrontAnswer::Done));
-    assert_eq!(rt;
+    same(rt, &sent, &Some(FrontAnswer::Done));
+    same(
+        rt,
         of_front(&FrontAsk::Send, &sent),
-        Some(Move::Send(Mover::Front))
+        Some(Move::Send(Mover::Front)),
     );
     Ok(())
 }
@@ -215,12 +218,12 @@ fn take_once<D: SectorDisk>(
     room: &mut Room,
 ) -> Result<(), OutOfMemory> {
     let (waited, _) = wait(under, BackMover::Job(1), disk, room)?;
-    assert!(rt; waited.is_none());
+    holds(rt, waited.is_none());
     let (taken, shown) = wait(under, BackMover::Back, disk, room)?;
-    assert_eq!(rt; taken, Some(BackAnswer::Event));
-    assert_eq!(rt; shown, Some(Move::Event(Mover::Back)));
+    same(rt, taken, Some(BackAnswer::Event));
+    same(rt, shown, Some(Move::Event(Mover::Back)));
     let (waited, _) = wait(under, BackMover::Back, disk, room)?;
-    assert!(rt; waited.is_none());
+    holds(rt, waited.is_none());
     Ok(())
 }
 
@@ -232,7 +235,7 @@ fn an_event_is_sent_through_a_bound_port_and_taken_once(rt: HostRuntime) -> Resu
     let mut room = Room::new();
     bind(&rt, &mut under, &mut disk, &mut room)?;
     send(&rt, &mut under, &mut room)?;
-    assert_eq!(rt; pending(&under), (true, false));
+    same(&rt, pending(&under), (true, false));
     take_once(&rt, &mut under, &mut disk, &mut room)?;
     Ok(())
 }
@@ -259,7 +262,7 @@ fn a_word_is_written_read_and_exchanged(rt: HostRuntime) -> Result<(), Fail> {
         new: 9,
     };
     let seen = front(&mut under, &ask, &mut room)?;
-    assert_eq!(rt; seen, Some(FrontAnswer::Word(7)));
+    same(&rt, &seen, &Some(FrontAnswer::Word(7)));
     let shown = Move::FrontCas {
         frame,
         word,
@@ -267,17 +270,17 @@ fn a_word_is_written_read_and_exchanged(rt: HostRuntime) -> Result<(), Fail> {
         new: 9,
         seen: 7,
     };
-    assert_eq!(rt; of_front(&ask, &seen), Some(shown));
-    assert_eq!(rt; read(&under, frame, word), 9);
+    same(&rt, of_front(&ask, &seen), Some(shown));
+    same(&rt, read(&under, frame, word), 9);
     let ask = FrontAsk::Read { frame, word };
     let read = front(&mut under, &ask, &mut room)?;
-    assert_eq!(rt; read, Some(FrontAnswer::Word(9)));
+    same(&rt, &read, &Some(FrontAnswer::Word(9)));
     let shown = Move::FrontRead {
         frame,
         word,
         value: 9,
     };
-    assert_eq!(rt; of_front(&ask, &read), Some(shown));
+    same(&rt, of_front(&ask, &read), Some(shown));
     Ok(())
 }
 
@@ -291,14 +294,14 @@ fn a_reference_that_grants_nothing_is_refused(rt: HostRuntime) -> Result<(), Fai
     let who = BackMover::Job(1);
     let ask = BackAsk::Map { gref, mode };
     let (refused, told) = back(&mut under, who, &ask, &mut disk, &mut room)?;
-    assert_eq!(rt; refused, Some(BackAnswer::MapRefused(-1)));
+    same(&rt, refused, Some(BackAnswer::MapRefused(-1)));
     let shown = Move::MapRefused {
         who,
         gref,
         mode,
         status: -1,
     };
-    assert_eq!(rt; told, Some(shown));
+    same(&rt, told, Some(shown));
     Ok(())
 }
 
@@ -321,8 +324,8 @@ fn a_mapped_word_is_read_and_shown_with_its_frame(rt: HostRuntime) -> Result<(),
         mapping: 1,
         frame: 18,
     };
-    assert_eq!(rt; shown, Some(wanted));
-    assert_eq!(rt; word, Some(7));
+    same(&rt, shown, Some(wanted));
+    same(&rt, word, Some(7));
     Ok(())
 }
 
@@ -336,8 +339,8 @@ fn a_word_is_written_through_a_mapping(rt: HostRuntime) -> Result<(), Fail> {
     write(&mut under, 0, 49, 18);
     write(&mut under, 0, 48, 1);
     let word = map_and_write(&mut under, 24, 7, &mut disk, &mut room)?;
-    assert_eq!(rt; word, Some(7));
-    assert_eq!(rt; (read(&under, 18, 3), read(&under, 18, 4)), (7, 0));
+    same(&rt, word, Some(7));
+    same(&rt, (read(&under, 18, 3), read(&under, 18, 4)), (7, 0));
     Ok(())
 }
 
@@ -351,16 +354,16 @@ fn a_hostile_hand_overwrites_a_grant_and_no_other_word(rt: HostRuntime) -> Resul
     write(&mut under, 0, 49, 18);
     write(&mut under, 0, 48, 1);
     overwrite(&mut under, 0, 48, 5);
-    assert_eq!(rt; (read(&under, 0, 48), read(&under, 0, 49)), (5, 18));
+    same(&rt, (read(&under, 0, 48), read(&under, 0, 49)), (5, 18));
     // 5 grants for reading alone (GTF_permit_access, GTF_readonly).
     let ask = BackAsk::Map {
         gref: 24,
         mode: Mode::ReadWrite,
     };
     let (refused, _) = back(&mut under, BackMover::Job(1), &ask, &mut disk, &mut room)?;
-    assert_eq!(rt; refused, Some(BackAnswer::MapRefused(-1)));
+    same(&rt, refused, Some(BackAnswer::MapRefused(-1)));
     overwrite(&mut under, 1023, 1023, 7);
-    assert_eq!(rt; read(&under, 1017, 1023), 0);
+    same(&rt, read(&under, 1017, 1023), 0);
     Ok(())
 }
 
@@ -374,10 +377,11 @@ fn set_key(
 ) -> Result<(), OutOfMemory> {
     let ask = FrontAsk::SetKey(Lent::at(path), Lent::at(text));
     let set = front(under, &ask, room)?;
-    assert_eq!(rt; set, Some(FrontAnswer::Done));
-    assert_eq!(rt;
+    same(rt, &set, &Some(FrontAnswer::Done));
+    same(
+        rt,
         of_front(&ask, &set),
-        Some(Move::SetKey(Mover::Front, *path, *text))
+        Some(Move::SetKey(Mover::Front, *path, *text)),
     );
     Ok(())
 }
@@ -391,14 +395,14 @@ fn a_watch_fires_when_it_is_set_and_when_its_key_is(rt: HostRuntime) -> Result<(
     let path = path_of("/local/domain/1/device/vbd/51712/state");
     let ask = BackAsk::Watch(Lent::at(&path));
     let (set, shown) = back(&mut under, BackMover::Back, &ask, &mut disk, &mut room)?;
-    assert_eq!(rt; set, Some(BackAnswer::Done));
-    assert_eq!(rt; shown, Some(Move::Watch(Mover::Back, path)));
+    same(&rt, set, Some(BackAnswer::Done));
+    same(&rt, shown, Some(Move::Watch(Mover::Back, path)));
     let (fired, shown) = wait(&mut under, BackMover::Back, &mut disk, &mut room)?;
-    assert_eq!(rt; fired, Some(BackAnswer::Watched(Lent::at(&path))));
-    assert_eq!(rt; shown, Some(Move::Watched(Mover::Back, path)));
-    assert!(rt; !watches_pending(&under).0);
+    same(&rt, fired, Some(BackAnswer::Watched(Lent::at(&path))));
+    same(&rt, shown, Some(Move::Watched(Mover::Back, path)));
+    holds(&rt, !watches_pending(&under).0);
     set_key(&rt, &mut under, &path, &text_of("3"), &mut room)?;
-    assert_eq!(rt; watches_pending(&under), (true, false));
+    same(&rt, watches_pending(&under), (true, false));
     Ok(())
 }
 
@@ -412,13 +416,14 @@ fn a_key_of_the_other_end_is_read_and_not_written(rt: HostRuntime) -> Result<(),
     let (first, text) = (text_of("1"), text_of("2"));
     let ask = FrontAsk::SetKey(Lent::at(&path), Lent::at(&text));
     let refused = front(&mut under, &ask, &mut room)?;
-    assert!(rt; refused.is_none());
+    holds(&rt, refused.is_none());
     let ask = FrontAsk::GetKey(Lent::at(&path));
     let told = front(&mut under, &ask, &mut room)?;
-    assert_eq!(rt; told, Some(FrontAnswer::Key(Some(Lent::at(&first)))));
-    assert_eq!(rt;
+    same(&rt, &told, &Some(FrontAnswer::Key(Some(Lent::at(&first)))));
+    same(
+        &rt,
         of_front(&ask, &told),
-        Some(Move::GetKey(Mover::Front, path, Some(first)))
+        Some(Move::GetKey(Mover::Front, path, Some(first))),
     );
     Ok(())
 }
@@ -442,8 +447,8 @@ fn a_suspend_clears_the_grants_and_no_other_frame(rt: HostRuntime) -> Result<(),
     write(&mut under, 2, 0, 7);
     let _ = map_and_read(&mut under, 24, &mut disk, &mut room)?;
     suspend(&mut under, "1")?;
-    assert_eq!(rt; (read(&under, 0, 48), read(&under, 0, 49)), (0, 0));
-    assert_eq!(rt; (read(&under, 1, 1023), read(&under, 2, 0)), (0, 7));
+    same(&rt, (read(&under, 0, 48), read(&under, 0, 49)), (0, 0));
+    same(&rt, (read(&under, 1, 1023), read(&under, 2, 0)), (0, 7));
     Ok(())
 }
 
@@ -469,8 +474,8 @@ fn reads_key(
 ) -> Result<(), OutOfMemory> {
     let told = front(under, &FrontAsk::GetKey(Lent::at(path)), room)?;
     match text {
-        Some(text) => assert_eq!(rt; told, Some(FrontAnswer::Key(Some(Lent::at(text))))),
-        None => assert_eq!(rt; told, Some(FrontAnswer::Key(None))),
+        Some(text) => same(rt, told, Some(FrontAnswer::Key(Some(Lent::at(text))))),
+        None => same(rt, told, Some(FrontAnswer::Key(None))),
     }
     Ok(())
 }
@@ -489,14 +494,14 @@ fn a_suspend_leaves_both_states_and_no_other_key_event_or_watch(
     let key = path_of("/local/domain/1/device/vbd/51712/ring-ref");
     set_key(&rt, &mut under, &key, &text_of("8"), &mut room)?;
     suspend(&mut under, "6")?;
-    assert_eq!(rt; pending(&under), (false, false));
-    assert_eq!(rt; watches_pending(&under), (false, false));
+    same(&rt, pending(&under), (false, false));
+    same(&rt, watches_pending(&under), (false, false));
     reads_key(&rt, &mut under, &key, None, &mut room)?;
     let state = path_of("/local/domain/1/device/vbd/51712/state");
     reads_key(&rt, &mut under, &state, Some(&text_of("6")), &mut room)?;
     // Nor is there a port that could be bound.
     let bind = BackAsk::Bind(1);
     let (refused, _) = back(&mut under, BackMover::Back, &bind, &mut disk, &mut room)?;
-    assert_eq!(rt; refused, Some(BackAnswer::BindRefused));
+    same(&rt, refused, Some(BackAnswer::BindRefused));
     Ok(())
 }

@@ -1,4 +1,5 @@
 // A client: the two ends find each other and send events.
+use crate::expected::{holds, same};
 use blk_base::End;
 use event_channel::{BadPort, Channels, Port};
 use std::test::Fail;
@@ -10,22 +11,23 @@ fn an_event_is_sent_merged_and_taken_once(rt: HostRuntime) -> Result<(), Fail> {
     assert!(rt; !channels.pending(End::Back), "no port is bound yet");
 
     let port = channels.alloc_unbound();
-    assert_eq!(rt; port, Port(1));
-    assert_eq!(rt; channels.bind(Port(2)), Err(BadPort));
-    assert_eq!(rt; channels.bind(Port(0)), Err(BadPort));
-    assert_eq!(rt; channels.bind(port), Ok(port));
+    same(&rt, port, Port(1));
+    same(&rt, channels.bind(Port(2)), Err(BadPort));
+    same(&rt, channels.bind(Port(0)), Err(BadPort));
+    same(&rt, channels.bind(port), Ok(port));
     assert_eq!(rt; channels.bind(port), Err(BadPort), "a port is bound once");
 
     channels.send(End::Front);
     channels.send(End::Front);
-    assert_eq!(rt;
+    same(
+        &rt,
         (channels.pending(End::Front), channels.pending(End::Back)),
-        (false, true)
+        (false, true),
     );
-    assert!(rt; channels.take(End::Back));
+    holds(&rt, channels.take(End::Back));
     assert!(rt; !channels.take(End::Back), "two sends made one event");
     channels.send(End::Back);
-    assert!(rt; channels.take(End::Front));
+    holds(&rt, channels.take(End::Front));
     Ok(())
 }
 
@@ -37,9 +39,10 @@ fn a_close_unbinds_the_other_end_and_keeps_its_event(rt: HostRuntime) -> Result<
     channels.send(End::Front);
     channels.send(End::Back);
     channels.close(End::Back);
-    assert_eq!(rt;
+    same(
+        &rt,
         (channels.pending(End::Front), channels.pending(End::Back)),
-        (true, false)
+        (true, false),
     );
     channels.send(End::Front);
     assert!(rt; !channels.pending(End::Back), "the front's port is unbound");
@@ -50,7 +53,7 @@ fn a_close_unbinds_the_other_end_and_keeps_its_event(rt: HostRuntime) -> Result<
         Err(BadPort),
         "the front's port is closed"
     );
-    assert!(rt; !channels.pending(End::Front));
+    holds(&rt, !channels.pending(End::Front));
     Ok(())
 }
 
@@ -62,6 +65,6 @@ fn port_numbers_go_on_over_a_reset(rt: HostRuntime) {
     channels.reset();
     assert_eq!(rt; channels.bind(first), Err(BadPort), "it vanished");
     let third = channels.alloc_unbound();
-    assert_eq!(rt; third, Port(3));
-    assert_eq!(rt; channels.bind(third), Ok(third));
+    same(&rt, third, Port(3));
+    same(&rt, channels.bind(third), Ok(third));
 }

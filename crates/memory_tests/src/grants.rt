@@ -1,6 +1,7 @@
 // A client: it grants frames as the front does and maps them as the back does.
 ghost use Rattle.std.specs.Prelude.{◌<◌};
 
+use crate::expected::{holds, same};
 use grant_table::{Grants, MapRefusal};
 
 mod entries;
@@ -24,27 +25,27 @@ fn maps_writes_ends_and_is_refused_afterwards(rt: HostRuntime) -> Result<(), Fai
     grant(&mut pages, 24, 1, 18);
 
     let mapping = grants.map(&mut pages, 24, Mode::ReadWrite)?;
-    assert_eq!(rt; mapping.number, 1);
-    assert_eq!(rt; pages.read(0, 48), 1 + 8 + 16);
+    same(&rt, mapping.number, 1);
+    same(&rt, pages.read(0, 48), 1 + 8 + 16);
     grants.write(&mut pages, mapping, 5, 77);
-    assert_eq!(rt; pages.read(18, 5), 77);
+    same(&rt, pages.read(18, 5), 77);
 
     // the entry's frame may change: the mapping keeps the one that it was given
     pages.write(0, 49, 19);
-    assert_eq!(rt; grants.frame_of(mapping), 18);
-    assert_eq!(rt; grants.read(&pages, mapping, 5), 77);
+    same(&rt, grants.frame_of(mapping), 18);
+    same(&rt, grants.read(&pages, mapping, 5), 77);
 
     grants.unmap(&mut pages, mapping);
-    assert_eq!(rt; pages.read(0, 48), 1);
-    assert_eq!(rt; grants.live(), 0);
-    assert!(rt; !grants.is_live(mapping));
+    same(&rt, pages.read(0, 48), 1);
+    same(&rt, grants.live(), 0);
+    holds(&rt, !grants.is_live(mapping));
 
     grant(&mut pages, 24, 0, 18);
     let before = pages.read(0, 48);
-    assert!(rt; grants.live() < 8192 && grants.made() < 100);
+    holds(&rt, grants.live() < 8192 && grants.made() < 100);
     let refused = grants.map(&mut pages, 24, Mode::ReadOnly);
-    assert_eq!(rt; refused, Err(MapRefusal::General));
-    assert_eq!(rt; pages.read(0, 48), before);
+    same(&rt, refused, Err(MapRefusal::General));
+    same(&rt, pages.read(0, 48), before);
     Ok(())
 }
 
@@ -54,16 +55,16 @@ fn the_last_mapping_of_a_kind_clears_its_flag(rt: HostRuntime) -> Result<(), Fai
     let mut grants = Grants::new(rt.alloc())?;
     grant(&mut pages, 30, 1, 40);
     let reader = grants.map(&mut pages, 30, Mode::ReadOnly)?;
-    assert_eq!(rt; pages.read(0, 60), 1 + 8);
-    assert!(rt; grants.live() < 8192 && grants.made() < 100);
+    same(&rt, pages.read(0, 60), 1 + 8);
+    holds(&rt, grants.live() < 8192 && grants.made() < 100);
     let writer = grants.map(&mut pages, 30, Mode::ReadWrite)?;
-    assert!(rt; grants.live() < 8192 && grants.made() < 100);
+    holds(&rt, grants.live() < 8192 && grants.made() < 100);
     let other = grants.map(&mut pages, 30, Mode::ReadWrite)?;
-    assert_eq!(rt; (writer.number, other.number), (2, 3));
-    assert_eq!(rt; pages.read(0, 60), 1 + 8 + 16);
+    same(&rt, (writer.number, other.number), (2, 3));
+    same(&rt, pages.read(0, 60), 1 + 8 + 16);
 
     for (mapping, left) in [(writer, 1 + 8 + 16), (other, 1 + 8), (reader, 1)] {
-        assert!(rt; grants.is_live(mapping));
+        holds(&rt, grants.is_live(mapping));
         grants.unmap(&mut pages, mapping);
         assert_eq!(rt;
             pages.read(0, 60),
@@ -82,9 +83,12 @@ fn numbers_go_on_after_all_is_revoked(rt: HostRuntime) -> Result<(), Fail> {
     grant(&mut pages, 30, 1, 40);
     let first = grants.map(&mut pages, 30, Mode::ReadOnly)?;
     grants.revoke_all();
-    assert_eq!(rt; (grants.made(), grants.live()), (1, 0));
-    assert!(rt; !grants.is_live(first) && grants.made() < 100 && grants.live() < 8192);
+    same(&rt, (grants.made(), grants.live()), (1, 0));
+    holds(
+        &rt,
+        !grants.is_live(first) && grants.made() < 100 && grants.live() < 8192,
+    );
     let second = grants.map(&mut pages, 30, Mode::ReadOnly)?;
-    assert_eq!(rt; second.number, 2);
+    same(&rt, second.number, 2);
     Ok(())
 }

@@ -2,6 +2,7 @@
 // the tests are proved without what the directory holds.
 ghost use Rattle.std.specs.Prelude.{◌≤◌, length};
 
+use crate::expected::{holds, same};
 use blk_base::{End, OutOfMemory, Path, Text};
 use key_directory::{KeyStop, Keys};
 use std::alloc::Global;
@@ -58,8 +59,8 @@ fn restart(keys: &mut Keys) -> Result<(), OutOfMemory> {
 fn a_write_fires_the_other_ends_watch(rt: HostRuntime) -> Result<(), Fail> {
     let mut keys = start(rt.alloc())?;
     let state = path(FRONT_STATE);
-    assert_eq!(rt; read(&keys, &state), Some("1"));
-    assert_eq!(rt; read(&keys, &path(BACK_STATE)), Some("1"));
+    same(&rt, read(&keys, &state), Some("1"));
+    same(&rt, read(&keys, &path(BACK_STATE)), Some("1"));
 
     watch(&mut keys, End::Back, &state)?;
     assert_eq!(rt;
@@ -67,13 +68,16 @@ fn a_write_fires_the_other_ends_watch(rt: HostRuntime) -> Result<(), Fail> {
         Some(state),
         "it fires once when it is set"
     );
-    assert!(rt; !pending(&keys, End::Back));
+    holds(&rt, !pending(&keys, End::Back));
 
     write(&mut keys, End::Front, &state, "3")?;
     write(&mut keys, End::Front, &state, "4")?;
-    assert_eq!(rt; read(&keys, &state), Some("4"));
-    assert!(rt; pending(&keys, End::Back) && !pending(&keys, End::Front));
-    assert_eq!(rt; take(&mut keys, End::Back), Some(state));
+    same(&rt, read(&keys, &state), Some("4"));
+    holds(
+        &rt,
+        pending(&keys, End::Back) && !pending(&keys, End::Front),
+    );
+    same(&rt, take(&mut keys, End::Back), Some(state));
     assert_eq!(rt;
         take(&mut keys, End::Back),
         None,
@@ -109,10 +113,10 @@ fn an_end_writes_under_its_own_directory_alone(rt: HostRuntime) -> Result<(), Fa
         ),
         (End::Back, FRONT_STATE, Err(KeyStop::NotOwner)),
     ] {
-        assert!(rt; at.len() <= 80);
+        holds(&rt, at.len() <= 80);
         assert_eq!(rt; write(&mut keys, who, &path(at), "8"), want, "{at}");
     }
-    assert_eq!(rt; read(&keys, &path(BACK_STATE)), Some("1"));
+    same(&rt, read(&keys, &path(BACK_STATE)), Some("1"));
     Ok(())
 }
 
@@ -136,7 +140,7 @@ fn a_watch_sees_what_is_below_it_and_no_sibling(rt: HostRuntime) -> Result<(), F
         &path("/local/domain/1/device/vbd/51712/a/b"),
         "1",
     )?;
-    assert_eq!(rt; take(&mut keys, End::Back), Some(watched));
+    same(&rt, take(&mut keys, End::Back), Some(watched));
     Ok(())
 }
 
@@ -147,12 +151,12 @@ fn the_oldest_watch_is_taken_first_and_a_reset_leaves_none(rt: HostRuntime) -> R
     watch(&mut keys, End::Front, &path("/a"))?;
     watch(&mut keys, End::Front, &path("/b"))?;
     watch(&mut keys, End::Front, &path("/a"))?;
-    assert_eq!(rt; take(&mut keys, End::Front), Some(path("/a")));
+    same(&rt, take(&mut keys, End::Front), Some(path("/a")));
     write(&mut keys, End::Front, &other, "x86_32-abi")?;
     restart(&mut keys)?;
-    assert!(rt; !pending(&keys, End::Front));
-    assert_eq!(rt; read(&keys, &path(FRONT_STATE)), Some("6"));
-    assert_eq!(rt; read(&keys, &path(BACK_STATE)), Some("6"));
-    assert_eq!(rt; read(&keys, &other), None);
+    holds(&rt, !pending(&keys, End::Front));
+    same(&rt, read(&keys, &path(FRONT_STATE)), Some("6"));
+    same(&rt, read(&keys, &path(BACK_STATE)), Some("6"));
+    same(&rt, read(&keys, &other), None);
     Ok(())
 }

@@ -4,6 +4,8 @@
 #[cfg(test)]
 mod events;
 #[cfg(test)]
+mod expected;
+#[cfg(test)]
 mod grants;
 #[cfg(test)]
 mod keys;

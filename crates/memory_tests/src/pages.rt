@@ -1,12 +1,13 @@
 // A client of the memory: it writes words of several frames and reads them all back.
+use crate::expected::same;
 use std::test::Fail;
 use xen_pages::Pages;
 
 #[test]
 fn each_word_keeps_what_was_last_written(rt: HostRuntime) -> Result<(), Fail> {
     let mut pages = Pages::new(rt.alloc())?;
-    assert_eq!(rt; pages.read(0, 0), 0);
-    assert_eq!(rt; pages.read(1087, 1023), 0);
+    same(&rt, pages.read(0, 0), 0);
+    same(&rt, pages.read(1087, 1023), 0);
     pages.write(0, 1023, 1);
     pages.write(1, 0, 2);
     pages.write(1087, 1023, 4294967295);

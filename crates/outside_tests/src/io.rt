@@ -1,3 +1,4 @@
+use crate::expected::same;
 use blk_io::{
     BufferedSink, Failed, FailsAt, MemorySink, MemorySource, ReaderSource, Sink, Source, WriterSink,
 };
@@ -20,9 +21,9 @@ fn pour<S: Sink>(sink: &mut S) -> Result<(), Failed> {
 #[test]
 fn a_source_in_memory_gives_its_bytes_in_pieces(rt: HostRuntime) -> Result<(), Fail> {
     let mut source = MemorySource::new([1, 2, 3, 4, 5].to_vec(rt.alloc())?);
-    assert_eq!(rt; next(&mut source)?, (4, [1, 2, 3, 4]));
-    assert_eq!(rt; next(&mut source)?, (1, [5, 0, 0, 0]));
-    assert_eq!(rt; next(&mut source)?.0, 0);
+    same(&rt, next(&mut source)?, (4, [1, 2, 3, 4]));
+    same(&rt, next(&mut source)?, (1, [5, 0, 0, 0]));
+    same(&rt, next(&mut source)?.0, 0);
     Ok(())
 }
 
@@ -30,10 +31,10 @@ fn a_source_in_memory_gives_its_bytes_in_pieces(rt: HostRuntime) -> Result<(), F
 fn a_sink_in_memory_takes_what_fits(rt: HostRuntime) -> Result<(), Fail> {
     let mut sink = MemorySink::with_room(rt.alloc(), 9)?;
     pour(&mut sink)?;
-    assert_eq!(rt; sink.bytes().len(), 9);
-    assert_eq!(rt; sink.bytes()[4], b' ');
-    assert_eq!(rt; sink.write(b"!"), Err(Failed));
-    assert_eq!(rt; sink.bytes().len(), 9);
+    same(&rt, sink.bytes().len(), 9);
+    same(&rt, sink.bytes()[4], b' ');
+    same(&rt, sink.write(b"!"), Err(Failed));
+    same(&rt, sink.bytes().len(), 9);
     Ok(())
 }
 
@@ -41,14 +42,14 @@ fn a_sink_in_memory_takes_what_fits(rt: HostRuntime) -> Result<(), Fail> {
 fn listed_calls_fail_and_the_others_go_on(rt: HostRuntime) -> Result<(), Fail> {
     let bytes = MemorySource::new([1, 2, 3, 4, 5].to_vec(rt.alloc())?);
     let mut source = FailsAt::new(bytes, [2].to_vec(rt.alloc())?);
-    assert_eq!(rt; next(&mut source)?, (4, [1, 2, 3, 4]));
-    assert_eq!(rt; next(&mut source), Err(Failed));
-    assert_eq!(rt; next(&mut source)?, (1, [5, 0, 0, 0]));
-    assert_eq!(rt; source.faults, 1);
+    same(&rt, next(&mut source)?, (4, [1, 2, 3, 4]));
+    same(&rt, next(&mut source), Err(Failed));
+    same(&rt, next(&mut source)?, (1, [5, 0, 0, 0]));
+    same(&rt, source.faults, 1);
     let shelf = MemorySink::with_room(rt.alloc(), 90)?;
     let mut sink = FailsAt::new(shelf, [2].to_vec(rt.alloc())?);
-    assert_eq!(rt; pour(&mut sink), Err(Failed));
-    assert_eq!(rt; sink.inside.bytes().len(), 4);
+    same(&rt, pour(&mut sink), Err(Failed));
+    same(&rt, sink.inside.bytes().len(), 4);
     Ok(())
 }
 
@@ -56,7 +57,7 @@ fn listed_calls_fail_and_the_others_go_on(rt: HostRuntime) -> Result<(), Fail> {
 fn real_streams_pass_their_bytes_on(rt: HostRuntime) -> Result<(), Fail> {
     let bytes: &[u8] = &[7, 8];
     let mut source = ReaderSource::new(bytes);
-    assert_eq!(rt; next(&mut source)?, (2, [7, 8, 0, 0]));
+    same(&rt, next(&mut source)?, (2, [7, 8, 0, 0]));
     let held: Vec<u8> = Vec::new(rt.alloc());
     let mut sink = WriterSink::new(held);
     pour(&mut sink)?;
@@ -92,9 +93,9 @@ fn a_line_is_never_left_in_a_writer(rt: HostRuntime) -> Result<(), Fail> {
         flushed: 0,
     };
     let mut sink = WriterSink::new(&mut lazy);
-    assert_eq!(rt; sink.write(b"ring"), Ok(()));
-    assert_eq!(rt; sink.write(b" full"), Err(Failed));
-    assert_eq!(rt; lazy.flushed, 4);
+    same(&rt, sink.write(b"ring"), Ok(()));
+    same(&rt, sink.write(b" full"), Err(Failed));
+    same(&rt, lazy.flushed, 4);
     Ok(())
 }
 
@@ -103,9 +104,9 @@ fn what_was_kept_back_is_handed_on_at_a_flush(rt: HostRuntime) -> Result<(), Fai
     let shelf = MemorySink::with_room(rt.alloc(), 90)?;
     let mut sink = BufferedSink::new(FailsAt::new(shelf, [2].to_vec(rt.alloc())?));
     // a flush that goes well makes two calls of the sink inside
-    assert_eq!(rt; sink.write(b"two"), Ok(()));
-    assert_eq!(rt; sink.flush(), Err(Failed));
-    assert_eq!(rt; sink.write(b"more"), Ok(()));
-    assert_eq!(rt; sink.flush(), Ok(()));
+    same(&rt, sink.write(b"two"), Ok(()));
+    same(&rt, sink.flush(), Err(Failed));
+    same(&rt, sink.write(b"more"), Ok(()));
+    same(&rt, sink.flush(), Ok(()));
     Ok(())
 }

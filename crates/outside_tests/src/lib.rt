@@ -4,6 +4,8 @@
 #[cfg(test)]
 mod disks;
 #[cfg(test)]
+mod expected;
+#[cfg(test)]
 mod io;
 #[cfg(test)]
 mod schedule;

@@ -1,6 +1,7 @@
 ghost use Rattle.std.specs.Prelude.{◌≡◌, OnOk, codes};
 ghost use Rattle.blk_io.specs.Outside.{written};
 
+use crate::expected::{holds, same};
 use blk_base::{End, Move};
 use blk_io::{MemorySink, Sink};
 use line_text::LineText;
@@ -18,7 +19,7 @@ fn goes_round(rt: &impl Abort, line: &str) {
         Ok(read) => write_line(&read, &mut text),
         Err(_) => {}
     }
-    assert_eq!(rt; text.as_str(), line);
+    same(rt, text.as_str(), line);
 }
 
 /// A schedule's line is read, and written as it was.
@@ -28,7 +29,7 @@ fn event_goes_round(rt: &impl Abort, line: &str) {
         Ok(Some(read)) => write_event(&read, &mut text),
         Ok(None) | Err(_) => {}
     }
-    assert_eq!(rt; text.as_str(), line);
+    same(rt, text.as_str(), line);
 }
 
 #[test]
@@ -133,15 +134,19 @@ fn a_sector_shows_its_bytes_in_order(rt: HostRuntime) {
         },
         &mut text,
     );
-    assert!(rt; text.as_str().starts_with("data 1 0 01000000010203040000"));
-    assert_eq!(rt; text.len(), 1033);
-    assert_eq!(rt;
+    holds(
+        &rt,
+        text.as_str().starts_with("data 1 0 01000000010203040000"),
+    );
+    same(&rt, text.len(), 1033);
+    same(
+        &rt,
         read_line(text.as_str().as_bytes()),
         Ok(Line::Data {
             id: 1,
             index: 0,
-            words
-        })
+            words,
+        }),
     );
 }
 
@@ -174,7 +179,7 @@ fn other_lines_are_refused(rt: HostRuntime) {
         "m front setkey /local/domain/1 3",
         "m back map 24 x ok 1 18",
     ] {
-        assert!(rt; read_line(line.as_bytes()).is_err());
+        holds(&rt, read_line(line.as_bytes()).is_err());
     }
 }
 
@@ -185,7 +190,7 @@ fn a_filled_sector_has_one_spelling(rt: HostRuntime) {
     for _ in 0..128 {
         let _ = text.try_push_str("07000000");
     }
-    assert!(rt; read_line(text.as_str().as_bytes()).is_err());
+    holds(&rt, read_line(text.as_str().as_bytes()).is_err());
 }
 
 #[test]
@@ -213,18 +218,19 @@ fn lines_of_a_schedule_go_round(rt: HostRuntime) {
     ] {
         event_goes_round(&rt, line);
     }
-    assert_eq!(rt;
+    same(
+        &rt,
         read_event(b"notify back".as_slice()),
-        Ok(Some(Event::Notify(End::Back)))
+        Ok(Some(Event::Notify(End::Back))),
     );
 }
 
 #[test]
 fn silent_lines_ask_for_nothing(rt: HostRuntime) {
-    assert_eq!(rt; read_event(&[]), Ok(None));
-    assert_eq!(rt; read_event(b"# 64 sectors\r".as_slice()), Ok(None));
-    assert_eq!(rt; read_event(&[b'#'; 128]), Ok(None));
-    assert!(rt; read_event(&[b'#'; 129]).is_err());
+    same(&rt, read_event(&[]), Ok(None));
+    same(&rt, read_event(b"# 64 sectors\r".as_slice()), Ok(None));
+    same(&rt, read_event(&[b'#'; 128]), Ok(None));
+    holds(&rt, read_event(&[b'#'; 129]).is_err());
 }
 
 #[test]
@@ -249,9 +255,9 @@ fn other_events_are_refused(rt: HostRuntime) {
         "key a-name-of-more-than-thirty-two-bytes x",
         "key state two words",
     ] {
-        assert!(rt; read_event(line.as_bytes()).is_err());
+        holds(&rt, read_event(line.as_bytes()).is_err());
     }
-    assert!(rt; read_event(&[0xff, 0xfe]).is_err());
+    holds(&rt, read_event(&[0xff, 0xfe]).is_err());
 }
 
 /// What a sink holds after two lines, as a stranger says it.
@@ -272,8 +278,8 @@ fn two_lines<S: Sink>(out: &mut S) -> Result<(), RecordStop>
 #[test]
 fn a_sink_gets_the_lines(rt: HostRuntime) -> Result<(), Fail> {
     let mut sink = MemorySink::with_room(rt.alloc(), 100)?;
-    assert!(rt; two_lines(&mut sink).is_ok());
-    assert_eq!(rt; sink.bytes(), b"quiet\nend\n".as_slice());
+    holds(&rt, two_lines(&mut sink).is_ok());
+    same(&rt, sink.bytes(), b"quiet\nend\n".as_slice());
     Ok(())
 }
 
@@ -302,15 +308,15 @@ fn a_move_has_a_line_where_the_recorder_keeps_moves(rt: HostRuntime) -> Result<(
         };
         recorder.add_move(&Port(7))?;
     }
-    assert_eq!(rt; sink.bytes(), b"m front port 7\n".as_slice());
+    same(&rt, sink.bytes(), b"m front port 7\n".as_slice());
     Ok(())
 }
 
 #[test]
 fn a_full_sink_stops_the_recorder(rt: HostRuntime) -> Result<(), Fail> {
     let mut sink = MemorySink::with_room(rt.alloc(), 8)?;
-    assert_eq!(rt; two_lines(&mut sink), Err(RecordStop::Failed));
-    assert_eq!(rt; sink.bytes(), b"quiet\n".as_slice());
+    same(&rt, two_lines(&mut sink), Err(RecordStop::Failed));
+    same(&rt, sink.bytes(), b"quiet\n".as_slice());
     Ok(())
 }
 
@@ -323,8 +329,8 @@ fn a_tally_counts_lines_of_requests(rt: HostRuntime) {
         Line::Effect { id: 1, index: 1 },
         Line::Quiet,
     ] {
-        assert!(rt; recorder.add(&line).is_ok());
+        holds(&rt, recorder.add(&line).is_ok());
     }
-    assert_eq!(rt; recorder.tally.effects, 2);
-    assert_eq!(rt; recorder.tally.submitted, 0);
+    same(&rt, recorder.tally.effects, 2);
+    same(&rt, recorder.tally.submitted, 0);
 }

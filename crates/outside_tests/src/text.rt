@@ -1,3 +1,4 @@
+use crate::expected::{holds, same};
 use line_text::{LineText, Words, begin, put, put_hex, put_number, put_sector, put_signed, sector};
 
 #[test]
@@ -8,14 +9,18 @@ fn words_stand_apart_by_one_space(rt: HostRuntime) {
     put(&mut text, "ok");
     put_hex(&mut text, 0x20);
     put_signed(&mut text, -3);
-    assert_eq!(rt; text.as_str(), "answer 18446744073709551615 ok 00000020 -3");
+    same(
+        &rt,
+        text.as_str(),
+        "answer 18446744073709551615 ok 00000020 -3",
+    );
     let mut words = Words::new(text.as_str().as_bytes());
-    assert_eq!(rt; words.next(), b"answer".as_slice());
-    assert_eq!(rt; words.number(), 18446744073709551615);
-    assert_eq!(rt; words.next(), b"ok".as_slice());
-    assert_eq!(rt; words.hex(), 0x20);
-    assert_eq!(rt; words.signed(), -3);
-    assert_eq!(rt; words.next().len(), 0);
+    same(&rt, words.next(), b"answer".as_slice());
+    same(&rt, words.number(), 18446744073709551615);
+    same(&rt, words.next(), b"ok".as_slice());
+    same(&rt, words.hex(), 0x20);
+    same(&rt, words.signed(), -3);
+    same(&rt, words.next().len(), 0);
 }
 
 #[test]
@@ -25,9 +30,9 @@ fn a_sector_shows_the_lowest_byte_first(rt: HostRuntime) {
     let mut text = LineText::new();
     begin(&mut text, "data");
     put_sector(&mut text, &all);
-    assert!(rt; text.as_str().starts_with("data 010100ca00000000"));
+    holds(&rt, text.as_str().starts_with("data 010100ca00000000"));
     let mut words = Words::new(text.as_str().as_bytes());
     let _name = words.next();
     let first = words.next();
-    assert_eq!(rt; sector(first, &mut words), all);
+    same(&rt, sector(first, &mut words), all);
 }

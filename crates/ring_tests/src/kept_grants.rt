@@ -1,4 +1,5 @@
 //! A client of the kept mappings, and the same calls on another cache.
+use crate::expected::same;
 use blk_base::{Mapping, Mode};
 use lru::LruCache;
 use persist_grants::{Kept, PutBack};
@@ -19,35 +20,38 @@ fn mapping(number: u64, gref: u32) -> Mapping {
 #[test]
 fn keeps_a_mapping_for_the_next_request(rt: HostRuntime) {
     let mut kept = Kept::new(1000);
-    assert_eq!(rt; kept.put_back(24, mapping(17, 24)), PutBack::Kept);
-    assert_eq!(rt; kept.take(25), None);
-    assert_eq!(rt; kept.take(24), Some(mapping(17, 24)));
-    assert_eq!(rt; kept.take(24), None);
+    same(&rt, kept.put_back(24, mapping(17, 24)), PutBack::Kept);
+    same(&rt, kept.take(25), None);
+    same(&rt, kept.take(24), Some(mapping(17, 24)));
+    same(&rt, kept.take(24), None);
 }
 
 #[test]
 fn hands_out_what_must_be_unmapped(rt: HostRuntime) {
     let mut none = Kept::new(0);
-    assert_eq!(rt;
+    same(
+        &rt,
         none.put_back(24, mapping(1, 24)),
-        PutBack::Out(mapping(1, 24))
+        PutBack::Out(mapping(1, 24)),
     );
-    assert_eq!(rt; none.drain(), None);
+    same(&rt, none.drain(), None);
 
     let mut two = Kept::new(2);
-    assert_eq!(rt; two.put_back(24, mapping(1, 24)), PutBack::Kept);
-    assert_eq!(rt; two.put_back(25, mapping(2, 25)), PutBack::Kept);
-    assert_eq!(rt;
+    same(&rt, two.put_back(24, mapping(1, 24)), PutBack::Kept);
+    same(&rt, two.put_back(25, mapping(2, 25)), PutBack::Kept);
+    same(
+        &rt,
         two.put_back(24, mapping(3, 24)),
-        PutBack::Out(mapping(1, 24))
+        PutBack::Out(mapping(1, 24)),
     );
-    assert_eq!(rt;
+    same(
+        &rt,
         two.put_back(26, mapping(4, 26)),
-        PutBack::Out(mapping(2, 25))
+        PutBack::Out(mapping(2, 25)),
     );
-    assert_eq!(rt; two.drain(), Some(mapping(3, 24)));
-    assert_eq!(rt; two.drain(), Some(mapping(4, 26)));
-    assert_eq!(rt; two.drain(), None);
+    same(&rt, two.drain(), Some(mapping(3, 24)));
+    same(&rt, two.drain(), Some(mapping(4, 26)));
+    same(&rt, two.drain(), None);
 }
 
 // The same call on both, which a word picks: what each hands out is the same.
@@ -68,14 +72,18 @@ fn call_both(
         };
         (out, cache.push(gref, mapping(number, gref))?)
     };
-    assert_eq!(rt; out, cached.map(|(_, mapping)| mapping));
+    same(rt, out, cached.map(|(_, mapping)| mapping));
     Ok(())
 }
 
 // What both keep is the same, from the least recently used on.
 fn drain_both(rt: &impl Abort, kept: &mut Kept, cache: &mut LruCache<u32, Mapping>) {
     for _ in 0..8 {
-        assert_eq!(rt; kept.drain(), cache.pop_lru().map(|(_, mapping)| mapping));
+        same(
+            rt,
+            kept.drain(),
+            cache.pop_lru().map(|(_, mapping)| mapping),
+        );
     }
 }
 

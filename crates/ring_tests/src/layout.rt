@@ -1,5 +1,6 @@
 // A client, and the worked vectors.
 
+use crate::expected::same;
 use blk_base::{Abi, Status};
 use blk_layout::{
     DirectOp, IndirectOp, RawRequest, Request, Response, Segment, read_request, read_response,
@@ -42,22 +43,24 @@ fn a_write_has_these_words(rt: HostRuntime) {
         segments: SEGMENTS,
     };
     let words = request_words(Abi::X64, &write);
-    assert_eq!(rt;
+    same(
+        &rt,
         words.as_slice(),
         [
             0xca000101, 0, 1, 0, 0, 0, 0x18, 0, 0, 0, 0, 0, 0, 0, 0, 0, 0, 0, 0, 0, 0, 0, 0, 0, 0,
             0, 0, 0,
         ]
-        .as_slice()
+        .as_slice(),
     );
     let words = request_words(Abi::X32, &write);
-    assert_eq!(rt;
+    same(
+        &rt,
         words.as_slice(),
         [
             0xca000101, 1, 0, 0, 0, 0x18, 0, 0, 0, 0, 0, 0, 0, 0, 0, 0, 0, 0, 0, 0, 0, 0, 0, 0, 0,
             0, 0,
         ]
-        .as_slice()
+        .as_slice(),
     );
 }
 
@@ -72,7 +75,8 @@ fn three_requests_are_read_back(rt: HostRuntime) {
             count: 0x1_0000_0002,
         };
         let words = request_words(abi, &discard);
-        assert_eq!(rt;
+        same(
+            &rt,
             read_request(abi, words.as_slice()),
             RawRequest::Discard {
                 flag: 1,
@@ -80,7 +84,7 @@ fn three_requests_are_read_back(rt: HostRuntime) {
                 id: 0x0123_4567_89ab_cdef,
                 sector: 9,
                 count: 0x1_0000_0002,
-            }
+            },
         );
 
         let indirect = Request::Indirect {
@@ -92,7 +96,8 @@ fn three_requests_are_read_back(rt: HostRuntime) {
             pages: [1, 2, 3, 4, 5, 6, 7, 0xffff_ffff],
         };
         let words = request_words(abi, &indirect);
-        assert_eq!(rt;
+        same(
+            &rt,
             read_request(abi, words.as_slice()),
             RawRequest::Indirect {
                 op: 1,
@@ -101,7 +106,7 @@ fn three_requests_are_read_back(rt: HostRuntime) {
                 id: 2,
                 sector: 0xffff_ffff_ffff_ffff,
                 pages: [1, 2, 3, 4, 5, 6, 7, 0xffff_ffff],
-            }
+            },
         );
 
         let flush = Request::Direct {
@@ -113,7 +118,8 @@ fn three_requests_are_read_back(rt: HostRuntime) {
             segments: SEGMENTS,
         };
         let words = request_words(abi, &flush);
-        assert_eq!(rt;
+        same(
+            &rt,
             read_request(abi, words.as_slice()),
             RawRequest::Direct {
                 op: 3,
@@ -122,7 +128,7 @@ fn three_requests_are_read_back(rt: HostRuntime) {
                 id: 3,
                 sector: 0,
                 segments: SEGMENTS,
-            }
+            },
         );
     }
 }
@@ -139,11 +145,11 @@ fn responses_have_these_words(rt: HostRuntime) {
             op: 1,
             status,
         };
-        assert_eq!(rt; response_words(&response), [1, 0, last]);
-        assert_eq!(rt; read_response([1, 0, last]), Ok(response));
+        same(&rt, response_words(&response), [1, 0, last]);
+        same(&rt, read_response([1, 0, last]), Ok(response));
     }
-    assert_eq!(rt; read_response([1, 0, 0xfffd_0001]), Err(0xfffd_0001));
-    assert_eq!(rt; read_response([1, 0, 0x0001_0001]), Err(0x0001_0001));
+    same(&rt, read_response([1, 0, 0xfffd_0001]), Err(0xfffd_0001));
+    same(&rt, read_response([1, 0, 0x0001_0001]), Err(0x0001_0001));
 }
 
 #[test]
@@ -153,6 +159,6 @@ fn the_rest_of_a_segment_is_ignored(rt: HostRuntime) {
         first: 1,
         last: 7,
     };
-    assert_eq!(rt; segment_words(&segment), [24, 0x0701]);
-    assert_eq!(rt; read_segment([24, 0x1234_0701]), segment);
+    same(&rt, segment_words(&segment), [24, 0x0701]);
+    same(&rt, read_segment([24, 0x1234_0701]), segment);
 }

@@ -5,6 +5,8 @@
 #[cfg(test)]
 mod base;
 #[cfg(test)]
+mod expected;
+#[cfg(test)]
 mod kept_grants;
 #[cfg(test)]
 mod layout;

@@ -1,5 +1,6 @@
 // A client, and what the headers' own macros gave.
 
+use crate::expected::{holds, same};
 use blk_base::Abi;
 use ring_words::{BackRing, FrontRing, RingShape, notify};
 
@@ -9,40 +10,44 @@ fn three_requests_go_round_the_wrap(rt: HostRuntime) {
     let mut front = FrontRing::attach(shape, 4294967294);
     let mut back = BackRing::attach(shape, 4294967294);
     for (index, place) in [(4294967294, 856), (4294967295, 884), (0, 16)] {
-        assert!(rt; front.free() > 0);
-        assert_eq!(rt; front.prod(), index);
-        assert_eq!(rt; shape.slot_word(front.prod(), 0), (0, place));
+        holds(&rt, front.free() > 0);
+        same(&rt, front.prod(), index);
+        same(&rt, shape.slot_word(front.prod(), 0), (0, place));
         front.produce();
     }
-    assert_eq!(rt; front.free(), 29);
-    assert!(rt; notify(4294967294, front.prod(), 4294967295));
-    assert!(rt; !back.overran(front.prod()));
-    assert_eq!(rt; back.unconsumed(front.prod()), 3);
+    same(&rt, front.free(), 29);
+    holds(&rt, notify(4294967294, front.prod(), 4294967295));
+    holds(&rt, !back.overran(front.prod()));
+    same(&rt, back.unconsumed(front.prod()), 3);
     for _ in 0..3 {
-        assert!(rt; back.can_consume());
+        holds(&rt, back.can_consume());
         back.consume();
     }
-    assert_eq!(rt; back.cons(), 1);
+    same(&rt, back.cons(), 1);
     for _ in 0..3 {
-        assert!(rt; back.can_produce());
+        holds(&rt, back.can_produce());
         back.produce();
     }
-    assert_eq!(rt; front.unconsumed(back.prod()), 3);
+    same(&rt, front.unconsumed(back.prod()), 3);
     for _ in 0..3 {
-        assert!(rt; front.can_consume());
+        holds(&rt, front.can_consume());
         front.consume();
     }
-    assert_eq!(rt; (front.cons(), front.free()), (1, 32));
-    assert_eq!(rt; back.waiting(), 0);
+    same(&rt, (front.cons(), front.free()), (1, 32));
+    same(&rt, back.waiting(), 0);
 }
 
 #[test]
 fn a_ring_has_the_headers_entries(rt: HostRuntime) {
     for (order, entries) in [(0, 32), (1, 64), (2, 128), (3, 256), (4, 512)] {
-        assert!(rt; order <= 4);
+        holds(&rt, order <= 4);
         for (abi, words) in [(Abi::X64, 28), (Abi::X32, 27)] {
             let shape = RingShape::of(abi, order);
-            assert_eq!(rt; (shape.entries(), shape.entry_words()), (entries, words));
+            same(
+                &rt,
+                (shape.entries(), shape.entry_words()),
+                (entries, words),
+            );
         }
     }
 }

@@ -1,4 +1,5 @@
 //! The verdicts as tables, and clients of the segments.
+use crate::expected::same;
 use blk_layout::{RawRequest, Segment};
 use segment_list::{
     DiskInfo, Kind, Place, Plan, Verdict, Why, check, cut, extent, finish_indirect,
@@ -360,9 +361,9 @@ fn walks_the_sectors_in_order(rt: HostRuntime) {
     ];
     let mut places = extent(40, &segments);
     for wanted in [place(40, 0, 6), place(41, 0, 7), place(42, 1, 2)] {
-        assert_eq!(rt; places.next(), Some(wanted));
+        same(&rt, places.next(), Some(wanted));
     }
-    assert_eq!(rt; places.next(), None);
+    same(&rt, places.next(), None);
 }
 
 #[test]
@@ -374,7 +375,7 @@ fn cuts_seventeen_sectors_into_three_frames(rt: HostRuntime) {
             first: 0,
             last,
         };
-        assert_eq!(rt; segments.next(), Some(wanted));
+        same(&rt, segments.next(), Some(wanted));
     }
-    assert_eq!(rt; segments.next(), None);
+    same(&rt, segments.next(), None);
 }

@@ -1,6 +1,7 @@
 //! A front's client: what it still owes over a suspend.
 ghost use Rattle.std.specs.Prelude.{◌≡◌};
 
+use crate::expected::{holds, same};
 use resume_shadow::{Numbered, Shadow};
 use std::test::Fail;
 
@@ -28,13 +29,13 @@ fn request(number: u32, sector: u64) -> Asked
 #[test]
 fn finds_by_id_what_was_issued(rt: HostRuntime) -> Result<(), Fail> {
     let mut shadow = Shadow::reserve(rt.alloc(), 4)?;
-    assert!(rt; shadow.is_empty());
+    holds(&rt, shadow.is_empty());
     shadow.add(request(4, 0));
     shadow.add(request(7, 16));
     shadow.add(request(9, 24));
-    assert_eq!(rt; shadow.len(), 3);
+    same(&rt, shadow.len(), 3);
 
-    assert_eq!(rt; shadow.place_among(2, 7), Some(1));
+    same(&rt, shadow.place_among(2, 7), Some(1));
     assert_eq!(rt; shadow.place_among(2, 9), None, "not among the first two");
     assert_eq!(rt; shadow.place_among(3, 5), None, "never issued");
     assert_eq!(rt;
@@ -42,8 +43,8 @@ fn finds_by_id_what_was_issued(rt: HostRuntime) -> Result<(), Fail> {
         None,
         "an id above 32 bits, of which the low word is 7"
     );
-    assert!(rt; shadow.get(1).is_some_and(|r| r.sector == 16));
-    assert!(rt; shadow.get(3).is_none());
+    holds(&rt, shadow.get(1).is_some_and(|r| r.sector == 16));
+    holds(&rt, shadow.get(3).is_none());
     Ok(())
 }
 
@@ -55,9 +56,9 @@ fn issues_again_in_order_what_was_not_answered(rt: HostRuntime) -> Result<(), Fa
     shadow.add(request(4294967295, 40));
 
     let taken = shadow.remove(1);
-    assert_eq!(rt; taken, request(7, 16));
+    same(&rt, &taken, &request(7, 16));
     assert_eq!(rt; shadow.place_among(2, 7), None, "handed out");
-    assert_eq!(rt; shadow.place_among(2, 4294967295), Some(1));
+    same(&rt, shadow.place_among(2, 4294967295), Some(1));
 
     shadow.put_back(taken);
     let mut again = shadow.as_slice().iter();
@@ -67,6 +68,6 @@ fn issues_again_in_order_what_was_not_answered(rt: HostRuntime) -> Result<(), Fa
             "{number}"
         );
     }
-    assert!(rt; again.next().is_none());
+    holds(&rt, again.next().is_none());
     Ok(())
 }

@@ -8,6 +8,7 @@ ghost use Rattle.vbd_model.specs.Kind.{are_carried};
 ghost use Rattle.schedule_run.specs.Outcome.{outside, content_of};
 ghost use Rattle.schedule_run.specs.Lawful.{HasLawfulReport, IsLawful};
 
+use crate::expected::{holds, same};
 use blk_base::{Abi, Config, End, Job, SectorCount};
 use blk_io::{FailsAt, MemorySink, MemorySource, SectorDisk};
 use image_disk::{FailsAtCalls, ListedCalls, MemoryDisk};
@@ -79,9 +80,9 @@ fn a_list_holds_a_lawful_report(rt: HostRuntime) -> Result<(), Fail> {
     let list = lists_a_write(alloc, config(sectors), write, &mut disk).map_err(
         |_| "out of memory",
     )?;
-    assert_eq!(rt; list.lines.len(), 9);
-    assert_eq!(rt; list.lines.last(), Some(&Line::Quiet));
-    assert_eq!(rt; disk.content().get(3), Some(&[7; 128]));
+    same(&rt, list.lines.len(), 9);
+    same(&rt, list.lines.last(), Some(&Line::Quiet));
+    same(&rt, disk.content().get(3), Some(&[7; 128]));
     Ok(())
 }
 
@@ -224,9 +225,10 @@ fn one_sector_is_written_and_answered(rt: HostRuntime) -> Result<(), Fail> {
     let alloc = rt.alloc();
     let schedule = "settle\nsubmit write 0 1 00000007\nsettle\n";
     let sink = report(alloc, schedule, zeros(alloc)?, Detail::Lines)?;
-    assert_eq!(rt;
+    same(
+        &rt,
         sink.bytes(),
-        b"begin 64 0 0 0 0 rw 8 lines\nready\nquiet\nsubmit 1 write 0 1 00000007\neffect 1 0\nreply 1 ok\nanswer 1 ok\nquiet\nend\n".as_slice()
+        b"begin 64 0 0 0 0 rw 8 lines\nready\nquiet\nsubmit 1 write 0 1 00000007\neffect 1 0\nreply 1 ok\nanswer 1 ok\nquiet\nend\n".as_slice(),
     );
     Ok(())
 }
@@ -244,11 +246,12 @@ fn a_write_that_the_disk_fails_is_answered_with_an_error(rt: HostRuntime) -> Res
     let disk = FailsAtCalls::new(zeros(alloc)?, listed);
     let schedule = "settle\nsubmit write 0 1 00000001\nsettle\nsubmit write 1 1 00000002\nsettle\n";
     let sink = report(alloc, schedule, disk, Detail::Lines)?;
-    assert_eq!(rt;
+    same(
+        &rt,
         sink.bytes().ends_with(
-            b"\nsubmit 2 write 1 1 00000002\nfault 2 0\nreply 2 error\nanswer 2 error\nquiet\nend\n"
+            b"\nsubmit 2 write 1 1 00000002\nfault 2 0\nreply 2 error\nanswer 2 error\nquiet\nend\n",
         ),
-        true
+        true,
     );
     Ok(())
 }
@@ -258,11 +261,12 @@ fn a_read_shows_what_the_disk_holds(rt: HostRuntime) -> Result<(), Fail> {
     let alloc = rt.alloc();
     let schedule = "settle\nsubmit write 0 1 00000007\nsettle\nsubmit read 0 1\nsettle\n";
     let sink = report(alloc, schedule, zeros(alloc)?, Detail::Lines)?;
-    assert_eq!(rt;
+    same(
+        &rt,
         sink.bytes().ends_with(
-            b"\nquiet\nsubmit 2 read 0 1\neffect 2 0 fill 00000007\nreply 2 ok\nanswer 2 ok\ndata 2 0 fill 00000007\nquiet\nend\n"
+            b"\nquiet\nsubmit 2 read 0 1\neffect 2 0 fill 00000007\nreply 2 ok\nanswer 2 ok\ndata 2 0 fill 00000007\nquiet\nend\n",
         ),
-        true
+        true,
     );
     Ok(())
 }
@@ -279,7 +283,7 @@ fn a_read_shows_each_byte_of_its_sector(rt: HostRuntime) -> Result<(), Fail> {
     let wanted = format!(in alloc;
         "begin 64 0 0 0 0 rw 1 lines\nready\nquiet\nsubmit 1 read 0 1\neffect 1 0 {sector}\nreply 1 ok\nanswer 1 ok\ndata 1 0 {sector}\nquiet\nend\n"
     )?;
-    assert_eq!(rt; sink.bytes(), wanted.as_bytes());
+    same(&rt, sink.bytes(), wanted.as_bytes());
     Ok(())
 }
 
@@ -288,9 +292,10 @@ fn a_read_past_the_end_of_the_disk_is_refused(rt: HostRuntime) -> Result<(), Fai
     let alloc = rt.alloc();
     let schedule = "settle\nsubmit read 7 1\nsubmit read 8 1\nsettle\n";
     let sink = report(alloc, schedule, zeros(alloc)?, Detail::Lines)?;
-    assert_eq!(rt;
+    same(
+        &rt,
         sink.bytes(),
-        b"begin 64 0 0 0 0 rw 8 lines\nready\nquiet\nsubmit 1 read 7 1\nrefuse range\neffect 1 0 fill 00000000\nreply 1 ok\nanswer 1 ok\ndata 1 0 fill 00000000\nquiet\nend\n".as_slice()
+        b"begin 64 0 0 0 0 rw 8 lines\nready\nquiet\nsubmit 1 read 7 1\nrefuse range\neffect 1 0 fill 00000000\nreply 1 ok\nanswer 1 ok\ndata 1 0 fill 00000000\nquiet\nend\n".as_slice(),
     );
     Ok(())
 }
@@ -319,7 +324,7 @@ fn nine_sectors_are_written_and_read_back(rt: HostRuntime) -> Result<(), Fail> {
         wanted.push_str(&format!(in alloc; "data 2 {index} fill {word}\n")?)?;
     }
     wanted.push_str("quiet\nend\n")?;
-    assert_eq!(rt; sink.bytes(), wanted.as_bytes());
+    same(&rt, sink.bytes(), wanted.as_bytes());
     Ok(())
 }
 
@@ -336,9 +341,10 @@ fn a_read_of_three_sectors_ends_where_the_disk_fails(rt: HostRuntime) -> Result<
     let disk = FailsAtCalls::new(zeros(alloc)?, listed);
     let schedule = "settle\nsubmit read 0 3\nsettle\n";
     let sink = report(alloc, schedule, disk, Detail::Lines)?;
-    assert_eq!(rt;
+    same(
+        &rt,
         sink.bytes(),
-        b"begin 64 0 0 0 0 rw 8 lines\nready\nquiet\nsubmit 1 read 0 3\neffect 1 0 fill 00000000\nfault 1 1\nreply 1 error\nanswer 1 error\nquiet\nend\n".as_slice()
+        b"begin 64 0 0 0 0 rw 8 lines\nready\nquiet\nsubmit 1 read 0 3\neffect 1 0 fill 00000000\nfault 1 1\nreply 1 error\nanswer 1 error\nquiet\nend\n".as_slice(),
     );
     Ok(())
 }
@@ -350,9 +356,10 @@ fn more_sectors_than_an_entry_names_are_refused(rt: HostRuntime) -> Result<(), F
     let schedule =
         "settle\nsubmit read 0 89\nsubmit write 112 89 00000000\nsubmit read 0 201\nsubmit read 112 88\n";
     let sink = report(alloc, schedule, disk, Detail::Lines)?;
-    assert_eq!(rt;
+    same(
+        &rt,
         sink.bytes(),
-        b"begin 64 0 0 0 0 rw 200 lines\nready\nquiet\nrefuse long\nrefuse range\nrefuse range\nsubmit 1 read 112 88\nend\n".as_slice()
+        b"begin 64 0 0 0 0 rw 200 lines\nready\nquiet\nrefuse long\nrefuse range\nrefuse range\nsubmit 1 read 112 88\nend\n".as_slice(),
     );
     Ok(())
 }
@@ -364,11 +371,12 @@ fn jobs_of_several_segments_are_served_in_another_order(rt: HostRuntime) -> Resu
     let schedule =
         "settle\nsubmit write 0 9 00000001\nsubmit write 7 2 00000010\nfront 4000\nback 4000\njob 2 4000\njob 1 4000\nback 4000\nsubmit read 7 2\nsettle\n";
     let sink = report(alloc, schedule, disk, Detail::Lines)?;
-    assert_eq!(rt;
+    same(
+        &rt,
         sink.bytes().ends_with(
-            b"\neffect 1 8\nreply 1 ok\nreply 2 ok\nsubmit 3 read 7 2\nanswer 1 ok\nanswer 2 ok\neffect 3 0 fill 00000008\neffect 3 1 fill 00000009\nreply 3 ok\nanswer 3 ok\ndata 3 0 fill 00000008\ndata 3 1 fill 00000009\nquiet\nend\n"
+            b"\neffect 1 8\nreply 1 ok\nreply 2 ok\nsubmit 3 read 7 2\nanswer 1 ok\nanswer 2 ok\neffect 3 0 fill 00000008\neffect 3 1 fill 00000009\nreply 3 ok\nanswer 3 ok\ndata 3 0 fill 00000008\ndata 3 1 fill 00000009\nquiet\nend\n",
         ),
-        true
+        true,
     );
     Ok(())
 }
@@ -386,9 +394,10 @@ fn a_read_that_the_disk_fails_shows_no_data(rt: HostRuntime) -> Result<(), Fail>
     let disk = FailsAtCalls::new(zeros(alloc)?, listed);
     let schedule = "settle\nsubmit read 0 1\nsettle\nsubmit read 0 1\nsettle\n";
     let sink = report(alloc, schedule, disk, Detail::Lines)?;
-    assert_eq!(rt;
+    same(
+        &rt,
         sink.bytes(),
-        b"begin 64 0 0 0 0 rw 8 lines\nready\nquiet\nsubmit 1 read 0 1\nfault 1 0\nreply 1 error\nanswer 1 error\nquiet\nsubmit 2 read 0 1\neffect 2 0 fill 00000000\nreply 2 ok\nanswer 2 ok\ndata 2 0 fill 00000000\nquiet\nend\n".as_slice()
+        b"begin 64 0 0 0 0 rw 8 lines\nready\nquiet\nsubmit 1 read 0 1\nfault 1 0\nreply 1 error\nanswer 1 error\nquiet\nsubmit 2 read 0 1\neffect 2 0 fill 00000000\nreply 2 ok\nanswer 2 ok\ndata 2 0 fill 00000000\nquiet\nend\n".as_slice(),
     );
     Ok(())
 }
@@ -398,19 +407,21 @@ fn the_first_push_sends_an_event_and_the_second_none(rt: HostRuntime) -> Result<
     let alloc = rt.alloc();
     let schedule = "settle\nsubmit write 0 1 00000001\nfront 163\n";
     let sink = report(alloc, schedule, zeros(alloc)?, Detail::Moves)?;
-    assert_eq!(rt;
+    same(
+        &rt,
         sink.bytes()
             .ends_with(b"\nm front read 2 1 00000001\nm front send\nend\n"),
-        true
+        true,
     );
     let schedule =
         "settle\nsubmit write 0 1 00000001\nfront 163\nback 2\nsubmit write 1 1 00000002\nfront 162\n";
     let sink = report(alloc, schedule, zeros(alloc)?, Detail::Moves)?;
-    assert_eq!(rt;
+    same(
+        &rt,
         sink.bytes().ends_with(
-            b"\nm front write 2 0 00000002\nm front fence\nm front read 2 1 00000001\nend\n"
+            b"\nm front write 2 0 00000002\nm front fence\nm front read 2 1 00000001\nend\n",
         ),
-        true
+        true,
     );
     Ok(())
 }
@@ -434,9 +445,9 @@ fn a_run_stops_where_its_source_fails(rt: HostRuntime) -> Result<(), Fail> {
         &mut disk,
         &mut lines,
     );
-    assert_eq!(rt; stop, Err(RunStop::Source));
-    assert_eq!(rt; lines.lines.len(), 4);
-    assert_eq!(rt; lines.lines.last(), Some(&Line::Quiet));
+    same(&rt, stop, Err(RunStop::Source));
+    same(&rt, lines.lines.len(), 4);
+    same(&rt, lines.lines.last(), Some(&Line::Quiet));
     Ok(())
 }
 
@@ -458,8 +469,8 @@ fn a_run_stops_at_its_limit(rt: HostRuntime) -> Result<(), Fail> {
         &mut disk,
         &mut lines,
     );
-    assert_eq!(rt; stop, Err(RunStop::TooLong));
-    assert_eq!(rt; lines.lines.last(), Some(&Line::Quiet));
+    same(&rt, stop, Err(RunStop::TooLong));
+    same(&rt, lines.lines.last(), Some(&Line::Quiet));
     Ok(())
 }
 
@@ -474,27 +485,28 @@ fn a_machine_carries_out_events_and_counts_them(rt: HostRuntime) -> Result<(), F
     let mut lines = LineList::new(alloc, Detail::Lines);
     let mut machine = Machine::new(alloc, &config(sectors))?;
     let done = machine.event(Event::Look, &mut disk, &mut lines);
-    assert_eq!(rt; done, Ok(()));
+    same(&rt, done, Ok(()));
     let done = machine.event(Event::Settle, &mut disk, &mut lines);
-    assert_eq!(rt; done, Ok(()));
+    same(&rt, done, Ok(()));
     let done = machine.event(Event::Notify(End::Back), &mut disk, &mut lines);
-    assert_eq!(rt; done, Ok(()));
-    assert_eq!(rt; machine.events(), 3);
-    assert_eq!(rt;
+    same(&rt, done, Ok(()));
+    same(&rt, machine.events(), 3);
+    same(
+        &rt,
         lines.lines.as_slice(),
-        [Line::Busy, Line::Ready, Line::Quiet].as_slice()
+        [Line::Busy, Line::Ready, Line::Quiet].as_slice(),
     );
     let Some(count) = SectorCount::new(4294967295) else {
         return Err(Fail::from("count"));
     };
     let read = Job::Read { sector: 0, count };
     let discard = Job::Discard { sector: 0, count };
-    assert_eq!(rt; can_carry_out(&Event::Submit(read)), true);
-    assert_eq!(rt; can_carry_out(&Event::Submit(discard)), true);
-    assert_eq!(rt; can_carry_out(&Event::Submit(Job::Flush)), true);
-    assert_eq!(rt; can_carry_out(&Event::Suspend), true);
-    assert_eq!(rt; can_carry_out(&Event::Turn(1000001)), false);
-    assert_eq!(rt; can_carry_out(&Event::Close(End::Back)), true);
+    same(&rt, can_carry_out(&Event::Submit(read)), true);
+    same(&rt, can_carry_out(&Event::Submit(discard)), true);
+    same(&rt, can_carry_out(&Event::Submit(Job::Flush)), true);
+    same(&rt, can_carry_out(&Event::Suspend), true);
+    same(&rt, can_carry_out(&Event::Turn(1000001)), false);
+    same(&rt, can_carry_out(&Event::Close(End::Back)), true);
     Ok(())
 }
 
@@ -506,9 +518,10 @@ fn a_front_that_is_asked_to_close_finishes_its_request_and_takes_no_more(
     let schedule =
         "settle\nsubmit write 0 1 00000007\nfront 1000\nclose front\nsubmit read 0 1\nsettle\n";
     let sink = report(alloc, schedule, zeros(alloc)?, Detail::Lines)?;
-    assert_eq!(rt;
+    same(
+        &rt,
         sink.bytes(),
-        b"begin 64 0 0 0 0 rw 8 lines\nready\nquiet\nsubmit 1 write 0 1 00000007\nclosing\nrefuse closing\neffect 1 0\nreply 1 ok\nanswer 1 ok\nhalt gone 5\nclosed\nquiet\nend\n".as_slice()
+        b"begin 64 0 0 0 0 rw 8 lines\nready\nquiet\nsubmit 1 write 0 1 00000007\nclosing\nrefuse closing\neffect 1 0\nreply 1 ok\nanswer 1 ok\nhalt gone 5\nclosed\nquiet\nend\n".as_slice(),
     );
     Ok(())
 }
@@ -521,9 +534,10 @@ fn a_back_that_is_asked_to_close_serves_on_until_the_front_closes(
     let schedule =
         "settle\nsubmit write 0 1 00000007\nfront 1000\nclose back\nsettle\nsubmit read 0 1\n";
     let sink = report(alloc, schedule, zeros(alloc)?, Detail::Lines)?;
-    assert_eq!(rt;
+    same(
+        &rt,
         sink.bytes(),
-        b"begin 64 0 0 0 0 rw 8 lines\nready\nquiet\nsubmit 1 write 0 1 00000007\nclosing\neffect 1 0\nreply 1 ok\nanswer 1 ok\nhalt unplugged 5\nclosed\nquiet\nrefuse closing\nend\n".as_slice()
+        b"begin 64 0 0 0 0 rw 8 lines\nready\nquiet\nsubmit 1 write 0 1 00000007\nclosing\neffect 1 0\nreply 1 ok\nanswer 1 ok\nhalt unplugged 5\nclosed\nquiet\nrefuse closing\nend\n".as_slice(),
     );
     Ok(())
 }
@@ -533,9 +547,10 @@ fn a_producer_that_overruns_halts_the_back(rt: HostRuntime) -> Result<(), Fail> 
     let alloc = rt.alloc();
     let schedule = "settle\npoke 2 0 33\nnotify back\nsettle\n";
     let sink = report(alloc, schedule, zeros(alloc)?, Detail::Lines)?;
-    assert_eq!(rt;
+    same(
+        &rt,
         sink.bytes(),
-        b"begin 64 0 0 0 0 rw 8 lines\nready\nquiet\npoke 2 0 33\nhalt overrun 33 0\nclosing\nclosed\nquiet\nend\n".as_slice()
+        b"begin 64 0 0 0 0 rw 8 lines\nready\nquiet\npoke 2 0 33\nhalt overrun 33 0\nclosing\nclosed\nquiet\nend\n".as_slice(),
     );
     Ok(())
 }
@@ -545,9 +560,10 @@ fn a_key_that_says_a_state_out_of_order_halts_the_back(rt: HostRuntime) -> Resul
     let alloc = rt.alloc();
     let schedule = "settle\nkey state 7\nsettle\n";
     let sink = report(alloc, schedule, zeros(alloc)?, Detail::Lines)?;
-    assert_eq!(rt;
+    same(
+        &rt,
         sink.bytes(),
-        b"begin 64 0 0 0 0 rw 8 lines\nready\nquiet\nkey state 7\nhalt badorder 7\nclosing\nclosed\nquiet\nend\n".as_slice()
+        b"begin 64 0 0 0 0 rw 8 lines\nready\nquiet\nkey state 7\nhalt badorder 7\nclosing\nclosed\nquiet\nend\n".as_slice(),
     );
     Ok(())
 }
@@ -557,9 +573,10 @@ fn a_key_that_says_closed_halts_the_back(rt: HostRuntime) -> Result<(), Fail> {
     let alloc = rt.alloc();
     let schedule = "settle\nkey state 6\nsettle\n";
     let sink = report(alloc, schedule, zeros(alloc)?, Detail::Lines)?;
-    assert_eq!(rt;
+    same(
+        &rt,
         sink.bytes(),
-        b"begin 64 0 0 0 0 rw 8 lines\nready\nquiet\nkey state 6\nhalt gone 6\nclosing\nclosed\nquiet\nend\n".as_slice()
+        b"begin 64 0 0 0 0 rw 8 lines\nready\nquiet\nkey state 6\nhalt gone 6\nclosing\nclosed\nquiet\nend\n".as_slice(),
     );
     Ok(())
 }
@@ -569,9 +586,10 @@ fn a_key_that_says_no_state_halts_the_back(rt: HostRuntime) -> Result<(), Fail> 
     let alloc = rt.alloc();
     let schedule = "settle\nkey state x\nsettle\n";
     let sink = report(alloc, schedule, zeros(alloc)?, Detail::Lines)?;
-    assert_eq!(rt;
+    same(
+        &rt,
         sink.bytes(),
-        b"begin 64 0 0 0 0 rw 8 lines\nready\nquiet\nkey state x\nhalt badkey state\nclosing\nclosed\nquiet\nend\n".as_slice()
+        b"begin 64 0 0 0 0 rw 8 lines\nready\nquiet\nkey state x\nhalt badkey state\nclosing\nclosed\nquiet\nend\n".as_slice(),
     );
     Ok(())
 }
@@ -584,9 +602,10 @@ fn an_operation_changed_while_its_entry_is_fetched_is_served_as_first_read(
     let schedule =
         "settle\nsubmit write 0 1 00000007\nfront 163\nback 3\npoke 2 16 3388997888\nsettle\n";
     let sink = report(alloc, schedule, zeros(alloc)?, Detail::Lines)?;
-    assert_eq!(rt;
+    same(
+        &rt,
         sink.bytes(),
-        b"begin 64 0 0 0 0 rw 8 lines\nready\nquiet\nsubmit 1 write 0 1 00000007\npoke 2 16 3388997888\neffect 1 0\nreply 1 ok\nanswer 1 ok\nquiet\nend\n".as_slice()
+        b"begin 64 0 0 0 0 rw 8 lines\nready\nquiet\nsubmit 1 write 0 1 00000007\npoke 2 16 3388997888\neffect 1 0\nreply 1 ok\nanswer 1 ok\nquiet\nend\n".as_slice(),
     );
     Ok(())
 }
@@ -596,9 +615,10 @@ fn an_id_that_nobody_has_breaks_the_front(rt: HostRuntime) -> Result<(), Fail> {
     let alloc = rt.alloc();
     let schedule = "settle\nsubmit write 0 1 00000007\nfront 1000\npoke 2 18 9\nsettle\n";
     let sink = report(alloc, schedule, zeros(alloc)?, Detail::Lines)?;
-    assert_eq!(rt;
+    same(
+        &rt,
         sink.bytes(),
-        b"begin 64 0 0 0 0 rw 8 lines\nready\nquiet\nsubmit 1 write 0 1 00000007\npoke 2 18 9\neffect 9 0\nreply 9 ok\nbroken 00000009\nquiet\nend\n".as_slice()
+        b"begin 64 0 0 0 0 rw 8 lines\nready\nquiet\nsubmit 1 write 0 1 00000007\npoke 2 18 9\neffect 9 0\nreply 9 ok\nbroken 00000009\nquiet\nend\n".as_slice(),
     );
     Ok(())
 }
@@ -608,9 +628,10 @@ fn a_grant_taken_away_before_the_map_is_an_error(rt: HostRuntime) -> Result<(), 
     let alloc = rt.alloc();
     let schedule = "settle\nsubmit write 0 1 00000007\nfront 1000\npoke 0 48 0\nsettle\n";
     let sink = report(alloc, schedule, zeros(alloc)?, Detail::Lines)?;
-    assert_eq!(rt;
+    same(
+        &rt,
         sink.bytes(),
-        b"begin 64 0 0 0 0 rw 8 lines\nready\nquiet\nsubmit 1 write 0 1 00000007\npoke 0 48 0\nreply 1 error\nanswer 1 error\nquiet\nend\n".as_slice()
+        b"begin 64 0 0 0 0 rw 8 lines\nready\nquiet\nsubmit 1 write 0 1 00000007\npoke 0 48 0\nreply 1 error\nanswer 1 error\nquiet\nend\n".as_slice(),
     );
     Ok(())
 }
@@ -623,7 +644,7 @@ fn a_dump_shows_the_words_of_the_ring_in_order(rt: HostRuntime) -> Result<(), Fa
     let sink = report_from(alloc, 4294967295, &schedule, zeros(alloc)?, Detail::Lines)?;
     let wanted =
         b"begin 64 0 0 0 4294967295 rw 8 lines\nready\nquiet\nsubmit 1 write 0 1 00000007\neffect 1 0\nreply 1 ok\nanswer 1 ok\nquiet\nsubmit 2 write 0 1 00000007\neffect 2 0\nreply 2 ok\nanswer 2 ok\nquiet\nsubmit 3 write 0 1 00000007\neffect 3 0\nreply 3 ok\nanswer 3 ok\nquiet\nword 2 0 00000002\nword 2 1 00000003\nword 2 2 00000002\nword 2 3 00000003\n";
-    assert!(rt; sink.bytes().starts_with(wanted));
+    holds(&rt, sink.bytes().starts_with(wanted));
     Ok(())
 }
 
@@ -657,7 +678,7 @@ fn a_dump_shows_each_page_of_the_ring(rt: HostRuntime) -> Result<(), Fail> {
     let alloc = rt.alloc();
     let schedule = "settle\npoke 5 1023 9\ndump\n";
     let sink = report_shaped(alloc, Abi::X64, 2, schedule, zeros(alloc)?)?;
-    assert!(rt; sink.bytes().ends_with(b"word 5 1023 00000009\nend\n"));
+    holds(&rt, sink.bytes().ends_with(b"word 5 1023 00000009\nend\n"));
     Ok(())
 }
 
@@ -669,9 +690,10 @@ fn a_barrier_stands_between_jobs_that_are_moved_against_their_order(
     let schedule =
         "settle\nsubmit write 0 1 00000001\nsubmit barrier 1 1 00000002\nsubmit write 2 1 00000003\nfront 1000\nback 1000\njob 3 1000\njob 2 1000\njob 1 1000\njob 3 1000\njob 2 1000\njob 3 1000\nback 1000\nsettle\n";
     let sink = report(alloc, schedule, zeros(alloc)?, Detail::Lines)?;
-    assert_eq!(rt;
+    same(
+        &rt,
         sink.bytes(),
-        b"begin 64 0 0 0 0 rw 8 lines\nready\nquiet\nsubmit 1 write 0 1 00000001\nsubmit 2 barrier 1 1 00000002\nsubmit 3 write 2 1 00000003\neffect 1 0\neffect 2 0\neffect 3 0\nreply 1 ok\nreply 2 ok\nreply 3 ok\nanswer 1 ok\nanswer 2 ok\nanswer 3 ok\nquiet\nend\n".as_slice()
+        b"begin 64 0 0 0 0 rw 8 lines\nready\nquiet\nsubmit 1 write 0 1 00000001\nsubmit 2 barrier 1 1 00000002\nsubmit 3 write 2 1 00000003\neffect 1 0\neffect 2 0\neffect 3 0\nreply 1 ok\nreply 2 ok\nreply 3 ok\nanswer 1 ok\nanswer 2 ok\nanswer 3 ok\nquiet\nend\n".as_slice(),
     );
     Ok(())
 }
@@ -682,11 +704,12 @@ fn a_discarded_sector_reads_as_zeros(rt: HostRuntime) -> Result<(), Fail> {
     let schedule =
         "settle\nsubmit write 0 2 00000005\nsettle\nsubmit discard 0 1\nsettle\nsubmit read 0 2\nsettle\n";
     let sink = report(alloc, schedule, zeros(alloc)?, Detail::Lines)?;
-    assert_eq!(rt;
+    same(
+        &rt,
         sink.bytes().ends_with(
-            b"\nsubmit 2 discard 0 1\ntrimmed 2\nreply 2 ok\nanswer 2 ok\nquiet\nsubmit 3 read 0 2\neffect 3 0 fill 00000000\neffect 3 1 fill 00000006\nreply 3 ok\nanswer 3 ok\ndata 3 0 fill 00000000\ndata 3 1 fill 00000006\nquiet\nend\n"
+            b"\nsubmit 2 discard 0 1\ntrimmed 2\nreply 2 ok\nanswer 2 ok\nquiet\nsubmit 3 read 0 2\neffect 3 0 fill 00000000\neffect 3 1 fill 00000006\nreply 3 ok\nanswer 3 ok\ndata 3 0 fill 00000000\ndata 3 1 fill 00000006\nquiet\nend\n",
         ),
-        true
+        true,
     );
     Ok(())
 }
@@ -699,9 +722,10 @@ fn a_discard_and_a_barrier_out_of_range_are_refused_and_a_flush_is_served(
     let schedule =
         "settle\nsubmit discard 7 2\nsubmit barrier 0 89 00000000\nsubmit flush\nsettle\n";
     let sink = report(alloc, schedule, zeros(alloc)?, Detail::Lines)?;
-    assert_eq!(rt;
+    same(
+        &rt,
         sink.bytes(),
-        b"begin 64 0 0 0 0 rw 8 lines\nready\nquiet\nrefuse range\nrefuse range\nsubmit 1 flush\nflushed 1\nreply 1 ok\nanswer 1 ok\nquiet\nend\n".as_slice()
+        b"begin 64 0 0 0 0 rw 8 lines\nready\nquiet\nrefuse range\nrefuse range\nsubmit 1 flush\nflushed 1\nreply 1 ok\nanswer 1 ok\nquiet\nend\n".as_slice(),
     );
     Ok(())
 }
@@ -721,9 +745,10 @@ fn a_flush_and_a_discard_that_the_disk_fails_are_answered_with_an_error(
     let disk = FailsAtCalls::new(zeros(alloc)?, listed);
     let schedule = "settle\nsubmit flush\nsettle\nsubmit discard 0 8\nsettle\n";
     let sink = report(alloc, schedule, disk, Detail::Lines)?;
-    assert_eq!(rt;
+    same(
+        &rt,
         sink.bytes(),
-        b"begin 64 0 0 0 0 rw 8 lines\nready\nquiet\nsubmit 1 flush\nfault 1 0\nreply 1 error\nanswer 1 error\nquiet\nsubmit 2 discard 0 8\nfault 2 0\nreply 2 error\nanswer 2 error\nquiet\nend\n".as_slice()
+        b"begin 64 0 0 0 0 rw 8 lines\nready\nquiet\nsubmit 1 flush\nfault 1 0\nreply 1 error\nanswer 1 error\nquiet\nsubmit 2 discard 0 8\nfault 2 0\nreply 2 error\nanswer 2 error\nquiet\nend\n".as_slice(),
     );
     Ok(())
 }
@@ -736,9 +761,10 @@ fn a_suspend_between_an_effect_and_its_reply_issues_again_in_order_of_number(
     let schedule =
         "settle\nsubmit write 0 1 00000001\nsubmit write 0 1 00000002\nfront 1000\nback 1000\njob 2 1000\nsuspend\nsettle\n";
     let sink = report(alloc, schedule, zeros(alloc)?, Detail::Lines)?;
-    assert_eq!(rt;
+    same(
+        &rt,
         sink.bytes(),
-        b"begin 64 0 0 0 0 rw 8 lines\nready\nquiet\nsubmit 1 write 0 1 00000001\nsubmit 2 write 0 1 00000002\neffect 2 0\nepoch\nready\neffect 1 0\nreply 1 ok\nanswer 1 ok\neffect 2 0\nreply 2 ok\nanswer 2 ok\nquiet\nend\n".as_slice()
+        b"begin 64 0 0 0 0 rw 8 lines\nready\nquiet\nsubmit 1 write 0 1 00000001\nsubmit 2 write 0 1 00000002\neffect 2 0\nepoch\nready\neffect 1 0\nreply 1 ok\nanswer 1 ok\neffect 2 0\nreply 2 ok\nanswer 2 ok\nquiet\nend\n".as_slice(),
     );
     Ok(())
 }
@@ -755,8 +781,8 @@ fn a_suspend_that_lacks_memory_tells_no_epoch(rt: HostRuntime) -> Result<(), Fai
     let mut lines = LineList::new(alloc, Detail::Lines);
     let mut machine = Machine::new(alloc, &config(sectors))?;
     match machine.event(Event::Suspend, &mut disk, &mut lines) {
-        Ok(()) => assert_eq!(rt; lines.lines.as_slice(), [Line::Epoch].as_slice()),
-        Err(_) => assert_eq!(rt; lines.lines.len(), 0),
+        Ok(()) => same(&rt, lines.lines.as_slice(), [Line::Epoch].as_slice()),
+        Err(_) => same(&rt, lines.lines.len(), 0),
     }
     Ok(())
 }

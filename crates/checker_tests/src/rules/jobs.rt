@@ -1,5 +1,6 @@
 // Jobs: their requests, moves, steps and outcomes.
 use super::ENTRY;
+use crate::expected::same;
 use blk_base::{Abi, Mode};
 use report_rules::{
     DiskCall, Spot, Task, advanced, disk_move_of, entry_of, gref_of, id_of, is_step_at,
@@ -189,7 +190,7 @@ fn touched(text: &str) -> Result<Option<u64>, Fail> {
 #[test]
 fn a_task_is_on_the_frame_of_its_reference(rt: HostRuntime) -> Result<(), Fail> {
     for (task, gref) in [(STORE, 24), (LOAD, 25), (PAGE, 30), (Task::Flush, 0)] {
-        assert_eq!(rt; gref_of(&task), gref);
+        same(&rt, gref_of(&task), gref);
     }
     for (text, mapping) in [
         ("m job 1 read 2 18 5 00000007", Some(2)),

@@ -1,4 +1,5 @@
 // When a job is at its end, and which lines and words are those of a reply.
+use crate::expected::same;
 use blk_base::Status;
 use report_rules::{Spot, end_of, is_event, is_like, is_of_back, is_reply};
 use schedule_text::read_line;
@@ -24,7 +25,7 @@ fn a_job_of_two_tasks_ends(rt: HostRuntime) {
         (true, spot(1, 3, false), Some(Status::Error)),
         (false, None, None),
     ] {
-        assert_eq!(rt; end_of(failed, 2, served, s), end);
+        same(&rt, end_of(failed, 2, served, s), end);
     }
 }
 
@@ -36,7 +37,7 @@ fn the_event_word_is_word_1(rt: HostRuntime) {
         (Some(1), true),
         (Some(1025), false),
     ] {
-        assert_eq!(rt; is_event(word), event);
+        same(&rt, is_event(word), event);
     }
 }
 
@@ -53,7 +54,7 @@ fn a_row_is_compared_as_far_as_it_is_written(rt: HostRuntime) {
     ] {
         assert_eq!(rt; is_like(last, &row, &Some(okay)), alike, "up to {last}");
     }
-    assert_eq!(rt; is_like(0, &okay, &None), false);
+    same(&rt, is_like(0, &okay, &None), false);
 }
 
 // Whether the line of a text tells of a reply.

@@ -1,4 +1,5 @@
 // What one line shows of the ring, and whose line it is.
+use crate::expected::same;
 use blk_base::{Abi, Mode};
 use report_rules::{
     Standing, abi_after, is_back_move, is_service, of_entries, order_of, page_made, start_told,
@@ -103,7 +104,7 @@ fn the_layout_is_the_one_that_the_back_read_last(rt: HostRuntime) -> Result<(), 
         assert_eq!(rt; layout(Some(Abi::X32), text)?, abi, "{text}");
     }
     let text = "m back getkey /local/domain/1/device/vbd/51712/protocol =x86_32-abi";
-    assert_eq!(rt; layout(None, text)?, Some(Abi::X32));
+    same(&rt, layout(None, text)?, Some(Abi::X32));
     Ok(())
 }
 
@@ -115,7 +116,7 @@ fn entries_begin_at_word_16(rt: HostRuntime) {
         (Some(16), Some(16)),
         (Some(16383), Some(16383)),
     ] {
-        assert_eq!(rt; of_entries(word), of);
+        same(&rt, of_entries(word), of);
     }
 }
 

@@ -1,5 +1,6 @@
 // The work of entries, by hand from the header's structs.
 use super::ENTRY;
+use crate::expected::same;
 use blk_base::{Abi, Mode, Status};
 use blk_layout::{RawRequest, Response, Segment, read_request};
 use report_rules::{Task, status_by, work_response, work_tasks, work_verdict};
@@ -85,7 +86,7 @@ fn an_entry_tells_its_work(rt: HostRuntime) -> Result<(), Fail> {
             first: 0,
             count: 1,
         };
-        assert_eq!(rt; work.as_slice(), [store].as_slice());
+        same(&rt, work.as_slice(), [store].as_slice());
     }
     let response = Response {
         id: 1,
@@ -93,7 +94,7 @@ fn an_entry_tells_its_work(rt: HostRuntime) -> Result<(), Fail> {
         status: Status::Okay,
     };
     let status = status_of(rt.alloc(), &request, &[])?;
-    assert_eq!(rt; work_response(&request, status), response);
+    same(&rt, work_response(&request, status), response);
     Ok(())
 }
 
@@ -123,19 +124,20 @@ fn segments_follow_each_other_on_the_disk(rt: HostRuntime) -> Result<(), Fail> {
 
 #[test]
 fn a_request_that_is_not_served_has_no_work(rt: HostRuntime) -> Result<(), Fail> {
-    assert_eq!(rt;
+    same(
+        &rt,
         status_of(rt.alloc(), &direct(0, 2, 7), &[])?,
-        Status::Error
+        Status::Error,
     );
     let verdict = work_verdict(rt.alloc(), &direct(4, 2, 3), &DISK, &[])?;
-    assert_eq!(rt; verdict, Verdict::Error(Why::Op));
+    same(&rt, verdict, Verdict::Error(Why::Op));
     Ok(())
 }
 
 #[test]
 fn a_flush_and_a_discard_have_one_task(rt: HostRuntime) -> Result<(), Fail> {
     let flush = tasks_of(rt.alloc(), &direct(3, 0, 3), &[])?;
-    assert_eq!(rt; flush.as_slice(), [Task::Flush].as_slice());
+    same(&rt, flush.as_slice(), [Task::Flush].as_slice());
     let discard = RawRequest::Discard {
         flag: 0,
         device: 51712,
@@ -148,7 +150,7 @@ fn a_flush_and_a_discard_have_one_task(rt: HostRuntime) -> Result<(), Fail> {
         count: 14,
     };
     let work = tasks_of(rt.alloc(), &discard, &[])?;
-    assert_eq!(rt; work.as_slice(), [trim].as_slice());
+    same(&rt, work.as_slice(), [trim].as_slice());
     Ok(())
 }
 
@@ -184,8 +186,8 @@ fn an_indirect_request_has_its_pages_read_first(rt: HostRuntime) -> Result<(), F
         assert_eq!(rt; work.as_slice(), &tasks[..done], "{read} words read");
     }
     let wrong = status_of(rt.alloc(), &request, &[24, 0x0800, 25, 0x0302])?;
-    assert_eq!(rt; wrong, Status::Error);
-    assert_eq!(rt; work_response(&request, Status::Error).op, 1);
+    same(&rt, wrong, Status::Error);
+    same(&rt, work_response(&request, Status::Error).op, 1);
     Ok(())
 }
 
@@ -197,8 +199,8 @@ fn a_page_has_512_segments(rt: HostRuntime) -> Result<(), Fail> {
     };
     let rest = Task::Page { gref: 31, words: 2 };
     let work = tasks_of(rt.alloc(), &indirect(0, 513), &[])?;
-    assert_eq!(rt; work.as_slice(), [whole, rest].as_slice());
+    same(&rt, work.as_slice(), [whole, rest].as_slice());
     let none = tasks_of(rt.alloc(), &indirect(2, 2), &[])?;
-    assert_eq!(rt; none.len(), 0);
+    same(&rt, none.len(), 0);
     Ok(())
 }

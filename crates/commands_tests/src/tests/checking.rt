@@ -1,6 +1,7 @@
 // The command `check`.
 
 use super::{ask_for, words};
+use crate::expected::{holds, same};
 use blk_io::{MemorySink, MemorySource};
 use commands::{Command, blkring};
 use image_disk::MemoryDisk;
@@ -9,9 +10,9 @@ use std::test::Fail;
 #[test]
 fn words_that_ask_for_a_check(rt: HostRuntime) -> Result<(), Fail> {
     let alloc = rt.alloc();
-    assert!(rt; ask_for(alloc, "check", Some(Command::Check))?);
+    holds(&rt, ask_for(alloc, "check", Some(Command::Check))?);
     for line in ["check report", "check --moves", "check check"] {
-        assert!(rt; ask_for(alloc, line, None)?);
+        holds(&rt, ask_for(alloc, line, None)?);
     }
     Ok(())
 }
@@ -33,8 +34,8 @@ fn a_check_says_on_the_output_alone_what_it_finds(rt: HostRuntime) -> Result<(),
         &mut out,
         &mut err,
     );
-    assert_eq!(rt; status, 1);
-    assert_eq!(rt; out.bytes(), b"broken 3 state\n".as_slice());
-    assert_eq!(rt; err.bytes(), b"".as_slice());
+    same(&rt, status, 1);
+    same(&rt, out.bytes(), b"broken 3 state\n".as_slice());
+    same(&rt, err.bytes(), b"".as_slice());
     Ok(())
 }

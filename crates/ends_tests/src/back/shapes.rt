@@ -3,6 +3,7 @@ use super::{
     RING, ask, attach, back, back_from, bind, close, connect, halt, halted, idle, map, next_job,
     read, read_of, tell, unmap, waits_for_terms,
 };
+use crate::expected::{holds, same};
 use blk_back::{Back, Halt};
 use blk_base::{Abi, BackAnswer, BackAsk, Mapping, Mode, OutOfMemory};
 use std::process::Abort;
@@ -66,13 +67,14 @@ fn entry_36_and_its_reply_lie_in_the_second_page(rt: HostRuntime) -> Result<(), 
     let mut back = back_from(rt.alloc(), 36)?;
     connect_two(&rt, &mut back)?;
     fetch_second(&rt, &mut back)?;
-    assert_eq!(rt;
+    same(
+        &rt,
         ask(&back),
         BackAsk::Write {
             mapping: SECOND,
             word: 0,
-            value: 0
-        }
+            value: 0,
+        },
     );
     Ok(())
 }
@@ -87,9 +89,9 @@ fn an_entry_of_a_32_bit_guest_has_27_words(rt: HostRuntime) -> Result<(), Fail> 
     for word in 16..42 {
         read(&rt, &mut back, word, 0)?;
     }
-    assert_eq!(rt; next_job(&back, 0), None);
+    same(&rt, next_job(&back, 0), None);
     read(&rt, &mut back, 42, 0)?;
-    assert_eq!(rt; next_job(&back, 0), Some(1));
+    same(&rt, next_job(&back, 0), Some(1));
     Ok(())
 }
 
@@ -103,9 +105,9 @@ fn a_refused_second_page_gives_up_the_first_alone(rt: HostRuntime) -> Result<(),
         gref: 9,
         status: -1,
     };
-    assert_eq!(rt; halted(&back), Some(refused));
+    same(&rt, halted(&back), Some(refused));
     unmap(&rt, &mut back, RING)?;
-    assert!(rt; idle(&back));
+    holds(&rt, idle(&back));
     Ok(())
 }
 
@@ -116,7 +118,7 @@ fn a_halt_between_two_pages_gives_up_the_first_alone(rt: HostRuntime) -> Result<
     map(&rt, &mut back, RING)?;
     halt(&mut back, Halt::Gone(5));
     unmap(&rt, &mut back, RING)?;
-    assert!(rt; idle(&back));
+    holds(&rt, idle(&back));
     Ok(())
 }
 
@@ -125,7 +127,7 @@ fn a_ring_of_two_pages_is_overrun_at_65(rt: HostRuntime) -> Result<(), Fail> {
     let mut full = back(rt.alloc())?;
     connect_two(&rt, &mut full)?;
     read(&rt, &mut full, 0, 64)?;
-    assert_eq!(rt; halted(&full), None);
+    same(&rt, halted(&full), None);
     let mut overrun = back(rt.alloc())?;
     connect_two(&rt, &mut overrun)?;
     gives_up_two(&rt, &mut overrun)?;
@@ -139,7 +141,7 @@ fn gives_up_two(rt: &impl Abort, back: &mut Back) -> Result<(), OutOfMemory> {
         prod: 65,
         rsp_prod: 0,
     };
-    assert_eq!(rt; halted(back), Some(overrun));
+    same(rt, halted(back), Some(overrun));
     unmap(rt, back, RING)?;
     unmap(rt, back, SECOND)?;
     close(rt, back)

@@ -1,5 +1,6 @@
 // What the front makes of a back's responses, right and wrong ones.
 use super::guest::{Memory, Tested, asks, asleep, one_move, quiet_moves, write};
+use crate::expected::{holds, same};
 use blk_base::{FrontAsk, Status};
 use blk_front::{Refusal, Told};
 use std::process::Abort;
@@ -9,7 +10,7 @@ use std::test::Fail;
 fn with_one_write(rt: &impl Abort, memory: &mut Memory, front: &mut Tested) -> Result<(), Fail> {
     front.submit(write(0, 7)?)?;
     quiet_moves(rt, front, memory, 163)?;
-    assert_eq!(rt; (front.owed(), front.idle()), ((1, 1), true));
+    same(rt, (front.owed(), front.idle()), ((1, 1), true));
     Ok(())
 }
 
@@ -33,22 +34,23 @@ fn a_response_ends_the_grant_and_is_told_as_an_answer(rt: HostRuntime) -> Result
             FrontAsk::Read { frame: 0, word: 48 },
         ];
         asks(&rt, &mut front, &mut memory, &response)?;
-        assert_eq!(rt; front.owed(), (1, 1));
+        same(&rt, front.owed(), (1, 1));
         let (ended, told) = one_move(&rt, &mut front, &mut memory)?;
-        assert_eq!(rt;
+        same(
+            &rt,
             ended,
             FrontAsk::Cas {
                 frame: 0,
                 word: 48,
                 old: 5,
-                new: 0
-            }
+                new: 0,
+            },
         );
-        assert_eq!(rt; told, Some(Told::Answer { id: 1, status }));
-        assert_eq!(rt; (memory.read(0, 48), front.owed()), (0, (0, 0)));
+        same(&rt, told, Some(Told::Answer { id: 1, status }));
+        same(&rt, (memory.read(0, 48), front.owed()), (0, (0, 0)));
 
         // its frame is the lowest free one again
-        assert_eq!(rt; front.submit(write(3, 9)?), Ok(2));
+        same(&rt, front.submit(write(3, 9)?), Ok(2));
         let data = FrontAsk::Write {
             frame: 18,
             word: 0,
@@ -98,9 +100,10 @@ fn a_back_that_is_not_honest_breaks_it_with_the_word_found(rt: HostRuntime) -> R
         memory.respond(0, response);
         memory.write(2, 2, producer);
         memory.write(0, 48, flags);
-        assert_eq!(rt;
+        same(
+            &rt,
             next_told(&rt, &mut front, &mut memory)?,
-            Some(Told::Broken(word))
+            Some(Told::Broken(word)),
         );
         asks(
             &rt,
@@ -108,7 +111,7 @@ fn a_back_that_is_not_honest_breaks_it_with_the_word_found(rt: HostRuntime) -> R
             &mut memory,
             &[FrontAsk::Wait, FrontAsk::Wait],
         )?;
-        assert_eq!(rt; front.submit(write(0, 7)?), Err(Refusal::NotReady));
+        same(&rt, front.submit(write(0, 7)?), Err(Refusal::NotReady));
     }
     Ok(())
 }
@@ -122,8 +125,8 @@ fn a_grant_that_changes_while_it_is_ended_breaks_it(rt: HostRuntime) -> Result<(
     quiet_moves(&rt, &mut front, &mut memory, 6)?;
     memory.write(0, 48, 0x0d);
     let (_, told) = one_move(&rt, &mut front, &mut memory)?;
-    assert_eq!(rt; told, Some(Told::Broken(0x0d)));
-    assert_eq!(rt; memory.read(0, 48), 0x0d);
+    same(&rt, told, Some(Told::Broken(0x0d)));
+    same(&rt, memory.read(0, 48), 0x0d);
     Ok(())
 }
 
@@ -133,19 +136,19 @@ fn three_writes_go_round_the_wrap_of_the_indices(rt: HostRuntime) -> Result<(), 
     let mut front = asleep(&rt, rt.alloc(), &mut memory, 4294967295)?;
     // the index, the first word of its slot, and the number
     for (index, place, number) in [(4294967295, 884, 1), (0, 16, 2), (1, 44, 3)] {
-        assert_eq!(rt; front.submit(write(0, 7)?), Ok(number));
+        same(&rt, front.submit(write(0, 7)?), Ok(number));
         quiet_moves(&rt, &mut front, &mut memory, 163)?;
-        assert_eq!(rt; memory.read(2, place), 0xca00_0101);
-        assert_eq!(rt; memory.read(2, place + 2), number);
+        same(&rt, memory.read(2, place), 0xca00_0101);
+        same(&rt, memory.read(2, place + 2), number);
         memory.write(2, 1, memory.read(2, 0).wrapping_add(1));
         memory.respond(index, [number, 0, 1]);
         let answer = Told::Answer {
             id: number,
             status: Status::Okay,
         };
-        assert_eq!(rt; next_told(&rt, &mut front, &mut memory)?, Some(answer));
+        same(&rt, next_told(&rt, &mut front, &mut memory)?, Some(answer));
         quiet_moves(&rt, &mut front, &mut memory, 4)?;
-        assert!(rt; front.idle());
+        holds(&rt, front.idle());
     }
     let shared = (
         memory.read(2, 0),
@@ -153,6 +156,6 @@ fn three_writes_go_round_the_wrap_of_the_indices(rt: HostRuntime) -> Result<(), 
         memory.read(2, 2),
         memory.read(2, 3),
     );
-    assert_eq!(rt; shared, (2, 3, 2, 3));
+    same(&rt, shared, (2, 3, 2, 3));
     Ok(())
 }

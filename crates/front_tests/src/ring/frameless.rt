@@ -1,5 +1,6 @@
 // Flushes and discards, which have no frames, and barriers, which have them.
 use super::guest::{Memory, NOTHING, Tested, asks, front_of, one_move, quiet_moves};
+use crate::expected::{holds, same};
 use blk_base::{FrontAsk, Job, SectorCount, Status};
 use blk_front::{FrontState, Offers, Refusal, Told};
 use std::alloc::Global;
@@ -15,7 +16,7 @@ fn offered(
 ) -> Result<Tested, Fail> {
     let mut front = front_of(alloc, 0)?;
     quiet_moves(rt, &mut front, memory, 20)?;
-    assert!(rt; front.enter(FrontState::Connected(offers)));
+    holds(rt, front.enter(FrontState::Connected(offers)));
     Ok(front)
 }
 
@@ -61,7 +62,7 @@ fn is_answered(
     last: u32,
     status: Status,
 ) -> Result<(), Fail> {
-    assert_eq!(rt; front.owed(), (1, 0));
+    same(rt, front.owed(), (1, 0));
     memory.respond(0, [1, 0, last]);
     let response = [
         FrontAsk::Read { frame: 2, word: 2 },
@@ -70,9 +71,9 @@ fn is_answered(
     ];
     asks(rt, front, memory, &response)?;
     let (read, told) = one_move(rt, front, memory)?;
-    assert_eq!(rt; read, FrontAsk::Read { frame: 2, word: 18 });
-    assert_eq!(rt; told, Some(Told::Answer { id: 1, status }));
-    assert_eq!(rt; front.owed(), (0, 0));
+    same(rt, read, FrontAsk::Read { frame: 2, word: 18 });
+    same(rt, told, Some(Told::Answer { id: 1, status }));
+    same(rt, front.owed(), (0, 0));
     Ok(())
 }
 
@@ -84,8 +85,8 @@ fn a_flush_is_an_entry_without_segments(rt: HostRuntime) -> Result<(), Fail> {
         ..NOTHING
     };
     let mut front = offered(&rt, rt.alloc(), &mut memory, offers)?;
-    assert_eq!(rt; front.submit(discard(0, 1)?), Err(Refusal::Unsupported));
-    assert_eq!(rt; front.submit(Job::Flush), Ok(1));
+    same(&rt, front.submit(discard(0, 1)?), Err(Refusal::Unsupported));
+    same(&rt, front.submit(Job::Flush), Ok(1));
     issues(
         &rt,
         &mut front,
@@ -103,9 +104,9 @@ fn a_discard_is_an_entry_with_a_number_of_sectors(rt: HostRuntime) -> Result<(),
         ..NOTHING
     };
     let mut front = offered(&rt, rt.alloc(), &mut memory, offers)?;
-    assert_eq!(rt; front.submit(Job::Flush), Err(Refusal::Unsupported));
-    assert_eq!(rt; front.submit(discard(3, 6)?), Err(Refusal::Range));
-    assert_eq!(rt; front.submit(discard(2, 6)?), Ok(1));
+    same(&rt, front.submit(Job::Flush), Err(Refusal::Unsupported));
+    same(&rt, front.submit(discard(3, 6)?), Err(Refusal::Range));
+    same(&rt, front.submit(discard(2, 6)?), Ok(1));
     issues(
         &rt,
         &mut front,
@@ -129,13 +130,14 @@ fn a_barrier_is_a_write_of_another_operation(rt: HostRuntime) -> Result<(), Fail
         count,
         tag: 7,
     };
-    assert_eq!(rt; front.submit(Job::Flush), Err(Refusal::Unsupported));
-    assert_eq!(rt; front.submit(barrier), Ok(1));
+    same(&rt, front.submit(Job::Flush), Err(Refusal::Unsupported));
+    same(&rt, front.submit(barrier), Ok(1));
     // its 128 words, and the 3 moves of its grant
     quiet_moves(&rt, &mut front, &mut memory, 131)?;
-    assert_eq!(rt;
+    same(
+        &rt,
         (memory.read(18, 127), memory.read(0, 49), memory.read(0, 48)),
-        (7, 18, 5)
+        (7, 18, 5),
     );
     issues(
         &rt,

@@ -2,6 +2,7 @@
 ghost use Rattle.std.specs.Prelude.{◌≤◌, IfSome};
 ghost use Rattle.blk_front.specs.Ask.{IsAnswer};
 
+use crate::expected::{holds, same};
 use blk_base::{Abi, Config, Endpoint, FrontAnswer, FrontAsk, Job, SectorCount};
 use blk_front::{Front, FrontState, Offers, Refusal, Told};
 use std::alloc::Global;
@@ -65,7 +66,7 @@ impl Tested {
 
     // Does what is asked next, and says what it was. What was told is taken before.
     fn moves(&mut self, rt: &impl Abort, memory: &mut Memory) -> Result<FrontAsk<'static>, Fail> {
-        assert_eq!(rt; self.front.take_told(), None);
+        same(rt, self.front.take_told(), None);
         let ask = self.front.ask();
         let answer = memory.answer(&ask).ok_or("never asked")?;
         let asked = kept(&ask).ok_or("never asked")?;
@@ -191,7 +192,7 @@ pub fn quiet_moves(
     count: u32,
 ) -> Result<(), Fail> {
     for _ in 0..count {
-        assert_eq!(rt; one_move(rt, front, memory)?.1, None);
+        same(rt, one_move(rt, front, memory)?.1, None);
     }
     Ok(())
 }
@@ -243,7 +244,7 @@ pub fn asks(
     for ask in wanted {
         let (asked, told) = one_move(rt, front, memory)?;
         assert_eq!(rt; asked, *ask);
-        assert_eq!(rt; told, None);
+        same(rt, told, None);
     }
     Ok(())
 }
@@ -263,14 +264,14 @@ pub fn connect_after(
 ) -> Result<(), Fail> {
     quiet_moves(rt, front, memory, moves)?;
     asks(rt, front, memory, &[FrontAsk::NewPort])?;
-    assert!(rt; front.enter(FrontState::Connected(NOTHING)));
+    holds(rt, front.enter(FrontState::Connected(NOTHING)));
     Ok(())
 }
 
 // The moves after which a connected front sleeps: the event word and its fence between two looks.
 fn fall_asleep(rt: &impl Abort, front: &mut Tested, memory: &mut Memory) -> Result<(), Fail> {
     quiet_moves(rt, front, memory, 4)?;
-    assert!(rt; front.idle());
+    holds(rt, front.idle());
     Ok(())
 }
 

@@ -2,6 +2,7 @@
 use super::guest::{
     Memory, NOTHING, Tested, asks, front_over, one_move, quiet_moves, read_of, write_of,
 };
+use crate::expected::{holds, same};
 use blk_base::{FrontAsk, Job, SectorCount, Status};
 use blk_front::{FrontState, Offers, Refusal, Told};
 use std::alloc::Global;
@@ -21,7 +22,7 @@ fn offered(rt: &impl Abort, alloc: Global, memory: &mut Memory) -> Result<Tested
         indirect: 256,
         ..NOTHING
     };
-    assert!(rt; front.enter(FrontState::Connected(offers)));
+    holds(rt, front.enter(FrontState::Connected(offers)));
     Ok(front)
 }
 
@@ -45,9 +46,9 @@ fn naming(n: u32, last: u32) -> u32 {
 fn a_write_of_89_sectors_names_its_segments_in_a_page(rt: HostRuntime) -> Result<(), Fail> {
     let mut memory = Memory::new(rt.alloc())?;
     let mut front = offered(&rt, rt.alloc(), &mut memory)?;
-    assert_eq!(rt; front.submit(write_of(5, 89, 7)?), Ok(1));
+    same(&rt, front.submit(write_of(5, 89, 7)?), Ok(1));
     quiet_moves(&rt, &mut front, &mut memory, 89 * 128)?;
-    assert_eq!(rt; (memory.read(18, 0), memory.read(29, 127)), (7, 95));
+    same(&rt, (memory.read(18, 0), memory.read(29, 127)), (7, 95));
     for n in 0..24 {
         let word = writes(30, n, naming(n, 23));
         asks(&rt, &mut front, &mut memory, &[word])?;
@@ -73,17 +74,18 @@ fn a_write_of_89_sectors_names_its_segments_in_a_page(rt: HostRuntime) -> Result
 fn a_read_of_2048_sectors_has_one_page_for_reading_alone(rt: HostRuntime) -> Result<(), Fail> {
     let mut memory = Memory::new(rt.alloc())?;
     let mut front = offered(&rt, rt.alloc(), &mut memory)?;
-    assert_eq!(rt; front.submit(read_of(0, 2048)?), Ok(1));
+    same(&rt, front.submit(read_of(0, 2048)?), Ok(1));
     for n in 0..512 {
         let word = writes(274, n, naming(n, 512));
         asks(&rt, &mut front, &mut memory, &[word])?;
     }
     quiet_moves(&rt, &mut front, &mut memory, 257 * 3)?;
-    assert_eq!(rt; (memory.read(0, 558), memory.read(0, 560)), (1, 5));
+    same(&rt, (memory.read(0, 558), memory.read(0, 560)), (1, 5));
     quiet_moves(&rt, &mut front, &mut memory, 28)?;
-    assert_eq!(rt;
+    same(
+        &rt,
         (memory.read(2, 16), memory.read(2, 23)),
-        (0x0100_0006, 280)
+        (0x0100_0006, 280),
     );
     Ok(())
 }
@@ -98,7 +100,7 @@ fn what_the_back_does_not_take_in_pages_is_long(rt: HostRuntime) -> Result<(), F
         tag: 7,
     };
     for job in [read_of(0, 2049)?, write_of(0, 2049, 7)?, barrier] {
-        assert_eq!(rt; front.submit(job), Err(Refusal::Long));
+        same(&rt, front.submit(job), Err(Refusal::Long));
     }
     Ok(())
 }
@@ -114,12 +116,12 @@ fn after_its_answer_all_its_frames_are_free(rt: HostRuntime) -> Result<(), Fail>
     memory.respond(0, [1, 0, 6]);
     // the producer and the response, and twelve grants of thirteen; the last is looked at
     quiet_moves(&rt, &mut front, &mut memory, 4 + 25)?;
-    assert_eq!(rt; front.owed(), (1, 89));
+    same(&rt, front.owed(), (1, 89));
     let answer = Told::Answer {
         id: 1,
         status: Status::Okay,
     };
-    assert_eq!(rt; one_move(&rt, &mut front, &mut memory)?.1, Some(answer));
-    assert_eq!(rt; front.submit(read_of(0, 89)?), Ok(2));
+    same(&rt, one_move(&rt, &mut front, &mut memory)?.1, Some(answer));
+    same(&rt, front.submit(read_of(0, 89)?), Ok(2));
     asks(&rt, &mut front, &mut memory, &[writes(30, 0, 24)])
 }

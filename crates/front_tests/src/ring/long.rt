@@ -2,6 +2,7 @@
 use super::guest::{
     Memory, Tested, asks, asleep_over, one_move, quiet_moves, read_of, write, write_of,
 };
+use crate::expected::same;
 use blk_base::{FrontAsk, Status};
 use blk_front::{Refusal, Told};
 use std::process::Abort;
@@ -54,7 +55,7 @@ fn a_write_of_nine_sectors_fills_two_frames_and_names_two_segments(
 ) -> Result<(), Fail> {
     let mut memory = Memory::new(rt.alloc())?;
     let mut front = asleep_over(&rt, rt.alloc(), &mut memory, 12)?;
-    assert_eq!(rt; front.submit(write_of(3, 9, WORDS[0])?), Ok(1));
+    same(&rt, front.submit(write_of(3, 9, WORDS[0])?), Ok(1));
     for n in 0..1152 {
         let data = FrontAsk::Write {
             frame: 18 + n / 1024,
@@ -121,14 +122,14 @@ fn tells_the_sector(
     memory: &mut Memory,
     index: u32,
 ) -> Result<(), Fail> {
-    assert_eq!(rt; front.owed(), (1, 9));
+    same(rt, front.owed(), (1, 9));
     quiet_moves(rt, front, memory, 127)?;
     let sector = Told::Sector {
         id: 1,
         index,
         words: sector_at(index),
     };
-    assert_eq!(rt; one_move(rt, front, memory)?.1, Some(sector));
+    same(rt, one_move(rt, front, memory)?.1, Some(sector));
     Ok(())
 }
 
@@ -138,7 +139,7 @@ fn a_read_of_nine_sectors_is_told_as_nine_sectors_after_its_answer(
 ) -> Result<(), Fail> {
     let mut memory = Memory::new(rt.alloc())?;
     let mut front = asleep_over(&rt, rt.alloc(), &mut memory, 12)?;
-    assert_eq!(rt; front.submit(read_of(3, 9)?), Ok(1));
+    same(&rt, front.submit(read_of(3, 9)?), Ok(1));
 
     // two grants of 3 moves, 28 words of the entry, and the push
     quiet_moves(&rt, &mut front, &mut memory, 38)?;
@@ -157,19 +158,20 @@ fn a_read_of_nine_sectors_is_told_as_nine_sectors_after_its_answer(
         id: 1,
         status: Status::Okay,
     };
-    assert_eq!(rt;
+    same(
+        &rt,
         one_move(&rt, &mut front, &mut memory)?,
-        (last, Some(answer))
+        (last, Some(answer)),
     );
     for index in 0..9 {
         tells_the_sector(&rt, &mut front, &mut memory, index)?;
     }
-    assert_eq!(rt; front.owed(), (0, 0));
+    same(&rt, front.owed(), (0, 0));
 
     // both frames are free again
     front.submit(write_of(0, 9, 7)?)?;
     quiet_moves(&rt, &mut front, &mut memory, 1152)?;
-    assert_eq!(rt; (memory.read(18, 0), memory.read(19, 127)), (7, 15));
+    same(&rt, (memory.read(18, 0), memory.read(19, 127)), (7, 15));
     Ok(())
 }
 
@@ -178,17 +180,21 @@ fn a_request_has_88_sectors_at_most(rt: HostRuntime) -> Result<(), Fail> {
     let mut memory = Memory::new(rt.alloc())?;
     let mut front = asleep_over(&rt, rt.alloc(), &mut memory, 100)?;
     for job in [read_of(0, 89)?, write_of(11, 89, 7)?, read_of(0, 100)?] {
-        assert_eq!(rt; front.submit(job), Err(Refusal::Long));
-        assert_eq!(rt; (front.owed(), front.idle()), ((0, 0), true));
+        same(&rt, front.submit(job), Err(Refusal::Long));
+        same(&rt, (front.owed(), front.idle()), ((0, 0), true));
     }
-    assert_eq!(rt; front.submit(read_of(12, 89)?), Err(Refusal::Range));
-    assert_eq!(rt; front.submit(read_of(12, 88)?), Ok(1));
-    assert_eq!(rt; front.owed(), (1, 88));
+    same(&rt, front.submit(read_of(12, 89)?), Err(Refusal::Range));
+    same(&rt, front.submit(read_of(12, 88)?), Ok(1));
+    same(&rt, front.owed(), (1, 88));
 
     // eleven grants and the entry: eleven segments, the last in the frame of reference 34
     quiet_moves(&rt, &mut front, &mut memory, 33 + 28)?;
-    assert_eq!(rt; memory.read(2, 16), 0xca00_0b00);
-    assert_eq!(rt; (memory.read(2, 42), memory.read(2, 43)), (0x22, 0x0700));
+    same(&rt, memory.read(2, 16), 0xca00_0b00);
+    same(
+        &rt,
+        (memory.read(2, 42), memory.read(2, 43)),
+        (0x22, 0x0700),
+    );
     Ok(())
 }
 
@@ -198,6 +204,6 @@ fn the_sectors_of_all_requests_are_owed(rt: HostRuntime) -> Result<(), Fail> {
     let mut front = asleep_over(&rt, rt.alloc(), &mut memory, 12)?;
     front.submit(write_of(0, 9, 7)?)?;
     front.submit(write(11, 7)?)?;
-    assert_eq!(rt; front.owed(), (2, 10));
+    same(&rt, front.owed(), (2, 10));
     Ok(())
 }

@@ -1,5 +1,6 @@
 // How the front issues a read, and tells the data of one that went well.
 use super::guest::{Memory, Tested, asks, asleep, one_move, quiet_moves, read, write};
+use crate::expected::{holds, same};
 use blk_base::{FrontAsk, Status};
 use blk_front::Told;
 use std::process::Abort;
@@ -13,7 +14,7 @@ const ENTRY: [u32; 8] = [0xca00_0100, 0, 1, 0, 3, 0, 0x18, 0];
 fn the_first_read_takes_35_moves_and_sends_an_event(rt: HostRuntime) -> Result<(), Fail> {
     let mut memory = Memory::new(rt.alloc())?;
     let mut front = asleep(&rt, rt.alloc(), &mut memory, 0)?;
-    assert_eq!(rt; front.submit(read(3)?), Ok(1));
+    same(&rt, front.submit(read(3)?), Ok(1));
     let grant = [
         FrontAsk::Write {
             frame: 0,
@@ -99,8 +100,8 @@ pub fn ends_the_grant(
         new: 0,
     };
     let told = Told::Answer { id: 1, status };
-    assert_eq!(rt; one_move(rt, front, memory)?, (ended, Some(told)));
-    assert_eq!(rt; memory.read(0, 48), 0);
+    same(rt, one_move(rt, front, memory)?, (ended, Some(told)));
+    same(rt, memory.read(0, 48), 0);
     Ok(())
 }
 
@@ -112,9 +113,9 @@ fn the_data_of_a_read_are_told_after_its_answer(rt: HostRuntime) -> Result<(), F
     ends_the_grant(&rt, &mut memory, &mut front, Status::Okay)?;
 
     // nothing else is done in between, though a write waits that has the next frame
-    assert_eq!(rt; front.submit(write(3, 9)?), Ok(2));
+    same(&rt, front.submit(write(3, 9)?), Ok(2));
     for word in 0..127 {
-        assert_eq!(rt; (front.owed(), front.idle()), ((2, 2), false));
+        same(&rt, (front.owed(), front.idle()), ((2, 2), false));
         asks(
             &rt,
             &mut front,
@@ -131,11 +132,12 @@ fn the_data_of_a_read_are_told_after_its_answer(rt: HostRuntime) -> Result<(), F
         frame: 18,
         word: 127,
     };
-    assert_eq!(rt;
+    same(
+        &rt,
         one_move(&rt, &mut front, &mut memory)?,
-        (last, Some(sector))
+        (last, Some(sector)),
     );
-    assert_eq!(rt; front.owed(), (1, 1));
+    same(&rt, front.owed(), (1, 1));
     let next = FrontAsk::Write {
         frame: 19,
         word: 0,
@@ -146,8 +148,8 @@ fn the_data_of_a_read_are_told_after_its_answer(rt: HostRuntime) -> Result<(), F
 
 // Whether nothing is left to be done, and the frame of the read is the lowest free one again.
 fn is_over(rt: &impl Abort, memory: &mut Memory, front: &mut Tested) -> Result<(), Fail> {
-    assert_eq!(rt; front.owed(), (0, 0));
-    assert_eq!(rt; front.submit(write(3, 9)?), Ok(2));
+    same(rt, front.owed(), (0, 0));
+    same(rt, front.submit(write(3, 9)?), Ok(2));
     let data = FrontAsk::Write {
         frame: 18,
         word: 0,
@@ -163,8 +165,8 @@ fn the_frame_of_a_read_is_free_once_its_data_are_told(rt: HostRuntime) -> Result
     answered(&rt, &mut memory, &mut front, 0)?;
     ends_the_grant(&rt, &mut memory, &mut front, Status::Okay)?;
     quiet_moves(&rt, &mut front, &mut memory, 127)?;
-    assert_eq!(rt; front.owed(), (1, 1));
-    assert!(rt; one_move(&rt, &mut front, &mut memory)?.1.is_some());
+    same(&rt, front.owed(), (1, 1));
+    holds(&rt, one_move(&rt, &mut front, &mut memory)?.1.is_some());
     is_over(&rt, &mut memory, &mut front)
 }
 

@@ -2,6 +2,7 @@
 use super::guest::{
     Memory, Tested, asks, connect, connect_after, front_shaped, quiet_moves, write,
 };
+use crate::expected::{holds, same};
 use blk_base::{Abi, FrontAsk};
 use blk_front::{FrontState, Refusal};
 use std::process::Abort;
@@ -70,9 +71,9 @@ fn both_pages_of_a_ring_are_granted_in_order(rt: HostRuntime) -> Result<(), Fail
 // So many requests are taken, and no more.
 fn takes(rt: &impl Abort, front: &mut Tested, count: u32) -> Result<(), Fail> {
     for _ in 0..count {
-        assert!(rt; front.submit(write(0, 7)?).is_ok());
+        holds(rt, front.submit(write(0, 7)?).is_ok());
     }
-    assert_eq!(rt; front.submit(write(0, 7)?), Err(Refusal::Full));
+    same(rt, front.submit(write(0, 7)?), Err(Refusal::Full));
     Ok(())
 }
 
@@ -82,7 +83,7 @@ fn a_ring_of_two_pages_has_64_requests(rt: HostRuntime) -> Result<(), Fail> {
     let mut front = front_shaped(rt.alloc(), Abi::X64, 1, 0)?;
     connect_after(&rt, &mut front, &mut memory, 22)?;
     takes(&rt, &mut front, 64)?;
-    assert_eq!(rt; front.owed(), (64, 64));
+    same(&rt, front.owed(), (64, 64));
     Ok(())
 }
 
@@ -112,8 +113,8 @@ fn both_grants_are_ended_before_the_port_is_closed(rt: HostRuntime) -> Result<()
     let mut memory = Memory::new(rt.alloc())?;
     let mut front = front_shaped(rt.alloc(), Abi::X64, 1, 0)?;
     connect_after(&rt, &mut front, &mut memory, 22)?;
-    assert!(rt; front.enter(FrontState::Closing));
-    assert!(rt; front.enter(FrontState::Leaving));
+    holds(&rt, front.enter(FrontState::Closing));
+    holds(&rt, front.enter(FrontState::Leaving));
     ends(&rt, &mut front, &mut memory, 16)?;
     ends(&rt, &mut front, &mut memory, 18)?;
     asks(&rt, &mut front, &mut memory, &[FrontAsk::ClosePort])
@@ -123,11 +124,11 @@ fn both_grants_are_ended_before_the_port_is_closed(rt: HostRuntime) -> Result<()
 fn a_lower_order_is_agreed_before_the_ring_is_begun(rt: HostRuntime) -> Result<(), Fail> {
     let mut memory = Memory::new(rt.alloc())?;
     let mut front = front_shaped(rt.alloc(), Abi::X64, 1, 7)?;
-    assert!(rt; !front.enter(FrontState::Agreed(2)));
-    assert!(rt; front.enter(FrontState::Agreed(0)));
-    assert!(rt; !front.enter(FrontState::Agreed(1)));
+    holds(&rt, !front.enter(FrontState::Agreed(2)));
+    holds(&rt, front.enter(FrontState::Agreed(0)));
+    holds(&rt, !front.enter(FrontState::Agreed(1)));
     writes(&rt, &mut front, &mut memory, (2, 0), 7)?;
-    assert!(rt; !front.enter(FrontState::Agreed(0)));
+    holds(&rt, !front.enter(FrontState::Agreed(0)));
     connect_after(&rt, &mut front, &mut memory, 18)?;
     takes(&rt, &mut front, 32)
 }

@@ -1,4 +1,5 @@
 // Entries that were filled through the struct of Xen's own header.
+use crate::expected::same;
 use blk_base::Mode;
 use grant_table::{MapRefusal, verdict};
 use std::test::Fail;
@@ -136,6 +137,6 @@ fn answers_by_the_first_row_that_applies(rt: HostRuntime) {
 
 #[test]
 fn refusals_have_the_statuses_of_the_header(rt: HostRuntime) {
-    assert_eq!(rt; MapRefusal::General.status(), -1);
-    assert_eq!(rt; MapRefusal::BadRef.status(), -3);
+    same(&rt, MapRefusal::General.status(), -1);
+    same(&rt, MapRefusal::BadRef.status(), -3);
 }

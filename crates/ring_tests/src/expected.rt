@@ -1,0 +1,19 @@
+// What a test expects, as calls: each is proved once, where an `assert!` of its own is proved in every test that has one.
+ghost use Rattle.std.specs.Prelude.{◌≡◌, true};
+
+use std::fmt::Debug;
+use std::process::Abort;
+
+/// Goes on only where both values are equal; else it stops the test and says both.
+pub fn same<T: PartialEq + Debug + Drop>(rt: &impl Abort, found: T, wanted: T)
+    ensures { T.PartialEq.eq found wanted ≡ true }
+{
+    assert_eq!(rt; found, wanted);
+}
+
+/// Goes on only where this is so; else it stops the test.
+pub fn holds(rt: &impl Abort, condition: bool)
+    ensures { condition ≡ true }
+{
+    assert!(rt; condition);
+}
