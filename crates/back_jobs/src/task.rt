@@ -245,7 +245,7 @@ impl Task {
     }
 
     // Maps the indirect page that it comes to next, which is only read.
-    #[inline(never)]
+    #[inline(always)]
     fn map_page(&self) -> BackAsk<'_>
         ensures value { result ≡ page_ask self.now.pages }
         ensures within { StaysInPageAndDisk self.now.size result }
@@ -260,7 +260,7 @@ impl Task {
     }
 
     // Reads the first or the second word of the segment that it copies next.
-    #[inline(never)]
+    #[inline(always)]
     fn read_page(&self, mapping: Mapping, k: u32) -> BackAsk<'_>
         requires { k < 2 }
         ensures value { result ≡ ask.Read mapping (page_word self.now k) }
@@ -274,7 +274,7 @@ impl Task {
     }
 
     // Maps the frame of the present segment.
-    #[inline(never)]
+    #[inline(always)]
     fn map(&self) -> BackAsk<'_>
         ensures value { result ≡ map_ask self.now.rest self.now.writes }
         ensures within { StaysInPageAndDisk self.now.size result }

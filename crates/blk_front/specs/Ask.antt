@@ -106,6 +106,15 @@ ask_at (stage.Broken word) v = Wait
 abbrev pub ask_of : View → FrontAsk
 ask_of v = ask_at v.stage v
 
+-- what is asked where it is a word of a request's data, as most moves are
+abbrev pub data_asked_at : Stage → View → Option FrontAsk
+data_asked_at (stage.Data n) v = Some (data_ask (next_request v) n)
+data_asked_at (stage.ReadData n) v = Some (read_ask v.ending n)
+data_asked_at s v = None
+
+abbrev pub data_asked : View → Option FrontAsk
+data_asked v = data_asked_at v.stage v
+
 -- an answer of the ask's kind
 abbrev pub IsAnswer : FrontAsk → FrontAnswer → Type 0
 IsAnswer Wait answer.Event = Unit {0}

@@ -4,7 +4,7 @@ ghost use Rattle.blk_base.specs.declared.ask.FrontAsk.TheVariants.{Wait};
 ghost use Rattle.std.specs.Option.{option_copied};
 ghost use Rattle.ring_words.specs.Shape.{entry_words_of};
 ghost use Rattle.blk_front.specs.View.{start_of, next_request, ring_page_frame, slot_frame, slot_word, entry_frame, entry_word};
-ghost use Rattle.blk_front.specs.Ask.{ask_of, is_through, loop_ask, issue_ask, entry_ask, data_ask, page_ask, name_ask, grant_ask, revoke_ask, end_ask, read_ask, IsAnswer, IsPlace, StaysInMemory, Asks};
+ghost use Rattle.blk_front.specs.Ask.{ask_of, data_asked, is_through, loop_ask, issue_ask, entry_ask, data_ask, page_ask, name_ask, grant_ask, revoke_ask, end_ask, read_ask, IsAnswer, IsPlace, StaysInMemory, Asks};
 ghost use Rattle.blk_front.specs.Step.{step_of, step_at, ring_read, ring_ended};
 ghost use Rattle.blk_front.specs.Entry.{entry_of};
 ghost use Rattle.blk_front.specs.Request.{IsShaped};
@@ -123,7 +123,21 @@ impl Front {
         1 << self.order
     }
 
+    /// What it asks where that is a word of a request's data, as most of its moves are; `None` elsewhere.
+    #[inline(always)]
+    pub fn data_asked(&self) -> Option<FrontAsk<'_>>
+        ensures value { result ≡ data_asked self.now }
+        ensures asked { IfSome result (λ ask. Asks ask (ask_of self.now)) }
+    {
+        match self.stage {
+            Stage::Data(n) => Some(self.issue_data(n)),
+            Stage::ReadData(n) => Some(self.read_word(n)),
+            _ => None,
+        }
+    }
+
     // The request that is issued next.
+    #[inline(always)]
     fn next_request(&self) -> Option<&Request>
         ensures value { option_copied result ≡ next_request self.now }
         ensures shaped { IfSome result (λ r. IsShaped r.now) }
@@ -213,6 +227,7 @@ impl Front {
     }
 
     // Writes a word of the data of the request that is issued next.
+    #[inline(always)]
     fn issue_data(&self, n: u32) -> FrontAsk<'_>
         ensures { Asks result (data_ask (next_request self.now) n) }
     {
@@ -274,6 +289,7 @@ impl Front {
     }
 
     // Reads a word of its data.
+    #[inline(always)]
     fn read_word(&self, n: u32) -> FrontAsk<'_>
         ensures { Asks result (read_ask self.now.ending n) }
     {

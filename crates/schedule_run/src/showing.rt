@@ -29,7 +29,7 @@ impl<'a, 'b, 'c, 'd> Shown for FrontMove<'a, 'b, 'c, 'd> {
 
     ghost shown = { λ m. front_shown m.ask.now m.answer.now };
 
-    #[inline(always)]
+    #[inline(never)]
     fn shown(&self) -> Move {
         front_shown(self.ask, self.answer)
     }
@@ -52,7 +52,7 @@ impl<'a, 'b, 'c, 'd, 'e> Shown for BackMove<'a, 'b, 'c, 'd, 'e> {
 
     ghost may = { λ m. MayShow m.under.now m.ask.now m.answer.now };
 
-    #[inline(always)]
+    #[inline(never)]
     fn shown(&self) -> Move {
         self.under.back_shown(self.who, self.ask, self.answer)
     }

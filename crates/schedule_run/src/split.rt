@@ -74,6 +74,20 @@ impl Split {
     pub fn front_move<R: Recorder>(&mut self, recorder: &mut R) -> Result<(), RecordStop>
         ensures { FrontGoes result self.old self.new (R.seen recorder.old) (R.seen recorder.new) }
     {
+        match self.front.data_asked() {
+            Some(FrontAsk::Write { frame, word, value }) => {
+                self.front_writes(frame, word, value, recorder)
+            }
+            Some(FrontAsk::Read { frame, word }) => self.front_reads(frame, word, recorder),
+            _ => self.front_goes(recorder),
+        }
+    }
+
+    // The front's move where it isn't of a request's data.
+    #[inline(never)]
+    fn front_goes<R: Recorder>(&mut self, recorder: &mut R) -> Result<(), RecordStop>
+        ensures { FrontGoes result self.old self.new (R.seen recorder.old) (R.seen recorder.new) }
+    {
         match self.front.ask() {
             FrontAsk::Write { frame, word, value } => {
                 self.front_writes(frame, word, value, recorder)

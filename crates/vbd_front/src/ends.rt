@@ -1,6 +1,6 @@
 // Both of the front's ends.
-ghost use Rattle.std.specs.Prelude.{◌≡◌, ◌||◌, ◌≤◌, ◌^◌, None, is_some, IfOk, true, false};
-ghost use Rattle.blk_front.specs.Ask.{ask_of as ring_ask_of, IsAnswer as IsRingAnswer};
+ghost use Rattle.std.specs.Prelude.{◌≡◌, ◌||◌, ◌≤◌, ◌^◌, None, is_some, IfOk, IfSome, true, false};
+ghost use Rattle.blk_front.specs.Ask.{ask_of as ring_ask_of, data_asked, IsAnswer as IsRingAnswer};
 ghost use Rattle.blk_front.specs.Step.{step_of as ring_step_of};
 ghost use Rattle.blk_front.specs.Submit.{submit_of, unfinished, sectors_owed, is_wait};
 ghost use Rattle.xenbus_state.specs.FrontAsk.{IsAnswer as IsBusAnswer};
@@ -105,6 +105,16 @@ impl Ends {
         ensures within { StaysInMemory result }
     {
         self.ring.ask()
+    }
+
+    /// What the ring's end asks where that is a word of a request's data; `None` elsewhere.
+    #[inline(always)]
+    pub fn data_asked(&self) -> Option<FrontAsk<'_>>
+        ensures value { result ≡ data_asked self.now.ring }
+        ensures asked { IfSome result (λ ask. ask ≡ ring_ask_of self.now.ring) }
+        ensures within { IfSome result (λ ask. StaysInMemory ask) }
+    {
+        self.ring.data_asked()
     }
 
     /// The ring's end was answered, of which the negotiation learns nothing.

@@ -1,8 +1,9 @@
 // The frontend.
-ghost use Rattle.std.specs.Prelude.{◌≡◌, ◌||◌, ◌≤◌, ◌^◌, None, is_some, IfOk, IsOk, OnErr};
+ghost use Rattle.std.specs.Prelude.{◌≡◌, ◌||◌, ◌≤◌, ◌^◌, None, is_some, IfOk, IfSome, IsOk, OnErr};
 ghost use Rattle.blk_front.specs.Submit.{submit_of, unfinished, sectors_owed};
 ghost use Rattle.vbd_front.specs.View.{start_of, heard};
 ghost use Rattle.vbd_front.specs.Ask.{ask_of, is_waiting, IsAnswer, StaysInMemory};
+ghost use Rattle.vbd_front.specs.Turn.{data_asked};
 ghost use Rattle.blk_front.specs.State.{is_open};
 ghost use Rattle.vbd_front.specs.Step.{step_of, closes, suspended};
 
@@ -96,7 +97,7 @@ impl Frontend {
     {
         match self.turn {
             Turn::Ring => self.ends.ring_waits(),
-            _ => matches!(self.ask_by_turn(), FrontAsk::Wait),
+            _ => self.waits_by_turn(),
         }
     }
 
@@ -145,6 +146,28 @@ impl Frontend {
 }
 
 impl Frontend {
+    /// What it asks where that is a word of a request's data, as most of its moves are; `None` elsewhere.
+    #[inline(always)]
+    #[tactic(auto, using(crate::proofs::Turns::made_asks))]
+    pub fn data_asked(&self) -> Option<FrontAsk<'_>>
+        ensures value { result ≡ data_asked self.now }
+        ensures asked { IfSome result (λ ask. ask ≡ ask_of self.now) }
+        ensures within { IfSome result (λ ask. StaysInMemory ask) }
+    {
+        match self.turn {
+            Turn::Ring => self.ends.data_asked(),
+            _ => None,
+        }
+    }
+
+    // Whether it asks for nothing but an event or a watch, whosever turn it is.
+    #[inline(never)]
+    fn waits_by_turn(&self) -> bool
+        ensures { result ≡ is_waiting self.now }
+    {
+        matches!(self.ask_by_turn(), FrontAsk::Wait)
+    }
+
     // What is asked, whosever turn it is.
     #[inline(never)]
     #[tactic(auto, using(crate::proofs::Turns::ring_asks))]

@@ -127,6 +127,7 @@ impl Task {
         self.stage = Stage::WriteWord(mapping, 0);
     }
 
+    #[inline(always)]
     pub(super) fn wrote_word(&mut self, mapping: Mapping, k: u32)
         requires stage { self.old.stage ≡ stage.WriteWord mapping k }
         requires placed { k < 128 }

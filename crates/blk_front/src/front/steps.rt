@@ -170,6 +170,7 @@ impl Front {
         self.told = Some(Told::Broken(word));
     }
 
+    #[inline(always)]
     pub(super) fn wrote_data(&mut self, n: u32)
         requires stage { self.old.stage ≡ stage.Data n }
         requires placed { n < 983040 }

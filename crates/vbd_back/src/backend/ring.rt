@@ -56,8 +56,16 @@ impl Backend {
     {
         match self.turn {
             Turn::Ring => self.ring.waits(),
-            _ => matches!(self.ask_by_turn(), BackAsk::Wait),
+            _ => self.waits_by_turn(),
         }
+    }
+
+    // The same, whosever turn it is.
+    #[inline(never)]
+    fn waits_by_turn(&self) -> bool
+        ensures { result ≡ is_waiting self.now }
+    {
+        matches!(self.ask_by_turn(), BackAsk::Wait)
     }
 
     /// Whether it asks for nothing but an event or a watch, and no job is held.
