@@ -395,14 +395,14 @@ fn a_watch_fires_when_it_is_set_and_when_its_key_is(rt: HostRuntime) -> Result<(
     let path = path_of("/local/domain/1/device/vbd/51712/state");
     let ask = BackAsk::Watch(Lent::at(&path));
     let (set, shown) = back(&mut under, BackMover::Back, &ask, &mut disk, &mut room)?;
-    same(&rt, set, Some(BackAnswer::Done));
-    same(&rt, shown, Some(Move::Watch(Mover::Back, path)));
+    assert_eq!(rt; set, Some(BackAnswer::Done));
+    assert_eq!(rt; shown, Some(Move::Watch(Mover::Back, path)));
     let (fired, shown) = wait(&mut under, BackMover::Back, &mut disk, &mut room)?;
-    same(&rt, fired, Some(BackAnswer::Watched(Lent::at(&path))));
-    same(&rt, shown, Some(Move::Watched(Mover::Back, path)));
-    holds(&rt, !watches_pending(&under).0);
+    assert_eq!(rt; fired, Some(BackAnswer::Watched(Lent::at(&path))));
+    assert_eq!(rt; shown, Some(Move::Watched(Mover::Back, path)));
+    assert!(rt; !watches_pending(&under).0);
     set_key(&rt, &mut under, &path, &text_of("3"), &mut room)?;
-    same(&rt, watches_pending(&under), (true, false));
+    assert_eq!(rt; watches_pending(&under), (true, false));
     Ok(())
 }
 
