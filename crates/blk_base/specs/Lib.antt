@@ -1,3 +1,5 @@
+pub mod Access
+pub mod Becomes
 pub mod Distance
 pub mod Kinds
 pub mod Operation

@@ -19,7 +19,7 @@ pub use config::{Config, Job, SectorCount};
 pub use endpoint::{Endpoint, OutOfMemory};
 pub use index::Idx;
 pub use lent::Lent;
-pub use moves::{BackMover, Move, Mover};
+pub use moves::{Access, BackMover, Move, Mover};
 pub use operation::{Abi, Op, Status};
 pub use parts::{End, Mapping, Mode, SectorWords};
 pub use short_text::ShortText;

@@ -18,6 +18,36 @@ pub enum Mover {
     Job(u64),
 }
 
+/// A read or a write of one word, as a report's `m` line shows it: what most moves are. Frames and words
+/// have 32 bits, mapping numbers 64.
+#[derive(Clone, Copy, Debug, PartialEq, Eq)]
+pub enum Access {
+    FrontRead {
+        frame: u32,
+        word: u32,
+        value: u32,
+    },
+    FrontWrite {
+        frame: u32,
+        word: u32,
+        value: u32,
+    },
+    Read {
+        who: BackMover,
+        mapping: u64,
+        frame: u32,
+        word: u32,
+        value: u32,
+    },
+    Write {
+        who: BackMover,
+        mapping: u64,
+        frame: u32,
+        word: u32,
+        value: u32,
+    },
+}
+
 /// One move with its answer, as a report's `m` line shows it. Frames, words, ports and grant
 /// references have 32 bits, mapping numbers and disk sectors 64.
 #[derive(Clone, Copy, Debug, PartialEq, Eq)]

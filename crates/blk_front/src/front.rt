@@ -123,7 +123,8 @@ impl Front {
         1 << self.order
     }
 
-    /// What it asks where that is a word of a request's data, as most of its moves are; `None` elsewhere.
+    /// What it asks where that is a word of a request's data, as most of its moves are. `None` elsewhere, at the first
+    /// word of a write, and for data that a suspend left to be told.
     #[inline(always)]
     pub fn data_asked(&self) -> Option<FrontAsk<'_>>
         ensures value { result ≡ data_asked self.now }

@@ -1,11 +1,13 @@
-//! Tests of the back's end of the ring and its jobs, of the frontend and of the backend, by their
-//! public calls.
+//! Tests of the back's end of the ring and its jobs, of the negotiation, of the frontend and of the
+//! backend, by their public calls.
 #![tactic(auto)]
 
 #[cfg(test)]
 mod back;
 #[cfg(test)]
 mod backend;
+#[cfg(test)]
+mod bus;
 #[cfg(test)]
 mod expected;
 #[cfg(test)]

@@ -20,7 +20,7 @@ mod shown;
 mod suspend;
 
 pub use keys::Room;
-pub use shown::front_shown;
+pub use shown::{front_access, front_shown};
 
 /// The memory of the domains, the back's mappings, the event channels, and the directory of keys with
 /// both ends' watches. Once it is made, only keys and watches take memory.

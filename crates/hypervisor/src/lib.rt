@@ -6,4 +6,4 @@
 
 mod hypervisor;
 
-pub use hypervisor::{Hypervisor, Room, front_shown};
+pub use hypervisor::{Hypervisor, Room, front_access, front_shown};

@@ -2,7 +2,7 @@ ghost use Rattle.std.specs.Prelude.{◌≡◌, OnOk, codes};
 ghost use Rattle.blk_io.specs.Outside.{written};
 
 use crate::expected::{holds, same};
-use blk_base::{End, Move};
+use blk_base::{Access, BackMover, End, Move};
 use blk_io::{MemorySink, Sink};
 use line_text::LineText;
 use schedule_text::{
@@ -283,7 +283,7 @@ fn a_sink_gets_the_lines(rt: HostRuntime) -> Result<(), Fail> {
     Ok(())
 }
 
-// A move, as it is shown.
+// A move that makes a port.
 #[derive(Drop)]
 struct Port(u32);
 
@@ -292,8 +292,43 @@ impl Shown for Port {
 
     ghost shown = { λ p. moves.FrontPort p.0 };
 
+    fn access(&self) -> Option<Access> {
+        None
+    }
+
     fn shown(&self) -> Move {
         Move::FrontPort { port: self.0 }
+    }
+}
+
+// A move of the second job that reads word 7 of frame 18 through mapping 5.
+#[derive(Drop)]
+struct Word(u32);
+
+impl Shown for Word {
+    ghost use Rattle.blk_base.specs.declared.moves.BackMover.TheVariants as back_mover;
+    ghost use Rattle.blk_base.specs.declared.moves.Move.TheVariants as moves;
+
+    ghost shown = { λ w. moves.Read (back_mover.Job 2) 5 18 7 w.0 };
+
+    fn access(&self) -> Option<Access> {
+        Some(Access::Read {
+            who: BackMover::Job(2),
+            mapping: 5,
+            frame: 18,
+            word: 7,
+            value: self.0,
+        })
+    }
+
+    fn shown(&self) -> Move {
+        Move::Read {
+            who: BackMover::Job(2),
+            mapping: 5,
+            frame: 18,
+            word: 7,
+            value: self.0,
+        }
     }
 }
 
@@ -307,8 +342,13 @@ fn a_move_has_a_line_where_the_recorder_keeps_moves(rt: HostRuntime) -> Result<(
             room: LineText::new(),
         };
         recorder.add_move(&Port(7))?;
+        recorder.add_move(&Word(0xdead_beef))?;
     }
-    same(&rt, sink.bytes(), b"m front port 7\n".as_slice());
+    same(
+        &rt,
+        sink.bytes(),
+        b"m front port 7\nm job 2 read 5 18 7 deadbeef\n".as_slice(),
+    );
     Ok(())
 }
 

@@ -10,9 +10,9 @@ ghost use Rattle.vbd_model.specs.News.{news_lines};
 ghost use Rattle.split_model.specs.Shown.{front_lines, back_lines, halt_lines, halt_line, effect_line, refusal_word};
 
 use blk_back::{BackTold, Halt};
-use blk_base::{BackAnswer, BackAsk, BackMover, FrontAnswer, FrontAsk, Job, Move};
+use blk_base::{Access, BackAnswer, BackAsk, BackMover, FrontAnswer, FrontAsk, Job, Move};
 use blk_front::{Refusal, Told};
-use hypervisor::{Hypervisor, front_shown};
+use hypervisor::{Hypervisor, front_access, front_shown};
 use schedule_text::{Halt as HaltLine, Line, RecordStop, Recorder, Refusal as RefusalWord, Shown};
 use vbd_front::Frontend;
 use xenbus_state::FrontNews;
@@ -29,7 +29,12 @@ impl<'a, 'b, 'c, 'd> Shown for FrontMove<'a, 'b, 'c, 'd> {
 
     ghost shown = { λ m. front_shown m.ask.now m.answer.now };
 
-    #[inline(never)]
+    #[inline(always)]
+    fn access(&self) -> Option<Access> {
+        front_access(self.ask, self.answer)
+    }
+
+    #[inline(always)]
     fn shown(&self) -> Move {
         front_shown(self.ask, self.answer)
     }
@@ -52,7 +57,12 @@ impl<'a, 'b, 'c, 'd, 'e> Shown for BackMove<'a, 'b, 'c, 'd, 'e> {
 
     ghost may = { λ m. MayShow m.under.now m.ask.now m.answer.now };
 
-    #[inline(never)]
+    #[inline(always)]
+    fn access(&self) -> Option<Access> {
+        self.under.back_access(self.who, self.ask, self.answer)
+    }
+
+    #[inline(always)]
     fn shown(&self) -> Move {
         self.under.back_shown(self.who, self.ask, self.answer)
     }

@@ -1,11 +1,16 @@
 -- What a recorder exposes after lines that were given to it one after another: for whoever adds more than once.
-use Rattle.std.proofs.Common.{◌≡◌, ℕ, ◌≤◌, List, [], ◌∷◌, ◌++◌, Option, Some, None, Result, Ok, Err, refl, ap, sym, ◌∙◌, subst, append_assoc, arith}
+use Rattle.std.proofs.Common.{◌≡◌, ℕ, ◌≤◌, List, [], ◌∷◌, ◌++◌, Option, Some, None, IfSome, Result, Ok, Err, refl, ap, sym, ◌∙◌, subst, append_assoc, arith}
 use Rattle.std.proofs.lemmas.List.{append-nil}
 use Rattle.std.proofs.lemmas.List.Concat.{flat_map-append}
 use Rattle.std.specs.Borrow.{GName}
 use Rattle.blk_io.specs.Outside.{SinkSeen, IsPartlyWritten, written}
+use Rattle.blk_base.specs.Access.{move_of}
+use Rattle.blk_base.specs.declared.moves.Access.{Access}
+use Rattle.blk_base.specs.declared.moves.Move.{Move}
 use Rattle.schedule_text.specs.declared.line.Detail.{Detail}
+use Rattle.schedule_text.specs.declared.line.Detail.TheVariants.{Moves}
 use Rattle.schedule_text.specs.declared.line.Line.{Line}
+use Rattle.schedule_text.specs.declared.line.Line.TheVariants as lines
 use Rattle.schedule_text.specs.declared.recorder.RecordStop.{RecordStop}
 use Rattle.schedule_text.specs.declared.recorder.RecordStop.TheVariants.{Failed, OutOfMemory}
 use Rattle.schedule_text.specs.Recorder.{Told, gained, recorded, kept_of, line_bytes, report_text, StopsWithin, RecorderSeen, Gained, Because, StopsAmong, Adds}
@@ -148,3 +153,11 @@ sent line shown d g (Err Failed) a b one p =
     let as_kept = subst (λ (l : List Line). IsPartlyWritten a.held (report_text l) b.held) (sym one) as_text in
     stopped line Failed (writing d g a) (writing d g b) (record { lines = refl; tally = refl; text = as_kept }) refl p.rose refl
 sent line shown d g (Err OutOfMemory) a b one p = absurd p
+
+-- the line of an access was written to a recorder's sink
+pub sent_access : (move : Move) (found : Option Access) (access : Access) (g : GName) (result : Result (Unit {0}) RecordStop) (a b : SinkSeen)
+    → IfSome found (λ (x : Access). move_of x ≡ move) → found ≡ Some access → WritesLine (lines.Move (move_of access)) result a b
+    → Adds (lines.Move move ∷ []) result (writing Moves g a) (writing Moves g b)
+sent_access move found access g result a b same is p =
+    let shown = subst (λ (o : Option Access). IfSome o (λ (x : Access). move_of x ≡ move)) is same in
+    sent (lines.Move move) (lines.Move (move_of access)) Moves g result a b (ap (λ (m : Move). lines.Move m ∷ []) (sym shown)) p

@@ -1,7 +1,8 @@
 // A report's line of a move.
-ghost use Rattle.std.specs.Prelude.{◌+◌, ◌≤◌, ◌∷◌, [], ◌++◌, decimal, codes, length};
+ghost use Rattle.std.specs.Prelude.{◌≡◌, ◌+◌, ◌≤◌, ◌∷◌, [], ◌++◌, decimal, codes, length, false};
 ghost use Rattle.arrayvec.specs.ArrayString.{array_string_len};
-ghost use Rattle.blk_base.specs.Kinds.{IsFrontMove, IsAccess, IsBackCall};
+ghost use Rattle.blk_base.specs.Access.{is_access};
+ghost use Rattle.blk_base.specs.Kinds.{IsFrontMove, IsBackCall};
 ghost use Rattle.line_text.specs.Numbers.{hex8};
 ghost use Rattle.schedule_text.specs.Parts.{AddsWords};
 ghost use Rattle.schedule_text.specs.Line.{move_words, mover_words, back_words, mode_word};
@@ -9,17 +10,16 @@ ghost use Rattle.schedule_text.specs.Line.{move_words, mover_words, back_words, 
 use blk_base::{BackMover, Mode, Move, Mover, Path, Text};
 use line_text::{LineText, put, put_hex, put_number, put_signed};
 
-/// Adds a move.
+/// Adds a move that neither reads nor writes a word.
 pub fn put_move(text: &mut LineText, one: &Move)
-    requires { array_string_len text.old ≤ 200 }
+    requires room { array_string_len text.old ≤ 200 }
+    requires other { is_access one.now ≡ false }
     ensures { AddsWords (move_words one.now) 1000 text.old text.new }
 {
     match one {
-        Move::FrontRead { .. }
-        | Move::FrontWrite { .. }
-        | Move::FrontCas { .. }
-        | Move::FrontPort { .. } => put_front_move(text, one),
-        Move::Read { .. } | Move::Write { .. } => put_back_access(text, one),
+        Move::FrontRead { .. } | Move::FrontWrite { .. } | Move::Read { .. } | Move::Write { .. } =>
+            unreachable!(),
+        Move::FrontCas { .. } | Move::FrontPort { .. } => put_front_move(text, one),
         Move::Map { .. }
         | Move::MapRefused { .. }
         | Move::Unmap { .. }
@@ -46,15 +46,13 @@ pub fn put_move(text: &mut LineText, one: &Move)
     }
 }
 
-/// Adds a move of the front on a word of its memory or on its port.
+/// Adds a word that the front compares and exchanges, or its port.
 fn put_front_move(text: &mut LineText, one: &Move)
     requires room { array_string_len text.old ≤ 200 }
     requires front { IsFrontMove one.now }
     ensures { AddsWords (move_words one.now) 1000 text.old text.new }
 {
     match one {
-        Move::FrontRead { frame, word, value } => put_front(text, "read", *frame, *word, *value),
-        Move::FrontWrite { frame, word, value } => put_front(text, "write", *frame, *word, *value),
         Move::FrontCas {
             frame,
             word,
@@ -62,7 +60,8 @@ fn put_front_move(text: &mut LineText, one: &Move)
             new,
             seen,
         } => {
-            put_front(text, "cas", *frame, *word, *old);
+            put(text, "front cas");
+            put_place(text, *frame, *word, *old);
             put_hex(text, *new);
             put_hex(text, *seen);
         }
@@ -70,37 +69,6 @@ fn put_front_move(text: &mut LineText, one: &Move)
             put(text, "front");
             put(text, "port");
             put_number(text, u64::from(*port));
-        }
-        _ => unreachable!(),
-    }
-}
-
-/// Adds the reading or writing of a word through a mapping.
-fn put_back_access(text: &mut LineText, one: &Move)
-    requires room { array_string_len text.old ≤ 200 }
-    requires access { IsAccess one.now }
-    ensures { AddsWords (move_words one.now) 1000 text.old text.new }
-{
-    match one {
-        Move::Read {
-            who,
-            mapping,
-            frame,
-            word,
-            value,
-        } => {
-            put_back(text, *who);
-            put_access(text, "read", *mapping, *frame, *word, *value);
-        }
-        Move::Write {
-            who,
-            mapping,
-            frame,
-            word,
-            value,
-        } => {
-            put_back(text, *who);
-            put_access(text, "write", *mapping, *frame, *word, *value);
         }
         _ => unreachable!(),
     }
@@ -142,25 +110,11 @@ fn put_back_call(text: &mut LineText, one: &Move)
     }
 }
 
-/// Adds an access of the front's to a word of its memory.
-fn put_front(text: &mut LineText, name: &str, frame: u32, word: u32, value: u32)
-    requires { array_string_len text.old + length name.now ≤ 300 }
-    ensures { AddsWords (codes "front" ∷ name.now ∷ decimal frame ∷ decimal word ∷ hex8 value ∷ []) 400 text.old text.new }
+/// Adds a word's place and its value.
+pub fn put_place(text: &mut LineText, frame: u32, word: u32, value: u32)
+    requires { array_string_len text.old ≤ 300 }
+    ensures { AddsWords (decimal frame ∷ decimal word ∷ hex8 value ∷ []) 400 text.old text.new }
 {
-    put(text, "front");
-    put(text, name);
-    put_number(text, u64::from(frame));
-    put_number(text, u64::from(word));
-    put_hex(text, value);
-}
-
-/// Adds an access to a word through a mapping.
-fn put_access(text: &mut LineText, name: &str, mapping: u64, frame: u32, word: u32, value: u32)
-    requires { array_string_len text.old + length name.now ≤ 300 }
-    ensures { AddsWords (name.now ∷ decimal mapping ∷ decimal frame ∷ decimal word ∷ hex8 value ∷ []) 450 text.old text.new }
-{
-    put(text, name);
-    put_number(text, mapping);
     put_number(text, u64::from(frame));
     put_number(text, u64::from(word));
     put_hex(text, value);

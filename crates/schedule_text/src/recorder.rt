@@ -1,9 +1,10 @@
 // Who keeps a report's lines.
-ghost use Rattle.std.specs.Prelude.{◌≡◌, ◌∷◌, []};
+ghost use Rattle.std.specs.Prelude.{◌≡◌, ◌∷◌, [], IfSome, is_some};
+ghost use Rattle.blk_base.specs.Access.{move_of, is_access};
 ghost use Rattle.schedule_text.specs.Recorder.{Adds, HandsOnLines};
 
 use crate::line::Line;
-use blk_base::Move;
+use blk_base::{Access, Move};
 use blk_io::Failed;
 
 /// Why a line wasn't added.
@@ -44,7 +45,14 @@ pub trait Shown {
     /// What must be so where the move is made, as that a mapping lives.
     ghost may: { Self → Type 0 } = { λ _. Unit {0} };
 
-    /// Makes the move, as a report shows it.
+    /// The move where it reads or writes a word, as most moves do; `None` where it does something else.
+    fn access(&self) -> Option<Access>
+        requires { may self.now }
+        ensures same { IfSome result (λ access. move_of access ≡ shown self.now) }
+        ensures all { is_some result ≡ is_access (shown self.now) };
+
+    /// Makes the move, as a report shows it. A move has room for a path and a text, so an access isn't
+    /// made one where its line is written at once.
     fn shown(&self) -> Move
         requires { may self.now }
         ensures { result ≡ shown self.now };

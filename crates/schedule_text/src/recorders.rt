@@ -2,15 +2,17 @@
 ghost use Rattle.std.specs.Prelude.{◌≡◌, ◌<◌, [], None};
 ghost use Rattle.std.specs.Option.{option_to_list};
 ghost use Rattle.arrayvec.specs.ArrayString.{array_string_len};
+ghost use Rattle.blk_base.specs.Access.{move_of};
 ghost use Rattle.schedule_text.specs.declared.line.Line.{Line};
 ghost use Rattle.schedule_text.specs.Line.{text_of};
 ghost use Rattle.schedule_text.specs.Recorder.{recorded, counted};
 ghost use Rattle.schedule_text.specs.Recorders.{KeepsLine, WritesLine};
 
+use crate::accesses::write_access;
 use crate::line::{Detail, Line};
 use crate::recorder::{RecordStop, Recorder, Shown, Tally, Verdict};
 use crate::writing::{write_line, write_shown};
-use blk_base::Config;
+use blk_base::{Access, Config};
 use blk_io::{Failed, Sink};
 use line_text::LineText;
 use std::alloc::Global;
@@ -129,7 +131,10 @@ impl<'a, S: Sink> Recorder for LineSink<'a, S> {
     fn add_move<M: Shown>(&mut self, made: &M) -> Result<(), RecordStop> {
         match self.detail {
             Detail::Lines => Ok(()),
-            Detail::Moves => write_move(self.sink, &mut self.room, made),
+            Detail::Moves => match made.access() {
+                Some(access) => write_accessed(self.sink, &mut self.room, &access),
+                None => write_move(self.sink, &mut self.room, made),
+            },
         }
     }
 
@@ -157,6 +162,19 @@ fn send<S: Sink>(sink: &mut S, text: &mut LineText) -> Result<(), RecordStop>
         Ok(()) => Ok(()),
         Err(Failed) => Err(RecordStop::Failed),
     }
+}
+
+// Writes the line of an access.
+#[inline(never)]
+fn write_accessed<S: Sink>(
+    sink: &mut S,
+    text: &mut LineText,
+    access: &Access,
+) -> Result<(), RecordStop>
+    ensures { WritesLine (Line.Move (move_of access.now)) result (S.seen sink.old) (S.seen sink.new) }
+{
+    write_access(text, access);
+    send(sink, text)
 }
 
 // Makes the line of a move, and writes it.

@@ -6,6 +6,7 @@ ghost use Rattle.line_text.specs.Words.{spaced};
 ghost use Rattle.schedule_text.specs.Parts.{AddsWords, IsWritten};
 ghost use Rattle.schedule_text.specs.Line.{text_of, job_words, halt_words, status_word, refusal_word, detail_word};
 
+use crate::accesses::{access_of, write_access};
 use crate::line::{Detail, Halt, KeyName, Line, Refusal};
 use crate::moves::put_move;
 use blk_base::{Abi, Config, Job, Move, SectorCount, SectorWords, Status, Text};
@@ -146,8 +147,13 @@ pub fn write_shown(text: &mut LineText, one: &Move)
     ensures written { text.new.bytes ≡ text_of (Line.Move one.now) }
     ensures short { array_string_len text.new ≤ 1000 }
 {
-    begin(text, "m");
-    put_move(text, one);
+    match access_of(one) {
+        Some(access) => write_access(text, &access),
+        None => {
+            begin(text, "m");
+            put_move(text, one);
+        }
+    }
 }
 
 /// A word that is overwritten from outside, as a schedule and a report have it.

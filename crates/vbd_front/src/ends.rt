@@ -107,7 +107,7 @@ impl Ends {
         self.ring.ask()
     }
 
-    /// What the ring's end asks where that is a word of a request's data; `None` elsewhere.
+    /// What the ring's end asks, where it says by itself that this is a word of a request's data.
     #[inline(always)]
     pub fn data_asked(&self) -> Option<FrontAsk<'_>>
         ensures value { result ≡ data_asked self.now.ring }

@@ -146,7 +146,8 @@ impl Frontend {
 }
 
 impl Frontend {
-    /// What it asks where that is a word of a request's data, as most of its moves are; `None` elsewhere.
+    /// What it asks where that is a word of a request's data, as most of its moves are. `None` elsewhere, and where
+    /// `blk_front: Front::data_asked` leaves a word to `ask`.
     #[inline(always)]
     #[tactic(auto, using(crate::proofs::Turns::made_asks))]
     pub fn data_asked(&self) -> Option<FrontAsk<'_>>

@@ -30,11 +30,9 @@ pub use laws::{
     the_states_of_the_front_rise, the_tables_are_obeyed, the_terms_are_read_as_they_are_set,
     the_terms_come_from_the_front_alone,
 };
+pub use numbers::{read_long, read_number};
 pub use offer::{DiskFacts, Features};
 pub use stage::{BackStage, FrontStage};
 pub use state::{BusState, read_state};
 pub use table::{BackAction, BackHalt, FrontAction, back_action, front_action};
 pub use values::{FrontTerms, KeyValue, back_value, front_value};
-
-#[cfg(test)]
-mod tests;

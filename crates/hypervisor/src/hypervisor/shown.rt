@@ -1,11 +1,14 @@
 // The moves that a report shows.
-ghost use Rattle.std.specs.Prelude.{◌≡◌, None};
+ghost use Rattle.std.specs.Prelude.{◌≡◌, None, IfSome, is_some};
+ghost use Rattle.blk_base.specs.Access.{move_of, is_access};
 ghost use Rattle.hypervisor.specs.Act.{front_shown, front_key_shown, back_shown, mover_of, job_number};
 ghost use Rattle.hypervisor.specs.Hypervisor.{Hypervisor};
 ghost use Rattle.hypervisor.specs.May.{MayShow, mapping_shown};
 
 use super::Hypervisor;
-use blk_base::{BackAnswer, BackAsk, BackMover, FrontAnswer, FrontAsk, Lent, Move, Mover, Text};
+use blk_base::{
+    Access, BackAnswer, BackAsk, BackMover, FrontAnswer, FrontAsk, Lent, Move, Mover, Text,
+};
 
 /// The move of the front as a report shows it, by what was asked and answered.
 #[inline(always)]
@@ -43,6 +46,28 @@ pub fn front_shown(ask: &FrontAsk, answer: &FrontAnswer) -> Move
         (FrontAsk::Send, _) => Move::Send(Mover::Front),
         (FrontAsk::ClosePort, _) => Move::ClosePort(Mover::Front),
         _ => front_key_shown(ask, answer),
+    }
+}
+
+/// The move of the front where it reads or writes a word, which is shorter; `None` where it does
+/// something else.
+#[inline(always)]
+pub fn front_access(ask: &FrontAsk, answer: &FrontAnswer) -> Option<Access>
+    ensures shown { IfSome result (λ access. move_of access ≡ front_shown ask.now answer.now) }
+    ensures all { is_some result ≡ is_access (front_shown ask.now answer.now) }
+{
+    match (ask, answer) {
+        (FrontAsk::Read { frame, word }, FrontAnswer::Word(value)) => Some(Access::FrontRead {
+            frame: *frame,
+            word: *word,
+            value: *value,
+        }),
+        (FrontAsk::Write { frame, word, value }, _) => Some(Access::FrontWrite {
+            frame: *frame,
+            word: *word,
+            value: *value,
+        }),
+        _ => None,
     }
 }
 
@@ -101,6 +126,42 @@ impl Hypervisor {
                 frame: self.grants.frame_of(*mapping),
             },
             _ => call_shown(who, ask, answer),
+        }
+    }
+}
+
+impl Hypervisor {
+    /// The move of the back or of a job where it reads or writes a word, which is shorter; `None` where
+    /// it does something else. Its mapping must live still.
+    #[inline(always)]
+    pub fn back_access(&self, who: BackMover, ask: &BackAsk, answer: &BackAnswer) -> Option<Access>
+        requires { MayShow self.now ask.now answer.now }
+        ensures shown { IfSome result (λ access. move_of access ≡ back_shown self.now who ask.now answer.now) }
+        ensures all { is_some result ≡ is_access (back_shown self.now who ask.now answer.now) }
+    {
+        match (ask, answer) {
+            (BackAsk::Read { mapping, word }, BackAnswer::Word(value)) => Some(Access::Read {
+                who,
+                mapping: mapping.number,
+                frame: self.grants.frame_of(*mapping),
+                word: *word,
+                value: *value,
+            }),
+            (
+                BackAsk::Write {
+                    mapping,
+                    word,
+                    value,
+                },
+                _,
+            ) => Some(Access::Write {
+                who,
+                mapping: mapping.number,
+                frame: self.grants.frame_of(*mapping),
+                word: *word,
+                value: *value,
+            }),
+            _ => None,
         }
     }
 }

@@ -1,17 +1,15 @@
 // A client: both ends over one directory of keys, and a back over keys that are written by hand.
 use super::{DISK, OFFER, short};
-use crate::back::{BackBus, BackBusAsk};
-use crate::front::{FrontBus, FrontBusAsk, FrontNews};
-use crate::keys::{FrontKey, back_path, front_path, state_path};
-use crate::offer::{DiskFacts, Features};
-use crate::state::BusState;
-use crate::table::BackHalt;
-use crate::values::FrontTerms;
+use crate::expected::{holds, same};
 use blk_base::{
     Abi, BackAnswer, Config, End, FrontAnswer, Lent, Mapping, Mode, OutOfMemory, Path, Text,
 };
 use key_directory::{KeyStop, Keys};
 use std::test::Fail;
+use xenbus_state::{
+    BackBus, BackBusAsk, BackHalt, BusState, DiskFacts, Features, FrontBus, FrontBusAsk, FrontKey,
+    FrontNews, FrontTerms, back_path, front_path, state_path,
+};
 
 fn read<'a>(keys: &'a Keys, path: &Path) -> Option<Lent<'a, Text>> {
     match keys.read(path) {

@@ -1,13 +1,13 @@
 // Tables of texts, and of what each end does on reading the other's state.
 mod client;
 
-use crate::keys::{BackKey, FrontKey, back_path, front_path, state_path};
-use crate::numbers::{read_long, read_number};
-use crate::offer::{DiskFacts, Features};
-use crate::state::{BusState, read_state};
-use crate::table::{BackAction, BackHalt, FrontAction, back_action, front_action};
-use crate::values::{FrontTerms, back_value, front_value};
+use crate::expected::same;
 use blk_base::{Abi, End, Lent, Text};
+use xenbus_state::{
+    BackAction, BackHalt, BackKey, BusState, DiskFacts, Features, FrontAction, FrontKey,
+    FrontTerms, back_action, back_path, back_value, front_action, front_path, front_value,
+    read_long, read_number, read_state, state_path,
+};
 
 fn short(text: &str) -> Text {
     if text.len() <= 64 {
