@@ -1,6 +1,6 @@
 -- What a step took in and took out again is as it was.
 use Rattle.std.proofs.Common.{◌≡◌, ℕ, Bool, true, false, ◌||◌, List, [], ◌∷◌, refl, ap, arith}
-use Rattle.std.specs.Prelude.{is_some, Result, Ok, Err, OnErr}
+use Rattle.std.specs.Prelude.{is_some, is_err, Result, Ok, Err, MatchResult}
 use Rattle.std.specs.declared.cmp.Ordering.{Ordering}
 use Rattle.std.specs.declared.cmp.Ordering.TheVariants.{Less, Equal, Greater}
 use Rattle.std.specs.List.{list_any}
@@ -67,7 +67,7 @@ fields e = (ap (λ (s : State). s.table) e, ap (λ (s : State). s.pages) e, ap (
 pub put_back : (now : State) (t p : WordValues) (st : List (ℕ × Standing)) (n : NumberSet) → t ≡ now.table → p ≡ now.pages → st ≡ now.standing → n ≡ now.numbers → ◌≡◌ {A = State} (record { table = t; pages = p; standing = st; numbers = n }) now
 put_back now t p st n a b c d = λ i. record { table = a i; pages = b i; standing = c i; numbers = d i }
 
--- what holds after a failure, from what else holds then
-pub on_err : {T E : Type 0} (r : Result T E) {P Q : Type 0} → (P → Q) → OnErr r P → OnErr r Q
-on_err (Ok x) f h = h
-on_err (Err e) f h = f h
+-- what holds of what failed, from what else holds of it
+pub on_err : {T E : Type 0} (r : Result T E) (P P' : Type 0) {Q Q' : Type 0} → is_err r ≡ true → (Q → Q') → MatchResult r (λ _. P) (λ _. Q) → MatchResult r (λ _. P') (λ _. Q')
+on_err (Ok x) P P' failed f h = absurd (cc)
+on_err (Err e) P P' failed f h = f h

@@ -1,6 +1,7 @@
 // The mappings that stand.
-ghost use Rattle.std.specs.Prelude.{◌≡◌, OnOk, OnErr, is_some, [], false};
+ghost use Rattle.std.specs.Prelude.{◌≡◌, is_some, [], false};
 ghost use Rattle.std.specs.Map.{values_of};
+ghost use Rattle.blk_base.specs.Becomes.{Becomes};
 ghost use Rattle.report_rules.specs.Standing.{others_of, other_writers_of};
 ghost use Rattle.memory_check.specs.State.{standing_at, with_standing, without_standing};
 
@@ -52,8 +53,7 @@ impl Mappings {
     /// changed.
     pub(crate) fn add(&mut self, made: Standing) -> Result<(), OutOfMemory>
         requires { is_some (standing_at self.old made.number) ≡ false }
-        ensures added { OnOk result (self.new ≡ with_standing self.old made) }
-        ensures kept { OnErr result (self.new ≡ self.old) }
+        ensures added { Becomes (with_standing self.old made) result self.old self.new }
     {
         match self.by_number.insert(made.number, made) {
             Ok(_) => Ok(()),

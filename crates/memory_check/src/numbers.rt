@@ -1,5 +1,6 @@
 // The numbers that mappings ever had.
-ghost use Rattle.std.specs.Prelude.{◌≡◌, OnOk, OnErr};
+ghost use Rattle.std.specs.Prelude.{◌≡◌};
+ghost use Rattle.blk_base.specs.Becomes.{Becomes};
 ghost use Rattle.memory_check.specs.Numbers.{no_numbers, has, wants_no_place, with_in_run, with_apart, without_apart};
 
 use blk_base::OutOfMemory;
@@ -65,8 +66,7 @@ impl Numbers {
 
     /// Takes in a number beside the run. After want of memory nothing has changed.
     pub(crate) fn add_apart(&mut self, number: u64) -> Result<(), OutOfMemory>
-        ensures added { OnOk result (self.new ≡ with_apart self.old number) }
-        ensures kept { OnErr result (self.new ≡ self.old) }
+        ensures added { Becomes (with_apart self.old number) result self.old self.new }
     {
         match self.apart.insert(number) {
             Ok(_) => Ok(()),

@@ -1,5 +1,6 @@
 // The state after some lines of a report.
-ghost use Rattle.std.specs.Prelude.{◌≡◌, OnOk, OnErr};
+ghost use Rattle.std.specs.Prelude.{◌≡◌};
+ghost use Rattle.blk_base.specs.Becomes.{Becomes};
 ghost use Rattle.schedule_text.specs.declared.line.Line.TheVariants as lines;
 ghost use Rattle.grant_table.specs.Entry.{mapped_entry};
 ghost use Rattle.memory_check.specs.Numbers.{has};
@@ -70,8 +71,7 @@ impl Memory {
     }
 
     fn write(&mut self, frame: u32, word: u32, value: u32) -> Result<(), OutOfMemory>
-        ensures written { OnOk result (self.new ≡ with_word self.old frame word value) }
-        ensures kept { OnErr result (self.new ≡ self.old) }
+        ensures written { Becomes (with_word self.old frame word value) result self.old self.new }
     {
         if frame < 2 {
             self.table.write(frame, word, value)
@@ -82,8 +82,7 @@ impl Memory {
 
     // Sets the flags of the entry of a reference that is mapped.
     fn set_flags(&mut self, gref: u32, mode: Mode) -> Result<(), OutOfMemory>
-        ensures written { OnOk result (self.new ≡ with_flags self.old gref (mapped_entry (flags_of self.old gref) mode)) }
-        ensures kept { OnErr result (self.new ≡ self.old) }
+        ensures written { Becomes (with_flags self.old gref (mapped_entry (flags_of self.old gref) mode)) result self.old self.new }
     {
         let frame = gref / 512;
         let word = 2 * (gref % 512);
@@ -93,8 +92,7 @@ impl Memory {
 
     // Takes in a map, but for its number.
     fn add_mapping(&mut self, made: Standing) -> Result<(), OutOfMemory>
-        ensures added { OnOk result (self.new ≡ with_mapping self.old made) }
-        ensures kept { OnErr result (self.new ≡ self.old) }
+        ensures added { Becomes (with_mapping self.old made) result self.old self.new }
     {
         if self.standing.stands(made.number) {
             return self.set_flags(made.gref, made.mode);
@@ -109,8 +107,7 @@ impl Memory {
 
     // Takes in a map.
     fn map(&mut self, made: Standing) -> Result<(), OutOfMemory>
-        ensures mapped { OnOk result (self.new ≡ after_map self.old made) }
-        ensures kept { OnErr result (self.new ≡ self.old) }
+        ensures mapped { Becomes (after_map self.old made) result self.old self.new }
     {
         if self.numbers.wants_no_place(made.number) {
             self.add_mapping(made)?;
@@ -126,8 +123,7 @@ impl Memory {
     }
 
     fn unmap(&mut self, number: u64) -> Result<(), OutOfMemory>
-        ensures unmapped { OnOk result (self.new ≡ after_unmap self.old (standing_at self.old.standing number)) }
-        ensures kept { OnErr result (self.new ≡ self.old) }
+        ensures unmapped { Becomes (after_unmap self.old (standing_at self.old.standing number)) result self.old self.new }
     {
         let Some(ended) = self.standing(number) else {
             return Ok(());
@@ -151,8 +147,7 @@ impl Memory {
 
     /// Takes in the next line. After want of memory nothing has changed.
     pub fn see(&mut self, line: &Line) -> Result<(), OutOfMemory>
-        ensures ok { OnOk result (self.new ≡ seen self.old line.now) }
-        ensures kept { OnErr result (self.new ≡ self.old) }
+        ensures seen { Becomes (seen self.old line.now) result self.old self.new }
     {
         match *line {
             Line::Move(step) => self.see_move(&step),
@@ -166,8 +161,7 @@ impl Memory {
     }
 
     fn see_move(&mut self, step: &Move) -> Result<(), OutOfMemory>
-        ensures ok { OnOk result (self.new ≡ seen self.old (lines.Move step.now)) }
-        ensures kept { OnErr result (self.new ≡ self.old) }
+        ensures seen { Becomes (seen self.old (lines.Move step.now)) result self.old self.new }
     {
         match *step {
             Move::FrontWrite { frame, word, value } => self.write(frame, word, value),

@@ -1,5 +1,6 @@
 // The words of memory that were written.
-ghost use Rattle.std.specs.Prelude.{◌≡◌, ◌<◌, OnOk, OnErr};
+ghost use Rattle.std.specs.Prelude.{◌≡◌, ◌<◌};
+ghost use Rattle.blk_base.specs.Becomes.{Becomes};
 ghost use Rattle.memory_check.specs.Words.{no_words, is_dense, word_in, with_word_in, put_at};
 
 use blk_base::OutOfMemory;
@@ -36,8 +37,7 @@ fn is_dense(frame: u32, word: u32) -> bool
 // Writes at a place of a list, which grows where it is too short.
 fn put_at(words: &mut Vec<u32>, place: usize, value: u32) -> Result<(), OutOfMemory>
     requires { place < 1048576 }
-    ensures put { OnOk result (words.new.items ≡ put_at words.old.items place value) }
-    ensures kept { OnErr result (words.new.items ≡ words.old.items) }
+    ensures put { Becomes (put_at words.old.items place value) result words.old.items words.new.items }
 {
     if place >= words.len() {
         words.resize(place + 1, 0)?;
@@ -70,8 +70,7 @@ impl Words {
 
     /// Takes in that a word was written. After want of memory nothing has changed.
     pub(crate) fn write(&mut self, frame: u32, word: u32, value: u32) -> Result<(), OutOfMemory>
-        ensures written { OnOk result (self.new ≡ with_word_in self.old frame word value) }
-        ensures kept { OnErr result (self.new ≡ self.old) }
+        ensures written { Becomes (with_word_in self.old frame word value) result self.old self.new }
     {
         if is_dense(frame, word) {
             let place = frame as usize * FRAME_WORDS as usize + word as usize;

@@ -1,8 +1,8 @@
 // The plain, slow program.
-ghost use Rattle.std.specs.Prelude.{◌≡◌, ℕ, List, Option, Some, None, IfOk, OnErr, IsNone};
+ghost use Rattle.std.specs.Prelude.{◌≡◌, ℕ, List, Option, Some, None, IsNone};
 ghost use Rattle.plain_disk.specs.Disk.{disk_of, words_at};
 ghost use Rattle.plain_disk.specs.Step.{step};
-ghost use Rattle.plain_disk.specs.Stands.{Leaves};
+ghost use Rattle.plain_disk.specs.Stands.{Steps};
 
 mod steps;
 
@@ -75,8 +75,7 @@ impl PlainDisk {
 
     /// Takes a line's step, where it has one. After want of memory the disk is as before.
     pub fn step(&mut self, line: &Line) -> Result<Stand, OutOfMemory>
-        ensures stands { IfOk result (λ stand. Leaves stand (step self.old line.now) self.old self.new) }
-        ensures kept { OnErr result (self.new ≡ self.old) }
+        ensures stands { Steps (step self.old line.now) result self.old self.new }
     {
         match *line {
             Line::Submit { id, job } => self.submit(id, job),

@@ -1,6 +1,7 @@
 // What is kept of the ring, and one line further.
-ghost use Rattle.std.specs.Prelude.{◌≡◌, ◌<◌, ◌≤◌, ◌++◌, IfOk, OnErr, IfSome};
+ghost use Rattle.std.specs.Prelude.{◌≡◌, ◌<◌, ◌≤◌, ◌++◌, IfOk, IfSome};
 ghost use Rattle.std.specs.Option.{option_to_list};
+ghost use Rattle.blk_base.specs.Becomes.{Becomes};
 ghost use Rattle.report_rules.specs.Ring.{page_made};
 ghost use Rattle.ring_check.specs.State.{begun, no_lines, entry_word_seen, producer_on, response_on, overrun_seen, newer, counted, seen};
 
@@ -175,8 +176,7 @@ impl RingSight {
 
     // Keeps the page of the ring that a line made.
     fn keep_page(&mut self, line: &Line) -> Result<(), OutOfMemory>
-        ensures ok { IfOk result (λ _. self.new ≡ record self.old { pages = self.old.pages ++ option_to_list (page_made line.now) }) }
-        ensures kept { OnErr result (self.new ≡ self.old) }
+        ensures kept { Becomes (record self.old { pages = self.old.pages ++ option_to_list (page_made line.now) }) result self.old self.new }
     {
         if let Some(page) = page_made(line) {
             self.pages.push(page)?;
@@ -186,8 +186,7 @@ impl RingSight {
 
     /// One line further. After want of memory all is as before.
     pub fn see(&mut self, line: &Line) -> Result<(), OutOfMemory>
-        ensures seen { IfOk result (λ _. self.new ≡ seen self.old line.now) }
-        ensures kept { OnErr result (self.new ≡ self.old) }
+        ensures seen { Becomes (seen self.old line.now) result self.old self.new }
     {
         if is_epoch(line) {
             self.begin();

@@ -1,8 +1,9 @@
 // The step of each kind of line.
-ghost use Rattle.std.specs.Prelude.{◌≡◌, ◌≤◌, ◌-◌, Option, Some, IfOk, OnOk, OnErr, length, map, filter};
+ghost use Rattle.std.specs.Prelude.{◌≡◌, ◌≤◌, ◌-◌, Option, Some, length, map, filter};
+ghost use Rattle.blk_base.specs.Becomes.{Becomes};
 ghost use Rattle.plain_disk.specs.Disk.{request_of};
 ghost use Rattle.plain_disk.specs.Step.{submitted_of, effect_of, read_of, flushed_of, trimmed_of, fault_of, replied_of, answered_of, data_of, epoch_of, quiet_of, is_in_order, may_reply, reopened, served, one_sector, all_sectors, lost_of, with_request};
-ghost use Rattle.plain_disk.specs.Stands.{Leaves};
+ghost use Rattle.plain_disk.specs.Stands.{Steps};
 
 use super::{PlainDisk, Stand};
 use crate::looking;
@@ -11,8 +12,7 @@ use blk_base::{Job, OutOfMemory, SectorWords, Status};
 
 impl PlainDisk {
     pub(super) fn submit(&mut self, id: u64, job: Job) -> Result<Stand, OutOfMemory>
-        ensures stands { IfOk result (λ stand. Leaves stand (submitted_of self.old id job) self.old self.new) }
-        ensures kept { OnErr result (self.new ≡ self.old) }
+        ensures stands { Steps (submitted_of self.old id job) result self.old self.new }
     {
         if id == 0 || id - 1 != self.requests.len() as u64 {
             return Ok(Stand::Falls);
@@ -41,8 +41,7 @@ impl PlainDisk {
 
     // Notes a place as done, and what its sectors hold from now on.
     fn serve(&mut self, place: Place, written: Written) -> Result<(), OutOfMemory>
-        ensures ok { OnOk result (self.new ≡ served self.old place written) }
-        ensures kept { OnErr result (self.new ≡ self.old) }
+        ensures served { Becomes (served self.old place written) result self.old self.new }
     {
         self.done.push(place)?;
         match self.written.push(written) {
@@ -55,8 +54,7 @@ impl PlainDisk {
     }
 
     pub(super) fn effect(&mut self, id: u64, index: u32) -> Result<Stand, OutOfMemory>
-        ensures stands { IfOk result (λ stand. Leaves stand (effect_of self.old id index (request_of self.old.requests id)) self.old self.new) }
-        ensures kept { OnErr result (self.new ≡ self.old) }
+        ensures stands { Steps (effect_of self.old id index (request_of self.old.requests id)) result self.old self.new }
     {
         let Some(r) = looking::request_of(self.requests.as_slice(), id) else {
             return Ok(Stand::Falls);
@@ -78,8 +76,7 @@ impl PlainDisk {
         index: u32,
         words: SectorWords,
     ) -> Result<Stand, OutOfMemory>
-        ensures stands { IfOk result (λ stand. Leaves stand (read_of self.old id index words (request_of self.old.requests id)) self.old self.new) }
-        ensures kept { OnErr result (self.new ≡ self.old) }
+        ensures stands { Steps (read_of self.old id index words (request_of self.old.requests id)) result self.old self.new }
     {
         let Some(r) = looking::request_of(self.requests.as_slice(), id) else {
             return Ok(Stand::Falls);
@@ -107,8 +104,7 @@ impl PlainDisk {
     }
 
     pub(super) fn flushed(&mut self, id: u64) -> Result<Stand, OutOfMemory>
-        ensures stands { IfOk result (λ stand. Leaves stand (flushed_of self.old id (request_of self.old.requests id)) self.old self.new) }
-        ensures kept { OnErr result (self.new ≡ self.old) }
+        ensures stands { Steps (flushed_of self.old id (request_of self.old.requests id)) result self.old self.new }
     {
         let Some(r) = looking::request_of(self.requests.as_slice(), id) else {
             return Ok(Stand::Falls);
@@ -121,8 +117,7 @@ impl PlainDisk {
     }
 
     pub(super) fn trimmed(&mut self, id: u64) -> Result<Stand, OutOfMemory>
-        ensures stands { IfOk result (λ stand. Leaves stand (trimmed_of self.old id (request_of self.old.requests id)) self.old self.new) }
-        ensures kept { OnErr result (self.new ≡ self.old) }
+        ensures stands { Steps (trimmed_of self.old id (request_of self.old.requests id)) result self.old self.new }
     {
         let Some(r) = looking::request_of(self.requests.as_slice(), id) else {
             return Ok(Stand::Falls);
@@ -139,8 +134,7 @@ impl PlainDisk {
     }
 
     pub(super) fn fault(&mut self, id: u64, index: u32) -> Result<Stand, OutOfMemory>
-        ensures stands { IfOk result (λ stand. Leaves stand (fault_of self.old id index (request_of self.old.requests id)) self.old self.new) }
-        ensures kept { OnErr result (self.new ≡ self.old) }
+        ensures stands { Steps (fault_of self.old id index (request_of self.old.requests id)) result self.old self.new }
     {
         let Some(r) = looking::request_of(self.requests.as_slice(), id) else {
             return Ok(Stand::Falls);
@@ -160,8 +154,7 @@ impl PlainDisk {
     }
 
     pub(super) fn reply(&mut self, id: u64, status: Status) -> Result<Stand, OutOfMemory>
-        ensures stands { IfOk result (λ stand. Leaves stand (replied_of self.old id status (request_of self.old.requests id)) self.old self.new) }
-        ensures kept { OnErr result (self.new ≡ self.old) }
+        ensures stands { Steps (replied_of self.old id status (request_of self.old.requests id)) result self.old self.new }
     {
         let Some(r) = looking::request_of(self.requests.as_slice(), id) else {
             return Ok(Stand::Falls);
@@ -187,8 +180,7 @@ impl PlainDisk {
     }
 
     pub(super) fn answer(&mut self, id: u64, status: Status) -> Result<Stand, OutOfMemory>
-        ensures stands { IfOk result (λ stand. Leaves stand (answered_of self.old id status (request_of self.old.requests id)) self.old self.new) }
-        ensures kept { OnErr result (self.new ≡ self.old) }
+        ensures stands { Steps (answered_of self.old id status (request_of self.old.requests id)) result self.old self.new }
     {
         let Some(r) = looking::request_of(self.requests.as_slice(), id) else {
             return Ok(Stand::Falls);
@@ -206,8 +198,7 @@ impl PlainDisk {
         index: u32,
         words: SectorWords,
     ) -> Result<Stand, OutOfMemory>
-        ensures stands { IfOk result (λ stand. Leaves stand (data_of self.old id index words (request_of self.old.requests id)) self.old self.new) }
-        ensures kept { OnErr result (self.new ≡ self.old) }
+        ensures stands { Steps (data_of self.old id index words (request_of self.old.requests id)) result self.old self.new }
     {
         let Some(r) = looking::request_of(self.requests.as_slice(), id) else {
             return Ok(Stand::Falls);
@@ -221,8 +212,7 @@ impl PlainDisk {
     }
 
     pub(super) fn epoch(&mut self) -> Result<Stand, OutOfMemory>
-        ensures stands { IfOk result (λ stand. Leaves stand (Some (epoch_of self.old)) self.old self.new) }
-        ensures kept { OnErr result (self.new ≡ self.old) }
+        ensures stands { Steps (Some (epoch_of self.old)) result self.old self.new }
     {
         reopen(&mut self.requests);
         self.done.clear();
@@ -230,8 +220,7 @@ impl PlainDisk {
     }
 
     pub(super) fn quiet(&mut self) -> Result<Stand, OutOfMemory>
-        ensures stands { IfOk result (λ stand. Leaves stand (quiet_of self.old) self.old self.new) }
-        ensures kept { OnErr result (self.new ≡ self.old) }
+        ensures stands { Steps (quiet_of self.old) result self.old self.new }
     {
         if !looking::are_finished(self.requests.as_slice()) {
             return Ok(Stand::Falls);
