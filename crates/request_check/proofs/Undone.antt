@@ -1,6 +1,6 @@
 -- What a step took in and took out again is as it was.
 use Rattle.std.proofs.Common.{length-append, ◌≡◌, ℕ, ◌-◌, Bool, true, false, List, [], ◌∷◌, ◌++◌, length, refl, ap, ◌∙◌, arith}
-use Rattle.std.specs.Prelude.{Option, Some, None, Result, Ok, Err, OnErr}
+use Rattle.std.specs.Prelude.{Option, Some, None, Result, Ok, Err, MatchResult}
 use Rattle.std.specs.declared.cmp.Ordering.{Ordering}
 use Rattle.std.specs.declared.cmp.Ordering.TheVariants.{Less, Equal, Greater}
 use Rattle.std.specs.Map.{lookup, set_value, remove_entry}
@@ -66,11 +66,15 @@ set_nothing {X} test (e ∷ es) w none = by_test (test e.0) refl (set_nothing te
     by_test true is rest = absurd (let h : Some e.1 ≡ None = rw is at none in cc)
     by_test false is rest = rw is (ap (λ (xs : List (ℕ × X)). e ∷ xs) (rest (rw is at none)))
 
--- what holds after a failure, from what else holds then
-pub on_err : {T E : Type 0} (r : Result T E) {P Q : Type 0} → (P → Q) → OnErr r P → OnErr r Q
-on_err (Ok x) f h = h
-on_err (Err e) f h = f h
+-- what holds of an outcome, from what else holds of it
+pub on_either : {T E : Type 0} (r : Result T E) {P P' Q Q' : Type 0} → (P → P') → (Q → Q') → MatchResult r (λ _. P) (λ _. Q) → MatchResult r (λ _. P') (λ _. Q')
+on_either (Ok x) f g h = f h
+on_either (Err e) f g h = g h
 
-pub on_err_all : {T E : Type 0} (r : Result T E) {P Q R S : Type 0} → (P → Q → R → S) → OnErr r P → OnErr r Q → OnErr r R → OnErr r S
-on_err_all (Ok x) f p q r = p
-on_err_all (Err e) f p q r = f p q r
+pub on_either_both : {T E : Type 0} (r : Result T E) {P P' Q Q' R R' : Type 0} → (P → Q → R) → (P' → Q' → R') → MatchResult r (λ _. P) (λ _. P') → MatchResult r (λ _. Q) (λ _. Q') → MatchResult r (λ _. R) (λ _. R')
+on_either_both (Ok x) f g p q = f p q
+on_either_both (Err e) f g p q = g p q
+
+pub on_either_all : {T E : Type 0} (r : Result T E) {P P' Q Q' R R' S S' : Type 0} → (P → Q → R → S) → (P' → Q' → R' → S') → MatchResult r (λ _. P) (λ _. P') → MatchResult r (λ _. Q) (λ _. Q') → MatchResult r (λ _. R) (λ _. R') → MatchResult r (λ _. S) (λ _. S')
+on_either_all (Ok x) f g p q r = f p q r
+on_either_all (Err e) f g p q r = g p q r

@@ -1,5 +1,6 @@
 // What the disk's doings make of the state.
-ghost use Rattle.std.specs.Prelude.{◌≡◌, ◌+◌, OnOk, OnErr};
+ghost use Rattle.std.specs.Prelude.{◌≡◌, ◌+◌};
+ghost use Rattle.blk_base.specs.Becomes.{Becomes};
 ghost use Rattle.plain_disk.specs.Request.{sector_of};
 ghost use Rattle.request_check.specs.Words.{with_single, with_range};
 ghost use Rattle.request_check.specs.Progress.{with_doing, with_done, changed};
@@ -40,10 +41,8 @@ fn set_sector(
     sector: u128,
     words: Option<SectorWords>,
 ) -> Result<(), OutOfMemory>
-    ensures noted { OnOk result (progress.new ≡ changed (with_doing doing) progress.old id) }
-    ensures set { OnOk result (sectors.new ≡ with_single sectors.old sector words) }
-    ensures kept { OnErr result (progress.new ≡ progress.old) }
-    ensures known { OnErr result (sectors.new ≡ sectors.old) }
+    ensures noted { Becomes (changed (with_doing doing) progress.old id) result progress.old progress.new }
+    ensures set { Becomes (with_single sectors.old sector words) result sectors.old sectors.new }
 {
     let old = sectors.single(sector);
     sectors.set(sector, words)?;
@@ -63,10 +62,8 @@ fn set_range(
     doing: Doing,
     range: Discarded,
 ) -> Result<(), OutOfMemory>
-    ensures noted { OnOk result (progress.new ≡ changed (with_doing doing) progress.old id) }
-    ensures set { OnOk result (sectors.new ≡ with_range sectors.old range) }
-    ensures kept { OnErr result (progress.new ≡ progress.old) }
-    ensures known { OnErr result (sectors.new ≡ sectors.old) }
+    ensures noted { Becomes (changed (with_doing doing) progress.old id) result progress.old progress.new }
+    ensures set { Becomes (with_range sectors.old range) result sectors.old sectors.new }
 {
     sectors.set_range(range)?;
     let noted = progress.note(id, doing);
@@ -86,12 +83,9 @@ fn show_sector(
     index: u32,
     words: &SectorWords,
 ) -> Result<(), OutOfMemory>
-    ensures told { OnOk result (request.new ≡ with_note request.old index words.now) }
-    ensures noted { OnOk result (progress.new ≡ changed (with_done index) progress.old id) }
-    ensures set { OnOk result (sectors.new ≡ with_single sectors.old (sector_of request.old.job + index) (Some words.now)) }
-    ensures same { OnErr result (request.new ≡ request.old) }
-    ensures kept { OnErr result (progress.new ≡ progress.old) }
-    ensures known { OnErr result (sectors.new ≡ sectors.old) }
+    ensures told { Becomes (with_note request.old index words.now) result request.old request.new }
+    ensures noted { Becomes (changed (with_done index) progress.old id) result progress.old progress.new }
+    ensures set { Becomes (with_single sectors.old (sector_of request.old.job + index) (Some words.now)) result sectors.old sectors.new }
 {
     let sector = place_sector(&request.job(), index);
     let old = request.noted(index);
@@ -112,8 +106,7 @@ fn show_sector(
 
 impl RequestCheck {
     pub(crate) fn fill(&mut self, id: u64, index: u32) -> Result<(), OutOfMemory>
-        ensures done { OnOk result (self.new ≡ filled self.old id index (open_of self.old.requests id)) }
-        ensures kept { OnErr result (self.new ≡ self.old) }
+        ensures done { Becomes (filled self.old id index (open_of self.old.requests id)) result self.old self.new }
     {
         let Some(job) = self.job_of(id) else {
             return Ok(());
@@ -137,8 +130,7 @@ impl RequestCheck {
         index: u32,
         words: &SectorWords,
     ) -> Result<(), OutOfMemory>
-        ensures done { OnOk result (self.new ≡ shown self.old id index words.now (open_of self.old.requests id)) }
-        ensures kept { OnErr result (self.new ≡ self.old) }
+        ensures done { Becomes (shown self.old id index words.now (open_of self.old.requests id)) result self.old self.new }
     {
         let Some(request) = self.requests.get_mut(&id) else {
             return Ok(());
@@ -154,8 +146,7 @@ impl RequestCheck {
     }
 
     pub(crate) fn flush(&mut self, id: u64) -> Result<(), OutOfMemory>
-        ensures done { OnOk result (self.new ≡ flushed self.old id (open_of self.old.requests id)) }
-        ensures kept { OnErr result (self.new ≡ self.old) }
+        ensures done { Becomes (flushed self.old id (open_of self.old.requests id)) result self.old self.new }
     {
         if self.job_of(id).is_none() {
             return Ok(());
@@ -164,8 +155,7 @@ impl RequestCheck {
     }
 
     pub(crate) fn trim(&mut self, id: u64) -> Result<(), OutOfMemory>
-        ensures done { OnOk result (self.new ≡ trimmed self.old id (open_of self.old.requests id)) }
-        ensures kept { OnErr result (self.new ≡ self.old) }
+        ensures done { Becomes (trimmed self.old id (open_of self.old.requests id)) result self.old self.new }
     {
         let Some(job) = self.job_of(id) else {
             return Ok(());
@@ -181,8 +171,7 @@ impl RequestCheck {
     }
 
     pub(crate) fn fail(&mut self, id: u64, index: u32) -> Result<(), OutOfMemory>
-        ensures done { OnOk result (self.new ≡ failed self.old id index (open_of self.old.requests id)) }
-        ensures kept { OnErr result (self.new ≡ self.old) }
+        ensures done { Becomes (failed self.old id index (open_of self.old.requests id)) result self.old self.new }
     {
         let Some(job) = self.job_of(id) else {
             return Ok(());
@@ -208,8 +197,7 @@ impl RequestCheck {
     }
 
     pub(crate) fn reply(&mut self, id: u64, status: Status) -> Result<(), OutOfMemory>
-        ensures done { OnOk result (self.new ≡ replied self.old id status (open_of self.old.requests id)) }
-        ensures kept { OnErr result (self.new ≡ self.old) }
+        ensures done { Becomes (replied self.old id status (open_of self.old.requests id)) result self.old self.new }
     {
         if self.job_of(id).is_none() {
             return Ok(());

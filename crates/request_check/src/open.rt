@@ -1,5 +1,6 @@
 // One open request.
-ghost use Rattle.std.specs.Prelude.{◌≡◌, OnOk, OnErr};
+ghost use Rattle.std.specs.Prelude.{◌≡◌};
+ghost use Rattle.blk_base.specs.Becomes.{Becomes};
 ghost use Rattle.request_check.specs.Entries.{entry_at};
 ghost use Rattle.request_check.specs.State.{opened, with_note, with_old_note};
 
@@ -70,8 +71,7 @@ impl OpenRequest {
 
     /// Takes in that a sector showed these words. `OutOfMemory` leaves all as it was.
     pub fn note(&mut self, index: u32, words: &SectorWords) -> Result<(), OutOfMemory>
-        ensures done { OnOk result (self.new ≡ with_note self.old index words.now) }
-        ensures kept { OnErr result (self.new ≡ self.old) }
+        ensures done { Becomes (with_note self.old index words.now) result self.old self.new }
     {
         if let Some(noted) = self.noted.get_mut(&index) {
             *noted = *words;

@@ -1,9 +1,10 @@
 // What was done of requests in this epoch.
-ghost use Rattle.std.specs.Prelude.{◌≡◌, OnOk, OnErr, [], length};
+ghost use Rattle.std.specs.Prelude.{◌≡◌, [], length};
 ghost use Rattle.std.specs.Option.{option_copied};
 ghost use Rattle.std.specs.Map.{lookup, remove_entry};
 ghost use Rattle.std.specs.BTreeMap.{is_at, insert_entry};
 ghost use Rattle.std.specs.Ordering.{nat_cmp};
+ghost use Rattle.blk_base.specs.Becomes.{Becomes};
 ghost use Rattle.request_check.specs.Progress.{nothing_done, is_place_done, with_doing, changed};
 
 use blk_base::{OutOfMemory, Status};
@@ -78,8 +79,7 @@ impl Doings {
 
     // Takes in one doing.
     fn note(&mut self, doing: Doing) -> Result<(), OutOfMemory>
-        ensures done { OnOk result (self.new ≡ with_doing doing self.old) }
-        ensures kept { OnErr result (self.new ≡ self.old) }
+        ensures done { Becomes (with_doing doing self.old) result self.old self.new }
     {
         match doing {
             Doing::Done(index) => match self.done.insert(index) {
@@ -134,8 +134,7 @@ impl EpochDoings {
 
     /// Takes in what was done of a request. `OutOfMemory` leaves all as it was.
     pub fn note(&mut self, id: u64, doing: Doing) -> Result<(), OutOfMemory>
-        ensures done { OnOk result (self.new ≡ changed (with_doing doing) self.old id) }
-        ensures kept { OnErr result (self.new ≡ self.old) }
+        ensures done { Becomes (changed (with_doing doing) self.old id) result self.old self.new }
     {
         match self.by_number.get_mut(&id) {
             Some(doings) => doings.note(doing),
@@ -148,8 +147,7 @@ impl EpochDoings {
     }
 
     fn add(&mut self, id: u64, doings: Doings) -> Result<(), OutOfMemory>
-        ensures done { OnOk result (self.new ≡ insert_entry nat_cmp self.old id doings) }
-        ensures kept { OnErr result (self.new ≡ self.old) }
+        ensures done { Becomes (insert_entry nat_cmp self.old id doings) result self.old self.new }
     {
         match self.by_number.insert(id, doings) {
             Ok(_) => Ok(()),

@@ -1,5 +1,6 @@
 // The state after some lines of a report.
-ghost use Rattle.std.specs.Prelude.{◌≡◌, OnOk, OnErr, option_map};
+ghost use Rattle.std.specs.Prelude.{◌≡◌, option_map};
+ghost use Rattle.blk_base.specs.Becomes.{Becomes};
 ghost use Rattle.request_check.specs.State.{Open, start, open_of, barriers_of, submitted_to, without, told_by, answered, told, stepped, shown_by, seen};
 
 use crate::open::OpenRequest;
@@ -81,8 +82,7 @@ impl RequestCheck {
     }
 
     fn submit(&mut self, id: u64, job: &Job) -> Result<(), OutOfMemory>
-        ensures done { OnOk result (self.new ≡ submitted_to self.old id job.now) }
-        ensures kept { OnErr result (self.new ≡ self.old) }
+        ensures done { Becomes (submitted_to self.old id job.now) result self.old self.new }
     {
         let open = OpenRequest::new(self.alloc, id, *job);
         match self.requests.insert(id, open) {
@@ -137,8 +137,7 @@ impl RequestCheck {
 
     // Takes in the next line, but for what it shows of the front.
     fn step(&mut self, line: &Line) -> Result<(), OutOfMemory>
-        ensures done { OnOk result (self.new ≡ stepped self.old line.now) }
-        ensures kept { OnErr result (self.new ≡ self.old) }
+        ensures done { Becomes (stepped self.old line.now) result self.old self.new }
     {
         match line {
             Line::Submit { id, job } => self.submit(*id, job),
@@ -176,8 +175,7 @@ impl RequestCheck {
 
     /// Takes in the next line. `OutOfMemory` leaves the state as it was.
     pub fn see(&mut self, line: &Line) -> Result<(), OutOfMemory>
-        ensures seen { OnOk result (self.new ≡ seen self.old line.now) }
-        ensures kept { OnErr result (self.new ≡ self.old) }
+        ensures seen { Becomes (seen self.old line.now) result self.old self.new }
     {
         self.step(line)?;
         self.look(line);

@@ -1,5 +1,6 @@
 // What sectors hold, where that is known.
-ghost use Rattle.std.specs.Prelude.{◌≡◌, ◌+◌, OnOk, OnErr, drop, Option, Some, None};
+ghost use Rattle.std.specs.Prelude.{◌≡◌, ◌+◌, drop, Option, Some, None};
+ghost use Rattle.blk_base.specs.Becomes.{Becomes};
 ghost use Rattle.request_check.specs.Entries.{entry_at};
 ghost use Rattle.request_check.specs.Words.{nothing_known, has_sector, words_left, after_ranges, words_in, words_since, with_single, with_old_single, with_range, without_range};
 
@@ -112,8 +113,7 @@ impl KnownWords {
 
     /// Takes in what one sector holds from now on. `OutOfMemory` leaves all as it was.
     pub fn set(&mut self, sector: u128, words: Option<SectorWords>) -> Result<(), OutOfMemory>
-        ensures done { OnOk result (self.new ≡ with_single self.old sector words) }
-        ensures kept { OnErr result (self.new ≡ self.old) }
+        ensures done { Becomes (with_single self.old sector words) result self.old self.new }
     {
         let since = self.ranges.len();
         let single = Single { words, since };
@@ -147,8 +147,7 @@ impl KnownWords {
     /// Takes in what the sectors of a discard hold from now on. `OutOfMemory` leaves all as it was.
     /// Each discard is kept to the end, in 16 bytes.
     pub fn set_range(&mut self, range: Discarded) -> Result<(), OutOfMemory>
-        ensures done { OnOk result (self.new ≡ with_range self.old range) }
-        ensures kept { OnErr result (self.new ≡ self.old) }
+        ensures done { Becomes (with_range self.old range) result self.old self.new }
     {
         match self.ranges.push(range) {
             Ok(_) => Ok(()),
