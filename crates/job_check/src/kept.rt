@@ -1,5 +1,6 @@
 // The mappings that jobs made and that stand.
-ghost use Rattle.std.specs.Prelude.{◌≡◌, OnOk, OnErr, []};
+ghost use Rattle.std.specs.Prelude.{◌≡◌, []};
+ghost use Rattle.blk_base.specs.Becomes.{Becomes};
 ghost use Rattle.job_check.specs.Kept.{is_writer_of, is_kept_of, is_kept_for, may_stay, gave_up, after_map, after_unmap};
 
 use blk_base::OutOfMemory;
@@ -53,8 +54,7 @@ impl KeptMappings {
 
     /// Takes in a mapping that a job made. After want of memory nothing has changed.
     pub fn add(&mut self, number: u64, made: Made) -> Result<(), OutOfMemory>
-        ensures added { OnOk result (self.new ≡ after_map self.old number made) }
-        ensures kept { OnErr result (self.new ≡ self.old) }
+        ensures added { Becomes (after_map self.old number made) result self.old self.new }
     {
         match self.made.insert(number, made) {
             Ok(_) => Ok(()),

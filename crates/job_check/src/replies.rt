@@ -1,5 +1,6 @@
 // The reply that the back writes.
-ghost use Rattle.std.specs.Prelude.{◌≡◌, ◌++◌, ◌∷◌, [], ◌<◌, length, OnOk, OnErr};
+ghost use Rattle.std.specs.Prelude.{◌≡◌, ◌++◌, ◌∷◌, [], ◌<◌, length};
+ghost use Rattle.blk_base.specs.Becomes.{Becomes};
 ghost use Rattle.report_rules.specs.Reply.{row_of};
 ghost use Rattle.job_check.specs.Replies.{no_replies, rows_with, next_place, after_value, after_other};
 
@@ -93,8 +94,7 @@ impl ReplyRow {
     /// Takes in a word that the back wrote. `OutOfMemory`, and nothing changed, where 2^64 - 1 rows
     /// were begun.
     pub fn write(&mut self, value: u32) -> Result<(), OutOfMemory>
-        ensures written { OnOk result (self.new ≡ after_value self.old value) }
-        ensures kept { OnErr result (self.new ≡ self.old) }
+        ensures written { Becomes (after_value self.old value) result self.old self.new }
     {
         match self.row.as_slice() {
             [] => {

@@ -1,7 +1,8 @@
 // What is kept of the back's jobs, and one line further.
-ghost use Rattle.std.specs.Prelude.{◌≡◌, OnOk, OnErr, find};
+ghost use Rattle.std.specs.Prelude.{◌≡◌, find};
 ghost use Rattle.std.specs.Option.{option_copied};
 ghost use Rattle.std.specs.Map.{values_of};
+ghost use Rattle.blk_base.specs.Becomes.{Becomes};
 ghost use Rattle.job_check.specs.Open.{failed_by, with_sector};
 ghost use Rattle.job_check.specs.Replies.{answers, after_other};
 ghost use Rattle.job_check.specs.State.{JobState, begun_with, no_lines, job_changed, value_seen, job_answered, without_job, after_line, seen};
@@ -150,8 +151,7 @@ impl JobSight {
 
     // Takes in a line of an epoch, but for what was published and the move of the disk that it is.
     fn see_line(&mut self, ring: &RingSight, line: &Line) -> Result<(), OutOfMemory>
-        ensures seen { OnOk result (self.new ≡ after_line ring.now self.old line.now) }
-        ensures kept { OnErr result (self.new ≡ self.old) }
+        ensures seen { Becomes (after_line ring.now self.old line.now) result self.old self.new }
     {
         match line {
             Line::Move(made) => return self.see_move(ring, line, made),
@@ -175,8 +175,7 @@ impl JobSight {
     /// One line further, where this is kept of the ring before the line. After want of memory all is
     /// as before.
     pub fn see(&mut self, ring: &RingSight, line: &Line) -> Result<(), OutOfMemory>
-        ensures seen { OnOk result (self.new ≡ seen ring.now self.old line.now) }
-        ensures kept { OnErr result (self.new ≡ self.old) }
+        ensures seen { Becomes (seen ring.now self.old line.now) result self.old self.new }
     {
         if is_epoch(line) {
             self.begin();

@@ -1,5 +1,6 @@
 // The steps of one open job.
 ghost use Rattle.std.specs.Prelude.{◌≡◌, ◌*◌, false, true, IfOk, OnErr, OnOk};
+ghost use Rattle.blk_base.specs.Becomes.{Becomes};
 ghost use Rattle.job_check.specs.Open.{with_end, moved_by, lacks_words, tasks_by, served_by, after_word, walked_by, is_word_read, is_disk_move, is_same, is_taken, is_through, is_next, may_step};
 
 use super::OpenJob;
@@ -70,8 +71,7 @@ impl OpenJob {
 
     // Takes in a word that the job read, as long as one of its indirect pages is to be read.
     fn take_word(&mut self, value: u32) -> Result<(), OutOfMemory>
-        ensures taken { OnOk result (self.new ≡ after_word self.old value) }
-        ensures kept { OnErr result (self.new ≡ self.old) }
+        ensures taken { Becomes (after_word self.old value) result self.old self.new }
     {
         if !lacks_words(&self.request, self.read.len()) {
             return Ok(());

@@ -1,5 +1,6 @@
 // What a move changes of what is kept of the back's jobs.
 ghost use Rattle.std.specs.Prelude.{◌≡◌, IfOk, OnOk, OnErr, false, true};
+ghost use Rattle.blk_base.specs.Becomes.{Becomes};
 ghost use Rattle.schedule_text.specs.declared.line.Line.TheVariants as lines;
 ghost use Rattle.report_rules.specs.Job.{request_in};
 ghost use Rattle.report_rules.specs.Step.{stepper};
@@ -118,8 +119,7 @@ impl JobSight {
         made: &Move,
     ) -> Result<(), OutOfMemory>
         requires { line.now ≡ lines.Move made.now }
-        ensures seen { OnOk result (self.new ≡ after_line ring.now self.old line.now) }
-        ensures kept { OnErr result (self.new ≡ self.old) }
+        ensures seen { Becomes (after_line ring.now self.old line.now) result self.old self.new }
     {
         if let Some(value) = value_written(ring, line) {
             return self.replies.write(value);
@@ -134,8 +134,7 @@ impl JobSight {
 
     // Takes in a word of the entry that is being read: with its last one its job is opened.
     fn take_word(&mut self, ring: &RingSight, value: u32) -> Result<(), OutOfMemory>
-        ensures taken { OnOk result (self.new ≡ after_entry_word ring.now self.old value) }
-        ensures kept { OnErr result (self.new ≡ self.old) }
+        ensures taken { Becomes (after_entry_word ring.now self.old value) result self.old self.new }
     {
         self.entry.push(value)?;
         match self.fetch(ring) {
@@ -159,8 +158,7 @@ impl JobSight {
 
     // Opens the job of the entry, where all its words were read.
     fn fetch(&mut self, ring: &RingSight) -> Result<(), OutOfMemory>
-        ensures fetched { OnOk result (self.new ≡ fetched_by self.old self.old.entry (request_in self.old.entry 1 (shape_seen ring.now))) }
-        ensures kept { OnErr result (self.new ≡ self.old) }
+        ensures fetched { Becomes (fetched_by self.old self.old.entry (request_in self.old.entry 1 (shape_seen ring.now))) result self.old self.new }
     {
         let Some(request) = self.whole_entry(ring) else {
             return Ok(());
@@ -181,8 +179,7 @@ impl JobSight {
 
     // Keeps what a job maps, and forgets what is unmapped.
     fn keep(&mut self, made: &Move) -> Result<(), OutOfMemory>
-        ensures kept { OnOk result (self.new ≡ with_kept self.old made.now) }
-        ensures same { OnErr result (self.new ≡ self.old) }
+        ensures kept { Becomes (with_kept self.old made.now) result self.old self.new }
     {
         match *made {
             Move::Map {
