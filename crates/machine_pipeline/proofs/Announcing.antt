@@ -18,7 +18,7 @@ use Rattle.split_model.specs.World.{World}
 use Rattle.split_model.specs.Safe.{IsSafe}
 use Rattle.machine_pipeline.proofs.Flow.{Flow, wrapped, filled, named_frames, granted_frames, entered, may_back_sleep, is_bound_back, may_front_sleep, is_issuing}
 use Rattle.machine_pipeline.proofs.Holds.{FrontAt, FrontSends, PortsAt, Holds}
-use Rattle.machine_pipeline.proofs.Turns.{FrontGoes, said_nothing}
+use Rattle.machine_pipeline.proofs.Turns.{FrontGoes, said_nothing, goes_by}
 use Rattle.machine_pipeline.proofs.Issuing.{ring_turned, slots_turned, frames_turned, entries_turned, with_front, issue_kept}
 
 -- a step that changes the stage alone, between two at which nothing of a request is begun
@@ -37,12 +37,8 @@ turned_on config w g d s s' i i' same h at full full' few few' unnamed ungranted
     sends
 
 pub producer_fence_goes : (config : Options) (w : World) (g : Flow) (d : Pipeline) (old : ℕ) → IsSafe w → Holds config w g d (front.ProducerFence old) w.back.stage → FrontGoes config w d (front.ProducerFence old)
-producer_fence_goes config w g d old safe h = record {
-  flow = g;
-  steps = [];
-  does = said_nothing d _ w.front.told safe.front_told;
-  holds = turned_on config w g d (front.ProducerFence old) (front.RequestEvent old) refl refl refl h h.front_at (λ frames. refl) (λ frames. refl) refl refl refl refl (λ t sends. sends);
-}
+producer_fence_goes config w g d old safe h = goes_by (said_nothing d _ w.front.told safe.front_told)
+    (turned_on config w g d (front.ProducerFence old) (front.RequestEvent old) refl refl refl h h.front_at (λ frames. refl) (λ frames. refl) refl refl refl refl (λ t sends. sends))
 
 -- the first request that a sleeping back doesn't know of passes its event word
 notified : (start fetched pushed old prod event : ℕ) → old ≡ wrapped start (pushed - 1) → prod ≡ wrapped start pushed → event ≡ wrapped start (fetched + 1) → pushed ≡ fetched + 1 → notifies old prod event ≡ true
@@ -52,12 +48,8 @@ notified start fetched pushed old prod event e f i one =
     rw (none, some) refl
 
 pub event_goes : (config : Options) (w : World) (g : Flow) (d : Pipeline) (old : ℕ) → IsSafe w → Holds config w g d (front.RequestEvent old) w.back.stage → FrontGoes config w d (front.RequestEvent old)
-event_goes config w g d old safe h = record {
-  flow = g;
-  steps = [];
-  does = said_nothing d _ w.front.told safe.front_told;
-  holds = by_test (notifies old w.front.ring.prod (word_of w.under.pages 2 1)) refl;
-}
+event_goes config w g d old safe h = goes_by (said_nothing d _ w.front.told safe.front_told)
+    (by_test (notifies old w.front.ring.prod (word_of w.under.pages 2 1)) refl)
   where
     by_test : (b : Bool) → notifies old w.front.ring.prod (word_of w.under.pages 2 1) ≡ b → Holds config (with_front w (if b then front.Send else front.Loop) w.front.entry w.under.pages) g d (if b then front.Send else front.Loop) w.back.stage
     by_test true t = turned_on config w g d (front.RequestEvent old) front.Send refl refl refl h tt (λ frames. refl) (λ frames. refl) refl refl refl refl (λ t sends. tt)
@@ -80,44 +72,34 @@ pending_sent before false made ports pending at e = absurd (cc)
 
 pub send_goes : (config : Options) (w : World) (g : Flow) (d : Pipeline) → IsSafe w → Holds config w g d front.Send w.back.stage → FrontGoes config w d front.Send
 send_goes config w g d safe h =
-    let z = h.front_sleep in
     let u = h.back_sleep in
-    record {
-      flow = g;
-      steps = [];
-      does = said_nothing d _ w.front.told safe.front_told;
-      holds = record {
-        started = h.started;
-        shaped = h.shaped;
-        sized = h.sized;
-        indices = h.indices;
-        queue = h.queue;
-        submitted = h.submitted;
-        pool = h.pool;
-        stations = h.stations;
-        works = h.works;
-        counted = h.counted;
-        info = h.info;
-        replies = h.replies;
-        front_at = tt;
-        offered = h.offered;
-        back_at = h.back_at;
-        unhalted = h.unhalted;
-        memory = h.memory;
-        ring = ring_turned g.shape.order g.start g.pushed g.replied w.under.pages w.under.pages front.Send front.Loop (length w.back.pages) h.shaped.narrow refl refl (λ x lt. refl) (λ page lt. record { flags = refl; frame = refl }) h.ring;
-        slots = slots_turned g.shape g.start g.fetched g.pushed g.taken g.replied g.series g.replies w.under.pages w.under.pages front.Send front.Loop w.back.stage h.shaped.narrow (λ f x from to in_it behind. refl) refl h.slots;
-        frames = frames_turned g.pushed w.under.pages w.under.pages front.Send front.Loop w.front.requests (omega arith) (λ n x lt i l. refl) h.frames;
-        telling = record { size = h.telling.size; so_far = tt };
-        entries = entries_turned g.pushed w.under.pages w.under.pages w.under.grants.live front.Send front.Loop w.front.ending w.front.requests refl (omega arith) (omega arith) (λ n x lt a in_it. record { flags = refl; frame = refl }) h.entries;
-        mapped = h.mapped;
-        paged = h.paged;
-        front_sleep = record { arming = λ t. absurd (cc); armed = z.armed; may = λ t. absurd (cc); woken = z.woken };
-        back_sleep = record {
-          arming = u.arming;
-          armed = u.armed;
-          may = u.may;
-          woken = λ t. inr (inl (pending_sent g.before (is_bound_back w.back.stage) w.under.channels.made w.under.channels.ports w.under.channels.back_pending h.ports (bound_asleep w.back.stage w.back.asleep u.may t)));
-        };
-        ports = h.ports;
+    goes_by {g = g} (said_nothing d _ w.front.told safe.front_told)
+    (record {
+      settled = h.settled;
+      indices = h.indices;
+      queue = h.queue;
+      pool = h.pool;
+      stations = h.stations;
+      works = h.works;
+      counted = h.counted;
+      replies = h.replies;
+      front_at = tt;
+      offered = h.offered;
+      back_at = h.back_at;
+      memory = h.memory;
+      ring = ring_turned g.shape.order g.start g.pushed g.replied w.under.pages w.under.pages front.Send front.Loop (length w.back.pages) h.shaped.narrow refl refl (λ x lt. refl) (λ page lt. record { flags = refl; frame = refl }) h.ring;
+      slots = slots_turned g.shape g.start g.fetched g.pushed g.taken g.replied g.series g.replies w.under.pages w.under.pages front.Send front.Loop w.back.stage h.shaped.narrow (λ f x from to in_it behind. refl) refl h.slots;
+      frames = frames_turned g.pushed w.under.pages w.under.pages front.Send front.Loop w.front.requests (omega arith) (λ n x lt i l. refl) h.frames;
+      telling = record { size = h.telling.size; so_far = tt };
+      entries = entries_turned g.pushed w.under.pages w.under.pages w.under.grants.live front.Send front.Loop w.front.ending w.front.requests refl (omega arith) (omega arith) (λ n x lt a in_it. record { flags = refl; frame = refl }) h.entries;
+      mapped = h.mapped;
+      paged = h.paged;
+      front_sleep = record { arming = λ t. absurd (cc); armed = h.front_sleep.armed; may = λ t. absurd (cc); woken = h.front_sleep.woken };
+      back_sleep = record {
+        arming = u.arming;
+        armed = u.armed;
+        may = u.may;
+        woken = λ t. inr (inl (pending_sent g.before (is_bound_back w.back.stage) w.under.channels.made w.under.channels.ports w.under.channels.back_pending h.ports (bound_asleep w.back.stage w.back.asleep u.may t)));
       };
-    }
+      ports = h.ports;
+    })

@@ -38,17 +38,14 @@ waits_at connected made order w b v s p free waits = absurd p
 pub quiet_rests : (config : Options) (w : World) → is_quiet w ≡ true → IsStanding config w → IsIdleRing w
 quiet_rests config w quiet stands = by_kept stands.kept
   where
-    d : Pipeline
-    d = stands.pipeline
-
     idle : is_idle w.front ≡ true
     idle = let parts : AreQuiet (is_idle w.front) _ _ _ = all_quiet _ _ _ _ quiet in parts.front
 
-    by_kept : IsKept config w d → IsIdleRing w
+    by_kept : IsKept config w stands.pipeline → IsIdleRing w
     by_kept (inl held) =
-        let rest : IsCaughtUp w = caught_up_at config w held.0 d quiet (record { safe = stands.safe; holds = held.1 }) in
+        let rest : IsCaughtUp w = caught_up_at config w held.0 stands.pipeline quiet (record { safe = stands.safe; holds = held.1 }) in
         record {
-          ring = λ made. drained_at config w held.0 d w.front.stage w.back.stage held.1 (ap has_ring rest.looping) rest.no_request;
+          ring = λ made. drained_at config w held.0 stands.pipeline w.front.stage w.back.stage held.1 (ap has_ring rest.looping) rest.no_request;
           front_at = inl rest.looping;
           no_job = no_element w.back.jobs.works rest.no_job;
           no_request = no_element w.front.requests rest.no_request;
@@ -57,7 +54,7 @@ quiet_rests config w quiet stands = by_kept stands.kept
         let waiting = both_true (not (is_led w.front.stage)) (is_wait (ask_at w.front.stage w.front)) idle in
         record {
           ring = λ some. over.ring (λ none. some (no_element w.under.channels.ports none));
-          front_at = waits_at d.front.connected (length w.under.channels.ports) w.front.shape.order w w.back.stage w.front w.front.stage over.front_at waiting.0 waiting.1;
+          front_at = waits_at stands.pipeline.front.connected (length w.under.channels.ports) w.front.shape.order w w.back.stage w.front w.front.stage over.front_at waiting.0 waiting.1;
           no_job = over.no_job;
           no_request = over.no_request;
         }

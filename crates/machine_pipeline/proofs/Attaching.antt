@@ -18,7 +18,7 @@ use Rattle.machine_pipeline.specs.Allowed.{AreTerms}
 use Rattle.machine_pipeline.specs.Step.{IsSame}
 use Rattle.machine_pipeline.proofs.Flow.{Flow, wrapped}
 use Rattle.machine_pipeline.proofs.Holds.{Holds, AreIndices, PortsAt}
-use Rattle.machine_pipeline.proofs.Turns.{Goes}
+use Rattle.machine_pipeline.proofs.Turns.{Goes, goes_by}
 use Rattle.machine_pipeline.proofs.Keyed.{asides_do}
 use Rattle.machine_pipeline.proofs.Slots.{some_pages}
 use Rattle.machine_pipeline.proofs.BackQuiet.{slots_at, front_sleep_at, back_sleep_at}
@@ -31,75 +31,42 @@ made_first before true made ports at = (let one : length ports ≡ 1 = ap length
 
 takes : (config : Options) (w : World) (g : Flow) (d : Pipeline) (shape : Shape) (grefs : List ℕ) (port : ℕ) → AreTerms w shape grefs port → Holds config w g d w.front.stage back.InitWait
     → Goes config (Move (layout_read w) ∷ []) (record { front = w.front; back = attached shape grefs port w.back; under = w.under }) d
-takes config w g d shape grefs port terms h = record {
-  flow = g;
-  steps = [];
-  does = asides_do d (Move (layout_read w) ∷ []) (refl, tt);
-  holds = record {
-    started = h.started;
-    shaped = h.shaped;
-    sized = h.sized;
-    indices = record {
-      front_entries = x.front_entries;
-      pushed = x.pushed;
-      taken = x.taken;
-      replied = x.replied;
-      fetched = x.replied ∙ ap (wrapped g.start) level;
-      front_saw = x.front_saw;
-      back_saw = x.back_saw;
-      count = x.count;
-      taken_replied = x.taken_replied;
-      replied_fetched = x.replied_fetched;
-      fetched_pushed = x.fetched_pushed;
-      front_from = x.front_from;
-      front_to = x.front_to;
-      back_from = x.back_from;
-      back_to = x.back_to;
-      all = x.all;
-      given = x.given;
-      few = x.few;
-      held = x.held;
-      room = x.room;
-    };
-    queue = h.queue;
-    submitted = h.submitted;
-    pool = h.pool;
-    stations = h.stations;
-    works = h.works;
-    counted = h.counted;
-    info = h.info;
-    replies = h.replies;
-    front_at = h.front_at;
-    offered = h.offered;
-    back_at = h.back_at;
-    unhalted = h.unhalted;
-    memory = h.memory;
-    ring = h.ring;
-    slots = slots_at g.shape g.start g.fetched g.pushed g.taken g.replied g.series g.replies w.under.pages w.front.stage back.InitWait back.MapRing (λ rep t i lt. cc) h.slots;
-    frames = h.frames;
-    telling = h.telling;
-    entries = h.entries;
-    mapped = h.mapped;
-    paged = record {
-      shaped = λ t. own;
-      entries_are = λ t. ap (λ (s : Shape). entries_of s.order) own;
-      grefs_are = λ t. terms.grefs_are ∙ ap (λ (s : Shape). range_with_len 8 (2 ^ s.order)) own;
-      port_is = λ t. terms.port_is ∙ ap (λ (n : ℕ). n + 1) (made_first g.before (is_connected w.front.stage) w.under.channels.made w.under.channels.ports h.ports);
-      mapped = let none : length w.back.pages ≡ 0 = h.paged.mapped in let some = some_pages g.shape.order in omega arith;
-      gref = h.paged.gref;
-      mode = h.paged.mode;
-    };
-    front_sleep = front_sleep_at g.start g.taken g.replied w.under.pages w.front.asleep w.under.channels.front_pending w.front.stage back.InitWait back.MapRing (λ t s. absurd s) h.front_sleep;
-    back_sleep = back_sleep_at g.start g.fetched g.pushed w.under.pages w.back.asleep w.under.channels.back_pending w.front.stage back.InitWait back.MapRing (λ t. absurd (false≢true t)) (λ t. h.back_sleep.may refl) h.back_sleep;
-    ports = h.ports;
-  };
-}
+takes config w g d shape grefs port terms h = goes_by {g = g} (asides_do d (Move (layout_read w) ∷ []) (refl, tt))
+    (record {
+      settled = h.settled;
+      indices = omega (arith, h.indices, level);
+      queue = h.queue;
+      pool = h.pool;
+      stations = h.stations;
+      works = h.works;
+      counted = h.counted;
+      replies = h.replies;
+      front_at = h.front_at;
+      offered = h.offered;
+      back_at = h.back_at;
+      memory = h.memory;
+      ring = h.ring;
+      slots = slots_at g.shape g.start g.fetched g.pushed g.taken g.replied g.series g.replies w.under.pages w.front.stage back.InitWait back.MapRing (λ rep t i lt. cc) h.slots;
+      frames = h.frames;
+      telling = h.telling;
+      entries = h.entries;
+      mapped = h.mapped;
+      paged = record {
+        shaped = λ t. own;
+        entries_are = λ t. ap (λ (s : Shape). entries_of s.order) own;
+        grefs_are = λ t. terms.grefs_are ∙ ap (λ (s : Shape). range_with_len 8 (2 ^ s.order)) own;
+        port_is = λ t. terms.port_is ∙ ap (λ (n : ℕ). n + 1) (made_first g.before (is_connected w.front.stage) w.under.channels.made w.under.channels.ports h.ports);
+        mapped = let none : length w.back.pages ≡ 0 = h.paged.mapped in let some = some_pages g.shape.order in omega arith;
+        gref = h.paged.gref;
+        mode = h.paged.mode;
+      };
+      front_sleep = front_sleep_at g.start g.taken g.replied w.under.pages w.front.asleep w.under.channels.front_pending w.front.stage back.InitWait back.MapRing (λ t s. absurd s) h.front_sleep;
+      back_sleep = back_sleep_at g.start g.fetched g.pushed w.under.pages w.back.asleep w.under.channels.back_pending w.front.stage back.InitWait back.MapRing (λ t. absurd (false≢true t)) (λ t. h.back_sleep.may refl) h.back_sleep;
+      ports = h.ports;
+    })
   where
-    x : AreIndices g w.front.ring w.back.ring w.front.seen w.back.seen w.back.fetched w.front.last w.front.waiting (length w.front.requests) (ending_of w.front.stage)
-    x = h.indices
-
     level : g.replied ≡ g.fetched
-    level = let none : g.fetched ≡ 0 = h.back_at in let up = x.replied_fetched in omega arith
+    level = let none : g.fetched ≡ 0 = h.back_at in let up = h.indices.replied_fetched in omega arith
 
     own : shape ≡ g.shape
     own = terms.shape_is ∙ h.shaped.known

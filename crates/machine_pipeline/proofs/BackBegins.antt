@@ -40,10 +40,7 @@ use Rattle.back_jobs.specs.Task.{begun, frameless, moving, paging, first_of}
 -- an operation is a byte
 pub small_operation : (way : Transfer) → operation_of way < 2 ^ 8
 small_operation transfer.Read = omega arith
-small_operation (transfer.Write tag) = omega arith
-small_operation (transfer.Barrier tag) = omega arith
-small_operation transfer.Flush = omega arith
-small_operation (transfer.Discard sectors) = omega arith
+small_operation way = omega arith
 
 -- its indirect pages have references of 32 bits
 references_fit : (r : Request) → All IsPooled r.frames.items → (a n : ℕ) → AreWords (map (page_reference r) (range_with_len a n))
@@ -137,8 +134,7 @@ serves : (config : Options) (number size : ℕ) (r : Request) (way : Transfer)
     → IsShaped r
     → begun number (entry_request r) size (verdict_of (entry_request r) (info_of config)) ≡ job_as way number size r
 serves config number size r transfer.Flush way writable served limit within numbers shaped =
-    let none : r.count ≡ 0 = shaped.counted.none (ap is_moving way) in
-    let direct : is_indirect r.count ≡ false = rw none refl in
+    let direct : is_indirect r.count ≡ false = rw (shaped.counted.none (ap is_moving way)) refl in
     let bare : (frames_for r.count == 0) ≡ true = grind (arith, nat_tests) in
     rw (way, direct, served refl, bare) refl
 serves config number size r (transfer.Discard sectors) way writable served limit within numbers shaped =
@@ -155,12 +151,10 @@ serves config number size r transfer.Read way writable served limit within numbe
         let its : IsLarge config r = is_large config r shaped (ap is_moving way) (limit large) in
         rw (way, large, its.some, its.published, its.few, its.room) refl
     by_size false direct =
-        let entry : entry_request r ≡ direct_entry 0 r = rw (way, direct) refl in
-        let few : frames_for r.count ≤ 11 = grind (arith, nat_tests) in
-        let own : take (frames_for r.count) (segments_of r) ≡ own_segments r = own_direct r few in
+        let own : take (frames_for r.count) (segments_of r) ≡ own_segments r = own_direct r (grind (arith, nat_tests)) in
         let serves : begun number (direct_entry 0 r) size (verdict_of (direct_entry 0 r) (info_of config)) ≡ moving number (direct_entry 0 r) size false r.sector (own_segments r) =
         rw (own, may.some, direct, own_sound r shaped, may.on_disk) (ap (λ (l : List Segment). moving number (direct_entry 0 r) size false r.sector l) own) in
-        by_entry config number size r (direct_entry 0 r) false entry serves
+        by_entry config number size r (direct_entry 0 r) false (rw (way, direct) refl) serves
 serves config number size r (transfer.Write tag) way writable served limit within numbers shaped = by_size (is_indirect r.count) refl
   where
     may : Passes config r
@@ -171,22 +165,18 @@ serves config number size r (transfer.Write tag) way writable served limit withi
         let its : IsLarge config r = is_large config r shaped (ap is_moving way) (limit large) in
         rw (way, large, writable refl, its.some, its.published, its.few, its.room) refl
     by_size false direct =
-        let entry : entry_request r ≡ direct_entry 1 r = rw (way, direct) refl in
-        let few : frames_for r.count ≤ 11 = grind (arith, nat_tests) in
-        let own : take (frames_for r.count) (segments_of r) ≡ own_segments r = own_direct r few in
+        let own : take (frames_for r.count) (segments_of r) ≡ own_segments r = own_direct r (grind (arith, nat_tests)) in
         let serves : begun number (direct_entry 1 r) size (verdict_of (direct_entry 1 r) (info_of config)) ≡ moving number (direct_entry 1 r) size true r.sector (own_segments r) =
         rw (own, writable refl, may.some, direct, own_sound r shaped, may.on_disk) (ap (λ (l : List Segment). moving number (direct_entry 1 r) size true r.sector l) own) in
-        by_entry config number size r (direct_entry 1 r) true entry serves
+        by_entry config number size r (direct_entry 1 r) true (rw (way, direct) refl) serves
 serves config number size r (transfer.Barrier tag) way writable served limit within numbers shaped =
     let may = passes config r within shaped (ap is_moving way) in
     let short = shaped.counted.direct (ap may_be_indirect way) in
-    let few : frames_for r.count ≤ 11 = omega arith in
     let direct : is_indirect r.count ≡ false = grind (arith, nat_tests) in
-    let own : take (frames_for r.count) (segments_of r) ≡ own_segments r = own_direct r few in
-    let entry : entry_request r ≡ direct_entry 2 r = rw (way, direct) refl in
+    let own : take (frames_for r.count) (segments_of r) ≡ own_segments r = own_direct r (omega arith) in
     let serves : begun number (direct_entry 2 r) size (verdict_of (direct_entry 2 r) (info_of config)) ≡ moving number (direct_entry 2 r) size true r.sector (own_segments r) =
     rw (own, writable refl, may.some, direct, own_sound r shaped, may.on_disk) (ap (λ (l : List Segment). moving number (direct_entry 2 r) size true r.sector l) own) in
-    by_entry config number size r (direct_entry 2 r) true entry serves ∙ sym (rw direct refl)
+    by_entry config number size r (direct_entry 2 r) true (rw (way, direct) refl) serves ∙ sym (rw direct refl)
 
 -- the job of the entry's words
 pub entry_job : (abi : Abi) (config : Options) (number size k : ℕ) (r : Request) → IsPlain config → k < 2 ^ 32 → IsSubmitted config.sectors k r → (is_write r.transfer ≡ true → config.read_only ≡ false) → (is_moving r.transfer ≡ false → config.read_only ≡ false) → (is_indirect r.count ≡ true → frames_for r.count ≤ config.indirect) → begun number (request_of abi (entry_of abi r)) size (verdict_of (request_of abi (entry_of abi r)) (info_of config)) ≡ job_as r.transfer number size r
@@ -337,6 +327,5 @@ works_with {series} submitted sectors last fetched works t r order all h here at
 
     earlier : {u : Work} → IsWork submitted series fetched u → u.id < t.id
     earlier {u} w =
-        let number = all.each (u.id - 1) w.r w.known in
         let less = lower series (u.number - 1) fetched w.r r order.ascending w.issued at (omega (arith, w.counted, w.reached)) in
-        omega (arith, number.number, w.positive, less, id)
+        omega (arith, (all.each (u.id - 1) w.r w.known).number, w.positive, less, id)

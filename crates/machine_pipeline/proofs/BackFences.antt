@@ -43,8 +43,7 @@ pub page_frame : (table : GrantTable) (others pages : List Mapping) (page : ℕ)
 page_frame table others pages page held framed within named =
     let m : Mapping = slice_index_or pages page no_page in
     let live = All-contains (λ (m : Mapping). IsSomeAnd (held_of m.number table.live) (λ h. h.mapping ≡ m)) (others ++ pages) m held.live (Contains-append_right others pages m (Contains-get_or pages page no_page within)) in
-    let of = found_framed m.number table.live m framed live in
-    omega arith
+    omega (arith, found_framed m.number table.live m framed live)
 
 -- so it is where the back is bound to its port
 pub frame_is : (config : Options) (w : World) (g : Flow) (d : Pipeline) (b : BackStage) (page : ℕ) → BackStands config w g d b → is_bound_back b ≡ true → hands_at b w.back ≡ hands_in w.back.jobs.works ++ w.back.pages → page < 2 ^ g.shape.order → frame_of w.under.grants (page_of w.back page) ≡ 2 + page

@@ -61,17 +61,15 @@ pub record IsNext (w : World) (g : Flow) : Type 0 where
 pub next_pushed : (config : Options) (w : World) (g : Flow) (d : Pipeline) (b : BackStage) → BackStands config w g d b → IsBetween b w.back → g.fetched < g.back_seen → IsNext w g
 next_pushed config w g d b p i some =
     let h : Holds config w g d w.front.stage b = p.holds in
-    let x = h.indices in
-    let pushed : g.fetched < g.pushed = omega (arith, x.back_to) in
-    let within : g.fetched < length g.series = omega (arith, x.all) in
-    let found = get_within g.series g.fetched within in
+    let pushed : g.fetched < g.pushed = omega (arith, h.indices.back_to) in
+    let found = get_within g.series g.fetched (omega (arith, h.indices.all)) in
     record {
       r = found.0;
       known = found.1;
       words = λ k lt.
           ap (λ (f : ℕ). word_of w.under.pages f (slot_word w.back.shape w.back.ring.cons k)) (slot_is config w g d b w.back.ring.cons k p i.bound i.hands lt)
           ∙ (ap (λ (s : Shape). word_of w.under.pages (slot_frame g.shape w.back.ring.cons k) (slot_word s w.back.ring.cons k)) (h.paged.shaped (bound_terms b i.bound))
-          ∙ (ap (λ (c : ℕ). slot_of w.under.pages g.shape c k) x.fetched ∙ h.slots.entries g.fetched found.0 (omega arith) pushed found.1 k lt));
+          ∙ (ap (λ (c : ℕ). slot_of w.under.pages g.shape c k) h.indices.fetched ∙ h.slots.entries g.fetched found.0 (omega arith) pushed found.1 k lt));
     }
 
 pub length_entry : (abi : Abi) (r : Request) → length (entry_of abi r) ≡ entry_words_of abi

@@ -28,7 +28,7 @@ use Rattle.machine_pipeline.proofs.Series.{numbered_more}
 use Rattle.machine_pipeline.proofs.Stations.{AreStations}
 use Rattle.machine_pipeline.proofs.StationsBack.{fetches}
 use Rattle.machine_pipeline.proofs.Holds.{Holds, AreIndices, IsSubmitted, IsWork, AreReplies, AreSlots}
-use Rattle.machine_pipeline.proofs.Turns.{BackGoes, Stepped, does_step}
+use Rattle.machine_pipeline.proofs.Turns.{BackGoes, Stepped, does_step, goes_by}
 use Rattle.machine_pipeline.proofs.BackStill.{BackStands}
 use Rattle.machine_pipeline.proofs.BackQuiet.{IsBetween, goes_still, quiet_with, paged_at, front_sleep_at, back_sleep_at}
 use Rattle.machine_pipeline.proofs.BackFences.{between}
@@ -40,35 +40,14 @@ use Rattle.segment_list.specs.Verdict.{verdict_of}
 use Rattle.back_jobs.specs.Task.{begun}
 use Rattle.back_jobs.proofs.Hands.{started_hands}
 use Rattle.blk_back.specs.Step.{next_number}
-use Rattle.machine_pipeline.proofs.BackWrites.{next_wrapped}
+use Rattle.machine_pipeline.proofs.Wrapped.{next_wrapped}
 use Rattle.machine_pipeline.proofs.BackLooks.{LooksAs}
 use Rattle.machine_pipeline.proofs.BackFetch.{IsNext, entry_word, next_pushed, one_more, length_entry}
 use Rattle.machine_pipeline.proofs.BackBegins.{job_as, entry_job, IsJobOf, is_job, is_work, works_with}
 
 -- one request more was fetched
 indices_with : (g : Flow) (front_ring back_ring : Ring) (front_seen back_seen number last waiting unfinished ending : ℕ) → g.fetched < g.back_seen → AreIndices g front_ring back_ring front_seen back_seen number last waiting unfinished ending → AreIndices (record g { fetched = g.fetched + 1 }) front_ring (record back_ring { cons = next_of back_ring.cons }) front_seen back_seen ((number + 1) % 2 ^ 64) last waiting unfinished ending
-indices_with g front_ring back_ring front_seen back_seen number last waiting unfinished ending more x = record {
-  front_entries = x.front_entries;
-  pushed = x.pushed;
-  taken = x.taken;
-  replied = x.replied;
-  fetched = next_wrapped g.start g.fetched back_ring.cons x.fetched;
-  front_saw = x.front_saw;
-  back_saw = x.back_saw;
-  count = omega (arith, x.count, x.few, x.all, x.given, x.back_to);
-  taken_replied = x.taken_replied;
-  replied_fetched = omega (arith, x.replied_fetched);
-  fetched_pushed = omega (arith, x.back_to);
-  front_from = x.front_from;
-  front_to = x.front_to;
-  back_from = omega arith;
-  back_to = x.back_to;
-  all = x.all;
-  given = x.given;
-  few = x.few;
-  held = x.held;
-  room = x.room;
-}
+indices_with g front_ring back_ring front_seen back_seen number last waiting unfinished ending more x = let fetched = next_wrapped g.start g.fetched back_ring.cons x.fetched in omega (arith, x)
 
 replies_with : {series : List Request} (fetched taken replied : ℕ) (replies : List Reply) → AreReplies series fetched taken replied replies → AreReplies series (fetched + 1) taken replied replies
 replies_with fetched taken replied replies h = record {
@@ -90,52 +69,40 @@ goes_fetched : (config : Options) (w : World) (g : Flow) (d : Pipeline) (k : ℕ
     → slice_get g.series g.fetched ≡ Some r
     → words ≡ entry_of w.back.shape.abi r
     → LooksAs config w d shown given (fetched w.back words)
-goes_fetched config w g d k shown given r words p known e = subst (λ (ws : List ℕ). LooksAs config w d shown given (fetched w.back ws)) (sym e) (record {
-  flow = record g { fetched = g.fetched + 1 };
-  steps = s.step ∷ [];
-  does = does_step shown (back_lines w.back.told given ++ halt_lines w.back.halted w.back.halted) (rw (p.untold, h.unhalted) refl) s;
-  holds = record {
-    started = h.started;
-    shaped = h.shaped;
-    sized = h.sized;
-    indices = indices_with g w.front.ring w.back.ring w.front.seen w.back.seen w.back.fetched w.front.last w.front.waiting (length w.front.requests) (ending_of w.front.stage) h.back_at.2 x;
-    queue = h.queue;
-    submitted = h.submitted;
-    pool = h.pool;
-    stations = s.now;
-    works = works_with g.submitted w.front.sectors w.front.last g.fetched w.back.jobs.works t r h.queue.ordered h.submitted h.works is known it.id it.unhindered;
-    counted = omega (arith, length-append w.back.jobs.works (t ∷ []), h.counted);
-    info = h.info;
-    replies = replies_with g.fetched g.taken g.replied g.replies h.replies;
-    front_at = h.front_at;
-    offered = h.offered;
-    back_at = tt;
-    unhalted = h.unhalted;
-    memory = h.memory;
-    ring = h.ring;
-    slots = slots_with g.shape g.start g.fetched g.pushed g.taken g.replied g.series g.replies w.under.pages w.front.stage k h.slots;
-    frames = h.frames;
-    telling = h.telling;
-    entries = h.entries;
-    mapped = record { counted = λ test. h.mapped.counted test ∙ ap (λ (l : List Mapping). count_by test (l ++ w.back.pages)) (sym (started_hands w.back.jobs (next_number w.back) (request_of w.back.shape.abi (entry_of w.back.shape.abi r)))); framed = h.mapped.framed };
-    paged = paged_at g.shape w.back.shape w.back.ring.entries w.back.grefs w.back.port (g.before + 1) w.back.pages (stage.Fetch k) stage.Loop refl refl h.paged;
-    front_sleep = front_sleep_at g.start g.taken g.replied w.under.pages w.front.asleep w.under.channels.front_pending w.front.stage (stage.Fetch k) stage.Loop (λ u s. absurd s) h.front_sleep;
-    back_sleep = record { arming = λ u. absurd (false≢true u); armed = λ u. absurd (false≢true (sym awake ∙ u)); may = λ u. awake; woken = λ u. absurd (false≢true (sym awake ∙ u)) };
-    ports = h.ports;
-  };
-})
+goes_fetched config w g d k shown given r words p known e = subst (λ (ws : List ℕ). LooksAs config w d shown given (fetched w.back ws)) (sym e) (goes_by {g = record g { fetched = g.fetched + 1 }} (does_step shown (back_lines w.back.told given ++ halt_lines w.back.halted w.back.halted) (rw (p.untold, h.unhalted) refl) s)
+    (record {
+      settled = h.settled;
+      indices = indices_with g w.front.ring w.back.ring w.front.seen w.back.seen w.back.fetched w.front.last w.front.waiting (length w.front.requests) (ending_of w.front.stage) h.back_at.2 h.indices;
+      queue = h.queue;
+      pool = h.pool;
+      stations = s.now;
+      works = works_with g.submitted w.front.sectors w.front.last g.fetched w.back.jobs.works t r h.queue.ordered h.submitted h.works is known it.id it.unhindered;
+      counted = omega (arith, length-append w.back.jobs.works (t ∷ []), h.counted);
+      replies = replies_with g.fetched g.taken g.replied g.replies h.replies;
+      front_at = h.front_at;
+      offered = h.offered;
+      back_at = tt;
+      memory = h.memory;
+      ring = h.ring;
+      slots = slots_with g.shape g.start g.fetched g.pushed g.taken g.replied g.series g.replies w.under.pages w.front.stage k h.slots;
+      frames = h.frames;
+      telling = h.telling;
+      entries = h.entries;
+      mapped = record { counted = λ test. h.mapped.counted test ∙ ap (λ (l : List Mapping). count_by test (l ++ w.back.pages)) (sym (started_hands w.back.jobs (next_number w.back) (request_of w.back.shape.abi (entry_of w.back.shape.abi r)))); framed = h.mapped.framed };
+      paged = paged_at g.shape w.back.shape w.back.ring.entries w.back.grefs w.back.port (g.before + 1) w.back.pages (stage.Fetch k) stage.Loop refl refl h.paged;
+      front_sleep = front_sleep_at g.start g.taken g.replied w.under.pages w.front.asleep w.under.channels.front_pending w.front.stage (stage.Fetch k) stage.Loop (λ u s. absurd s) h.front_sleep;
+      back_sleep = record { arming = λ u. absurd (false≢true u); armed = λ u. absurd (false≢true (sym awake ∙ u)); may = λ u. awake; woken = λ u. absurd (false≢true (sym awake ∙ u)) };
+      ports = h.ports;
+    }))
   where
     h : Holds config w g d w.front.stage (stage.Fetch k)
     h = p.holds
-
-    x : AreIndices g w.front.ring w.back.ring w.front.seen w.back.seen w.back.fetched w.front.last w.front.waiting (length w.front.requests) (ending_of w.front.stage)
-    x = h.indices
 
     awake : w.back.asleep ≡ false
     awake = h.back_sleep.may refl
 
     number : next_number w.back ≡ g.fetched + 1
-    number = omega (arith, x.count, x.few, x.all, x.given, x.fetched_pushed)
+    number = omega (arith, h.indices.count, h.indices.few, h.indices.all, h.indices.given, h.indices.fetched_pushed)
 
     t : Work
     t = begun (next_number w.back) (request_of w.back.shape.abi (entry_of w.back.shape.abi r)) w.back.jobs.info.sectors (verdict_of (request_of w.back.shape.abi (entry_of w.back.shape.abi r)) w.back.jobs.info)
@@ -144,7 +111,7 @@ goes_fetched config w g d k shown given r words p known e = subst (λ (ws : List
     asked = h.queue.ordered.known g.fetched r known
 
     few : r.number - 1 < 2 ^ 32
-    few = let within = slice_get_within g.submitted (r.number - 1) r asked in omega (arith, x.few, h.submitted.counted)
+    few = let within = slice_get_within g.submitted (r.number - 1) r asked in omega (arith, h.indices.few, h.submitted.counted)
 
     sub : IsSubmitted config.sectors (r.number - 1) r
     sub = subst (λ (sectors : ℕ). IsSubmitted sectors (r.number - 1) r) h.sized.sectors (h.submitted.each (r.number - 1) r asked)
@@ -159,7 +126,7 @@ goes_fetched config w g d k shown given r words p known e = subst (λ (ws : List
     is = subst (λ (u : Work). IsWork g.submitted g.series (g.fetched + 1) u) (sym made) (is_work g.submitted g.fetched w.back.jobs.info.sectors config.sectors (next_number w.back) r number known asked sub (ap (λ (i : DiskInfo). i.sectors) h.info))
 
     s : Stepped None IsSame d [] (λ p. AreStations config (record g { fetched = g.fetched + 1 }) p (is_ready w.front.stage) (is_issuing w.front.stage) false (ending_at w.front.stage w.front.ending) (telling_at w.front.stage) None w.front.requests (w.back.jobs.works ++ t ∷ []) w.under.pages)
-    s = fetches config g d (is_ready w.front.stage) (is_issuing w.front.stage) (ending_at w.front.stage w.front.ending) (telling_at w.front.stage) None w.front.requests w.back.jobs.works w.under.pages t r h.queue.ordered known (omega (arith, x.back_to, h.back_at.2)) it.id it.unmoved (it.unread w.under.pages) h.stations
+    s = fetches config g d (is_ready w.front.stage) (is_issuing w.front.stage) (ending_at w.front.stage w.front.ending) (telling_at w.front.stage) None w.front.requests w.back.jobs.works w.under.pages t r h.queue.ordered known (omega (arith, h.indices.back_to, h.back_at.2)) it.id it.unmoved (it.unread w.under.pages) h.stations
 
 goes_further : (config : Options) (w : World) (g : Flow) (d : Pipeline) (k word : ℕ) (shown : Shown) (given : BackAnswer) (last : Bool)
     → (k + 1 == entry_words_of w.back.shape.abi) ≡ last
@@ -186,11 +153,8 @@ goes_further config w g d k word shown given last tested read p = by_test last t
     r : Request
     r = h.back_at.3.0
 
-    known : slice_get g.series g.fetched ≡ Some r
-    known = h.back_at.3.1
-
     same : n.r ≡ r
-    same = same_Some n.r r (sym n.known ∙ known)
+    same = same_Some n.r r (sym n.known ∙ h.back_at.3.1)
 
     more : w.back.entry ++ word ∷ [] ≡ take (k + 1) (entry_of g.shape.abi r)
     more = one_more g.shape.abi r k word w.back.entry few h.back_at.3.2 (read ∙ n.words k few ∙ ap (λ (q : Request). slice_index (entry_of g.shape.abi q) k) same)
@@ -200,14 +164,14 @@ goes_further config w g d k word shown given last tested read p = by_test last t
         let whole : k + 1 ≡ entry_words_of w.back.shape.abi = grind (arith, nat_tests) in
         let words : entry_words_of w.back.shape.abi ≡ entry_words_of g.shape.abi = ap entry_words_of abi in
         let all : take (k + 1) (entry_of g.shape.abi r) ≡ entry_of g.shape.abi r = take_all (k + 1) (entry_of g.shape.abi r) (let sized = length_entry g.shape.abi r in omega arith) in
-        goes_fetched config w g d k shown given r (w.back.entry ++ word ∷ []) p known (more ∙ (all ∙ ap (λ (x : Abi). entry_of x r) (sym abi)))
+        goes_fetched config w g d k shown given r (w.back.entry ++ word ∷ []) p h.back_at.3.1 (more ∙ (all ∙ ap (λ (x : Abi). entry_of x r) (sym abi)))
     by_test false u =
         let apart : k + 1 ≢ entry_words_of w.back.shape.abi = grind (arith, nat_tests) in
         let words : entry_words_of w.back.shape.abi ≡ entry_words_of g.shape.abi = ap entry_words_of abi in
         let awake : w.back.asleep ≡ false = h.back_sleep.may refl in
         goes_still config w g d (stage.Fetch k) (stage.Fetch (k + 1)) (record w.back { entry = w.back.entry ++ word ∷ [] }) w.under.pages w.under.channels g.back_seen shown given p
         (quiet_with config w g d (stage.Fetch k) (stage.Fetch (k + 1)) w.back.asleep w.back.seen (w.back.entry ++ word ∷ []) w.under.channels g.back_seen h i (between (stage.Fetch (k + 1)) w.back refl refl refl) h.stations h.indices
-        (omega arith, omega arith, h.back_at.2, (r, known, more))
+        (omega arith, omega arith, h.back_at.2, (r, h.back_at.3.1, more))
         (front_sleep_at g.start g.taken g.replied w.under.pages w.front.asleep w.under.channels.front_pending w.front.stage (stage.Fetch k) (stage.Fetch (k + 1)) (λ t s. absurd s) h.front_sleep)
         (back_sleep_at g.start g.fetched g.pushed w.under.pages w.back.asleep w.under.channels.back_pending w.front.stage (stage.Fetch k) (stage.Fetch (k + 1)) (λ t. absurd (false≢true t)) (λ t. awake) h.back_sleep)
         refl refl)

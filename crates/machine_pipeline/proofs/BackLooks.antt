@@ -31,15 +31,13 @@ use Rattle.machine_pipeline.proofs.BackStill.{BackStands}
 use Rattle.machine_pipeline.proofs.BackQuiet.{IsBetween, goes_still, quiet_with, bound_terms, front_sleep_at, back_sleep_at, stations_between}
 use Rattle.machine_pipeline.proofs.BackFences.{between}
 use Rattle.machine_pipeline.proofs.BackWrites.{first_at}
+use Rattle.machine_pipeline.proofs.Wrapped.{same_wrapped}
 
 -- an honest front is never further ahead than the ring has entries
 no_overrun : (start replied pushed word entries : ℕ) (ring : Ring) → entries ≤ 512 → ring.entries ≡ entries → ring.prod ≡ wrapped start replied → word ≡ wrapped start pushed → replied ≤ pushed → pushed ≤ replied + entries → overruns ring word ≡ false
 no_overrun start replied pushed word entries ring few size prod here from to =
     let ahead : distance_of ring.prod word ≤ entries = omega arith in
     grind (arith, nat_tests)
-
-same_index : (start m n : ℕ) → m ≤ n → n < m + 2 ^ 32 → wrapped start n ≡ wrapped start m → n ≡ m
-same_index start m n from to same = omega arith
 
 -- the view once the producer was read, by the tests of what was read
 abbrev looked_by : (over same : Bool) → View → ℕ → View → View
@@ -61,29 +59,8 @@ look config w g d b word h i here =
     record {
       is = here;
       bounded = no_overrun g.start g.replied g.pushed word (entries_of g.shape.order) w.back.ring (few_entries g.shape.order h.shaped.narrow) (h.paged.entries_are (bound_terms b i.bound)) x.replied here (omega (arith, x.replied_fetched, x.fetched_pushed)) (omega (arith, x.all, x.held, x.room, x.taken_replied));
-      none = λ e. same_index g.start g.fetched g.pushed x.fetched_pushed (omega (arith, x.all, x.few)) (sym here ∙ e ∙ x.fetched);
-      indices = record {
-        front_entries = x.front_entries;
-        pushed = x.pushed;
-        taken = x.taken;
-        replied = x.replied;
-        fetched = x.fetched;
-        front_saw = x.front_saw;
-        back_saw = here;
-        count = x.count;
-        taken_replied = x.taken_replied;
-        replied_fetched = x.replied_fetched;
-        fetched_pushed = x.fetched_pushed;
-        front_from = x.front_from;
-        front_to = x.front_to;
-        back_from = x.fetched_pushed;
-        back_to = omega arith;
-        all = x.all;
-        given = x.given;
-        few = x.few;
-        held = x.held;
-        room = x.room;
-      };
+      none = λ e. same_wrapped g.start g.fetched g.pushed x.fetched_pushed (omega (arith, x.all, x.few)) (sym here ∙ e ∙ x.fetched);
+      indices = omega (arith, x, here);
     }
 
 -- something new is seen, or it isn't and `otherwise` holds
@@ -109,8 +86,7 @@ looks_by config w g d b word shown given otherwise false false p i unfetching un
 -- the producer stands in word 0 of the ring's first page
 producer : (config : Options) (w : World) (g : Flow) (d : Pipeline) (b : BackStage) → BackStands config w g d b → IsBetween b w.back → word_of w.under.pages (frame_of w.under.grants (page_of w.back 0)) 0 ≡ wrapped g.start g.pushed
 producer config w g d b p i =
-    let h : Holds config w g d w.front.stage b = p.holds in
-    ap (λ (f : ℕ). word_of w.under.pages f 0) (first_at config w g d b p i) ∙ h.ring.requests (rung w.front.stage p.connected)
+    ap (λ (f : ℕ). word_of w.under.pages f 0) (first_at config w g d b p i) ∙ p.holds.ring.requests (rung w.front.stage p.connected)
   where
     rung : (s : FrontStage) → is_connected s ≡ true → has_ring s ≡ true
     rung (front.RingWord k) c = c

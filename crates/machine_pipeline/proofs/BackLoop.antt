@@ -93,8 +93,7 @@ waits : (config : Options) (w : World) (g : Flow) (d : Pipeline) (pending : Bool
 waits config w g d true next p = goes_woken config w g d (moves.Event mover.Back) answer.Event (taken w.under.channels end.Back) refl refl refl p
 waits config w g d false None p = stays config w g d stage.Loop p
 waits config w g d false (Some path) p =
-    let left : Hypervisor = watch_taken w.under end.Back in
-    goes_keyed config _ _ d left.keys (goes_watched config w g d (moves.Watched mover.Back path) (answer.Watched path) p)
+    goes_keyed config _ _ d (watch_taken w.under end.Back).keys (goes_watched config w g d (moves.Watched mover.Back path) (answer.Watched path) p)
 
 -- the producer, or the next entry's first word
 abbrev read_ask : Bool → View → BackAsk

@@ -45,7 +45,7 @@ use Rattle.split_model.specs.World.{World}
 use Rattle.split_model.specs.Shown.{back_lines, halt_lines}
 use Rattle.machine_pipeline.proofs.Flow.{Flow, frames_of, has_terms, is_back_arming, is_bound_back, is_fetching, reply_at, is_issuing, ending_at, telling_at}
 use Rattle.machine_pipeline.proofs.Holds.{Holds, BackAt, PagesAt, IsPooled, PortsAt, IsGranted, IsFrontSleep, flags_with}
-use Rattle.machine_pipeline.proofs.Turns.{BackGoes, Goes, silent}
+use Rattle.machine_pipeline.proofs.Turns.{BackGoes, Goes, silent, goes_by}
 use Rattle.machine_pipeline.proofs.Slots.{few_pages}
 use Rattle.machine_pipeline.proofs.Kept.{SameFrame, SameEntry, SameGrants, other_frame, other_entry, slots_kept, front_sleep_kept, back_sleep_kept}
 use Rattle.machine_pipeline.proofs.ReadsKept.{stations_elsewhere}
@@ -72,9 +72,8 @@ as_mapped gref h = cond (h.mapping.gref == gref) 1 0
 -- a mapping of a page of the ring is none of a request's frame
 mapped_beside : (live : List Held) (h : Held) (gref : ℕ) → h.mapping.gref ≢ gref → mappings_of gref (live ++ h ∷ []) ≡ mappings_of gref live
 mapped_beside live h gref apart =
-    let sum : mappings_of gref (live ++ h ∷ []) ≡ mappings_of gref live + as_mapped gref h = sum_by_push (as_mapped gref) live h in
     let none : as_mapped gref h ≡ 0 = grind (arith, nat_tests) in
-    omega (arith, sum, none)
+    omega (arith, (sum_by_push (as_mapped gref) live h), none)
 
 -- the entries of a request stay as they are where a mapping of a page of the ring is made
 granted_still : {series : List Request} (pushed : ℕ) (old new : List ℕ) (live : List Held) (h : Held) (s : FrontStage) (r : Request)
@@ -118,12 +117,9 @@ gref_more : (pages : List Mapping) (m : Mapping) → ((page : ℕ) → page < le
 gref_more pages m all last page within = elim (cases_eq page (length pages)) [
   | inl e ↦
       let at : slice_index_or (pages ++ m ∷ []) (length pages + 0) no_page ≡ m = get_or-append-add pages (m ∷ []) 0 no_page in
-      let here : length pages + 0 ≡ page = omega arith in
-      let found : slice_index_or (pages ++ m ∷ []) page no_page ≡ m = subst (λ (n : ℕ). slice_index_or (pages ++ m ∷ []) n no_page ≡ m) here at in
-      ap (λ (x : Mapping). x.gref) found ∙ (last ∙ omega arith)
+      ap (λ (x : Mapping). x.gref) (subst (λ (n : ℕ). slice_index_or (pages ++ m ∷ []) n no_page ≡ m) (omega arith) at) ∙ (last ∙ omega arith)
   | inr apart ↦
-      let long = length-append pages (m ∷ []) in
-      let before : page < length pages = omega arith in
+      let before : page < length pages = omega (arith, length-append pages (m ∷ [])) in
       ap (λ (x : Mapping). x.gref) (get_or_append_left pages (m ∷ []) no_page page before) ∙ all page before
 ]
 
@@ -131,12 +127,9 @@ mode_more : (pages : List Mapping) (m : Mapping) → ((page : ℕ) → page < le
 mode_more pages m all last page within = elim (cases_eq page (length pages)) [
   | inl e ↦
       let at : slice_index_or (pages ++ m ∷ []) (length pages + 0) no_page ≡ m = get_or-append-add pages (m ∷ []) 0 no_page in
-      let here : length pages + 0 ≡ page = omega arith in
-      let found : slice_index_or (pages ++ m ∷ []) page no_page ≡ m = subst (λ (n : ℕ). slice_index_or (pages ++ m ∷ []) n no_page ≡ m) here at in
-      ap (λ (x : Mapping). x.mode) found ∙ last
+      ap (λ (x : Mapping). x.mode) (subst (λ (n : ℕ). slice_index_or (pages ++ m ∷ []) n no_page ≡ m) (omega arith) at) ∙ last
   | inr apart ↦
-      let long = length-append pages (m ∷ []) in
-      let before : page < length pages = omega arith in
+      let before : page < length pages = omega (arith, length-append pages (m ∷ [])) in
       ap (λ (x : Mapping). x.mode) (get_or_append_left pages (m ∷ []) no_page page before) ∙ all page before
 ]
 
@@ -149,74 +142,61 @@ maps : (config : Options) (w : World) (g : Flow) (d : Pipeline) (verdict : Resul
     → PagesAt b' g.shape.order (length w.back.pages + 1)
     → ActGoes config w d (step_at stage.MapRing w.back) (Some (map_act w.under back_mover.Back (next_gref w.back) ReadWrite verdict))
 maps config w g d verdict b' p e named stepped i mapped = subst (λ (x : Result ℕ MapRefusal). ActGoes config w d (step_at stage.MapRing w.back) (Some (map_act w.under back_mover.Back (next_gref w.back) ReadWrite x))) (sym e)
-    (subst (λ (s : BackStage). Goes config (Move (moves.Map back_mover.Back gref ReadWrite (w.under.grants.made + 1) (2 + length w.back.pages)) ∷ back_lines w.back.told (answer.Mapped mapping) ++ halt_lines w.back.halted w.back.halted) (record { front = w.front; back = record w.back { pages = w.back.pages ++ mapping ∷ []; stage = s; told = None }; under = under }) d) (sym stepped) (record {
-      flow = g;
-      steps = [];
-      does = silent (moves.Map back_mover.Back gref ReadWrite (w.under.grants.made + 1) (2 + length w.back.pages)) w.back.told w.back.halted (answer.Mapped mapping) d p.untold h.unhalted;
-      holds = record {
-        started = h.started;
-        shaped = h.shaped;
-        sized = h.sized;
-        indices = h.indices;
-        queue = h.queue;
-        submitted = h.submitted;
-        pool = h.pool;
-        stations = rw (i.fetching, i.replying) (stations_elsewhere config g d (is_ready w.front.stage) (is_issuing w.front.stage) false (ending_at w.front.stage w.front.ending) (telling_at w.front.stage) None w.front.requests w.back.jobs.works w.under.pages new w.front.sectors w.front.last h.submitted (λ f low high. others f (omega arith)) h.stations);
-        works = h.works;
-        counted = rw (i.replying) h.counted;
-        info = h.info;
-        replies = h.replies;
-        front_at = h.front_at;
-        offered = h.offered;
-        back_at = back_at_setting b' g.shape g.start g.fetched g.back_seen g.replied g.series w.back.jobs.works w.back.entry i h.back_at;
-        unhalted = h.unhalted;
-        memory = length-set w.under.pages (gref / 512 * 1024 + 2 * (gref % 512)) value ∙ h.memory;
-        ring = record {
-          begun = begun g.start new w.front.stage p.connected;
-          requests = λ t. others 2 (omega arith) 0 (omega arith) ∙ h.ring.requests t;
-          responses = λ t. others 2 (omega arith) 2 (omega arith) ∙ h.ring.responses t;
-          named = λ page lt from. (let x = beside page (let all = named_to w.front.stage (2 ^ g.shape.order) p.connected in omega arith) (let long = more in omega arith) in x.frame) ∙ h.ring.named page lt (let long = more in omega arith);
-          granted = λ page lt from. (let x = beside page (let all = granted_to w.front.stage (2 ^ g.shape.order) p.connected in omega arith) (let long = more in omega arith) in x.flags) ∙ h.ring.granted page lt (let long = more in omega arith);
-        };
-        slots = slots_at g.shape g.start g.fetched g.pushed g.taken g.replied g.series g.replies new w.front.stage stage.MapRing b' (λ rep t k lt. absurd (none-some rep (sym i.replying ∙ t))) (slots_kept g.shape g.start g.fetched g.pushed g.taken g.replied g.series g.replies w.under.pages new w.front.stage stage.MapRing h.shaped.narrow (λ f v from to within behind. others f (omega arith) v within) h.slots);
-        frames = frames_elsewhere config w g d w.front.stage stage.MapRing new h (λ f low high. others f (omega arith));
-        telling = told_elsewhere config w g d w.front.stage stage.MapRing new h (λ f low high. others f (omega arith));
-        entries = record {
-          each = all_from (IsGranted g.series g.pushed new (w.under.grants.live ++ made ∷ []) w.front.stage) w.front.requests (λ k r at.
-              let is = is_submitted config w g d w.front.stage stage.MapRing h k r at in
-              granted_still g.pushed w.under.pages new w.under.grants.live made w.front.stage r
-              (λ place lt. let pooled = pooled_at r is.frames place in omega (arith, pooled.0, low))
-              (entry_beside w.under.pages gref value r low is.frames)
-              (all_at (IsGranted g.series g.pushed w.under.pages w.under.grants.live w.front.stage) w.front.requests k r h.entries.each at));
-          ending = λ e at place from lt.
-              let is = ending_submitted config w g d w.front.stage stage.MapRing e h (revoking_ends w.front.stage w.front.ending e at) in
-              let entry = entry_beside w.under.pages gref value e.request low is.frames place lt in
-              entry.flags ∙ h.entries.ending e at place from lt;
-        };
-        mapped = mapped_more w.under.grants.live (hands_in w.back.jobs.works ++ w.back.pages) (given_up b' ++ (hands_in w.back.jobs.works ++ (w.back.pages ++ mapping ∷ []))) mapping (2 + length w.back.pages) (omega (arith, named)) (record { front = hands_in w.back.jobs.works ++ w.back.pages; rest = []; without = sym (append-nil (hands_in w.back.jobs.works ++ w.back.pages)); with_it = ap (λ (l : List Mapping). l ++ (hands_in w.back.jobs.works ++ (w.back.pages ++ mapping ∷ []))) i.given ∙ sym (append_assoc (hands_in w.back.jobs.works) w.back.pages (mapping ∷ [])) }) h.mapped;
-        paged = record {
-          shaped = λ t. h.paged.shaped refl;
-          entries_are = λ t. h.paged.entries_are refl;
-          grefs_are = λ t. h.paged.grefs_are refl;
-          port_is = λ t. h.paged.port_is refl;
-          mapped = subst (PagesAt b' g.shape.order) (sym more) mapped;
-          gref = gref_more w.back.pages mapping h.paged.gref named;
-          mode = mode_more w.back.pages mapping h.paged.mode refl;
-        };
-        front_sleep = front_sleep_at g.start g.taken g.replied new w.front.asleep w.under.channels.front_pending w.front.stage stage.MapRing b' (λ t s. absurd s) (front_sleep_kept g.start g.taken g.replied w.under.pages new w.front.asleep w.under.channels.front_pending w.front.stage stage.MapRing (others 2 (omega arith) 3 (omega arith)) h.front_sleep);
-        back_sleep = back_sleep_at g.start g.fetched g.pushed new w.back.asleep w.under.channels.back_pending w.front.stage stage.MapRing b' (λ t. absurd (false≢true (sym i.unarmed ∙ t))) (λ t. h.back_sleep.may refl) (back_sleep_kept g.start g.fetched g.pushed w.under.pages new w.back.asleep w.under.channels.back_pending w.front.stage stage.MapRing (others 2 (omega arith) 1 (omega arith)) h.back_sleep);
-        ports = subst (λ (bound : Bool). PortsAt g.before (is_connected w.front.stage) bound w.under.channels.made w.under.channels.ports) (sym i.unbound) h.ports;
+    (subst (λ (s : BackStage). Goes config (Move (moves.Map back_mover.Back gref ReadWrite (w.under.grants.made + 1) (2 + length w.back.pages)) ∷ back_lines w.back.told (answer.Mapped mapping) ++ halt_lines w.back.halted w.back.halted) (record { front = w.front; back = record w.back { pages = w.back.pages ++ mapping ∷ []; stage = s; told = None }; under = under }) d) (sym stepped) (goes_by {g = g} (silent (moves.Map back_mover.Back gref ReadWrite (w.under.grants.made + 1) (2 + length w.back.pages)) w.back.told w.back.halted (answer.Mapped mapping) d p.untold p.holds.unhalted)
+    (record {
+      settled = p.holds.settled;
+      indices = p.holds.indices;
+      queue = p.holds.queue;
+      pool = p.holds.pool;
+      stations = rw (i.fetching, i.replying) (stations_elsewhere config g d (is_ready w.front.stage) (is_issuing w.front.stage) false (ending_at w.front.stage w.front.ending) (telling_at w.front.stage) None w.front.requests w.back.jobs.works w.under.pages new w.front.sectors w.front.last p.holds.submitted (λ f low high. others f (omega arith)) p.holds.stations);
+      works = p.holds.works;
+      counted = rw (i.replying) p.holds.counted;
+      replies = p.holds.replies;
+      front_at = p.holds.front_at;
+      offered = p.holds.offered;
+      back_at = back_at_setting b' g.shape g.start g.fetched g.back_seen g.replied g.series w.back.jobs.works w.back.entry i p.holds.back_at;
+      memory = length-set w.under.pages (gref / 512 * 1024 + 2 * (gref % 512)) value ∙ p.holds.memory;
+      ring = record {
+        begun = begun g.start new w.front.stage p.connected;
+        requests = λ t. others 2 (omega arith) 0 (omega arith) ∙ p.holds.ring.requests t;
+        responses = λ t. others 2 (omega arith) 2 (omega arith) ∙ p.holds.ring.responses t;
+        named = λ page lt from. (let x = beside page (let all = named_to w.front.stage (2 ^ g.shape.order) p.connected in omega arith) (let long = more in omega arith) in x.frame) ∙ p.holds.ring.named page lt (let long = more in omega arith);
+        granted = λ page lt from. (let x = beside page (let all = granted_to w.front.stage (2 ^ g.shape.order) p.connected in omega arith) (let long = more in omega arith) in x.flags) ∙ p.holds.ring.granted page lt (let long = more in omega arith);
       };
-    }))
+      slots = slots_at g.shape g.start g.fetched g.pushed g.taken g.replied g.series g.replies new w.front.stage stage.MapRing b' (λ rep t k lt. absurd (none-some rep (sym i.replying ∙ t))) (slots_kept g.shape g.start g.fetched g.pushed g.taken g.replied g.series g.replies w.under.pages new w.front.stage stage.MapRing p.holds.shaped.narrow (λ f v from to within behind. others f (omega arith) v within) p.holds.slots);
+      frames = frames_elsewhere config w g d w.front.stage stage.MapRing new p.holds (λ f low high. others f (omega arith));
+      telling = told_elsewhere config w g d w.front.stage stage.MapRing new p.holds (λ f low high. others f (omega arith));
+      entries = record {
+        each = all_from (IsGranted g.series g.pushed new (w.under.grants.live ++ made ∷ []) w.front.stage) w.front.requests (λ k r at.
+            let is = is_submitted config w g d w.front.stage stage.MapRing p.holds k r at in
+            granted_still g.pushed w.under.pages new w.under.grants.live made w.front.stage r
+            (λ place lt. let pooled = pooled_at r is.frames place in omega (arith, pooled.0, low))
+            (entry_beside w.under.pages gref value r low is.frames)
+            (all_at (IsGranted g.series g.pushed w.under.pages w.under.grants.live w.front.stage) w.front.requests k r p.holds.entries.each at));
+        ending = λ e at place from lt.
+            let is = ending_submitted config w g d w.front.stage stage.MapRing e p.holds (revoking_ends w.front.stage w.front.ending e at) in
+            (entry_beside w.under.pages gref value e.request low is.frames place lt).flags ∙ p.holds.entries.ending e at place from lt;
+      };
+      mapped = mapped_more w.under.grants.live (hands_in w.back.jobs.works ++ w.back.pages) (given_up b' ++ (hands_in w.back.jobs.works ++ (w.back.pages ++ mapping ∷ []))) mapping (2 + length w.back.pages) (omega (arith, named)) (record { front = hands_in w.back.jobs.works ++ w.back.pages; rest = []; without = sym (append-nil (hands_in w.back.jobs.works ++ w.back.pages)); with_it = ap (λ (l : List Mapping). l ++ (hands_in w.back.jobs.works ++ (w.back.pages ++ mapping ∷ []))) i.given ∙ sym (append_assoc (hands_in w.back.jobs.works) w.back.pages (mapping ∷ [])) }) p.holds.mapped;
+      paged = record {
+        shaped = λ t. p.holds.paged.shaped refl;
+        entries_are = λ t. p.holds.paged.entries_are refl;
+        grefs_are = λ t. p.holds.paged.grefs_are refl;
+        port_is = λ t. p.holds.paged.port_is refl;
+        mapped = subst (PagesAt b' g.shape.order) (sym more) mapped;
+        gref = gref_more w.back.pages mapping p.holds.paged.gref named;
+        mode = mode_more w.back.pages mapping p.holds.paged.mode refl;
+      };
+      front_sleep = front_sleep_at g.start g.taken g.replied new w.front.asleep w.under.channels.front_pending w.front.stage stage.MapRing b' (λ t s. absurd s) (front_sleep_kept g.start g.taken g.replied w.under.pages new w.front.asleep w.under.channels.front_pending w.front.stage stage.MapRing (others 2 (omega arith) 3 (omega arith)) p.holds.front_sleep);
+      back_sleep = back_sleep_at g.start g.fetched g.pushed new w.back.asleep w.under.channels.back_pending w.front.stage stage.MapRing b' (λ t. absurd (false≢true (sym i.unarmed ∙ t))) (λ t. p.holds.back_sleep.may refl) (back_sleep_kept g.start g.fetched g.pushed w.under.pages new w.back.asleep w.under.channels.back_pending w.front.stage stage.MapRing (others 2 (omega arith) 1 (omega arith)) p.holds.back_sleep);
+      ports = subst (λ (bound : Bool). PortsAt g.before (is_connected w.front.stage) bound w.under.channels.made w.under.channels.ports) (sym i.unbound) p.holds.ports;
+    })))
   where
-    h : Holds config w g d w.front.stage stage.MapRing
-    h = p.holds
-
     gref : ℕ
     gref = next_gref w.back
 
     low : gref < 24
-    low = let few = few_pages g.shape.order h.shaped.narrow in let fewer = h.paged.mapped in omega (arith, named)
+    low = let few = few_pages g.shape.order p.holds.shaped.narrow in let fewer = p.holds.paged.mapped in omega (arith, named)
 
     value : ℕ
     value = mapped_entry (entry_word0 w.under.pages gref) ReadWrite
@@ -240,7 +220,7 @@ maps config w g d verdict b' p e named stepped i mapped = subst (λ (x : Result 
     others f apart = other_frame w.under.pages (gref / 512) (2 * (gref % 512)) value f (omega (arith, low)) (omega (arith, low))
 
     beside : (page : ℕ) → page < 2 ^ g.shape.order → length w.back.pages + 1 ≤ page → SameEntry w.under.pages new (8 + page)
-    beside page few from = let all = few_pages g.shape.order h.shaped.narrow in other_entry w.under.pages gref (8 + page) value (omega (arith, low)) (omega arith) (omega (arith, named))
+    beside page few from = let all = few_pages g.shape.order p.holds.shaped.narrow in other_entry w.under.pages gref (8 + page) value (omega (arith, low)) (omega arith) (omega (arith, named))
 
 -- whether another page is to be mapped
 maps_by : (config : Options) (w : World) (g : Flow) (d : Pipeline) (more : Bool) → BackStands config w g d stage.MapRing → (length w.back.grefs ≡ 2 ^ g.shape.order) → next_gref w.back ≡ 8 + length w.back.pages → verdict_at w.under.pages (next_gref w.back) ReadWrite ≡ Ok (2 + length w.back.pages) → nat_lt (length w.back.pages + 1) (length w.back.grefs) ≡ more
@@ -249,9 +229,7 @@ maps_by config w g d true p all named verdict further =
     let lt : length w.back.pages + 1 < length w.back.grefs = grind (arith, nat_tests) in
     maps config w g d (verdict_at w.under.pages (next_gref w.back) ReadWrite) stage.MapRing p verdict named (rw further refl) (setting stage.MapRing refl refl refl refl refl refl) (omega arith)
 maps_by config w g d false p all named verdict further =
-    let h : Holds config w g d w.front.stage stage.MapRing = p.holds in
-    let fewer = h.paged.mapped in
-    let last : length w.back.pages + 1 ≡ 2 ^ g.shape.order = grind (arith, nat_tests) in
+    let last : length w.back.pages + 1 ≡ 2 ^ g.shape.order = grind (arith, nat_tests, p.holds.paged.mapped) in
     maps config w g d (verdict_at w.under.pages (next_gref w.back) ReadWrite) stage.Bind p verdict named (rw further refl) (setting stage.Bind refl refl refl refl refl refl) last
 
 pub goes_map_ring : (config : Options) (w : World) (g : Flow) (d : Pipeline) → BackStands config w g d stage.MapRing → BackGoes config w d stage.MapRing
@@ -284,10 +262,9 @@ is_bound_now before c true is at = (at.0, rw (at.0, at.1) (rw (own_place before)
 binds : (config : Options) (w : World) (g : Flow) (d : Pipeline) (port : ℕ) (state : PortState) → BackStands config w g d stage.Bind → port ≡ g.before + 1 → state ≡ Unbound → ActGoes config w d (step_at stage.Bind w.back) (Some (bind_act w.under port state))
 binds config w g d port state p one e =
     let h : Holds config w g d w.front.stage stage.Bind = p.holds in
-    let c : ChannelState = bound w.under.channels (g.before + 1) in
     subst (λ (n : ℕ). ActGoes config w d (step_at stage.Bind w.back) (Some (bind_act w.under n state))) (sym one)
     (subst (λ (x : PortState). ActGoes config w d (step_at stage.Bind w.back) (Some (bind_act w.under (g.before + 1) x))) (sym e)
-    (goes_still config w g d stage.Bind stage.Loop w.back w.under.pages c g.back_seen _ _ p (record {
+    (goes_still config w g d stage.Bind stage.Loop w.back w.under.pages (bound w.under.channels (g.before + 1)) g.back_seen _ _ p (record {
       indices = h.indices;
       stations = h.stations;
       works = h.works;

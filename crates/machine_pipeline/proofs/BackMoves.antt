@@ -36,11 +36,7 @@ back_goes config w g d stage.Send p = goes_send config w g d p
 back_goes config w g d stage.StoreEvent p = goes_store_event config w g d p
 back_goes config w g d stage.EventFence p = goes_event_fence config w g d p
 back_goes config w g d stage.LookAgain p = goes_look_again config w g d p
-back_goes config w g d (stage.GiveUp m) p = let h : Holds config w g d w.front.stage (stage.GiveUp m) = p.holds in absurd h.back_at
-back_goes config w g d stage.UnmapRing p = let h : Holds config w g d w.front.stage stage.UnmapRing = p.holds in absurd h.back_at
-back_goes config w g d stage.ClosePort p = let h : Holds config w g d w.front.stage stage.ClosePort = p.holds in absurd h.back_at
-back_goes config w g d stage.UnmapUnbound p = let h : Holds config w g d w.front.stage stage.UnmapUnbound = p.holds in absurd h.back_at
-back_goes config w g d stage.Halted p = let h : Holds config w g d w.front.stage stage.Halted = p.holds in absurd h.back_at
+back_goes config w g d b p = absurd p.holds.back_at
 
 -- the back moves
 pub back_moves : (config : Options) (w : World) (g : Flow) (d : Pipeline) → IsPlain config → is_connected w.front.stage ≡ true → Stands config w g d → Goes config (lines_at w BackMoves) (happens w BackMoves) d

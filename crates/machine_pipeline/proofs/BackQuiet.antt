@@ -27,7 +27,7 @@ use Rattle.machine_pipeline.proofs.Stations.{AreStations}
 use Rattle.machine_pipeline.proofs.Holds.{Holds, AreIndices, AreSlots, PagesAt, ArePaged, slot_of, IsFrontSleep, IsBackSleep, BackSends, BackAt, PortsAt}
 use Rattle.pipeline_laws.specs.Pipeline.{Pipeline, Step, after_steps}
 use Rattle.machine_pipeline.specs.Step.{Does, IsSame}
-use Rattle.machine_pipeline.proofs.Turns.{Goes, silent}
+use Rattle.machine_pipeline.proofs.Turns.{Goes, silent, goes_by}
 use Rattle.machine_pipeline.proofs.BackStill.{BackStands, Moves, still}
 
 -- a back that is bound to its port has the terms of its front
@@ -94,12 +94,8 @@ pub goes_moved : (config : Options) (w : World) (g : Flow) (d : Pipeline) (steps
     → BackStands config w g d b
     → Moves config w g (after_steps steps d) w.front.stage b b' (record v { stage = b'; told = None }) pages channels seen
     → Goes config (Move shown ∷ back_lines w.back.told answer ++ halt_lines w.back.halted w.back.halted) (record { front = w.front; back = record v { stage = b'; told = None }; under = record w.under { pages = pages; channels = channels } }) d
-goes_moved config w g d steps b b' v pages channels seen shown answer does p m = record {
-  flow = record g { back_seen = seen };
-  steps = steps;
-  does = does;
-  holds = still config w g d (after_steps steps d) w.front.stage b b' (record v { stage = b'; told = None }) pages channels seen p.holds m;
-}
+goes_moved config w g d steps b b' v pages channels seen shown answer does p m = goes_by {g = record g { back_seen = seen }} does
+    (still config w g d (after_steps steps d) w.front.stage b b' (record v { stage = b'; told = None }) pages channels seen p.holds m)
 
 -- a move that tells nothing
 pub goes_still : (config : Options) (w : World) (g : Flow) (d : Pipeline) (b b' : BackStage) (v : View) (pages : List ℕ) (channels : ChannelState) (seen : ℕ) (shown : Shown) (answer : BackAnswer)

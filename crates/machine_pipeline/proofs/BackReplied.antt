@@ -23,14 +23,15 @@ use Rattle.split_model.specs.World.{World}
 use Rattle.split_model.specs.Shown.{halt_lines}
 use Rattle.machine_pipeline.proofs.Flow.{Flow, wrapped, ending_at, is_issuing, telling_at}
 use Rattle.machine_pipeline.proofs.Holds.{Holds, AreIndices, IsReplying, IsReply, AreReplies, IsEnding, IsTaken, FrontAt, AreRingWords, AreSlots, slot_of, IsFrontSleep}
-use Rattle.machine_pipeline.proofs.Turns.{BackGoes, Stepped, does_step}
+use Rattle.machine_pipeline.proofs.Turns.{BackGoes, Stepped, does_step, goes_by}
 use Rattle.machine_pipeline.proofs.Kept.{front_sleep_kept, back_sleep_kept}
 use Rattle.machine_pipeline.proofs.ReadsKept.{stations_elsewhere}
 use Rattle.machine_pipeline.proofs.BackStill.{BackStands, told_elsewhere, frames_beside, entries_beside}
 use Rattle.machine_pipeline.proofs.BackQuiet.{paged_at, back_sleep_at}
 use Rattle.machine_pipeline.proofs.BackFences.{first_frame}
 use Rattle.schedule_text.specs.declared.line.Line.TheVariants as lines
-use Rattle.machine_pipeline.proofs.BackWrites.{RingWritten, ring_written, begun, named_to, granted_to, slots_beside, next_wrapped}
+use Rattle.machine_pipeline.proofs.BackWrites.{RingWritten, ring_written, begun, named_to, granted_to, slots_beside}
+use Rattle.machine_pipeline.proofs.Wrapped.{next_wrapped}
 use Rattle.std.proofs.lemmas.List.Elements.{All-push}
 use Rattle.std.proofs.lemmas.List.Quantifiers.{all_pairs_push}
 use Rattle.blk_front.specs.declared.stage.Ending.{Ending}
@@ -43,28 +44,7 @@ use Rattle.machine_pipeline.proofs.StationsBack.{replies}
 
 -- one response more was pushed
 indices_replied : (g : Flow) (replies : List Reply) (front_ring back_ring : Ring) (front_seen back_seen number last waiting unfinished ending : ℕ) → g.replied < g.fetched → AreIndices g front_ring back_ring front_seen back_seen number last waiting unfinished ending → AreIndices (record g { replied = g.replied + 1; replies = replies }) front_ring (record back_ring { prod = next_of back_ring.prod }) front_seen back_seen number last waiting unfinished ending
-indices_replied g replies front_ring back_ring front_seen back_seen number last waiting unfinished ending owed x = record {
-  front_entries = x.front_entries;
-  pushed = x.pushed;
-  taken = x.taken;
-  replied = next_wrapped g.start g.replied back_ring.prod x.replied;
-  fetched = x.fetched;
-  front_saw = x.front_saw;
-  back_saw = x.back_saw;
-  count = x.count;
-  taken_replied = omega (arith, x.taken_replied);
-  replied_fetched = omega arith;
-  fetched_pushed = x.fetched_pushed;
-  front_from = x.front_from;
-  front_to = omega (arith, x.front_to);
-  back_from = x.back_from;
-  back_to = x.back_to;
-  all = x.all;
-  given = x.given;
-  few = x.few;
-  held = x.held;
-  room = x.room;
-}
+indices_replied g replies front_ring back_ring front_seen back_seen number last waiting unfinished ending owed x = let pushed = next_wrapped g.start g.replied back_ring.prod x.replied in omega (arith, x)
 
 -- an element of a list with one more is one of the list's, or the last
 last_or_before : (replies : List Reply) (rep r : Reply) (k : ℕ) → slice_get (replies ++ rep ∷ []) k ≡ Some r → (slice_get replies k ≡ Some r) ⊎ ((k ≡ length replies) × (rep ≡ r))
@@ -141,40 +121,31 @@ front_still shape start pushed taken seen submitted before next entry ending (fr
 front_still shape start pushed taken seen submitted before next entry ending s rep other h = h
 
 pub goes_producer : (config : Options) (w : World) (g : Flow) (d : Pipeline) (rep : Reply) → BackStands config w g d (stage.Producer rep) → BackGoes config w d (stage.Producer rep)
-goes_producer config w g d rep p = record {
-  flow = flow;
-  steps = s.step ∷ [];
-  does = does_step _ (lines.Reply rep.id rep.status ∷ halt_lines w.back.halted w.back.halted) (rw h.unhalted refl) s;
-  holds = record {
-    started = h.started;
-    shaped = h.shaped;
-    sized = h.sized;
-    indices = indices_replied g (g.replies ++ rep ∷ []) w.front.ring w.back.ring w.front.seen w.back.seen w.back.fetched w.front.last w.front.waiting (length w.front.requests) (ending_of w.front.stage) owed x;
-    queue = h.queue;
-    submitted = h.submitted;
-    pool = h.pool;
-    stations = stations_elsewhere config flow (after_steps (s.step ∷ []) d) (is_ready w.front.stage) (is_issuing w.front.stage) false (ending_at w.front.stage w.front.ending) (telling_at w.front.stage) None w.front.requests w.back.jobs.works w.under.pages new w.front.sectors w.front.last h.submitted (λ f low high. wrote.others f (inr low)) s.now;
-    works = h.works;
-    counted = omega (arith, h.counted);
-    info = h.info;
-    replies = replies_more g.fetched g.taken g.replied g.replies rep a.positive a.reached a.op others h.replies;
-    front_at = front_still g.shape g.start g.pushed g.taken g.front_seen g.submitted g.replies (next_request w.front) w.front.entry w.front.ending w.front.stage rep ending_other h.front_at;
-    offered = h.offered;
-    back_at = (omega arith, x.replied ∙ ap (λ (i : ℕ). wrapped g.start i) (omega arith));
-    unhalted = h.unhalted;
-    memory = wrote.memory;
-    ring = ring_replied g.shape.order g.start g.pushed g.replied (length w.back.pages) word w.under.pages new w.front.stage wrote next p.connected h.paged.mapped h.ring;
-    slots = slots_replied g.shape g.start g.fetched g.pushed g.taken g.replied w.back.ring.prod g.series g.replies new w.front.stage rep h.replies.counted (slots_beside g.shape g.start g.fetched g.pushed g.taken g.replied 2 word g.series g.replies w.under.pages new w.front.stage (stage.Producer rep) wrote (omega arith) h.shaped.narrow h.slots);
-    frames = frames_beside config w g d w.front.stage (stage.Producer rep) new h wrote.others;
-    telling = told_elsewhere config w g d w.front.stage (stage.Producer rep) new h (λ f low high. wrote.others f (inr low));
-    entries = entries_beside config w g d w.front.stage (stage.Producer rep) new h wrote.others;
-    mapped = h.mapped;
-    paged = paged_at g.shape w.back.shape w.back.ring.entries w.back.grefs w.back.port (g.before + 1) w.back.pages (stage.Producer rep) (stage.ProducerFence w.back.ring.prod) refl refl h.paged;
-    front_sleep = front_sleep_replied g.start g.taken g.replied w.back.ring.prod new w.front.asleep w.under.channels.front_pending w.front.stage rep (front_sleep_kept g.start g.taken g.replied w.under.pages new w.front.asleep w.under.channels.front_pending w.front.stage (stage.Producer rep) (wrote.words 2 3 (omega arith)) h.front_sleep);
-    back_sleep = back_sleep_at g.start g.fetched g.pushed new w.back.asleep w.under.channels.back_pending w.front.stage (stage.Producer rep) (stage.ProducerFence w.back.ring.prod) (λ t. t) (λ t. cc) (back_sleep_kept g.start g.fetched g.pushed w.under.pages new w.back.asleep w.under.channels.back_pending w.front.stage (stage.Producer rep) (wrote.words 2 1 (omega arith)) h.back_sleep);
-    ports = h.ports;
-  };
-}
+goes_producer config w g d rep p = goes_by {g = flow} (does_step _ (lines.Reply rep.id rep.status ∷ halt_lines w.back.halted w.back.halted) (rw h.unhalted refl) s)
+    (record {
+      settled = h.settled;
+      indices = indices_replied g (g.replies ++ rep ∷ []) w.front.ring w.back.ring w.front.seen w.back.seen w.back.fetched w.front.last w.front.waiting (length w.front.requests) (ending_of w.front.stage) owed x;
+      queue = h.queue;
+      pool = h.pool;
+      stations = stations_elsewhere config flow (after_steps (s.step ∷ []) d) (is_ready w.front.stage) (is_issuing w.front.stage) false (ending_at w.front.stage w.front.ending) (telling_at w.front.stage) None w.front.requests w.back.jobs.works w.under.pages new w.front.sectors w.front.last h.submitted (λ f low high. wrote.others f (inr low)) s.now;
+      works = h.works;
+      counted = omega (arith, h.counted);
+      replies = replies_more g.fetched g.taken g.replied g.replies rep h.back_at.positive h.back_at.reached h.back_at.op others h.replies;
+      front_at = front_still g.shape g.start g.pushed g.taken g.front_seen g.submitted g.replies (next_request w.front) w.front.entry w.front.ending w.front.stage rep ending_other h.front_at;
+      offered = h.offered;
+      back_at = (omega arith, x.replied ∙ ap (λ (i : ℕ). wrapped g.start i) (omega arith));
+      memory = wrote.memory;
+      ring = ring_replied g.shape.order g.start g.pushed g.replied (length w.back.pages) word w.under.pages new w.front.stage wrote next p.connected h.paged.mapped h.ring;
+      slots = slots_replied g.shape g.start g.fetched g.pushed g.taken g.replied w.back.ring.prod g.series g.replies new w.front.stage rep h.replies.counted (slots_beside g.shape g.start g.fetched g.pushed g.taken g.replied 2 word g.series g.replies w.under.pages new w.front.stage (stage.Producer rep) wrote (omega arith) h.shaped.narrow h.slots);
+      frames = frames_beside config w g d w.front.stage (stage.Producer rep) new h wrote.others;
+      telling = told_elsewhere config w g d w.front.stage (stage.Producer rep) new h (λ f low high. wrote.others f (inr low));
+      entries = entries_beside config w g d w.front.stage (stage.Producer rep) new h wrote.others;
+      mapped = h.mapped;
+      paged = paged_at g.shape w.back.shape w.back.ring.entries w.back.grefs w.back.port (g.before + 1) w.back.pages (stage.Producer rep) (stage.ProducerFence w.back.ring.prod) refl refl h.paged;
+      front_sleep = front_sleep_replied g.start g.taken g.replied w.back.ring.prod new w.front.asleep w.under.channels.front_pending w.front.stage rep (front_sleep_kept g.start g.taken g.replied w.under.pages new w.front.asleep w.under.channels.front_pending w.front.stage (stage.Producer rep) (wrote.words 2 3 (omega arith)) h.front_sleep);
+      back_sleep = back_sleep_at g.start g.fetched g.pushed new w.back.asleep w.under.channels.back_pending w.front.stage (stage.Producer rep) (stage.ProducerFence w.back.ring.prod) (λ t. t) (λ t. cc) (back_sleep_kept g.start g.fetched g.pushed w.under.pages new w.back.asleep w.under.channels.back_pending w.front.stage (stage.Producer rep) (wrote.words 2 1 (omega arith)) h.back_sleep);
+      ports = h.ports;
+    })
   where
     flow : Flow
     flow = record g { replied = g.replied + 1; replies = g.replies ++ rep ∷ [] }
@@ -185,11 +156,8 @@ goes_producer config w g d rep p = record {
     x : AreIndices g w.front.ring w.back.ring w.front.seen w.back.seen w.back.fetched w.front.last w.front.waiting (length w.front.requests) (ending_of w.front.stage)
     x = h.indices
 
-    a : IsReplying g.series g.fetched w.back.jobs.works rep
-    a = h.back_at
-
     s : Stepped None IsSame d (lines.Reply rep.id rep.status ∷ []) (λ x. AreStations config (record g { replied = g.replied + 1; replies = g.replies ++ rep ∷ [] }) x (is_ready w.front.stage) (is_issuing w.front.stage) false (ending_at w.front.stage w.front.ending) (telling_at w.front.stage) None w.front.requests w.back.jobs.works w.under.pages)
-    s = replies config g d (is_ready w.front.stage) (is_issuing w.front.stage) false (ending_at w.front.stage w.front.ending) (telling_at w.front.stage) w.front.requests w.back.jobs.works w.under.pages rep a.positive h.replies.counted h.stations
+    s = replies config g d (is_ready w.front.stage) (is_issuing w.front.stage) false (ending_at w.front.stage w.front.ending) (telling_at w.front.stage) w.front.requests w.back.jobs.works w.under.pages rep h.back_at.positive h.replies.counted h.stations
 
     -- no response that waits names its request, nor is its grant being ended
     others : (i : ℕ) (other : Reply) → slice_get g.replies i ≡ Some other → other.id ≢ rep.id

@@ -63,8 +63,7 @@ slots_written shape start fetched pushed taken replied last i rep series replies
       let within = slice_get_within replies k q e in
       other (taken + k) j (slots_apart shape start (taken + k) replied j i narrow (omega arith) (omega arith) (response_fits shape.abi j lt) three) ∙ h.responses k q e j lt;
   response = λ q e j lt.
-      let one : rep ≡ q = same_Some rep q (sym here ∙ e) in
-      subst (λ (x : Reply). slot_of new shape (wrapped start replied) j ≡ response_word x j) one (elim (cases_eq j i) [
+      subst (λ (x : Reply). slot_of new shape (wrapped start replied) j ≡ response_word x j) (same_Some rep q (sym here ∙ e)) (elim (cases_eq j i) [
         | inl is ↦ subst (λ (x : ℕ). slot_of new shape (wrapped start replied) x ≡ response_word rep x) (sym is) r.here
         | inr apart ↦ other replied j (same_slot shape (wrapped start replied) j i apart) ∙ before j (omega arith)
       ]);
@@ -75,9 +74,8 @@ slots_written shape start fetched pushed taken replied last i rep series replies
 
     other : (n j : ℕ) → ring_word_of shape (wrapped start n) j ≢ ring_word_of shape (wrapped start replied) i → slot_of new shape (wrapped start n) j ≡ slot_of old shape (wrapped start n) j
     other n j apart =
-        let there = slot_at shape (wrapped start n) j in
         let written = slot_at shape (wrapped start replied) i in
-        r.words (slot_frame shape (wrapped start n) j) (slot_word shape (wrapped start n) j) (λ same. apart (omega arith))
+        r.words (slot_frame shape (wrapped start n) j) (slot_word shape (wrapped start n) j) (λ same. apart (omega (arith, slot_at shape (wrapped start n) j)))
 
 -- the view with other jobs
 abbrev pub with_jobs : View → Jobs → View
@@ -119,7 +117,7 @@ goes_word config w g d steps b b' rep i jobs frame shown given does p a placed u
       memory = r.memory;
       others = r.others;
       ring = ring_beside g.shape.order g.start g.pushed g.replied (length w.back.pages) (slot_frame g.shape index i) (slot_word g.shape index i) (response_word rep i) w.under.pages new w.front.stage r (omega (arith, behind)) (omega (arith, behind)) p.connected (all_mapped b g.shape.order (length w.back.pages) a.bound h.paged.mapped) h.ring;
-      slots = slots_written g.shape g.start g.fetched g.pushed g.taken g.replied (length g.series) i rep g.series g.replies w.under.pages new w.front.stage b b' r h.shaped.narrow few a.here a.upto before (omega arith) x.fetched_pushed (omega (arith, x.all)) (omega (arith, x.held, x.room)) refl h.replies.counted h.slots;
+      slots = slots_written g.shape g.start g.fetched g.pushed g.taken g.replied (length g.series) i rep g.series g.replies w.under.pages new w.front.stage b b' r h.shaped.narrow a.few a.here a.upto before (omega arith) x.fetched_pushed (omega (arith, x.all)) (omega (arith, x.held, x.room)) refl h.replies.counted h.slots;
       hands = hands;
       paged = paged_at g.shape w.back.shape w.back.ring.entries w.back.grefs w.back.port (g.before + 1) w.back.pages b b' a.bound a.bound_still h.paged;
       front_sleep = front_sleep_at g.start g.taken g.replied new w.front.asleep w.under.channels.front_pending w.front.stage b b' (λ t s. absurd (unsent s)) (front_sleep_kept g.start g.taken g.replied w.under.pages new w.front.asleep w.under.channels.front_pending w.front.stage b (r.words 2 3 (omega (arith, behind))) h.front_sleep);
@@ -133,14 +131,11 @@ goes_word config w g d steps b b' rep i jobs frame shown given does p a placed u
     x : AreIndices g w.front.ring w.back.ring w.front.seen w.back.seen w.back.fetched w.front.last w.front.waiting (length w.front.requests) (ending_of w.front.stage)
     x = h.indices
 
-    few : i < 3
-    few = a.few
-
     index : ℕ
     index = wrapped g.start g.replied
 
     three : i < entry_words_of g.shape.abi
-    three = response_fits g.shape.abi i few
+    three = response_fits g.shape.abi i a.few
 
     behind : 2064 ≤ slot_frame g.shape index i * 1024 + slot_word g.shape index i
     behind = slot_from g.shape index i

@@ -101,13 +101,12 @@ replying {series} submitted sectors last fetched works rep l all h =
     let t : Work = l.t in
     let within : l.place < length works = slice_get_within works l.place t l.at in
     let is : IsWork submitted series fetched t = subst (λ (u : Work). IsWork submitted series fetched u) (get_or_from_slice_get works l.place t t l.at) (h.each l.place t within) in
-    let number : rep.id ≡ t.id = l.id in
     let numbered = all.each (t.id - 1) is.r is.known in
     record {
       positive = omega (arith, is.positive);
       reached = record { r = is.r; among = record { index = t.number - 1; early = omega (arith, is.reached, is.counted); at = is.issued }; same = omega (arith, numbered.number, is.positive, l.id) };
       op = omega (arith, is.op, l.op, small_operation is.r.transfer);
-      alone = subst (λ (k : ℕ). All (λ (u : Work). u.id ≢ k) (remove works l.place)) (sym number) (others_apart works l.place t l.at h.ascending);
+      alone = subst (λ (k : ℕ). All (λ (u : Work). u.id ≢ k) (remove works l.place)) (sym l.id) (others_apart works l.place t l.at h.ascending);
     }
 
 pub goes_reply : (config : Options) (w : World) (g : Flow) (d : Pipeline) (rep : Reply) (frame : ℕ) (shown : Shown) (given : BackAnswer)

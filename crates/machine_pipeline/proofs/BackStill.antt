@@ -118,23 +118,25 @@ pub still : (config : Options) (w : World) (g : Flow) (d d' : Pipeline) (s : Fro
     → Moves config w g d' s b b' v pages channels seen
     → Holds config (record { front = w.front; back = v; under = record w.under { pages = pages; channels = channels } }) (record g { back_seen = seen }) d' s b'
 still config w g d d' s b b' v pages channels seen h m = record {
-  started = h.started;
-  shaped = h.shaped;
-  sized = h.sized;
+  settled = record {
+    started = h.started;
+    shaped = h.shaped;
+    sized = h.sized;
+    submitted = h.submitted;
+    info = m.info ∙ h.info;
+    unhalted = m.unhalted;
+  };
   indices = m.indices;
   queue = h.queue;
-  submitted = h.submitted;
   pool = h.pool;
   stations = saw_more config g g.front_seen seen d' (is_ready s) (is_issuing s) (is_fetching b') (ending_at s w.front.ending) (telling_at s) (reply_at b') w.front.requests v.jobs.works pages
       (stations_elsewhere config g d' (is_ready s) (is_issuing s) (is_fetching b') (ending_at s w.front.ending) (telling_at s) (reply_at b') w.front.requests v.jobs.works w.under.pages pages w.front.sectors w.front.last h.submitted (λ f low high. m.others f (inr low)) m.stations);
   works = m.works;
   counted = m.counted;
-  info = m.info ∙ h.info;
   replies = h.replies;
   front_at = h.front_at;
   offered = h.offered;
   back_at = m.back_at;
-  unhalted = m.unhalted;
   memory = m.memory;
   ring = m.ring;
   slots = m.slots;

@@ -28,6 +28,7 @@ use Rattle.split_model.specs.World.{World}
 use Rattle.machine_pipeline.proofs.Flow.{Flow, wrapped, named_pages, granted_pages, is_bound_back}
 use Rattle.machine_pipeline.proofs.Holds.{Holds, RingBegun, AreRingWords, AreSlots, PortsAt}
 use Rattle.machine_pipeline.proofs.Turns.{BackGoes}
+use Rattle.machine_pipeline.proofs.Wrapped.{next_wrapped}
 use Rattle.machine_pipeline.proofs.Kept.{SameFrame, other_frame, written, slots_kept, front_sleep_kept}
 use Rattle.machine_pipeline.proofs.BackStill.{BackStands, IsRingless}
 use Rattle.machine_pipeline.proofs.BackQuiet.{IsBetween, goes_still, quiet_with, bound_terms, paged_at, slots_at, front_sleep_at, back_sleep_at}
@@ -97,9 +98,6 @@ pub slots_beside : (shape : Shape) (start fetched pushed taken replied word valu
 slots_beside shape start fetched pushed taken replied word value series replies old new s b r low narrow h =
     slots_kept shape start fetched pushed taken replied series replies old new s b narrow (λ f w from to within behind. r.words f w (λ same. omega arith)) h
 
-pub next_wrapped : (start n index : ℕ) → index ≡ wrapped start n → next_of index ≡ wrapped start (n + 1)
-next_wrapped start n index e = omega arith
-
 -- a page of the ring is in its frame
 pub page_at : (config : Options) (w : World) (g : Flow) (d : Pipeline) (b : BackStage) (page : ℕ) → BackStands config w g d b → IsBetween b w.back → page < 2 ^ g.shape.order → frame_of w.under.grants (page_of w.back page) ≡ 2 + page
 page_at config w g d b page p i within = frame_is config w g d b page p i.bound i.hands within
@@ -110,9 +108,7 @@ first_at config w g d b p i = page_at config w g d b 0 p i (pow_pos g.shape.orde
 -- and a word of an entry where the front has it
 pub slot_is : (config : Options) (w : World) (g : Flow) (d : Pipeline) (b : BackStage) (k i : ℕ) → BackStands config w g d b → is_bound_back b ≡ true → hands_at b w.back ≡ hands_in w.back.jobs.works ++ w.back.pages → i < entry_words_of g.shape.abi → frame_of w.under.grants (slot_page w.back k i) ≡ slot_frame g.shape k i
 slot_is config w g d b k i p bound hands lt =
-    let h : Holds config w g d w.front.stage b = p.holds in
-    let shaped : w.back.shape ≡ g.shape = h.paged.shaped (bound_terms b bound) in
-    rw shaped (frame_is config w g d b (slot_word_of g.shape k i).0 p bound hands (slot_within g.shape k i lt))
+    rw (p.holds.paged.shaped (bound_terms b bound)) (frame_is config w g d b (slot_word_of g.shape k i).0 p bound hands (slot_within g.shape k i lt))
 
 -- the back sends the front an event
 bound_pending : (before made : ℕ) (ports : List PortState) (pending : Bool) (c : Bool) → c ≡ true → PortsAt before c true made ports → (if list_any is_bound_port ports then true else pending) ≡ true

@@ -31,7 +31,7 @@ use Rattle.grant_table.specs.declared.held.Held.{Held}
 use Rattle.blk_base.specs.declared.moves.Move.TheVariants as moves
 use Rattle.schedule_text.specs.declared.line.Line.TheVariants as lines
 use Rattle.machine_pipeline.proofs.Data.{SameData, pooled_at, data_value, own_before, own_upto, page_in}
-use Rattle.machine_pipeline.proofs.Turns.{Goes, FrontGoes, Stepped, does_step}
+use Rattle.machine_pipeline.proofs.Turns.{Goes, FrontGoes, Stepped, does_step, goes_by}
 use Rattle.machine_pipeline.proofs.Resuming.{LoopGoes}
 use Rattle.machine_pipeline.proofs.Next.{IsNext, next_is}
 use Rattle.machine_pipeline.proofs.Filling.{WriteGoes, filled_on, page_write}
@@ -54,12 +54,9 @@ frames_unfilled : {series : List Request} (submitted requests : List Request) (p
     → All (IsFilled series pushed old s) requests
     → All (IsFilled series pushed new s') requests
 frames_unfilled submitted requests pushed waiting old new s s' r next none same h k d lt =
-    let here = same k d lt in
-    let was = h k d lt in
-    let only = next.only (get_or requests k d) in
     record {
-      whole = λ le n l own. here n l ∙ was.whole le n l own;
-      begun = λ e n f l own. absurd (none n (subst (λ (q : Request). is_own q n ≡ true) (only e) own));
+      whole = λ le n l own. (same k d lt) n l ∙ (h k d lt).whole le n l own;
+      begun = λ e n f l own. absurd (none n (subst (λ (q : Request). is_own q n ≡ true) ((next.only (get_or requests k d)) e) own));
     }
 
 -- one without frames has no grant
@@ -101,15 +98,11 @@ bare_goes : (config : Options) (w : World) (g : Flow) (d : Pipeline) (r : Reques
     → Holds config w g d front.Loop w.back.stage
     → Goes config (lines.Move (moves.FrontWrite (slot_frame w.front.shape w.front.ring.prod 0) (slot_word w.front.shape w.front.ring.prod 0) (slice_index (entry_of w.front.shape.abi r) 0)) ∷ front_lines w.front.told)
     (with_front w (front.Slot 1) (entry_of w.front.shape.abi r) (with_slot w.under.pages w.front.shape w.front.ring.prod 0 (slice_index (entry_of w.front.shape.abi r) 0))) d
-bare_goes config w g d r safe e still unwritten h = record {
-  flow = g;
-  steps = s.step ∷ [];
-  does = does_step _ (front_lines w.front.told) (rw safe.front_told refl) s;
-  holds = rw same (word_entered config w g d (next d s.step) 0 front.Loop (front.Slot 1) r (entry_of w.front.shape.abi r) refl refl refl h s.now e (some_words g.shape.abi) (λ i lt in_it. omega arith)
-      (λ new kept. frames_unfilled g.submitted w.front.requests g.pushed w.front.waiting w.under.pages new front.Loop (front.Slot 1) r following (none_own r unwritten direct) kept h.frames)
-      (λ new kept. entries_bare g.submitted w.front.requests g.pushed w.front.waiting w.under.pages new w.under.grants.live front.Loop (front.Slot 1) w.front.ending r refl following bare kept h.entries)
-      (more_words g.shape.abi, (r, e, ap (λ (x : Shape). entry_of x.abi r) h.shaped.known)) (λ sends. sends));
-}
+bare_goes config w g d r safe e still unwritten h = goes_by {g = g} (does_step _ (front_lines w.front.told) (rw safe.front_told refl) s)
+    (rw same (word_entered config w g d (next d s.step) 0 front.Loop (front.Slot 1) r (entry_of w.front.shape.abi r) refl refl refl h s.now e (some_words g.shape.abi) (λ i lt in_it. omega arith)
+    (λ new kept. frames_unfilled g.submitted w.front.requests g.pushed w.front.waiting w.under.pages new front.Loop (front.Slot 1) r following (none_own r unwritten direct) kept h.frames)
+    (λ new kept. entries_bare g.submitted w.front.requests g.pushed w.front.waiting w.under.pages new w.under.grants.live front.Loop (front.Slot 1) w.front.ending r refl following bare kept h.entries)
+    (more_words g.shape.abi, (r, e, ap (λ (x : Shape). entry_of x.abi r) h.shaped.known)) (λ sends. sends)))
   where
     following : IsNext g.submitted g.series w.front.requests g.pushed w.front.waiting r
     following = next_is w.front g.submitted w.front.sectors w.front.last g.pushed None r h.queue h.submitted h.pool e
@@ -122,10 +115,8 @@ bare_goes config w g d r safe e still unwritten h = record {
 
     bare : frames_of r ≡ 0
     bare =
-        let sized = following.shape.frames in
         let pages : pages_for r.count ≡ 0 = rw direct refl in
-        let empty = none in
-        omega arith
+        omega (arith, none, following.shape.frames)
 
     s : Stepped None IsSame d [] (λ p. AreStations config g p true true (is_fetching w.back.stage) None None (reply_at w.back.stage) w.front.requests w.back.jobs.works w.under.pages)
     s = begun config w g d r h following
@@ -142,13 +133,9 @@ data_goes config w g d r safe e moves writes h =
     let following = next_is w.front g.submitted w.front.sectors w.front.last g.pushed None r h.queue h.submitted h.pool e in
     let s = begun config w g d r h following in
     let some = following.shape.counted.some moves in
-    record {
-      flow = g;
-      steps = s.step ∷ [];
-      does = does_step _ (front_lines w.front.told) (rw safe.front_told refl) s;
-      holds = subst (λ (value : ℕ). Holds config (with_front w (front.Data 1) w.front.entry (with_word w.under.pages (frame_at r 0) 0 value)) g (next d s.step) (front.Data 1) w.back.stage) (data_value r 0 (omega arith))
-          (filled_on config w g d (next d s.step) front.Loop (front.Data 1) r 0 refl refl h s.now e refl (omega arith) (λ m own upto other. absurd (other (omega arith))) refl refl refl (r, e, (omega arith, omega arith, writes)) (λ sends. sends));
-    }
+    goes_by (does_step _ (front_lines w.front.told) (rw safe.front_told refl) s)
+    (subst (λ (value : ℕ). Holds config (with_front w (front.Data 1) w.front.entry (with_word w.under.pages (frame_at r 0) 0 value)) g (next d s.step) (front.Data 1) w.back.stage) (data_value r 0 (omega arith))
+    (filled_on config w g d (next d s.step) front.Loop (front.Data 1) r 0 refl refl h s.now e refl (omega arith) (λ m own upto other. absurd (other (omega arith))) refl refl refl (r, e, (omega arith, omega arith, writes)) (λ sends. sends)))
 
 -- a read begins with its indirect pages where it has some, else with its grants
 abbrev ReadGoes : Options → World → Pipeline → Request → Bool → Type 0
@@ -160,21 +147,16 @@ grants_begin : (config : Options) (w : World) (g : Flow) (d : Pipeline) (r : Req
 grants_begin config w g d r safe e reads direct h =
     let following = next_is w.front g.submitted w.front.sectors w.front.last g.pushed None r h.queue h.submitted h.pool e in
     let s = begun config w g d r h following in
-    let pooled = pooled_at r following.frames 0 in
     let some = following.shape.counted.some (ap is_moving reads) in
     let sized = following.shape.frames in
     let in_it : 0 < frames_of r = omega arith in
-    record {
-      flow = g;
-      steps = s.step ∷ [];
-      does = does_step _ (front_lines w.front.told) (rw safe.front_told refl) s;
-      holds = entry_moved config w g d (next d s.step) front.Loop (front.GrantFence 0) r 0 w.front.entry (2 * ((frame_at r 0 + 6) % 512) + 1) (frame_at r 0) refl refl h s.now following in_it (omega arith)
-          (λ other lt apart. other_named w.under.pages (frame_at r 0 + 6) other (frame_at r 0) (omega (arith, pooled.1)) lt apart)
-          (λ new same. frames_unfilled g.submitted w.front.requests g.pushed w.front.waiting w.under.pages new front.Loop (front.GrantFence 0) r following (none_own r (ap is_write reads) direct) same h.frames)
-          refl (r, e, in_it)
-          (named_now w.under.pages r 0 h.memory following.frames following.own in_it (λ a upto. absurd (omega arith)))
-          (λ a upto. absurd (omega arith)) (λ sends. sends);
-    }
+    goes_by (does_step _ (front_lines w.front.told) (rw safe.front_told refl) s)
+    (entry_moved config w g d (next d s.step) front.Loop (front.GrantFence 0) r 0 w.front.entry (2 * ((frame_at r 0 + 6) % 512) + 1) (frame_at r 0) refl refl h s.now following in_it (omega arith)
+    (λ other lt apart. other_named w.under.pages (frame_at r 0 + 6) other (frame_at r 0) (omega (arith, (pooled_at r following.frames 0).1)) lt apart)
+    (λ new same. frames_unfilled g.submitted w.front.requests g.pushed w.front.waiting w.under.pages new front.Loop (front.GrantFence 0) r following (none_own r (ap is_write reads) direct) same h.frames)
+    refl (r, e, in_it)
+    (named_now w.under.pages r 0 h.memory following.frames following.own in_it (λ a upto. absurd (omega arith)))
+    (λ a upto. absurd (omega arith)) (λ sends. sends))
 
 pages_begin : (config : Options) (w : World) (g : Flow) (d : Pipeline) (r : Request) → IsSafe w → next_request w.front ≡ Some r → r.transfer ≡ transfer.Read → is_indirect r.count ≡ true
     → Holds config w g d front.Loop w.back.stage
@@ -183,14 +165,10 @@ pages_begin config w g d r safe e reads large h =
     let following = next_is w.front g.submitted w.front.sectors w.front.last g.pushed None r h.queue h.submitted h.pool e in
     let s = begun config w g d r h following in
     let many : 11 < frames_for r.count = grind (arith, nat_tests) in
-    record {
-      flow = g;
-      steps = s.step ∷ [];
-      does = does_step _ (front_lines w.front.told) (rw safe.front_told refl) s;
-      holds = subst (λ (pages : List ℕ). Holds config (with_front w (front.Pages 1) w.front.entry pages) g (next d s.step) (front.Pages 1) w.back.stage) (sym (page_write w.under.pages r 0))
-          (filled_on config w g d (next d s.step) front.Loop (front.Pages 1) r (1024 * frames_for r.count + 0) refl refl h s.now e refl (page_in r 0 following.shape large (omega arith))
-          (λ m own upto other. absurd (true≢false (sym (own_before r m own (omega arith)).0 ∙ ap is_write reads))) refl refl refl (r, e, (omega arith, large)) (λ sends. sends));
-    }
+    goes_by (does_step _ (front_lines w.front.told) (rw safe.front_told refl) s)
+    (subst (λ (pages : List ℕ). Holds config (with_front w (front.Pages 1) w.front.entry pages) g (next d s.step) (front.Pages 1) w.back.stage) (sym (page_write w.under.pages r 0))
+    (filled_on config w g d (next d s.step) front.Loop (front.Pages 1) r (1024 * frames_for r.count + 0) refl refl h s.now e refl (page_in r 0 following.shape large (omega arith))
+    (λ m own upto other. absurd (true≢false (sym (own_before r m own (omega arith)).0 ∙ ap is_write reads))) refl refl refl (r, e, (omega arith, large)) (λ sends. sends)))
 
 begins : (config : Options) (w : World) (g : Flow) (d : Pipeline) (number sector count : ℕ) (frames : List ℕ) (way : Transfer) → IsSafe w
     → (let r : Request = record { number = number; sector = sector; count = count; transfer = way; frames = record { items = frames } } in

@@ -34,15 +34,7 @@ step_short p (Moves k x move) = elim (move_shows k move) [
   | inl none ↦ inl none
   | inr one ↦ inr (one.0, one.1)
 ]
-step_short p (Submits job) = inr (_, refl)
-step_short p (Refuses job refusal) = inr (_, refl)
-step_short p Connects = inr (_, refl)
-step_short p StartsToClose = inr (_, refl)
-step_short p Closes = inr (_, refl)
-step_short p (Leaves why) = inr (_, refl)
-step_short p Resumes = inr (_, refl)
-step_short p Rests = inr (_, refl)
-step_short p (Shows line) = inr (_, refl)
+step_short p s = inr (_, refl)
 
 -- the first of these steps, whose lines these are
 record HasFirst (steps : List Step) (p : Pipeline) (part : List Line) : Type 0 where
@@ -62,8 +54,7 @@ first_of (s ∷ steps) p (x ∷ part) rest e = elim (step_short p s) [
   | inr one ↦
       let all : x ∷ (part ++ rest) ≡ one.0 ∷ lines_of steps (next p s) = e ∙ ap (λ (ls : List Line). ls ++ lines_of steps (next p s)) one.1 in
       let head : x ≡ one.0 = cc in
-      let tail : part ++ rest ≡ lines_of steps (next p s) = cc in
-      let its = first_of steps (next p s) part rest tail in
+      let its = first_of steps (next p s) part rest cc in
       record {
         first = s ∷ its.first;
         later = its.later;
@@ -135,17 +126,14 @@ has_part hs last w p part steps r f allowed asks goes = record {
 
 part_shown : (hs : List Happening) (last : Happening) (w : World) (p : Pipeline) (part rest : List Line) → IsRunUpTo hs last w p → part ++ rest ≡ lines_at (after hs w) last → HasPart hs last w p part
 part_shown hs last w p part rest u e =
-    has_part hs last w p part all u.run (first_of all d part rest (e ∙ (does.shows ∙ sym (lines_shown does.asides u.steps d))))
-    (allowed_of does.asides u.steps d does.aside does.allowed) (submits_of does.asides u.steps ∙ does.asks) (λ b c call. disk_of does.asides u.steps b c (does.disk b c call))
+    has_part hs last w p part all u.run (first_of all d part rest (e ∙ (u.does.shows ∙ sym (lines_shown u.does.asides u.steps d))))
+    (allowed_of u.does.asides u.steps d u.does.aside u.does.allowed) (submits_of u.does.asides u.steps ∙ u.does.asks) (λ b c call. disk_of u.does.asides u.steps b c (u.does.disk b c call))
   where
     d : Pipeline
     d = (let r = u.run in after_steps r.steps p)
 
-    does : Does (submitted_at last) (CallAt (after hs w) last) (lines_at (after hs w) last) d u.steps
-    does = u.does
-
     all : List Step
-    all = steps_of does.asides u.steps
+    all = steps_of u.does.asides u.steps
 
 -- over what the disk exposes, or the disk that the lines are of
 part_consistent : (config : Options) (hs : List Happening) (last : Happening) (part : List Line) (before now : Option (List (List ℕ))) (h : HasPart hs last (start_of config) (pipeline_of config) part) → HasLength before config.sectors → SectorsRun (hs ++ last ∷ []) (start_of config) before now

@@ -30,9 +30,8 @@ use Rattle.machine_pipeline.specs.Allowed.{ArePublished, MayEnter}
 use Rattle.machine_pipeline.specs.Step.{IsSame}
 use Rattle.machine_pipeline.proofs.Flow.{Flow, wrapped, is_issuing, is_fetching, ending_at, telling_at, reply_at}
 use Rattle.machine_pipeline.proofs.Holds.{AreIndices, IsOffered, BackAt, Holds}
-use Rattle.machine_pipeline.proofs.Turns.{Goes, FrontGoes, front_says, front_next, said_nothing, Stepped, does_alone}
-use Rattle.machine_pipeline.proofs.Keyed.{untold, watched_goes}
-use Rattle.machine_pipeline.proofs.Notified.{marked}
+use Rattle.machine_pipeline.proofs.Turns.{Goes, FrontGoes, front_says, front_next, said_nothing, Stepped, does_alone, goes_by}
+use Rattle.machine_pipeline.proofs.Keyed.{untold, watched_goes, marked}
 use Rattle.machine_pipeline.proofs.JobMoves.{stays}
 use Rattle.machine_pipeline.proofs.Resting.{at_loop, slots_rest, frames_rest, entries_rest, data_rests, unrevoked}
 use Rattle.machine_pipeline.proofs.Stations.{AreStations}
@@ -59,59 +58,46 @@ waits_goes config w g d told e h = by_pending w.under.channels.front_pending (wa
         Goes config (front_says front.Initialised w act) (front_next front.Initialised w act) d)
     by_pending false None = stays IsSame config w g d (λ a b same. same) here
     by_pending false (Some path) = watched_goes config w g d path told here
-    by_pending true next = record {
-      flow = g;
-      steps = [];
-      does = said_nothing d (moves.Event mover.Front) w.front.told told;
-      holds = subst (λ (x : World). Holds config x g d x.front.stage x.back.stage) (untold unmarked told)
-          (marked config w g d w.front.stage w.back.stage false w.under.channels.back_pending
-          (let sleep = here.front_sleep in record { arming = sleep.arming; armed = sleep.armed; may = sleep.may; woken = λ t. absurd (true≢false (sym t ∙ awake)) })
-          here.back_sleep here);
-    }
+    by_pending true next = goes_by (said_nothing d (moves.Event mover.Front) w.front.told told)
+        (subst (λ (x : World). Holds config x g d x.front.stage x.back.stage) (untold unmarked told)
+        (marked config w g d w.front.stage w.back.stage false w.under.channels.back_pending
+        (let sleep = here.front_sleep in record { arming = sleep.arming; armed = sleep.armed; may = sleep.may; woken = λ t. absurd (true≢false (sym t ∙ awake)) })
+        here.back_sleep here))
 
 -- it is connected, and knows what its back published
 becomes_ready : (config : Options) (w : World) (g : Flow) (d : Pipeline) (offers : Offers) → ArePublished w offers → Holds config w g d front.Initialised w.back.stage
     → Goes config (lines.Ready ∷ []) (record { front = (let v : View = w.front in record v { offers = offers; stage = front.Loop }); back = w.back; under = w.under }) d
-becomes_ready config w g d offers published h = record {
-  flow = g;
-  steps = s.step ∷ [];
-  does = does_alone s;
-  holds = record {
-    started = h.started;
-    shaped = h.shaped;
-    sized = h.sized;
-    indices = h.indices;
-    queue = h.queue;
-    submitted = h.submitted;
-    pool = h.pool;
-    stations = s.now;
-    works = h.works;
-    counted = h.counted;
-    info = h.info;
-    replies = h.replies;
-    front_at = tt;
-    offered = record {
-      barrier = published.barrier ∙ ap (λ (i : DiskInfo). i.barrier) h.info;
-      flush = published.flush ∙ ap (λ (i : DiskInfo). i.flush) h.info;
-      discard = published.discard ∙ ap (λ (i : DiskInfo). i.discard) h.info;
-      indirect = published.indirect ∙ ap (λ (i : DiskInfo). i.max_indirect) h.info;
-    };
-    back_at = h.back_at;
-    unhalted = h.unhalted;
-    memory = h.memory;
-    ring = (let was = h.ring in record { begun = tt; requests = was.requests; responses = was.responses; named = was.named; granted = was.granted });
-    slots = slots_rest g.shape g.start g.fetched g.pushed g.taken g.replied g.series g.replies w.under.pages front.Initialised front.Loop w.back.stage at_loop h.slots;
-    frames = frames_rest g.pushed w.under.pages front.Initialised front.Loop w.front.requests at_loop h.frames;
-    telling = data_rests w.under.pages w.under.pages w.front.words w.front.ending w.front.ending front.Initialised front.Loop refl h.telling;
-    entries = entries_rest g.pushed w.under.pages w.under.grants.live front.Initialised front.Loop w.front.ending w.front.ending w.front.requests at_loop
-        (λ e same. absurd (unrevoked front.Loop w.front.ending e refl same)) h.entries;
-    mapped = h.mapped;
-    paged = h.paged;
-    front_sleep = (let was = h.front_sleep in record { arming = was.arming; armed = was.armed; may = λ t. was.may refl; woken = was.woken });
-    back_sleep = (let was = h.back_sleep in record { arming = was.arming; armed = was.armed; may = was.may; woken = was.woken });
-    ports = h.ports;
-  };
-}
+becomes_ready config w g d offers published h = goes_by {g = g} (does_alone s)
+    (record {
+      settled = h.settled;
+      indices = h.indices;
+      queue = h.queue;
+      pool = h.pool;
+      stations = s.now;
+      works = h.works;
+      counted = h.counted;
+      replies = h.replies;
+      front_at = tt;
+      offered = record {
+        barrier = published.barrier ∙ ap (λ (i : DiskInfo). i.barrier) h.info;
+        flush = published.flush ∙ ap (λ (i : DiskInfo). i.flush) h.info;
+        discard = published.discard ∙ ap (λ (i : DiskInfo). i.discard) h.info;
+        indirect = published.indirect ∙ ap (λ (i : DiskInfo). i.max_indirect) h.info;
+      };
+      back_at = h.back_at;
+      memory = h.memory;
+      ring = h.ring;
+      slots = slots_rest g.shape g.start g.fetched g.pushed g.taken g.replied g.series g.replies w.under.pages front.Initialised front.Loop w.back.stage at_loop h.slots;
+      frames = frames_rest g.pushed w.under.pages front.Initialised front.Loop w.front.requests at_loop h.frames;
+      telling = data_rests w.under.pages w.under.pages w.front.words w.front.ending w.front.ending front.Initialised front.Loop refl h.telling;
+      entries = entries_rest g.pushed w.under.pages w.under.grants.live front.Initialised front.Loop w.front.ending w.front.ending w.front.requests at_loop
+          (λ e same. absurd (unrevoked front.Loop w.front.ending e refl same)) h.entries;
+      mapped = h.mapped;
+      paged = h.paged;
+      front_sleep = (let was = h.front_sleep in record { arming = was.arming; armed = was.armed; may = λ t. was.may refl; woken = was.woken });
+      back_sleep = (let was = h.back_sleep in record { arming = was.arming; armed = was.armed; may = was.may; woken = was.woken });
+      ports = h.ports;
+    })
   where
     s : Stepped None IsSame d (lines.Ready ∷ []) (λ p. AreStations config g p true false (is_fetching w.back.stage) None None (reply_at w.back.stage) w.front.requests w.back.jobs.works w.under.pages)
     s = connects config g d false (is_fetching w.back.stage) None None (reply_at w.back.stage) w.front.requests w.back.jobs.works w.under.pages h.stations
@@ -120,69 +106,41 @@ pub initialised_is : (s : FrontStage) → is_initialised s ≡ true → s ≡ fr
 initialised_is front.Initialised t = refl
 initialised_is s t = absurd (true≢false (sym t))
 
--- the indices know nothing of closing
-indices_closing : (g : Flow) (front_ring back_ring : Ring) (front_seen back_seen number last waiting unfinished ending : ℕ) → AreIndices g front_ring back_ring front_seen back_seen number last waiting unfinished ending
-    → AreIndices (record g { closing = true }) front_ring back_ring front_seen back_seen number last waiting unfinished ending
-indices_closing g front_ring back_ring front_seen back_seen number last waiting unfinished ending h = record {
-  front_entries = h.front_entries;
-  pushed = h.pushed;
-  taken = h.taken;
-  replied = h.replied;
-  fetched = h.fetched;
-  front_saw = h.front_saw;
-  back_saw = h.back_saw;
-  count = h.count;
-  taken_replied = h.taken_replied;
-  replied_fetched = h.replied_fetched;
-  fetched_pushed = h.fetched_pushed;
-  front_from = h.front_from;
-  front_to = h.front_to;
-  back_from = h.back_from;
-  back_to = h.back_to;
-  all = h.all;
-  given = h.given;
-  few = h.few;
-  held = h.held;
-  room = h.room;
-}
-
 -- it begins to close
 begins_to_close : (config : Options) (w : World) (g : Flow) (d : Pipeline) → w.front.closing ≡ false → Holds config w g d w.front.stage w.back.stage
     → Goes config (lines.Closing ∷ []) (record { front = (let v : View = w.front in record v { closing = true }); back = w.back; under = w.under }) d
-begins_to_close config w g d stays_open h = record {
-  flow = record g { closing = true };
-  steps = s.step ∷ [];
-  does = does_alone s;
-  holds = record {
-    started = (let was = h.started in record { whole = was.whole; known = was.known; closing = refl });
-    shaped = h.shaped;
-    sized = h.sized;
-    indices = indices_closing g w.front.ring w.back.ring w.front.seen w.back.seen w.back.fetched w.front.last w.front.waiting (length w.front.requests) (ending_of w.front.stage) h.indices;
-    queue = h.queue;
-    submitted = h.submitted;
-    pool = h.pool;
-    stations = s.now;
-    works = h.works;
-    counted = h.counted;
-    info = h.info;
-    replies = h.replies;
-    front_at = h.front_at;
-    offered = h.offered;
-    back_at = h.back_at;
-    unhalted = h.unhalted;
-    memory = h.memory;
-    ring = h.ring;
-    slots = h.slots;
-    frames = h.frames;
-    telling = h.telling;
-    entries = h.entries;
-    mapped = h.mapped;
-    paged = h.paged;
-    front_sleep = h.front_sleep;
-    back_sleep = h.back_sleep;
-    ports = h.ports;
-  };
-}
+begins_to_close config w g d stays_open h = goes_by {g = record g { closing = true }} (does_alone s)
+    (record {
+      settled = record {
+        started = (let was = h.started in record { whole = was.whole; known = was.known; closing = refl });
+        shaped = h.shaped;
+        sized = h.sized;
+        submitted = h.submitted;
+        info = h.info;
+        unhalted = h.unhalted;
+      };
+      indices = (let was = h.indices in omega (arith, was));
+      queue = h.queue;
+      pool = h.pool;
+      stations = s.now;
+      works = h.works;
+      counted = h.counted;
+      replies = h.replies;
+      front_at = h.front_at;
+      offered = h.offered;
+      back_at = h.back_at;
+      memory = h.memory;
+      ring = h.ring;
+      slots = h.slots;
+      frames = h.frames;
+      telling = h.telling;
+      entries = h.entries;
+      mapped = h.mapped;
+      paged = h.paged;
+      front_sleep = h.front_sleep;
+      back_sleep = h.back_sleep;
+      ports = h.ports;
+    })
   where
     s : Stepped None IsSame d (lines.Closing ∷ []) (λ p. AreStations config (record g { closing = true }) p (is_ready w.front.stage) (is_issuing w.front.stage) (is_fetching w.back.stage) (ending_at w.front.stage w.front.ending) (telling_at w.front.stage) (reply_at w.back.stage) w.front.requests w.back.jobs.works w.under.pages)
     s = starts_to_close config g d (is_ready w.front.stage) (is_issuing w.front.stage) (is_fetching w.back.stage) (ending_at w.front.stage w.front.ending) (telling_at w.front.stage) (reply_at w.back.stage) w.front.requests w.back.jobs.works w.under.pages (h.started.closing ∙ stays_open) h.stations

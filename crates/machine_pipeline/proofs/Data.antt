@@ -38,8 +38,7 @@ own_among r n shaped own = by_part (nat_lt n (1024 * frames_for r.count)) refl (
     by_part false t true e own =
         let lt : n < 1024 * frames_for r.count + naming_words r = grind (arith, nat_tests) in
         let pages : pages_for r.count ≡ (frames_for r.count + 511) / 512 = rw e refl in
-        let frames = shaped.frames in
-        omega arith
+        omega (arith, shaped.frames)
     by_part false t false e own = grind (arith, nat_tests)
 
 -- a word of data is one of the data's frames, and its value is the filling
@@ -63,8 +62,7 @@ own_before r m own lt =
 pub page_in : (r : Request) (n : ℕ) → IsShaped r → is_indirect r.count ≡ true → n < naming_words r → 1024 * frames_for r.count + n < span r
 page_in r n shaped large lt =
     let pages : pages_for r.count ≡ (frames_for r.count + 511) / 512 = rw large refl in
-    let frames = shaped.frames in
-    omega arith
+    omega (arith, shaped.frames)
 
 pub page_value : (r : Request) (n : ℕ) → own_value r (1024 * frames_for r.count + n) ≡ naming_at r n
 page_value r n =
@@ -100,12 +98,9 @@ data_other pages r n value m other frames = get_or-set_other pages (frame_at r (
         let place : m / 1024 ≡ n / 1024 = grind (arith, nat_tests) in
         let frame : frame_at r (m / 1024) ≡ frame_at r (n / 1024) = ap (frame_at r) place in
         other (omega arith)
-    by_place false t same =
-        let apart : m / 1024 ≢ n / 1024 = grind (arith, nat_tests) in
-        frames apart (omega arith)
+    by_place false t same = frames (grind (arith, nat_tests)) (omega arith)
 
 -- the data of a request that doesn't have that frame
 pub data_apart : (pages : List ℕ) (frame word value : ℕ) (r : Request) → word < 1024 → IsShaped r → ((place : ℕ) → place < frames_of r → frame_at r place ≢ frame) → SameData pages (with_word pages frame word value) r
 data_apart pages frame word value r worded shaped apart n lt =
-    let other = apart (n / 1024) (place_among r n shaped lt) in
-    get_or-set_other pages (frame * 1024 + word) (frame_at r (n / 1024) * 1024 + n % 1024) value 0 (omega arith)
+    get_or-set_other pages (frame * 1024 + word) (frame_at r (n / 1024) * 1024 + n % 1024) value 0 (omega (arith, apart (n / 1024) (place_among r n shaped lt)))

@@ -53,10 +53,7 @@ drained_at config w g d s b h ringed none = record {
 pub no_job_left : (config : Options) (w : World) (g : Flow) (d : Pipeline) (s : FrontStage) (b : BackStage) → Holds config w g d s b → length w.front.requests ≡ 0 → w.back.jobs.works ≡ []
 no_job_left config w g d s b h none =
     let rest = all_taken h.indices none in
-    let fetched = rest.fetched in
-    let replied = rest.replied in
-    let counted = h.counted in
-    no_element w.back.jobs.works (omega arith)
+    no_element w.back.jobs.works (omega (arith, h.counted, rest.replied, rest.fetched))
 
 -- no request that isn't finished is left
 all_finished : (asked : List Asked) → count_by (λ (q : Asked). not (is_finished q.station)) asked ≡ 0 → (k : ℕ) (x : Asked) → slice_get asked k ≡ Some x → is_finished x.station ≡ true
@@ -71,7 +68,4 @@ pub finished_at : (config : Options) (w : World) (g : Flow) (d : Pipeline) (s : 
 finished_at config w g d s b h none no_ending = record { each = all_finished d.requests none_open }
   where
     none_open : count_by (λ (q : Asked). not (is_finished q.station)) d.requests ≡ 0
-    none_open =
-        let opened = h.stations.opened in
-        let unfinished = opened.unfinished in
-        omega arith
+    none_open = omega (arith, h.stations.opened.unfinished)

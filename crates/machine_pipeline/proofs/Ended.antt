@@ -31,13 +31,13 @@ use Rattle.split_model.specs.World.{World}
 use Rattle.split_model.specs.Shown.{front_lines}
 use Rattle.machine_pipeline.proofs.Flow.{Flow, frames_of, is_fetching, reply_at, ending_at, telling_at, is_issuing, is_bound_back, may_front_sleep, is_front_arming}
 use Rattle.machine_pipeline.proofs.Holds.{Holds, FrontAt, FrontSends, IsOffered, PortsAt, IsPooled, ArePooled, IsSubmitted, IsEnding, IsEndingAt, AreEntries, AreRevoked, AreDataWords}
-use Rattle.machine_pipeline.proofs.Turns.{Goes, FrontGoes, front_says, front_next, said_nothing, does_step}
-use Rattle.machine_pipeline.proofs.Lists.{all_from}
+use Rattle.machine_pipeline.proofs.Turns.{Goes, FrontGoes, front_says, front_next, said_nothing, does_step, goes_by}
+use Rattle.machine_pipeline.proofs.Lists.{all_from, same_number}
 use Rattle.machine_pipeline.proofs.Data.{SameData, pooled_at}
 use Rattle.machine_pipeline.proofs.Kept.{as_connected, SameFrame, SameEntry, SameGrants, data_same, other_frame, other_entry, slots_kept, frames_kept, entries_kept, SameRing}
 use Rattle.machine_pipeline.proofs.Hands.{ending_apart, ending_own_apart}
 use Rattle.machine_pipeline.proofs.Frames.{is_submitted}
-use Rattle.machine_pipeline.proofs.Resting.{IsResting, at_loop, at_read, at_end, at_data, data_rests, slots_rest, frames_rest, entries_rest}
+use Rattle.machine_pipeline.proofs.Resting.{IsResting, at_loop, at_read, at_end, at_data, data_rests, slots_rest, frames_rest, entries_rest, back_sleep_rests}
 use Rattle.machine_pipeline.proofs.Ending.{pooled_free}
 use Rattle.machine_pipeline.proofs.Stations.{AreStations}
 use Rattle.machine_pipeline.proofs.StationsFront.{answers, answers_read}
@@ -68,22 +68,17 @@ pub ends_on : (config : Options) (w : World) (g : Flow) (d d' : Pipeline) (s s' 
     → SameRing w.under.pages pages
     → Holds config (finishing_at w s' ending pool words pages) g d' s' w.back.stage
 ends_on config w g d d' s s' ending pool words pages i i' restless unarmed fewer h stations pooled at told entries sized frames entry = record {
-  started = h.started;
-  shaped = h.shaped;
-  sized = h.sized;
+  settled = h.settled;
   indices = indices_room g w.front.ring w.back.ring w.front.seen w.back.seen w.back.fetched w.front.last w.front.waiting (length w.front.requests) (ending_of s) (ending_of s') (let was = h.indices in let room = was.room in omega arith) h.indices;
   queue = h.queue;
-  submitted = h.submitted;
   pool = pooled;
   stations = stations;
   works = h.works;
   counted = h.counted;
-  info = h.info;
   replies = h.replies;
   front_at = at;
   offered = subst (λ (b : Bool). IsOffered b config.read_only config.indirect w.front.offers g.pushed) (i.ready ∙ sym i'.ready) h.offered;
   back_at = h.back_at;
-  unhalted = h.unhalted;
   memory = sized;
   ring = (let was = h.ring in record {
     begun = i'.begun g.start pages;
@@ -102,17 +97,12 @@ ends_on config w g d d' s s' ending pool words pages i i' restless unarmed fewer
   mapped = h.mapped;
   paged = h.paged;
   front_sleep = (let was = h.front_sleep in record { arming = λ t. absurd (true≢false (sym t ∙ unarmed)); armed = λ t. absurd (true≢false (sym t ∙ was.may restless)); may = λ t. was.may restless; woken = was.woken });
-  back_sleep = (let was = h.back_sleep in record { arming = λ t. frames 2 (omega arith) 1 (omega arith) ∙ was.arming t; armed = λ t. frames 2 (omega arith) 1 (omega arith) ∙ was.armed t; may = was.may; woken = λ t. by_wake (was.woken t) });
+  back_sleep = back_sleep_rests g.start g.fetched g.pushed w.under.pages pages w.back.asleep w.under.channels.back_pending w.under.channels.back_pending s s' w.back.stage (frames 2 (omega arith) 1 (omega arith)) refl (i.quiet g.pushed g.fetched) h.back_sleep;
   ports = subst (λ (b : Bool). PortsAt g.before b (is_bound_back w.back.stage) w.under.channels.made w.under.channels.ports) (as_connected s s' i.ready i'.ready) h.ports;
 }
   where
     among : (page : ℕ) → page < 2 ^ g.shape.order → page < 16
     among page lt = let few = few_pages g.shape.order h.shaped.narrow in omega arith
-
-    by_wake : (g.pushed ≡ g.fetched) ⊎ (w.under.channels.back_pending ≡ true) ⊎ FrontSends s g.pushed g.fetched → (g.pushed ≡ g.fetched) ⊎ (w.under.channels.back_pending ≡ true) ⊎ FrontSends s' g.pushed g.fetched
-    by_wake (inl same) = inl same
-    by_wake (inr (inl t)) = inr (inl t)
-    by_wake (inr (inr sends)) = absurd (i.quiet g.pushed g.fetched sends)
 
 -- a granted frame isn't mapped
 unmapped_way : (way : Transfer) → is_mapped (grant_flags way) ≡ false
@@ -137,28 +127,18 @@ pub grant_read_goes : (config : Options) (w : World) (g : Flow) (d : Pipeline) (
     → Holds config w g d (front.GrantRead place) w.back.stage
     → FrontGoes config w d (front.GrantRead place)
 grant_read_goes config w g d place told h =
-    subst (λ (x : Option Ending). ActGoes config w d (front.GrantRead place) (revoke_ask x place)) (sym here)
+    subst (λ (x : Option Ending). ActGoes config w d (front.GrantRead place) (revoke_ask x place)) (sym h.front_at.1)
     (subst (λ (x : View). Goes config (lines.Move (moves.FrontRead (entry_frame frame) (entry_word frame) word) ∷ front_lines x.told) (record { front = record x { told = None }; back = w.back; under = w.under }) d) (sym stepped)
-    (record {
-      flow = g;
-      steps = [];
-      does = said_nothing d (moves.FrontRead (entry_frame frame) (entry_word frame) word) w.front.told told;
-      holds = ends_on config w g d d (front.GrantRead place) (front.GrantEnd place flags) w.front.ending w.front.pool w.front.words w.under.pages (at_read place) (at_end place flags) refl refl (omega arith) h
-          h.stations h.pool (e, here, at.2, (at.3, refl)) (data_rests w.under.pages w.under.pages w.front.words w.front.ending w.front.ending
-          (front.GrantRead place) (front.GrantEnd place flags) refl h.telling)
-          (entries_rest g.pushed w.under.pages w.under.grants.live (front.GrantRead place)
-          (front.GrantEnd place flags) w.front.ending w.front.ending w.front.requests (at_end place flags) entries.ending entries)
-          h.memory (λ f from x lt. refl) (λ page lt. record { flags = refl; frame = refl });
-    }))
+    (goes_by (said_nothing d (moves.FrontRead (entry_frame frame) (entry_word frame) word) w.front.told told)
+    (ends_on config w g d d (front.GrantRead place) (front.GrantEnd place flags) w.front.ending w.front.pool w.front.words w.under.pages (at_read place) (at_end place flags) refl refl (omega arith) h
+    h.stations h.pool (e, h.front_at.1, h.front_at.2, (h.front_at.3, refl)) (data_rests w.under.pages w.under.pages w.front.words w.front.ending w.front.ending
+    (front.GrantRead place) (front.GrantEnd place flags) refl h.telling)
+    (entries_rest g.pushed w.under.pages w.under.grants.live (front.GrantRead place)
+    (front.GrantEnd place flags) w.front.ending w.front.ending w.front.requests (at_end place flags) h.entries.ending h.entries)
+    h.memory (λ f from x lt. refl) (λ page lt. record { flags = refl; frame = refl }))))
   where
-    at : IsEndingAt g.submitted g.replies w.front.ending (λ x. place < frames_of x.request)
-    at = h.front_at
-
     e : Ending
-    e = at.0
-
-    here : w.front.ending ≡ Some e
-    here = at.1
+    e = h.front_at.0
 
     frame : ℕ
     frame = frame_at e.request place
@@ -169,11 +149,8 @@ grant_read_goes config w g d place told h =
     flags : ℕ
     flags = flags_at e.request place
 
-    entries : AreEntries g.series g.pushed w.under.pages w.under.grants.live (front.GrantRead place) w.front.ending w.front.requests
-    entries = h.entries
-
     stepped : end_step w.front place word ≡ at_stage (front.GrantEnd place flags) w.front
-    stepped = ap (end_step w.front place) (entries.ending e here place (omega arith) at.3)
+    stepped = ap (end_step w.front place) (h.entries.ending e h.front_at.1 place (omega arith) h.front_at.3)
         ∙ ap (λ (b : Bool). if b then broken flags w.front else at_stage (front.GrantEnd place flags) w.front) (unmapped_flags e.request place)
 
 -- a request that has a frame has a word of data
@@ -195,25 +172,16 @@ pub grant_end_goes : (config : Options) (w : World) (g : Flow) (d : Pipeline) (p
     → Holds config w g d (front.GrantEnd place before) w.back.stage
     → FrontGoes config w d (front.GrantEnd place before)
 grant_end_goes config w g d place before untold h =
-    subst (λ (x : Option Ending). ActGoes config w d (front.GrantEnd place before) (end_ask x place before)) (sym here)
+    subst (λ (x : Option Ending). ActGoes config w d (front.GrantEnd place before) (end_ask x place before)) (sym h.front_at.1)
     (subst (λ (x : View). Becomes x (swapped w.under.pages (entry_frame frame) (entry_word frame) before 0)) (sym stepped)
-    (subst (λ (ps : List ℕ). Becomes (revoked_by (Some e) place w.front) ps) (sym changed)
+    (subst (λ (ps : List ℕ). Becomes (revoked_by (Some e) place w.front) ps) (sym (ap (λ (b : Bool). if b then pages else w.under.pages) tested))
     (by_more (nat_lt (place + 1) (frames_of e.request)) refl)))
   where
-    at : IsEndingAt g.submitted g.replies w.front.ending (λ x. (place < frames_of x.request) × (before ≡ flags_at x.request place))
-    at = h.front_at
-
     e : Ending
-    e = at.0
-
-    here : w.front.ending ≡ Some e
-    here = at.1
+    e = h.front_at.0
 
     is : IsEnding g.submitted g.replies e
-    is = at.2
-
-    within : place < frames_of e.request
-    within = at.3.0
+    is = h.front_at.2
 
     its : IsSubmitted w.front.sectors (e.request.number - 1) e.request
     its = let submitted = h.submitted in submitted.each (e.request.number - 1) e.request is.known
@@ -230,27 +198,15 @@ grant_end_goes config w g d place before untold h =
     Becomes : View → List ℕ → Type 0
     Becomes x ps = Goes config (lines.Move (moves.FrontCas (entry_frame frame) (entry_word frame) before 0 word) ∷ front_lines x.told) (record { front = record x { told = None }; back = w.back; under = record w.under { pages = ps } }) d
 
-    entries : AreEntries g.series g.pushed w.under.pages w.under.grants.live (front.GrantEnd place before) w.front.ending w.front.requests
-    entries = h.entries
-
-    same_word : word ≡ before
-    same_word = entries.ending e here place (omega arith) within ∙ sym at.3.1
-
     tested : (word == before) ≡ true
-    tested = same_test word before same_word
-      where
-        same_test : (a b : ℕ) → a ≡ b → (a == b) ≡ true
-        same_test a b same = grind (arith, nat_tests)
+    tested = same_number word before (h.entries.ending e h.front_at.1 place (omega arith) h.front_at.3.0 ∙ sym h.front_at.3.1)
 
     pages : List ℕ
     pages = with_word w.under.pages (entry_frame frame) (entry_word frame) 0
 
-    changed : swapped w.under.pages (entry_frame frame) (entry_word frame) before 0 ≡ pages
-    changed = ap (λ (b : Bool). if b then pages else w.under.pages) tested
-
     stepped : exchanged w.front place before word ≡ revoked_by (Some e) place w.front
     stepped = ap (λ (b : Bool). if b then revoked_by w.front.ending place w.front else broken word w.front) tested
-        ∙ ap (λ (x : Option Ending). revoked_by x place w.front) here
+        ∙ ap (λ (x : Option Ending). revoked_by x place w.front) h.front_at.1
 
     sized : length pages ≡ 1114112
     sized = length-set w.under.pages (entry_frame frame * 1024 + entry_word frame) 0 ∙ h.memory
@@ -262,14 +218,13 @@ grant_end_goes config w g d place before untold h =
     apart_entry gref few apart = other_entry w.under.pages (frame + 6) gref 0 (let top = pooled.1 in omega arith) few apart
 
     owned : ArePooled w.front.pool w.front.requests (Some e)
-    owned = subst (ArePooled w.front.pool w.front.requests) here h.pool
+    owned = subst (ArePooled w.front.pool w.front.requests) h.front_at.1 h.pool
 
     -- the entries of the front's requests are others
     same_grants : (j : ℕ) (r : Request) → slice_get w.front.requests j ≡ Some r → SameGrants w.under.pages pages r
     same_grants j r there a lt =
-        let theirs = is_submitted config w g d (front.GrantEnd place before) w.back.stage h j r there in
-        let in_pool = pooled_at r theirs.frames a in
-        let apart = ending_apart w.front.pool w.front.requests e j r owned there a place lt within in_pool in
+        let in_pool = pooled_at r (is_submitted config w g d (front.GrantEnd place before) w.back.stage h j r there).frames a in
+        let apart = ending_apart w.front.pool w.front.requests e j r owned there a place lt h.front_at.3.0 in_pool in
         apart_entry (frame_at r a + 6) (let top = in_pool.1 in omega arith) (λ same. apart (omega arith))
 
     entries_end : (s : FrontStage) (ending : Option Ending) → IsResting s → AreRevoked pages s ending
@@ -284,11 +239,11 @@ grant_end_goes config w g d place before untold h =
     -- and so are those of its own frames that are left
     left : AreRevoked pages (front.GrantRead (place + 1)) w.front.ending
     left x same = subst (λ (y : Ending). (a : ℕ) → place + 1 ≤ a → a < frames_of y.request
-        → entry_word0 pages (frame_at y.request a + 6) ≡ flags_at y.request a) (same_Some e x (sym here ∙ same)) (λ a le lt.
+        → entry_word0 pages (frame_at y.request a + 6) ≡ flags_at y.request a) (same_Some e x (sym h.front_at.1 ∙ same)) (λ a le lt.
         let in_pool = pooled_at e.request its.frames a in
-        let apart = ending_own_apart w.front.pool w.front.requests e owned a place (omega arith) lt within in_pool in
+        let apart = ending_own_apart w.front.pool w.front.requests e owned a place (omega arith) lt h.front_at.3.0 in_pool in
         let kept = apart_entry (frame_at e.request a + 6) (let top = in_pool.1 in omega arith) (λ same. apart (omega arith)) in
-        kept.flags ∙ entries.ending e here a (omega arith) lt)
+        kept.flags ∙ h.entries.ending e h.front_at.1 a (omega arith) lt)
 
     elsewhere : (p : Pipeline) (ending : Option Ending) (telling : Option ℕ) → AreStations config g p true false (is_fetching w.back.stage) ending telling (reply_at w.back.stage) w.front.requests w.back.jobs.works w.under.pages → AreStations config g p true false (is_fetching w.back.stage) ending telling (reply_at w.back.stage) w.front.requests w.back.jobs.works pages
     elsewhere p ending telling = stations_elsewhere config g p true false (is_fetching w.back.stage) ending telling (reply_at w.back.stage) w.front.requests w.back.jobs.works w.under.pages pages w.front.sectors w.front.last h.submitted (λ f from to. words f (omega arith))
@@ -299,7 +254,7 @@ grant_end_goes config w g d place before untold h =
     stations : AreStations config g d true false (is_fetching w.back.stage) (Some e) None
         (reply_at w.back.stage) w.front.requests w.back.jobs.works w.under.pages
     stations = subst (λ (x : Option Ending). AreStations config g d true false (is_fetching w.back.stage) x None
-        (reply_at w.back.stage) w.front.requests w.back.jobs.works w.under.pages) here h.stations
+        (reply_at w.back.stage) w.front.requests w.back.jobs.works w.under.pages) h.front_at.1 h.stations
 
     by_data : (b : Bool) → has_data e.request.transfer e.status ≡ b
         → Becomes (if b then record w.front { stage = front.ReadData 0; told = Some (told.Answer e.request.number e.status) }
@@ -307,44 +262,29 @@ grant_end_goes config w g d place before untold h =
     by_data false t =
         let s = answers config g d true false (is_fetching w.back.stage)
         (reply_at w.back.stage) w.front.requests w.back.jobs.works w.under.pages e is.known is.positive t stations in
-        record {
-          flow = g;
-          steps = s.step ∷ [];
-          does = does_step (moves.FrontCas (entry_frame frame) (entry_word frame) before 0 word) (lines.Answer e.request.number e.status ∷ []) refl s;
-          holds = ends_on config w g d (next d s.step) (front.GrantEnd place before) front.Loop None (with_all_free w.front.pool e.request.frames.items) w.front.words pages (at_end place before) at_loop refl refl (omega arith) h
-              (elsewhere (next d s.step) None None s.now) (pooled_free w.front.pool w.front.requests e its.frames owned) tt
-              (data_rests w.under.pages pages w.front.words w.front.ending None (front.GrantEnd place before) front.Loop refl h.telling)
-              (entries_end front.Loop None at_loop (λ x same. absurd (none-some x same))) sized words ring_kept;
-        }
+        goes_by (does_step (moves.FrontCas (entry_frame frame) (entry_word frame) before 0 word) (lines.Answer e.request.number e.status ∷ []) refl s)
+        (ends_on config w g d (next d s.step) (front.GrantEnd place before) front.Loop None (with_all_free w.front.pool e.request.frames.items) w.front.words pages (at_end place before) at_loop refl refl (omega arith) h
+        (elsewhere (next d s.step) None None s.now) (pooled_free w.front.pool w.front.requests e its.frames owned) tt
+        (data_rests w.under.pages pages w.front.words w.front.ending None (front.GrantEnd place before) front.Loop refl h.telling)
+        (entries_end front.Loop None at_loop (λ x same. absurd (none-some x same))) sized words ring_kept)
     by_data true t =
         let read = data_are e.request.transfer e.status t in
         let s = answers_read config g d true false (is_fetching w.back.stage) (reply_at w.back.stage) w.front.requests w.back.jobs.works w.under.pages e is.known is.positive read.0 read.1 stations in
-        record {
-          flow = g;
-          steps = s.step ∷ [];
-          does = does_step (moves.FrontCas (entry_frame frame) (entry_word frame) before 0 word) (lines.Answer e.request.number e.status ∷ []) refl s;
-          holds = ends_on config w g d (next d s.step) (front.GrantEnd place before) (front.ReadData 0) w.front.ending w.front.pool w.front.words pages (at_end place before) (at_data 0) refl refl (omega arith) h
-              (subst (λ (x : Option Ending). AreStations config g (next d s.step) true false (is_fetching w.back.stage) x (Some 0)
-              (reply_at w.back.stage) w.front.requests w.back.jobs.works pages) (sym here) (elsewhere (next d s.step) (Some e) (Some 0) s.now))
-              h.pool (e, here, is, (some_word e.request place its.shaped within, read.0, read.1))
-              (let was = h.telling in record { size = was.size; so_far = λ x same k lt. absurd (omega arith) })
-              (entries_end (front.ReadData 0) w.front.ending (at_data 0) (λ x same. absurd (none-some x same))) sized words ring_kept;
-        }
+        goes_by (does_step (moves.FrontCas (entry_frame frame) (entry_word frame) before 0 word) (lines.Answer e.request.number e.status ∷ []) refl s)
+        (ends_on config w g d (next d s.step) (front.GrantEnd place before) (front.ReadData 0) w.front.ending w.front.pool w.front.words pages (at_end place before) (at_data 0) refl refl (omega arith) h
+        (subst (λ (x : Option Ending). AreStations config g (next d s.step) true false (is_fetching w.back.stage) x (Some 0)
+        (reply_at w.back.stage) w.front.requests w.back.jobs.works pages) (sym h.front_at.1) (elsewhere (next d s.step) (Some e) (Some 0) s.now))
+        h.pool (e, h.front_at.1, is, (some_word e.request place its.shaped h.front_at.3.0, read.0, read.1))
+        (let was = h.telling in record { size = was.size; so_far = λ x same k lt. absurd (omega arith) })
+        (entries_end (front.ReadData 0) w.front.ending (at_data 0) (λ x same. absurd (none-some x same))) sized words ring_kept)
 
     by_more : (b : Bool) → nat_lt (place + 1) (frames_of e.request) ≡ b
         → Becomes (if b then at_stage (front.GrantRead (place + 1)) w.front else ended e w.front) pages
-    by_more true t = record {
-      flow = g;
-      steps = [];
-      does = said_nothing d (moves.FrontCas (entry_frame frame) (entry_word frame) before 0 word) w.front.told untold;
-      holds = ends_on config w g d d (front.GrantEnd place before) (front.GrantRead (place + 1)) w.front.ending w.front.pool w.front.words pages
-          (at_end place before) (at_read (place + 1)) refl refl (omega arith) h
-          (elsewhere d w.front.ending None h.stations) h.pool (e, here, is, further)
-          (data_rests w.under.pages pages w.front.words w.front.ending w.front.ending (front.GrantEnd place before)
-          (front.GrantRead (place + 1)) refl h.telling)
-          (entries_end (front.GrantRead (place + 1)) w.front.ending (at_read (place + 1)) left) sized words ring_kept;
-    }
-      where
-        further : place + 1 < frames_of e.request
-        further = grind (arith, nat_tests)
+    by_more true t = goes_by (said_nothing d (moves.FrontCas (entry_frame frame) (entry_word frame) before 0 word) w.front.told untold)
+        (ends_on config w g d d (front.GrantEnd place before) (front.GrantRead (place + 1)) w.front.ending w.front.pool w.front.words pages
+        (at_end place before) (at_read (place + 1)) refl refl (omega arith) h
+        (elsewhere d w.front.ending None h.stations) h.pool (e, h.front_at.1, is, (grind (arith, nat_tests)))
+        (data_rests w.under.pages pages w.front.words w.front.ending w.front.ending (front.GrantEnd place before)
+        (front.GrantRead (place + 1)) refl h.telling)
+        (entries_end (front.GrantRead (place + 1)) w.front.ending (at_read (place + 1)) left) sized words ring_kept)
     by_more false t = by_data (has_data e.request.transfer e.status) refl

@@ -35,8 +35,7 @@ first_freed pool requests frame frames low high h = record {
   each = λ f lt. by_place f lt (f == frame - 18) refl;
   used =
       (let counted = count_set (λ (b : Bool). b) pool (frame - 18) true false was_taken in
-      let used = h.used in
-      omega arith);
+      omega (arith, h.used));
 }
   where
     others : ℕ → ℕ
@@ -44,11 +43,9 @@ first_freed pool requests frame frames low high h = record {
 
     of_frame : others (18 + (frame - 18)) + 1 ≡ cond (slice_index_or pool (frame - 18) false) 1 0
     of_frame =
-        let all = h.each (frame - 18) (omega arith) in
-        let first = counted_first frame frames (18 + (frame - 18)) in
         let same : (frame == 18 + (frame - 18)) ≡ true = grind (arith, nat_tests) in
         let one : ◌≡◌ {A = ℕ} (cond (frame == 18 + (frame - 18)) 1 0) 1 = rw same refl in
-        omega (arith, all, first, one)
+        omega (arith, (h.each (frame - 18) (omega arith)), (counted_first frame frames (18 + (frame - 18))), one)
 
     freed : (slice_index_or pool (frame - 18) false ≡ true) × (others (18 + (frame - 18)) ≡ 0)
     freed = one_free (slice_index_or pool (frame - 18) false) (others (18 + (frame - 18))) of_frame
@@ -60,8 +57,7 @@ first_freed pool requests frame frames low high h = record {
     by_place f lt true t =
         let same : f ≡ frame - 18 = grind (arith, nat_tests) in
         let now : slice_index_or (with_free pool frame) f false ≡ false = ap (λ (n : ℕ). slice_index_or (with_free pool frame) n false) same ∙ get_or_from_slice_get (with_free pool frame) (frame - 18) false false (get_set_here pool (frame - 18) true false was_taken) in
-        let none : others (18 + f) ≡ 0 = ap (λ (n : ℕ). others (18 + n)) same ∙ freed.1 in
-        rw now none
+        rw now (ap (λ (n : ℕ). others (18 + n)) same ∙ freed.1)
     by_place f lt false t =
         let apart : f ≢ frame - 18 = grind (arith, nat_tests) in
         let other : slice_get (with_free pool frame) f ≡ slice_get pool f = get_set_other pool (frame - 18) f false (λ same. apart (sym same)) in
@@ -69,9 +65,7 @@ first_freed pool requests frame frames low high h = record {
         let kept : slice_index_or (with_free pool frame) f false ≡ slice_index_or pool f false = get_or_from_slice_get (with_free pool frame) f (slice_index_or pool f false) false (other ∙ slice_get-get_or pool f false (omega arith)) in
         let differs : (frame == 18 + f) ≡ false = grind (arith, nat_tests) in
         let none : ◌≡◌ {A = ℕ} (cond (frame == 18 + f) 1 0) 0 = rw differs refl in
-        let first = counted_first frame frames (18 + f) in
-        let all = h.each f lt in
-        rw kept (omega (arith, all, first, none))
+        rw kept (omega (arith, (h.each f lt), (counted_first frame frames (18 + f)), none))
 
 -- and so all of them
 all_freed : (pool : List Bool) (requests : List Request) (frames : List ℕ) → All IsPooled frames → AreUsed pool requests frames

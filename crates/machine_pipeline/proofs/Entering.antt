@@ -21,7 +21,7 @@ use Rattle.ring_words.specs.Shape.{Shape, entry_words_of, entries_of}
 use Rattle.machine_pipeline.proofs.Kept.{SameFrame, same_entry, responded_few, SameEntry, SameGrants}
 use Rattle.std.proofs.lemmas.Bool.{cases_eq}
 use Rattle.machine_pipeline.proofs.Next.{IsNext, next_is}
-use Rattle.machine_pipeline.proofs.Turns.{FrontGoes, said_nothing}
+use Rattle.machine_pipeline.proofs.Turns.{FrontGoes, said_nothing, goes_by}
 use Rattle.machine_pipeline.proofs.Issuing.{issuing, frames_elsewhere, entries_elsewhere, frames_turned, entries_turned, with_front, issue_moved}
 use Rattle.machine_pipeline.proofs.Data.{SameData}
 use Rattle.machine_pipeline.proofs.Stations.{AreStations, turned}
@@ -72,9 +72,7 @@ pub word_entered : (config : Options) (w : World) (g : Flow) (d d' : Pipeline) (
 word_entered config w g d d' k s s' r entry i i' so_far h stations e within more filled_so granted_so at unsent =
     let next : IsNext g.submitted g.series w.front.requests g.pushed w.front.waiting r = next_is w.front g.submitted w.front.sectors w.front.last g.pushed _ r h.queue h.submitted h.pool e in
     let x = h.indices in
-    let y = h.replies in
-    let unended = issuing s i in
-    let few = subst (λ (n : ℕ). length w.front.requests + n ≤ entries_of g.shape.order) unended.ended x.room in
+    let few = subst (λ (n : ℕ). length w.front.requests + n ≤ entries_of g.shape.order) (issuing s i).ended x.room in
     let value : ℕ = slice_index (entry_of g.shape.abi r) k in
     let new : List ℕ = with_slot w.under.pages g.shape (wrapped g.start g.pushed) k value in
     let elsewhere : (f : ℕ) → (f < 2) ⊎ (18 ≤ f) → SameFrame w.under.pages new f = λ f other. frames_beside w.under.pages g.shape (wrapped g.start g.pushed) k value f h.shaped.narrow within other in
@@ -87,7 +85,7 @@ word_entered config w g d d' k s s' r entry i i' so_far h stations e within more
     (λ page lt. entries (8 + page) (omega arith))
     (slots_entered g.shape g.start g.fetched g.pushed g.taken g.replied g.series g.replies w.under.pages k s s' w.back.stage r h.shaped.narrow so_far h.memory within more next.at
     (order x.taken_replied x.replied_fetched) (room (entries_of g.shape.order) g.pushed w.front.waiting (length w.front.requests) g.taken (length g.series) x.all x.held few next.waits)
-    (counted y.counted x.replied_fetched x.fetched_pushed) x.taken_replied
+    (counted h.replies.counted x.replied_fetched x.fetched_pushed) x.taken_replied
     (λ rep at_reply. behind _ (ap reply_count at_reply) h.counted x.fetched_pushed) h.slots)
     (filled_so new (frames_elsewhere config w g d s w.back.stage h new (λ f from. elsewhere f (inr from))))
     (granted_so new (entries_elsewhere config w g d s w.back.stage h new entries))
@@ -125,21 +123,14 @@ pub slot_same : (pages entry entry' : List ℕ) (shape shape' : Shape) (prod pro
 slot_same pages entry entry' shape shape' prod prod' k known e f = rw (known, e, f) refl
 
 pub slot_goes : (config : Options) (w : World) (g : Flow) (d : Pipeline) (k : ℕ) → IsSafe w → Holds config w g d (front.Slot k) w.back.stage → FrontGoes config w d (front.Slot k)
-slot_goes config w g d k safe h = record {
-  flow = g;
-  steps = [];
-  does = said_nothing d _ w.front.told safe.front_told;
-  holds = by_test (k + 1 == entry_words_of w.front.shape.abi) refl;
-}
+slot_goes config w g d k safe h = goes_by (said_nothing d _ w.front.told safe.front_told)
+    (by_test (k + 1 == entry_words_of w.front.shape.abi) refl)
   where
     r : Request
     r = h.front_at.1.0
 
     e : next_request w.front ≡ Some r
     e = h.front_at.1.1
-
-    within : k < entry_words_of g.shape.abi
-    within = h.front_at.0
 
     known : entry_words_of w.front.shape.abi ≡ entry_words_of g.shape.abi
     known = ap (λ (x : Shape). entry_words_of x.abi) h.shaped.known
@@ -148,11 +139,11 @@ slot_goes config w g d k safe h = record {
     same = let x = h.indices in slot_same w.under.pages w.front.entry (entry_of g.shape.abi r) w.front.shape g.shape w.front.ring.prod (wrapped g.start g.pushed) k h.shaped.known x.pushed h.front_at.1.2
 
     by_test : (b : Bool) → (k + 1 == entry_words_of w.front.shape.abi) ≡ b → Holds config (with_front w (if b then front.Producer else front.Slot (k + 1)) w.front.entry (with_slot w.under.pages w.front.shape w.front.ring.prod k (slice_index w.front.entry k))) g d (if b then front.Producer else front.Slot (k + 1)) w.back.stage
-    by_test true t = rw same (entered_on config w g d k front.Producer r refl refl h e within (λ i lt in_it. last i lt) (λ frames. refl) (omega arith) (omega arith) (r, e, tt))
+    by_test true t = rw same (entered_on config w g d k front.Producer r refl refl h e h.front_at.0 (λ i lt in_it. last i lt) (λ frames. refl) (omega arith) (omega arith) (r, e, tt))
       where
         last : (i : ℕ) → i < entry_words_of g.shape.abi → i ≤ k
-        last i lt = let all : k + 1 ≡ entry_words_of w.front.shape.abi = grind (arith, nat_tests) in omega (arith, known, within)
-    by_test false t = rw same (entered_on config w g d k (front.Slot (k + 1)) r refl refl h e within (λ i lt in_it. omega arith) (λ frames. refl) (omega arith) (omega arith) (further, h.front_at.1))
+        last i lt = let all : k + 1 ≡ entry_words_of w.front.shape.abi = grind (arith, nat_tests) in omega (arith, known, h.front_at.0)
+    by_test false t = rw same (entered_on config w g d k (front.Slot (k + 1)) r refl refl h e h.front_at.0 (λ i lt in_it. omega arith) (λ frames. refl) (omega arith) (omega arith) (further, h.front_at.1))
       where
         further : k + 1 < entry_words_of g.shape.abi
-        further = let more : k + 1 ≢ entry_words_of w.front.shape.abi = grind (arith, nat_tests) in omega (arith, known, within)
+        further = let more : k + 1 ≢ entry_words_of w.front.shape.abi = grind (arith, nat_tests) in omega (arith, known, h.front_at.0)

@@ -25,11 +25,12 @@ use Rattle.machine_pipeline.proofs.Holds.{IsPooled, FrontAt, IsFilled, FrontSend
 use Rattle.machine_pipeline.proofs.Kept.{SameFrame, other_frame, same_entry}
 use Rattle.machine_pipeline.proofs.Data.{pooled_at, place_among, data_written, data_other, data_apart, data_value, own_before, own_upto, page_in, page_value}
 use Rattle.machine_pipeline.proofs.Next.{IsNext, next_is, fetched_apart}
-use Rattle.machine_pipeline.proofs.Turns.{Goes, FrontGoes, said_nothing}
+use Rattle.machine_pipeline.proofs.Turns.{Goes, FrontGoes, said_nothing, goes_by}
 use Rattle.machine_pipeline.proofs.Issuing.{issuing, entries_elsewhere, slots_turned, entries_turned, with_front, issue_moved}
 use Rattle.machine_pipeline.proofs.Stations.{AreStations, AreOpen}
 use Rattle.machine_pipeline.proofs.ReadsKept.{stations_kept}
 use Rattle.blk_front.specs.Submit.{is_ready}
+use Rattle.machine_pipeline.proofs.Lists.{less_number}
 
 -- one word more of the next request's frames
 frames_filled : {series : List Request} (submitted requests : List Request) (pushed waiting : ℕ) (old : List ℕ) (s s' : FrontStage) (r : Request) (n : ℕ)
@@ -39,12 +40,10 @@ frames_filled : {series : List Request} (submitted requests : List Request) (pus
     → All (IsFilled series pushed (with_word old (frame_at r (n / 1024)) (n % 1024) (own_value r n)) s') requests
 frames_filled submitted requests pushed waiting old s s' r n next sized within more h k d lt =
     let was = h k d lt in
-    let apart = next.apart k d lt in
     let only = next.only (get_or requests k d) in
-    let place = place_among r n next.shape within in
     record {
       whole = λ le m l own. data_apart old (frame_at r (n / 1024)) (n % 1024) (own_value r n) _ (omega arith) (next.shaped k d lt)
-          (λ a in_it. apart (next.late (get_or requests k d) le) a (n / 1024) in_it place) m l ∙ was.whole le m l own;
+          (λ a in_it. (next.apart k d lt) (next.late (get_or requests k d) le) a (n / 1024) in_it (place_among r n next.shape within)) m l ∙ was.whole le m l own;
       begun = λ e m f l own.
           rw (only e) (by_place (subst (λ (q : Request). (j : ℕ) → j < filled s (frames_for q.count) → j < span q → is_own q j ≡ true → data_word old q j ≡ own_value q j) (only e) (was.begun e))
           m (subst (λ (q : Request). m < span q) (only e) l) (subst (λ (q : Request). m < filled s' (frames_for q.count)) (only e) f) (subst (λ (q : Request). is_own q m ≡ true) (only e) own));
@@ -84,7 +83,6 @@ filled_on config w g d d' s s' r n i i' h stations e begun within more unentered
     let pooled : IsPooled frame = pooled_at r next.frames (n / 1024) in
     let low = pooled.0 in
     let high = pooled.1 in
-    let place = place_among r n next.shape within in
     let new : List ℕ = with_word w.under.pages frame word value in
     let elsewhere : (f : ℕ) → f ≢ frame → SameFrame w.under.pages new f = λ f other. other_frame w.under.pages frame word value f (omega arith) other in
     let none : ending_at s' w.front.ending ≡ None = let stage = issuing s' i' in stage.ending w.front.ending in
@@ -92,7 +90,7 @@ filled_on config w g d d' s s' r n i i' h stations e begun within more unentered
     issue_moved config w g d d' s s' w.front.entry new i i' h
     (stations_kept config g d' (is_ready s') (is_issuing s') (is_fetching w.back.stage) (ending_at s' w.front.ending) (telling_at s') (reply_at w.back.stage) w.front.requests w.back.jobs.works w.under.pages new
     (λ j x q known here low high. let is = h.submitted.each j x known in data_apart w.under.pages frame word value x (omega arith) is.shaped
-    (λ a in_it. others j x q known here low high a (n / 1024) in_it place)) stations) at
+    (λ a in_it. others j x q known here low high a (n / 1024) in_it (place_among r n next.shape within))) stations) at
     (length-set w.under.pages (frame * 1024 + word) value ∙ h.memory)
     (λ x lt. elsewhere 2 (omega arith) x (omega arith))
     (λ page lt. same_entry w.under.pages _ (8 + page) (omega arith) (elsewhere 0 (omega arith)) (elsewhere 1 (omega arith)))
@@ -123,12 +121,8 @@ page_write pages r n =
     rw (place, word, page_value r n) refl
 
 pub data_goes : (config : Options) (w : World) (g : Flow) (d : Pipeline) (n : ℕ) → IsSafe w → Holds config w g d (front.Data n) w.back.stage → FrontGoes config w d (front.Data n)
-data_goes config w g d n safe h = subst (λ (next : Option Request). WriteGoes config w d (data_ask next n) (data_stage next n)) (sym h.front_at.1) (record {
-  flow = g;
-  steps = [];
-  does = said_nothing d _ w.front.told safe.front_told;
-  holds = by_test (nat_lt (n + 1) (words_in r)) refl (is_indirect r.count) refl;
-})
+data_goes config w g d n safe h = subst (λ (next : Option Request). WriteGoes config w d (data_ask next n) (data_stage next n)) (sym h.front_at.1) (goes_by (said_nothing d _ w.front.told safe.front_told)
+    (by_test (nat_lt (n + 1) (words_in r)) refl (is_indirect r.count) refl))
   where
     r : Request
     r = h.front_at.0
@@ -151,10 +145,7 @@ data_goes config w g d n safe h = subst (λ (next : Option Request). WriteGoes c
     by_test : (b : Bool) → nat_lt (n + 1) (words_in r) ≡ b → (large : Bool) → is_indirect r.count ≡ large
         → (let s' : FrontStage = (if b then front.Data (n + 1) else (if large then front.Pages 0 else front.GrantFrame 0)) in
         Holds config (with_front w s' w.front.entry (with_word w.under.pages (frame_at r (n / 1024)) (n % 1024) (filling_at r.transfer n))) g d s' w.back.stage)
-    by_test true t large e = on (front.Data (n + 1)) refl refl refl refl refl (λ m own upto other. omega arith) refl refl refl (r, h.front_at.1, (omega arith, further (n + 1) (words_in r) t, h.front_at.2.2))
-      where
-        further : (n words : ℕ) → nat_lt n words ≡ true → n < words
-        further n words t = grind (arith, nat_tests)
+    by_test true t large e = on (front.Data (n + 1)) refl refl refl refl refl (λ m own upto other. omega arith) refl refl refl (r, h.front_at.1, (omega arith, less_number (n + 1) (words_in r) t, h.front_at.2.2))
     by_test false t true e = on (front.Pages 0) refl refl refl refl refl (λ m own upto other. last t m own (omega arith) other) refl refl refl (r, h.front_at.1, (some_segment, e))
       where
         some_segment : 0 < naming_words r
@@ -171,12 +162,8 @@ data_goes config w g d n safe h = subst (λ (next : Option Request). WriteGoes c
         has_frame = let frames = shaped.frames in omega (arith, h.front_at.2.1)
 
 pub pages_goes : (config : Options) (w : World) (g : Flow) (d : Pipeline) (n : ℕ) → IsSafe w → Holds config w g d (front.Pages n) w.back.stage → FrontGoes config w d (front.Pages n)
-pages_goes config w g d n safe h = subst (λ (next : Option Request). WriteGoes config w d (page_ask next n) (page_stage next n)) (sym h.front_at.1) (record {
-  flow = g;
-  steps = [];
-  does = said_nothing d _ w.front.told safe.front_told;
-  holds = by_test (nat_lt (n + 1) (naming_words r)) refl;
-})
+pages_goes config w g d n safe h = subst (λ (next : Option Request). WriteGoes config w d (page_ask next n) (page_stage next n)) (sym h.front_at.1) (goes_by (said_nothing d _ w.front.told safe.front_told)
+    (by_test (nat_lt (n + 1) (naming_words r)) refl))
   where
     r : Request
     r = h.front_at.0
@@ -196,10 +183,7 @@ pages_goes config w g d n safe h = subst (λ (next : Option Request). WriteGoes 
     by_test : (b : Bool) → nat_lt (n + 1) (naming_words r) ≡ b
         → (let s' : FrontStage = (if b then front.Pages (n + 1) else front.GrantFrame 0) in
         Holds config (with_front w s' w.front.entry (with_word w.under.pages (page_at r (n / 1024)) (n % 1024) (naming_at r n))) g d s' w.back.stage)
-    by_test true t = on (front.Pages (n + 1)) refl refl refl refl refl (λ m own upto other. omega arith) refl refl refl (r, h.front_at.1, (further (n + 1) (naming_words r) t, h.front_at.2.1))
-      where
-        further : (n words : ℕ) → nat_lt n words ≡ true → n < words
-        further n words t = grind (arith, nat_tests)
+    by_test true t = on (front.Pages (n + 1)) refl refl refl refl refl (λ m own upto other. omega arith) refl refl refl (r, h.front_at.1, (less_number (n + 1) (naming_words r) t, h.front_at.2.1))
     by_test false t = on (front.GrantFrame 0) refl refl refl refl refl (λ m own upto other. last m own other) refl refl refl (r, h.front_at.1, (let frames = shaped.frames in omega (arith, h.front_at.2.0)))
       where
         last : (m : ℕ) → is_own r m ≡ true → m ≢ 1024 * frames_for r.count + n → m < 1024 * frames_for r.count + n

@@ -22,7 +22,7 @@ use Rattle.split_model.specs.World.{World}
 use Rattle.machine_pipeline.proofs.Flow.{Flow, ending_at}
 use Rattle.machine_pipeline.proofs.Series.{among_apart, among_more}
 use Rattle.machine_pipeline.proofs.Holds.{Holds, IsReply}
-use Rattle.machine_pipeline.proofs.Lists.{place_of_any}
+use Rattle.machine_pipeline.proofs.Lists.{place_of_any, same_number}
 use Rattle.machine_pipeline.proofs.Removals.{taken_was, taken_has, found_somewhere}
 use Rattle.machine_pipeline.proofs.Lists.{found_at as placed_at}
 use Rattle.machine_pipeline.proofs.Stations.{StandsAt}
@@ -86,8 +86,7 @@ finds config w g d s rep h none is was = by_place (h.stations.opened.held (rep.i
             let late : length w.front.requests - w.front.waiting ≤ i = grind (arith, nat_tests) in
             let within = slice_get_within w.front.requests i r e in
             let queue = h.queue in
-            let indices = h.indices in
-            let order = indices.fetched_pushed in
+            let order = h.indices.fetched_pushed in
             let reached = is.reached in
             let at = queue.next (i - (length w.front.requests - w.front.waiting)) r (omega arith) (ap (slice_get w.front.requests) (omega arith) ∙ e) in
             absurd (among_apart g.submitted g.series g.pushed (g.pushed + (i - (length w.front.requests - w.front.waiting))) reached.r r queue.ordered (among_more g.fetched g.pushed reached.r order reached.among) at (omega arith) (reached.same ∙ sym same))
@@ -95,9 +94,8 @@ finds config w g d s rep h none is was = by_place (h.stations.opened.held (rep.i
     by_place : (list_any (λ (r : Request). r.number == rep.id - 1 + 1) w.front.requests ≡ true) ⊎ ((e : Ending) × (ending_at s w.front.ending ≡ Some e) × (e.request.number ≡ rep.id - 1 + 1)) → IsFound w g rep.id
     by_place (inl any) =
         let at = place_of_any (λ (r : Request). r.number == rep.id - 1 + 1) w.front.requests any in
-        let positive = is.positive in
-        let same : (let r : Request = at.1 in r.number) ≡ rep.id = numbers at.1.number rep.id positive at.3 in
-        let passes : (let r : Request = at.1 in (r.number == rep.id)) ≡ true = same_test at.1.number rep.id same in
+        let same : (let r : Request = at.1 in r.number) ≡ rep.id = numbers at.1.number rep.id is.positive at.3 in
+        let passes : (let r : Request = at.1 in (r.number == rep.id)) ≡ true = same_number at.1.number rep.id same in
         let few = length w.front.requests - w.front.waiting in
         let early = early_of at.0 at.1 at.2 same in
         let first = found_somewhere (λ (r : Request). r.number == rep.id) (take few w.front.requests) at.0 at.1 (taken_has few w.front.requests at.0 at.1 at.2 early) passes in
@@ -114,9 +112,6 @@ finds config w g d s rep h none is was = by_place (h.stations.opened.held (rep.i
       where
         numbers : (n id : ℕ) → 1 ≤ id → (n == id - 1 + 1) ≡ true → n ≡ id
         numbers n id le t = grind (arith, nat_tests)
-
-        same_test : (n id : ℕ) → n ≡ id → (n == id) ≡ true
-        same_test n id e = grind (arith, nat_tests)
 
         tested : (n id : ℕ) → (n == id) ≡ true → n ≡ id
         tested n id t = grind (arith, nat_tests)

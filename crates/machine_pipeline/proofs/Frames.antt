@@ -64,8 +64,7 @@ named_at shape start pushed taken front_seen submitted replies next entry ending
 -- the data of the ending request that are told have so many words
 told_fewer : (submitted : List Request) (replies : List Reply) (ending : Option Ending) (m n : ℕ) (e : Ending) → IsToldAt submitted replies ending m → Some m ≡ Some n → ending ≡ Some e → n < words_in e.request
 told_fewer submitted replies ending m n e at is here =
-    let few : m < words_in e.request = subst (λ (x : Ending). m < words_in x.request) (same_Some at.0 e (sym at.1 ∙ here)) at.3.0 in
-    subst (λ (k : ℕ). k < words_in e.request) (same_Some m n is) few
+    subst (λ (k : ℕ). k < words_in e.request) (same_Some m n is) (subst (λ (x : Ending). m < words_in x.request) (same_Some at.0 e (sym at.1 ∙ here)) at.3.0)
 
 pub told_few : (shape : Shape) (start pushed taken front_seen : ℕ) (submitted : List Request) (replies : List Reply) (next : Option Request) (entry : List ℕ) (ending : Option Ending) (s : FrontStage) → FrontAt shape start pushed taken front_seen submitted replies next entry ending s → (n : ℕ) → word_at s ≡ Some n → (e : Ending) → ending ≡ Some e → n < words_in e.request
 told_few shape start pushed taken front_seen submitted replies next entry ending (front.ReadData m) at n is e here = told_fewer submitted replies ending m n e at is here
@@ -91,17 +90,13 @@ pub none_in_hands : (config : Options) (w : World) (g : Flow) (d : Pipeline) (s 
     → (test : Mapping → Bool) → ((m : Mapping) → m.gref ≢ frame_at r a + 6 → test m ≡ false)
     → count_by test (hands_at b (record w.back { jobs = record w.back.jobs { works = works } })) ≡ 0
 none_in_hands config w g d s b h j r here a in_r works others test apart =
-    let is = is_submitted config w g d s b h j r here in
-    let in_pool = pooled_at r is.frames a in
     let given : given_up b ≡ [] = nothing_given_up g.shape b g.start g.fetched g.back_seen g.replied g.series w.back.jobs.works w.back.entry h.back_at in
     let jobs : count_by test (hands_in works) ≡ 0 = hands_none test works one in
     let pages : count_by test w.back.pages ≡ 0 = pages_none test w.back.pages (λ page lt. apart (slice_index_or w.back.pages page no_page) (
     let gref = h.paged.gref page lt in
-    let few = few_pages g.shape.order h.shaped.narrow in
     let all = mapped_few b g.shape.order (length w.back.pages) h.paged.mapped in
-    omega (arith, in_pool.0))) in
-    let split = sum_by-append (λ (x : Mapping). cond (test x) 1 0) (hands_in works) w.back.pages in
-    rw given (omega arith)
+    omega (arith, (pooled_at r (is_submitted config w g d s b h j r here).frames a).0, few_pages g.shape.order h.shaped.narrow))) in
+    rw given (omega (arith, sum_by-append (λ (x : Mapping). cond (test x) 1 0) (hands_in works) w.back.pages, few_pages g.shape.order h.shaped.narrow))
   where
     one : (i : ℕ) (t : Work) (m : Mapping) → slice_get works i ≡ Some t → mapping_at t.stage ≡ Some m → test m ≡ false
     one i t m e f =

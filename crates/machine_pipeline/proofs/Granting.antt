@@ -29,9 +29,9 @@ use Rattle.machine_pipeline.proofs.Series.{IsAmong}
 use Rattle.machine_pipeline.proofs.Holds.{IsPooled, FrontAt, IsFilled, IsGranted, AreEntries, FrontSends, Holds}
 use Rattle.machine_pipeline.proofs.Kept.{SameFrame, SameEntry, SameGrants, written, other_word, other_frame, other_entry}
 use Rattle.machine_pipeline.proofs.Data.{SameData, pooled_at}
-use Rattle.machine_pipeline.proofs.Lists.{all_at}
+use Rattle.machine_pipeline.proofs.Lists.{all_at, less_number}
 use Rattle.machine_pipeline.proofs.Next.{FramesDiffer, IsNext, next_is}
-use Rattle.machine_pipeline.proofs.Turns.{Goes, FrontGoes, said_nothing}
+use Rattle.machine_pipeline.proofs.Turns.{Goes, FrontGoes, said_nothing, goes_by}
 use Rattle.machine_pipeline.proofs.Issuing.{issuing, frames_elsewhere, slots_turned, frames_turned, entries_turned, with_front, issue_moved, issue_kept}
 use Rattle.ring_words.specs.Shape.{Shape}
 use Rattle.machine_pipeline.proofs.Stations.{AreStations, turned}
@@ -78,12 +78,10 @@ entries_with : {series : List Request} (submitted requests : List Request) (push
 entries_with {series} submitted requests pushed waiting old new live s s' ending r place i' next within others named granted h = record {
   each = λ k d lt.
       let was = h.each k d lt in
-      let apart = next.apart k d lt in
       let only = next.only (get_or requests k d) in
       let elsewhere : IsAmong series pushed (get_or requests k d) → SameGrants old new (get_or requests k d) = λ le a in_it.
-      let pooled = pooled_at (get_or requests k d) (next.pooled k d lt) a in
-      let differs = apart (next.late (get_or requests k d) le) a place in_it within in
-      others (frame_at (get_or requests k d) a + 6) (omega (arith, pooled.1)) (λ same. differs (omega arith)) in
+      let differs = (next.apart k d lt) (next.late (get_or requests k d) le) a place in_it within in
+      others (frame_at (get_or requests k d) a + 6) (omega (arith, (pooled_at (get_or requests k d) (next.pooled k d lt) a).1)) (λ same. differs (omega arith)) in
       record {
         named = λ le a in_it. let here = elsewhere le a in_it in here.frame ∙ was.named le a in_it;
         named_next = λ e. subst (λ (q : Request). AreNamed new q (named_frames s')) (sym (only e)) named;
@@ -165,9 +163,8 @@ named_now pages r place sized pooled own here before a upto in_it = by_test (a =
         rw same (written pages ((frame_at r place + 6) / 512) (2 * ((frame_at r place + 6) % 512) + 1) (frame_at r place) sized (omega arith) (omega arith))
     by_test false t =
         let other : a ≢ place = grind (arith, nat_tests) in
-        let differs = own a place other in_it here in
         let entry = other_named pages (frame_at r place + 6) (frame_at r a + 6) (frame_at r place) (omega (arith, pool place)) (omega (arith, pool a))
-        (λ same. differs (omega arith)) in
+        (λ same. (own a place other in_it here) (omega arith)) in
         entry.frame ∙ before a (omega arith) in_it
 
 -- the flags of those before it are as they were
@@ -175,11 +172,9 @@ flags_still : (pages : List ℕ) (r : Request) (place value : ℕ) → All IsPoo
     → AreGranted pages r place
     → AreGranted (with_name pages (frame_at r place) value) r place
 flags_still pages r place value pooled own here before a upto in_it =
-    let differs = own a place (omega arith) in_it here in
     let its = pooled_at r pooled a in
-    let there = pooled_at r pooled place in
-    let entry = other_named pages (frame_at r place + 6) (frame_at r a + 6) value (omega (arith, there.1)) (omega (arith, its.1))
-    (λ same. differs (omega arith)) in
+    let entry = other_named pages (frame_at r place + 6) (frame_at r a + 6) value (omega (arith, (pooled_at r pooled place).1)) (omega (arith, its.1))
+    (λ same. (own a place (omega arith) in_it here) (omega arith)) in
     entry.flags ∙ before a upto in_it
 
 -- the frame of this place is granted now, and those before it are still, and stand in their entries
@@ -208,9 +203,8 @@ granted_now pages r place sized pooled own here named before a upto in_it = by_t
         )
     by_test false t =
         let other : a ≢ place = grind (arith, nat_tests) in
-        let differs = own a place other in_it here in
         let entry = other_entry pages (frame_at r place + 6) (frame_at r a + 6) (flags_at r place) (omega (arith, pool place)) (omega (arith, pool a))
-        (λ same. differs (omega arith)) in
+        (λ same. (own a place other in_it here) (omega arith)) in
         (entry.frame ∙ named a upto in_it, entry.flags ∙ before a (omega arith) in_it)
 
 -- what the front does to the grant entry of a frame, by the request that is issued next
@@ -230,31 +224,22 @@ pub frame_goes : (config : Options) (w : World) (g : Flow) (d : Pipeline) (place
 frame_goes config w g d place safe h = subst (λ (q : Option Request). NameGoes config w d place q) (sym h.front_at.1) (
     let r : Request = h.front_at.0 in
     let next : IsNext g.submitted g.series w.front.requests g.pushed w.front.waiting r = next_is w.front g.submitted w.front.sectors w.front.last g.pushed _ r h.queue h.submitted h.pool h.front_at.1 in
-    let pooled = pooled_at r next.frames place in
     let was : IsGranted g.series g.pushed w.under.pages w.under.grants.live (front.GrantFrame place) r = all_at (IsGranted g.series g.pushed w.under.pages w.under.grants.live (front.GrantFrame place)) w.front.requests (length w.front.requests - w.front.waiting) r h.entries.each next.place in
-    record {
-      flow = g;
-      steps = [];
-      does = said_nothing d _ w.front.told safe.front_told;
-      holds = entry_on config w g d (front.GrantFrame place) (front.GrantFence place) r place w.front.entry (2 * ((frame_at r place + 6) % 512) + 1) (frame_at r place) refl refl refl h next h.front_at.2 (omega arith)
-          (λ other lt apart. other_named w.under.pages (frame_at r place + 6) other (frame_at r place) (omega (arith, pooled.1)) lt apart)
-          (λ frames. omega arith) refl h.front_at
-          (named_now w.under.pages r place h.memory next.frames next.own h.front_at.2 (was.named_next next.at))
-          (flags_still w.under.pages r place (frame_at r place) next.frames next.own h.front_at.2 (was.flags_next next.at))
-          (λ sends. sends);
-    })
+    goes_by (said_nothing d _ w.front.told safe.front_told)
+    (entry_on config w g d (front.GrantFrame place) (front.GrantFence place) r place w.front.entry (2 * ((frame_at r place + 6) % 512) + 1) (frame_at r place) refl refl refl h next h.front_at.2 (omega arith)
+    (λ other lt apart. other_named w.under.pages (frame_at r place + 6) other (frame_at r place) (omega (arith, (pooled_at r next.frames place).1)) lt apart)
+    (λ frames. omega arith) refl h.front_at
+    (named_now w.under.pages r place h.memory next.frames next.own h.front_at.2 (was.named_next next.at))
+    (flags_still w.under.pages r place (frame_at r place) next.frames next.own h.front_at.2 (was.flags_next next.at))
+    (λ sends. sends)))
 
 pub fence_goes : (config : Options) (w : World) (g : Flow) (d : Pipeline) (place : ℕ) → IsSafe w → Holds config w g d (front.GrantFence place) w.back.stage → FrontGoes config w d (front.GrantFence place)
-fence_goes config w g d place safe h = record {
-  flow = g;
-  steps = [];
-  does = said_nothing d _ w.front.told safe.front_told;
-  holds = issue_kept config w g d (front.GrantFence place) (front.GrantFlags place) w.front.entry w.under.pages refl refl refl h h.front_at h.memory (λ f low high x lt. refl) (λ x lt. refl) (λ page lt. record { flags = refl; frame = refl })
-      (slots_turned g.shape g.start g.fetched g.pushed g.taken g.replied g.series g.replies w.under.pages w.under.pages (front.GrantFence place) (front.GrantFlags place) w.back.stage h.shaped.narrow (λ f x from to in_it behind. refl) refl h.slots)
-      (frames_turned g.pushed w.under.pages w.under.pages (front.GrantFence place) (front.GrantFlags place) w.front.requests (λ frames. omega arith) (λ n x lt i l. refl) h.frames)
-      (entries_turned g.pushed w.under.pages w.under.pages w.under.grants.live (front.GrantFence place) (front.GrantFlags place) w.front.ending w.front.requests refl (omega arith) (omega arith) (λ n x lt a in_it. record { flags = refl; frame = refl }) h.entries)
-      (λ t sends. sends);
-}
+fence_goes config w g d place safe h = goes_by (said_nothing d _ w.front.told safe.front_told)
+    (issue_kept config w g d (front.GrantFence place) (front.GrantFlags place) w.front.entry w.under.pages refl refl refl h h.front_at h.memory (λ f low high x lt. refl) (λ x lt. refl) (λ page lt. record { flags = refl; frame = refl })
+    (slots_turned g.shape g.start g.fetched g.pushed g.taken g.replied g.series g.replies w.under.pages w.under.pages (front.GrantFence place) (front.GrantFlags place) w.back.stage h.shaped.narrow (λ f x from to in_it behind. refl) refl h.slots)
+    (frames_turned g.pushed w.under.pages w.under.pages (front.GrantFence place) (front.GrantFlags place) w.front.requests (λ frames. omega arith) (λ n x lt i l. refl) h.frames)
+    (entries_turned g.pushed w.under.pages w.under.pages w.under.grants.live (front.GrantFence place) (front.GrantFlags place) w.front.ending w.front.requests refl (omega arith) (omega arith) (λ n x lt a in_it. record { flags = refl; frame = refl }) h.entries)
+    (λ t sends. sends))
 
 abbrev granted_next : World → Option Request → ℕ → Option FrontAct → World
 granted_next w next place None = w
@@ -294,9 +279,8 @@ flags_goes config w g d place safe h = subst (λ (q : Option Request). GrantGoes
         → ((a : ℕ) → a < granted_frames s' → a < frames_of r → a < place + 1)
         → Holds config (with_front w s' entry new) g d s' w.back.stage
     on s' entry i' same filled_few none at few fewer =
-        let pooled = pooled_at r next.frames place in
         entry_on config w g d (front.GrantFlags place) s' r place entry (2 * ((frame_at r place + 6) % 512)) (flags_at r place) refl i' same h next h.front_at.2 (omega arith)
-        (λ other lt apart. other_entry w.under.pages (frame_at r place + 6) other (flags_at r place) (omega (arith, pooled.1)) lt apart)
+        (λ other lt apart. other_entry w.under.pages (frame_at r place + 6) other (flags_at r place) (omega (arith, (pooled_at r next.frames place).1)) lt apart)
         filled_few none at
         (λ a upto in_it. let its = now a (few a upto in_it) in_it in its.0) (λ a upto in_it. let its = now a (fewer a upto in_it) in_it in its.1)
         (λ sends. sends)
@@ -306,23 +290,12 @@ flags_goes config w g d place safe h = subst (λ (q : Option Request). GrantGoes
         Goes config
         (lines.Move (moves.FrontWrite ((frame_at r place + 6) / 512) (2 * ((frame_at r place + 6) % 512)) (flags_at r place)) ∷ front_lines x.told)
         (record { front = record x { told = None }; back = w.back; under = (let u : Hypervisor = w.under in record u { pages = new }) }) d)
-    by_test true t = record {
-      flow = g;
-      steps = [];
-      does = said_nothing d _ w.front.told safe.front_told;
-      holds = on (front.GrantFrame (place + 1)) w.front.entry refl refl (λ frames. omega arith) refl (r, h.front_at.1, further (place + 1) (frames_of r) t)
-          (λ a upto in_it. upto) (λ a upto in_it. upto);
-    }
-      where
-        further : (n size : ℕ) → nat_lt n size ≡ true → n < size
-        further n size t = grind (arith, nat_tests)
-    by_test false t = record {
-      flow = g;
-      steps = [];
-      does = said_nothing d _ w.front.told safe.front_told;
-      holds = on (front.Slot 0) (entry_of w.front.shape.abi r) refl refl (λ frames. omega arith) refl (some_words g.shape.abi, (r, h.front_at.1, ap (λ (x : Shape). entry_of x.abi r) h.shaped.known))
-          (λ a upto in_it. last place (frames_of r) t a in_it) (λ a upto in_it. last place (frames_of r) t a in_it);
-    }
+    by_test true t = goes_by (said_nothing d _ w.front.told safe.front_told)
+        (on (front.GrantFrame (place + 1)) w.front.entry refl refl (λ frames. omega arith) refl (r, h.front_at.1, less_number (place + 1) (frames_of r) t)
+        (λ a upto in_it. upto) (λ a upto in_it. upto))
+    by_test false t = goes_by (said_nothing d _ w.front.told safe.front_told)
+        (on (front.Slot 0) (entry_of w.front.shape.abi r) refl refl (λ frames. omega arith) refl (some_words g.shape.abi, (r, h.front_at.1, ap (λ (x : Shape). entry_of x.abi r) h.shaped.known))
+        (λ a upto in_it. last place (frames_of r) t a in_it) (λ a upto in_it. last place (frames_of r) t a in_it))
       where
         last : (n size : ℕ) → nat_lt (n + 1) size ≡ false → (a : ℕ) → a < size → a < n + 1
         last n size t a in_it = grind (arith, nat_tests)

@@ -20,7 +20,7 @@ use Rattle.machine_pipeline.proofs.Flow.{frames_of, uses, ending_frames, ending_
 use Rattle.machine_pipeline.proofs.Series.{IsSeries, among_grown}
 use Rattle.machine_pipeline.proofs.Holds.{IsPooled, AreNumbers, AreQueued, IsSubmitted, AreSubmitted, ArePooled, IsOfTheDisk}
 use Rattle.machine_pipeline.proofs.Stations.{AreKnown, AreOpen}
-use Rattle.machine_pipeline.proofs.Lists.{found_at, get_append, get_last, get_within, count_set}
+use Rattle.machine_pipeline.proofs.Lists.{found_at, get_append, get_last, get_within, count_set, same_number}
 
 pub longer : {X : Type 0} (xs : List X) (y : X) → length (xs ++ y ∷ []) ≡ length xs + 1
 longer xs y = length-append xs (y ∷ [])
@@ -32,9 +32,6 @@ push_was [] y (suc k) x e = absurd (none-some x e)
 push_was (z ∷ xs) y zero x e = inl e
 push_was (z ∷ xs) y (suc k) x e = elim (push_was xs y k x e) [ inl was ↦ inl was | inr last ↦ inr (ap suc last.0, last.1) ]
 
-pub same_before : {X : Type 0} (xs : List X) (y : X) (k : ℕ) → k < length xs → slice_get (xs ++ y ∷ []) k ≡ slice_get xs k
-same_before xs y k lt = let was = get_within xs k lt in get_append xs (y ∷ []) k was.0 was.1 ∙ sym was.1
-
 pub submitted_more : (submitted : List Request) (sectors last : ℕ) (x : Request) → x.number ≡ last + 1 → x.sector + named_of x.transfer x.count ≤ sectors
     → AreNumbers x.transfer x.sector → IsShaped x → All IsPooled x.frames.items
     → AreSubmitted submitted sectors last → AreSubmitted (submitted ++ x ∷ []) sectors (last + 1)
@@ -43,9 +40,8 @@ submitted_more submitted sectors last x number on_disk numbers shaped pooled h =
   each = λ k r e. elim (push_was submitted x k r e) [
     | inl was ↦ h.each k r was
     | inr new ↦
-        let counted = h.counted in
         subst (IsSubmitted sectors k) (sym new.1)
-        (record { number = (let at = new.0 in omega arith); sector = on_disk; numbers = numbers; shaped = shaped; frames = pooled })
+        (record { number = (let at = new.0 in omega (arith, h.counted)); sector = on_disk; numbers = numbers; shaped = shaped; frames = pooled })
   ];
   sized = h.sized;
 }
@@ -87,10 +83,7 @@ series_more submitted series sectors last x number are h = record {
   ];
   ascending = all_pairs_push (λ (r s : Request). r.number < s.number) series x h.ascending (λ k d lt.
       let q : Request = get_or series k d in
-      let stands : slice_get series k ≡ Some q = slice_get-get_or series k d lt in
-      let within = slice_get_within submitted (q.number - 1) q (h.known k q stands) in
-      let counted = are.counted in
-      omega arith);
+      omega (arith, are.counted, slice_get_within submitted (q.number - 1) q (h.known k q (slice_get-get_or series k d lt))));
 }
   where
     here : x.number - 1 ≡ length submitted
@@ -117,8 +110,7 @@ queue_more submitted series pushed sectors last requests waiting x number all fe
       next = λ j r lt e. elim (push_was requests x (length requests - waiting + j) r (ap (λ (n : ℕ). slice_get (requests ++ x ∷ []) (n + j)) (sym fewer) ∙ e)) [
         | inl was ↦ (let within = slice_get_within requests (length requests - waiting + j) r was in get_append series (x ∷ []) (pushed + j) r (h.next j r (omega arith) was))
         | inr new ↦
-            let at : pushed + j ≡ length series = (let last = new.0 in omega arith) in
-            ap (slice_get (series ++ x ∷ [])) at ∙ (get_last series x ∙ ap Some (sym new.1))
+            ap (slice_get (series ++ x ∷ [])) (let last = new.0 in omega arith) ∙ (get_last series x ∙ ap Some (sym new.1))
       ];
     }
 
@@ -135,13 +127,11 @@ held_more : (requests : List Request) (ending : Option Ending) (frames : List �
     → slice_get pool (frame - 18) ≡ Some false
     → AreHeld requests ending frames pool → AreHeld requests ending (frames ++ frame ∷ []) (with_taken pool frame)
 held_more requests ending frames pool frame low high free h =
-    let long = longer frames frame in
     let used = h.used in
-    let counted = count_set (λ (b : Bool). b) pool (frame - 18) false true free in
     record {
       size = length-set pool (frame - 18) true ∙ h.size;
       each = λ f lt. by_test f lt (frame == 18 + f) refl;
-      used = (omega arith);
+      used = (omega (arith, count_set (λ (b : Bool). b) pool (frame - 18) false true free, longer frames frame));
       pooled = All-push IsPooled frames frame h.pooled (low, high);
     }
   where
@@ -157,16 +147,14 @@ held_more requests ending frames pool frame low high free h =
         let was : sum_by (uses (18 + f)) requests + ending_uses (18 + f) ending + count_by (λ (x : ℕ). x == 18 + f) frames ≡ 0 =
         h.each f lt ∙ rw (free_at f here) refl in
         let size = h.size in
-        let now : slice_index_or (with_taken pool frame) f false ≡ true = get_or-set_at pool (frame - 18) f true false (omega arith) (omega arith) in
         let one : ◌≡◌ {A = ℕ} (cond (frame == 18 + f) 1 0) 1 = rw t refl in
-        rw now (omega arith)
+        rw (get_or-set_at pool (frame - 18) f true false (omega arith) (omega arith)) (omega arith)
     by_test f lt false t =
         let more = sum_by_push (λ (x : ℕ). cond (x == 18 + f) 1 0) frames frame in
         let apart : frame - 18 ≢ f = grind (arith, nat_tests) in
         let was = h.each f lt in
-        let now : slice_index_or (with_taken pool frame) f false ≡ slice_index_or pool f false = get_or-set_other pool (frame - 18) f true false (omega arith) in
         let none : ◌≡◌ {A = ℕ} (cond (frame == 18 + f) 1 0) 0 = rw t refl in
-        rw now (omega arith)
+        rw (get_or-set_other pool (frame - 18) f true false (omega arith)) (omega arith)
 
 -- so many are taken, one by one
 taking_held : (requests : List Request) (ending : Option Ending) (n : ℕ) (pool : List Bool) (frames : List ℕ) (taken : List ℕ × List Bool)
@@ -201,9 +189,7 @@ taking_held requests ending (suc n) pool frames taken e h = by_place (position n
         let size = h.size in
         let rest = next place f
         (held_more requests ending frames pool (18 + place) (omega arith) (omega arith) (ap (slice_get pool) (back_to place) ∙ free) h) in
-        let long = longer frames (18 + place) in
-        let counted = rest.1 in
-        (rest.0, omega arith)
+        (rest.0, omega (arith, rest.1, longer frames (18 + place)))
 
 -- a request more has the frames that were taken: as many as were asked for, all of the pool
 pub pooled_more : (pool taken : List Bool) (requests : List Request) (ending : Option Ending) (n : ℕ) (x : Request)
@@ -254,13 +240,10 @@ opened_more asked requests ending x q unfinished_yet number h =
           | inl some ↦ inl (list_any-append (λ (r : Request). r.number == k + 1) requests (x ∷ []) ∙ rw some refl)
           | inr ended ↦ inr ended
         ])
-        | inr new ↦ inl (list_any-append (λ (r : Request). r.number == k + 1) requests (x ∷ []) ∙ (let at = new.0 in rw (numbered x.number (k + 1) (omega arith)) (or_true (list_any (λ (r : Request). r.number == k + 1) requests))))
+        | inr new ↦ inl (list_any-append (λ (r : Request). r.number == k + 1) requests (x ∷ []) ∙ (let at = new.0 in rw (same_number x.number (k + 1) (omega arith)) (or_true (list_any (λ (r : Request). r.number == k + 1) requests))))
       ];
     }
   where
-    numbered : (n m : ℕ) → n ≡ m → (n == m) ≡ true
-    numbered n m e = grind (arith, nat_tests)
-
     or_true : (b : Bool) → (b || true) ≡ true
     or_true true = refl
     or_true false = refl

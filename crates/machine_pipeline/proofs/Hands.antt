@@ -23,7 +23,7 @@ use Rattle.blk_front.specs.Request.{frames_for, frame_at, IsShaped}
 use Rattle.machine_pipeline.proofs.Flow.{frames_of, uses, ending_uses}
 use Rattle.machine_pipeline.proofs.Holds.{AreQueued, IsPooled, ArePooled, IsHand, IsCopying, AtWork, IsWork, BackAt, PagesAt}
 use Rattle.machine_pipeline.proofs.Stations.{StandsAt, AreOpen, IsTaking, finishing, finishing_kind, kind_of, early_open, apart}
-use Rattle.machine_pipeline.proofs.Lists.{all_at, place_of_any, count_two, count_one, count_none, sum_one, sum_two}
+use Rattle.machine_pipeline.proofs.Lists.{all_at, place_of_any, count_two, count_one, count_none, sum_one, sum_two, same_number}
 
 -- a submitted request stands at a place of the front's
 pub record IsQueued (requests : List Request) (r : Request) : Type 0 where
@@ -35,8 +35,7 @@ same_request submitted requests pushed waiting k r queue known any =
     let found = place_of_any (λ (x : Request). x.number == k + 1) requests any in
     let place = all_at (λ (x : Request). slice_get submitted (x.number - 1) ≡ Some x) requests found.0 found.1 queue.known found.2 in
     let number : (let x : Request = found.1 in x.number - 1) ≡ k = grind (arith, nat_tests, found.3) in
-    let same : found.1 ≡ r = same_Some found.1 r (sym place ∙ (ap (slice_get submitted) number ∙ known)) in
-    record { place = found.0; at = found.2 ∙ ap Some same }
+    record { place = found.0; at = found.2 ∙ ap Some (same_Some found.1 r (sym place ∙ (ap (slice_get submitted) number ∙ known))) }
 
 -- a request on its way, whose grant isn't being ended, is one of the front's
 pub queued : {series : List Request} (submitted requests : List Request) (pushed waiting k : ℕ) (r : Request) (asked : List Asked) (ending : Option Ending) (telling : Option ℕ) (station : Station)
@@ -70,63 +69,46 @@ once pool requests ending frame pooled in_pool =
 place_of : (r : Request) (place : ℕ) → place < frames_of r → slice_get r.frames.items place ≡ Some (frame_at r place)
 place_of r place within = slice_get-get_or r.frames.items place 18 within
 
-same_frame : (f g : ℕ) → f ≡ g → (f == g) ≡ true
-same_frame f g e = grind (arith, nat_tests)
-
 uses_one : (r : Request) (place frame : ℕ) → place < frames_of r → frame_at r place ≡ frame → 1 ≤ uses frame r
-uses_one r place frame within same = count_one (λ (f : ℕ). f == frame) r.frames.items place (frame_at r place) (place_of r place within) (same_frame (frame_at r place) frame same)
+uses_one r place frame within same = count_one (λ (f : ℕ). f == frame) r.frames.items place (frame_at r place) (place_of r place within) (same_number (frame_at r place) frame same)
 
 uses_two : (r : Request) (a b frame : ℕ) → a ≢ b → a < frames_of r → b < frames_of r → frame_at r a ≡ frame → frame_at r b ≡ frame → 2 ≤ uses frame r
 uses_two r a b frame other first second same too = by_order (nat_lt a b) refl
   where
     by_order : (t : Bool) → nat_lt a b ≡ t → 2 ≤ uses frame r
-    by_order true t = let lt : a < b = grind (arith, nat_tests) in count_two (λ (f : ℕ). f == frame) r.frames.items a b (frame_at r a) (frame_at r b) lt (place_of r a first) (place_of r b second) (same_frame _ _ same) (same_frame _ _ too)
-    by_order false t = let lt : b < a = grind (arith, nat_tests) in count_two (λ (f : ℕ). f == frame) r.frames.items b a (frame_at r b) (frame_at r a) lt (place_of r b second) (place_of r a first) (same_frame _ _ too) (same_frame _ _ same)
+    by_order true t = let lt : a < b = grind (arith, nat_tests) in count_two (λ (f : ℕ). f == frame) r.frames.items a b (frame_at r a) (frame_at r b) lt (place_of r a first) (place_of r b second) (same_number _ _ same) (same_number _ _ too)
+    by_order false t = let lt : b < a = grind (arith, nat_tests) in count_two (λ (f : ℕ). f == frame) r.frames.items b a (frame_at r b) (frame_at r a) lt (place_of r b second) (place_of r a first) (same_number _ _ too) (same_number _ _ same)
 
 -- two of the front's requests have different frames
 pub frames_apart : (pool : List Bool) (requests : List Request) (ending : Option Ending) (i j : ℕ) (r s : Request) → ArePooled pool requests ending → i ≢ j → slice_get requests i ≡ Some r → slice_get requests j ≡ Some s
     → (a b : ℕ) → a < frames_of r → b < frames_of s → IsPooled (frame_at r a) → frame_at r a ≢ frame_at s b
 frames_apart pool requests ending i j r s pooled other first second a b in_r in_s in_pool = λ same.
     let few = once pool requests ending (frame_at r a) pooled in_pool in
-    let one = uses_one r a (frame_at r a) in_r refl in
-    let too = uses_one s b (frame_at r a) in_s (sym same) in
-    by_order (nat_lt i j) refl few one too
+    by_order (nat_lt i j) refl few (uses_one r a (frame_at r a) in_r refl) (uses_one s b (frame_at r a) in_s (sym same))
   where
     by_order : (t : Bool) → nat_lt i j ≡ t → sum_by (uses (frame_at r a)) requests + ending_uses (frame_at r a) ending ≤ 1 → 1 ≤ uses (frame_at r a) r → 1 ≤ uses (frame_at r a) s → ⊥
-    by_order true t few one too =
-        let lt : i < j = grind (arith, nat_tests) in
-        let two = sum_two (uses (frame_at r a)) requests i j r s lt first second in
-        omega arith
-    by_order false t few one too =
-        let lt : j < i = grind (arith, nat_tests) in
-        let two = sum_two (uses (frame_at r a)) requests j i s r lt second first in
-        omega arith
+    by_order true t few one too = omega (arith, sum_two (uses (frame_at r a)) requests i j r s (grind (arith, nat_tests)) first second)
+    by_order false t few one too = omega (arith, sum_two (uses (frame_at r a)) requests j i s r (grind (arith, nat_tests)) second first)
 
 -- and each of them has each of its frames once
 pub own_apart : (pool : List Bool) (requests : List Request) (ending : Option Ending) (i : ℕ) (r : Request) → ArePooled pool requests ending → slice_get requests i ≡ Some r
     → (a b : ℕ) → a ≢ b → a < frames_of r → b < frames_of r → IsPooled (frame_at r a) → frame_at r a ≢ frame_at r b
 own_apart pool requests ending i r pooled first a b other in_a in_b in_pool = λ same.
     let few = once pool requests ending (frame_at r a) pooled in_pool in
-    let two = uses_two r a b (frame_at r a) other in_a in_b refl (sym same) in
-    let all = sum_one (uses (frame_at r a)) requests i r first in
-    omega arith
+    omega (arith, sum_one (uses (frame_at r a)) requests i r first, uses_two r a b (frame_at r a) other in_a in_b refl (sym same))
 
 -- so it is with the ending one
 pub ending_apart : (pool : List Bool) (requests : List Request) (e : Ending) (i : ℕ) (r : Request) → ArePooled pool requests (Some e) → slice_get requests i ≡ Some r
     → (a b : ℕ) → a < frames_of r → b < frames_of e.request → IsPooled (frame_at r a) → frame_at r a ≢ frame_at e.request b
 ending_apart pool requests e i r pooled first a b in_r in_e in_pool = λ same.
     let few = once pool requests (Some e) (frame_at r a) pooled in_pool in
-    let one = uses_one r a (frame_at r a) in_r refl in
-    let too = uses_one e.request b (frame_at r a) in_e (sym same) in
-    let all = sum_one (uses (frame_at r a)) requests i r first in
-    omega arith
+    omega (arith, sum_one (uses (frame_at r a)) requests i r first, uses_one e.request b (frame_at r a) in_e (sym same), uses_one r a (frame_at r a) in_r refl)
 
 pub ending_own_apart : (pool : List Bool) (requests : List Request) (e : Ending) → ArePooled pool requests (Some e)
     → (a b : ℕ) → a ≢ b → a < frames_of e.request → b < frames_of e.request → IsPooled (frame_at e.request a) → frame_at e.request a ≢ frame_at e.request b
 ending_own_apart pool requests e pooled a b other in_a in_b in_pool = λ same.
     let few = once pool requests (Some e) (frame_at e.request a) pooled in_pool in
-    let two = uses_two e.request a b (frame_at e.request a) other in_a in_b refl (sym same) in
-    omega arith
+    omega (arith, uses_two e.request a b (frame_at e.request a) other in_a in_b refl (sym same))
 
 -- a request whose number no job with a mapping has is not mapped, nor is its frame one of the ring's
 -- the mapping in a job's hand is that of one of its request's frames
@@ -146,37 +128,29 @@ data_of : (n m : Mapping) (r : Request) (place : ℕ) → n ≡ m → place < fr
 data_of n m r place same here hand shaped = hand_of n m r place same (let frames = shaped.frames in omega arith) hand
 
 hand_at : (r : Request) (t : Work) (s : JobStage) (m : Mapping) → IsShaped r → AtWork r t s → mapping_at s ≡ Some m → IsHandOf m r
-hand_at r t job.MapPage m shaped h e = absurd (none-some m e)
 hand_at r t (job.PageReference n) m shaped h e = page_of n m r t h.page (same_Some n m e) h.copies h.hand shaped
 hand_at r t (job.PageSectors n gref) m shaped h e = page_of n m r t h.0.page (same_Some n m e) h.0.copies h.0.hand shaped
 hand_at r t (job.UnmapPage n) m shaped h e = page_of n m r t h.page (same_Some n m e) h.copies h.hand shaped
-hand_at r t job.Map m shaped h e = absurd (none-some m e)
 hand_at r t (job.ReadWord n j) m shaped h e = data_of n m r h.0.place (same_Some n m e) h.0.here h.1 shaped
 hand_at r t (job.DiskWrite n) m shaped h e = data_of n m r h.0.place (same_Some n m e) h.0.here h.1 shaped
 hand_at r t (job.DiskRead n) m shaped h e = data_of n m r h.0.place (same_Some n m e) h.0.here h.1 shaped
 hand_at r t (job.WriteWord n j) m shaped h e = data_of n m r h.0.place (same_Some n m e) h.0.here h.1 shaped
 hand_at r t (job.Unmap n) m shaped h e = data_of n m r h.0.place (same_Some n m e) h.0.here h.1 shaped
 hand_at r t (job.GiveUp n) m shaped h e = data_of n m r h.0 (same_Some n m e) h.1 h.2 shaped
-hand_at r t job.Flush m shaped h e = absurd (none-some m e)
-hand_at r t (job.Trim count) m shaped h e = absurd (none-some m e)
-hand_at r t (job.Done status) m shaped h e = absurd (none-some m e)
+hand_at r t s m shaped h e = absurd (none-some m e)
 
 pub work_hand : {series : List Request} (submitted : List Request) (fetched : ℕ) (t : Work) (m : Mapping) → (h : IsWork submitted series fetched t) → IsShaped h.r → mapping_at t.stage ≡ Some m → IsHandOf m h.r
 work_hand submitted fetched t m h shaped e = hand_at h.r t t.stage m shaped h.at e
 
 pub hands_none : (test : Mapping → Bool) (works : List Work) → ((i : ℕ) (t : Work) (m : Mapping) → slice_get works i ≡ Some t → mapping_at t.stage ≡ Some m → test m ≡ false) → count_by test (hands_in works) ≡ 0
 hands_none test [] none = refl
-hands_none test (t ∷ works) none =
-    let rest = hands_none test works (λ i u m e f. none (suc i) u m e f) in
-    by_hand (mapping_at t.stage) refl rest
+hands_none test (t ∷ works) none = by_hand (mapping_at t.stage) refl (hands_none test works (λ i u m e f. none (suc i) u m e f))
   where
     by_hand : (m : Option Mapping) → mapping_at t.stage ≡ m → count_by test (hands_in works) ≡ 0 → count_by test (hands_in (t ∷ works)) ≡ 0
     by_hand None e rest = rw e rest
     by_hand (Some m) e rest =
         let here = none zero t m refl e in
-        let both = count_none test (m ∷ []) (one m here) in
-        let all = sum_by-append (λ (x : Mapping). cond (test x) 1 0) (m ∷ []) (hands_in works) in
-        rw e (omega arith)
+        rw e (omega (arith, sum_by-append (λ (x : Mapping). cond (test x) 1 0) (m ∷ []) (hands_in works), count_none test (m ∷ []) (one m here)))
       where
         one : (m : Mapping) → test m ≡ false → (i : ℕ) (x : Mapping) → slice_get (m ∷ []) i ≡ Some x → test x ≡ false
         one m t zero x e = rw (sym (same_Some m x e)) t

@@ -22,7 +22,7 @@ use Rattle.split_model.specs.World.{World}
 use Rattle.machine_pipeline.proofs.Flow.{Flow, frames_of, ending_at, ending_frames, count_of, job_of}
 use Rattle.machine_pipeline.proofs.Holds.{AreSubmitted, IsSubmitted, Holds}
 use Rattle.machine_pipeline.proofs.Frames.{ending_is}
-use Rattle.machine_pipeline.proofs.Lists.{count_none, count_set, sum_set, set_was}
+use Rattle.machine_pipeline.proofs.Lists.{count_none, count_set, sum_set, set_was, same_number}
 use Rattle.machine_pipeline.proofs.Stations.{AreKnown, AreOpen}
 
 -- of the plain disk a request is finished where it is of the pipeline
@@ -40,21 +40,11 @@ held x = frames_held (asked x)
 pub held_asked : (carried : List Carried) → sum_by frames_held (map asked carried) ≡ sum_by held carried
 held_asked [] = refl
 held_asked (x ∷ carried) =
-    let one = sum_by-cons frames_held (asked x) (map asked carried) in
-    let other = sum_by-cons held x carried in
-    let rest = held_asked carried in
-    omega arith
+    omega (arith, held_asked carried, sum_by-cons held x carried, sum_by-cons frames_held (asked x) (map asked carried))
 
 -- the same request once it is finished
 abbrev ended : Carried → Carried
 ended x = record x { station = Finished Okay }
-
--- an unfinished one holds its frames, and a finished one none
-held_open : (x : Carried) → is_ended x.station ≡ false → held x ≡ job_frames x.job
-held_open x unended = ap (λ (b : Bool). if b then 0 else job_frames x.job) (same_stage x.station ∙ unended)
-
-held_ended : (x : Carried) → is_ended x.station ≡ true → held x ≡ 0
-held_ended x closed = ap (λ (b : Bool). if b then 0 else job_frames x.job) (same_stage x.station ∙ closed)
 
 -- each request that isn't finished is one of these
 abbrev AreAmong : List Request → List Carried → Type 0
@@ -71,16 +61,14 @@ later false b none t = t
 -- one of which no unfinished request is
 skips : (r : Request) (requests : List Request) (carried : List Carried) → ((k : ℕ) (x : Carried) → slice_get carried k ≡ Some x → is_ended x.station ≡ false → r.number ≢ k + 1) → AreAmong (r ∷ requests) carried → AreAmong requests carried
 skips r requests carried none among k x here unended =
-    let apart = none k x here unended in
-    later (r.number == k + 1) (list_any (λ (q : Request). q.number == k + 1) requests) (grind (arith, nat_tests)) (among k x here unended)
+    later (r.number == k + 1) (list_any (λ (q : Request). q.number == k + 1) requests) (grind (arith, nat_tests, none k x here unended)) (among k x here unended)
 
 -- one that is finished
 ends : (r : Request) (requests : List Request) (carried : List Carried) (p : ℕ) (x : Carried) → r.number ≡ p + 1 → slice_get carried p ≡ Some x → AreAmong (r ∷ requests) carried → AreAmong requests (slice_set carried p (ended x))
 ends r requests carried p x number here among k y at unended = elim (set_was carried p k x (ended x) y here at) [
   | inl is ↦ absurd (true≢false (sym (ap (λ (z : Carried). is_ended z.station) is.1) ∙ unended))
   | inr was ↦ (
-      let apart = was.0 in
-      let other : r.number ≢ k + 1 = λ same. apart (omega arith) in
+      let other : r.number ≢ k + 1 = λ same. was.0 (omega arith) in
       later (r.number == k + 1) (list_any (λ (q : Request). q.number == k + 1) requests) (grind (arith, nat_tests)) (among k y was.1 unended))
 ]
 
@@ -109,8 +97,7 @@ looked_up carried (suc p) = by_place (slice_get carried p) refl
     by_end x here false e = inl (record { place = p; x = x; number = omega arith; here = here; unended = e })
     by_end x here true e = inr (λ k y at unended same.
         let place : p ≡ k = omega arith in
-        let one : x ≡ y = same_Some x y (sym here ∙ (ap (slice_get carried) place ∙ at)) in
-        absurd (true≢false (sym e ∙ (ap (λ (z : Carried). is_ended z.station) one ∙ unended))))
+        absurd (true≢false (sym e ∙ (ap (λ (z : Carried). is_ended z.station) (same_Some x y (sym here ∙ (ap (slice_get carried) place ∙ at))) ∙ unended))))
 
     by_place : (o : Option Carried) → slice_get carried p ≡ o → Found
     by_place (Some x) here = by_end x here (is_ended x.station) refl
@@ -128,39 +115,31 @@ count_few [] carried among = let none = count_none is_open carried (λ i x e. by
 count_few (r ∷ requests) carried among = elim (looked_up carried r.number) [
   | inl it ↦ (
       let rest = count_few requests (slice_set carried it.place (ended it.x)) (ends r requests carried it.place it.x it.number it.here among) in
-      let counted = count_set is_open carried it.place it.x (ended it.x) it.here in
       let one : ◌≡◌ {A = ℕ} (cond (is_open it.x) 1 0) 1 = ap (λ (b : Bool). cond (not b) 1 0) it.unended in
-      omega arith)
+      omega (arith, count_set is_open carried it.place it.x (ended it.x) it.here))
   | inr none ↦ (let rest = count_few requests carried (skips r requests carried none among) in omega arith)
 ]
 
 sum_none : (carried : List Carried) → ((k : ℕ) (x : Carried) → slice_get carried k ≡ Some x → held x ≡ 0) → sum_by held carried ≡ 0
 sum_none [] none = refl
-sum_none (x ∷ carried) none =
-    let one = sum_by-cons held x carried in
-    let here = none zero x refl in
-    let rest = sum_none carried (λ k y e. none (suc k) y e) in
-    omega arith
+sum_none (x ∷ carried) none = omega (arith, sum_none carried (λ k y e. none (suc k) y e), none zero x refl, sum_by-cons held x carried)
 
 -- where as many are, they hold these frames
 held_alike : (requests : List Request) (carried : List Carried) → AreAmong requests carried → All (IsFitting carried) requests → count_by is_open carried ≡ length requests → sum_by held carried ≡ sum_by frames_of requests
 held_alike [] carried among fits counted = sum_none carried (λ i x e. by_end x (is_ended x.station) refl (among i x e))
   where
     by_end : (x : Carried) (b : Bool) → is_ended x.station ≡ b → (is_ended x.station ≡ false → false ≡ true) → held x ≡ 0
-    by_end x true e h = held_ended x e
+    by_end x true e h = ap (λ (b : Bool). if b then 0 else job_frames x.job) (same_stage x.station ∙ e)
     by_end x false e h = absurd (true≢false (sym (h e)))
 held_alike (r ∷ requests) carried among fits counted = elim (looked_up carried r.number) [
   | inl it ↦ (
       let now = count_set is_open carried it.place it.x (ended it.x) it.here in
       let one : ◌≡◌ {A = ℕ} (cond (is_open it.x) 1 0) 1 = ap (λ (b : Bool). cond (not b) 1 0) it.unended in
-      let tail : All (IsFitting carried) requests = All-tail (IsFitting carried) r requests fits in
       let rest = held_alike requests (slice_set carried it.place (ended it.x)) (ends r requests carried it.place it.x it.number it.here among)
-      (λ k d lt. fits_on carried it.place it.x it.here (get_or requests k d) (tail k d lt)) (omega arith) in
+      (λ k d lt. fits_on carried it.place it.x it.here (get_or requests k d) ((All-tail (IsFitting carried) r requests fits) k d lt)) (omega arith) in
       let summed = sum_set held carried it.place it.x (ended it.x) it.here in
-      let own = held_open it.x it.unended in
-      let its = All-head (IsFitting carried) r requests fits it.place it.x it.number it.here in
-      let first = sum_by-cons frames_of r requests in
-      omega arith)
+      let own = (ap (λ (b : Bool). if b then 0 else job_frames it.x.job) (same_stage it.x.station ∙ it.unended)) in
+      omega (arith, sum_by-cons frames_of r requests, All-head (IsFitting carried) r requests fits it.place it.x it.number it.here))
   | inr none ↦ (let fewer = count_few requests carried (skips r requests carried none among) in absurd (omega arith))
 ]
 
@@ -168,9 +147,6 @@ held_alike (r ∷ requests) carried among fits counted = elim (looked_up carried
 abbrev ones : List Request → Option Ending → List Request
 ones requests None = requests
 ones requests (Some e) = e.request ∷ requests
-
-numbered : (n m : ℕ) → n ≡ m → (n == m) ≡ true
-numbered n m e = grind (arith, nat_tests)
 
 among_ones : (carried : List Carried) (requests : List Request) (ending : Option Ending) → AreOpen carried requests ending → AreAmong (ones requests ending) carried
 among_ones carried requests None opened k x here unended = elim (opened.held k x here unended) [
@@ -180,9 +156,8 @@ among_ones carried requests None opened k x here unended = elim (opened.held k x
 among_ones carried requests (Some e) opened k x here unended = elim (opened.held k x here unended) [
   | inl any ↦ or_second (e.request.number == k + 1) (list_any (λ (r : Request). r.number == k + 1) requests) any
   | inr other ↦ (
-      let same : e ≡ other.0 = same_Some e other.0 other.1 in
-      let number : e.request.number ≡ k + 1 = ap (λ (z : Ending). z.request.number) same ∙ other.2 in
-      or_first (e.request.number == k + 1) (list_any (λ (r : Request). r.number == k + 1) requests) (numbered e.request.number (k + 1) number))
+      let number : e.request.number ≡ k + 1 = ap (λ (z : Ending). z.request.number) (same_Some e other.0 other.1) ∙ other.2 in
+      or_first (e.request.number == k + 1) (list_any (λ (r : Request). r.number == k + 1) requests) (same_number e.request.number (k + 1) number))
 ]
   where
     or_second : (a b : Bool) → b ≡ true → (a || b) ≡ true
@@ -225,18 +200,13 @@ fitting submitted sectors last carried r all known stands k x number here =
     let place : r.number - 1 ≡ k = omega arith in
     let at : slice_get submitted k ≡ Some r = ap (slice_get submitted) (sym place) ∙ stands in
     let is : IsSubmitted sectors k r = all.each k r at in
-    let shaped = is.shaped in
-    ap job_frames (known.each k r x at here) ∙ (all_frames r.transfer r.sector r.count shaped.counted ∙ sym shaped.frames)
+    ap job_frames (known.each k r x at here) ∙ (all_frames r.transfer r.sector r.count is.shaped.counted ∙ sym is.shaped.frames)
 
 pub frames_alike : (config : Options) (w : World) (g : Flow) (d : Pipeline) → Holds config w g d w.front.stage w.back.stage → sum_by frames_held (map asked d.requests) ≡ count_by (λ (b : Bool). b) w.front.pool
 frames_alike config w g d h =
-    let used = h.pool.used in
-    let unended = h.stations.opened.unfinished in
     let alike = held_alike (ones w.front.requests ending) d.requests (among_ones d.requests w.front.requests ending h.stations.opened) (all_fit ending refl)
-    (unended ∙ sym (length_ones w.front.requests ending)) in
-    let all = frames_ones w.front.requests ending in
-    let same = held_asked d.requests in
-    omega arith
+    (h.stations.opened.unfinished ∙ sym (length_ones w.front.requests ending)) in
+    omega (arith, held_asked d.requests, frames_ones w.front.requests ending, h.pool.used)
   where
     ending : Option Ending
     ending = ending_at w.front.stage w.front.ending

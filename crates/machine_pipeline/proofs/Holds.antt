@@ -32,6 +32,8 @@ use Rattle.blk_back.specs.declared.stage.Reply.{Reply}
 use Rattle.blk_back.specs.declared.stage.Stage.{Stage as BackStage}
 use Rattle.blk_back.specs.declared.stage.Stage.TheVariants as back
 use Rattle.blk_back.specs.Ask.{response_word}
+use Rattle.segment_list.specs.declared.verdict.DiskInfo.{DiskInfo}
+use Rattle.blk_back.specs.declared.told.Halt.{Halt}
 use Rattle.blk_back.specs.View.{no_page, info_of}
 use Rattle.blk_back.specs.Hands.{hands_at}
 use Rattle.blk_base.specs.Options.{Options}
@@ -106,15 +108,18 @@ abbrev pub last_in : Request → ℕ → ℕ
 last_in r place = min 7 (r.count - 1 - 8 * place)
 
 -- a job is at the segment of this place: `ahead` is 1 where its sector wasn't moved yet, and 0 where it was
-pub record IsInSegment (t : Work) (r : Request) (ahead : ℕ) : Type 0 where
+pub record IsPlaced (writing : Bool) (left : List Segment) (inner count sector : ℕ) (read : List ℕ) (r : Request) (ahead : ℕ) : Type 0 where
   pub place : ℕ
   pub here : place < frames_for r.count
-  pub writes : t.writes ≡ is_write r.transfer
-  pub rest : t.rest ≡ drop place (own_segments r)
-  pub within : t.within ≤ last_in r place
-  pub moved : t.moved + ahead ≡ 8 * place + t.within + 1
-  pub disk : t.disk ≡ r.sector + t.moved
-  pub words : length t.words ≡ 128
+  pub writes : writing ≡ is_write r.transfer
+  pub rest : left ≡ drop place (own_segments r)
+  pub within : inner ≤ last_in r place
+  pub moved : count + ahead ≡ 8 * place + inner + 1
+  pub disk : sector ≡ r.sector + count
+  pub words : length read ≡ 128
+
+abbrev pub IsInSegment : Work → Request → ℕ → Type 0
+IsInSegment t r ahead = IsPlaced t.writes t.rest t.within t.moved t.disk t.words r ahead
 
 -- a job that moves a sector of a request next, or that read one and writes its words to the frame
 abbrev pub IsMoving : Work → Request → Type 0
@@ -133,18 +138,21 @@ pub record IsHand (m : Mapping) (r : Request) (place : ℕ) : Type 0 where
   pub mode : m.mode ≡ mode_of (is_only_read r place)
 
 -- a job copies the segments of its request from this page, those of the pages before it are copied; it has moved nothing, and the sectors lie on its disk
-pub record IsCopying (t : Work) (r : Request) (page : ℕ) : Type 0 where
+pub record AreCopied (writing : Bool) (count : ℕ) (copied : List Segment) (references : List ℕ) (done sector size : ℕ) (read : List ℕ) (r : Request) (page : ℕ) : Type 0 where
   pub here : page < pages_for r.count
   pub large : is_indirect r.count ≡ true
-  pub writes : t.writes ≡ is_write r.transfer
-  pub named : t.named ≡ frames_for r.count
-  pub rest : t.rest ≡ take (length t.rest) (own_segments r)
-  pub few : length t.rest ≤ frames_for r.count
-  pub pages : t.pages ≡ drop page (page_references r)
-  pub moved : t.moved ≡ 0
-  pub disk : t.disk ≡ r.sector
-  pub fits : r.sector + r.count ≤ t.size
-  pub words : length t.words ≡ 128
+  pub writes : writing ≡ is_write r.transfer
+  pub named : count ≡ frames_for r.count
+  pub rest : copied ≡ take (length copied) (own_segments r)
+  pub few : length copied ≤ frames_for r.count
+  pub pages : references ≡ drop page (page_references r)
+  pub moved : done ≡ 0
+  pub disk : sector ≡ r.sector
+  pub fits : r.sector + r.count ≤ size
+  pub words : length read ≡ 128
+
+abbrev pub IsCopying : Work → Request → (page : ℕ) → Type 0
+IsCopying t r page = AreCopied t.writes t.named t.rest t.pages t.moved t.disk t.size t.words r page
 
 -- so many of this page's segments are left to be copied that one is
 pub record IsInPage (t : Work) (r : Request) (m : Mapping) : Type 0 where
@@ -307,12 +315,15 @@ abbrev pub RingBegun : ℕ → List ℕ → FrontStage → Type 0
 RingBegun start pages (front.RingWord k) = (j : ℕ) → j < k → word_of pages 2 j ≡ fresh_word start j
 RingBegun start pages s = Unit {0}
 
-pub record AreRingWords (order start pushed replied : ℕ) (pages : List ℕ) (front_stage : FrontStage) (mapped : ℕ) : Type 0 where
-  pub begun : RingBegun start pages front_stage
-  pub requests : has_ring front_stage ≡ true → word_of pages 2 0 ≡ wrapped start pushed
-  pub responses : has_ring front_stage ≡ true → word_of pages 2 2 ≡ wrapped start replied
-  pub named : (page : ℕ) → page < named_pages front_stage (2 ^ order) → mapped ≤ page → entry_word1 pages (8 + page) ≡ 2 + page
-  pub granted : (page : ℕ) → page < granted_pages front_stage (2 ^ order) → mapped ≤ page → entry_word0 pages (8 + page) ≡ 1
+pub record AreWords (start pushed replied : ℕ) (pages : List ℕ) (mapped : ℕ) (Begun : Type 0) (written : Bool) (names grants : ℕ) : Type 0 where
+  pub begun : Begun
+  pub requests : written ≡ true → word_of pages 2 0 ≡ wrapped start pushed
+  pub responses : written ≡ true → word_of pages 2 2 ≡ wrapped start replied
+  pub named : (page : ℕ) → page < names → mapped ≤ page → entry_word1 pages (8 + page) ≡ 2 + page
+  pub granted : (page : ℕ) → page < grants → mapped ≤ page → entry_word0 pages (8 + page) ≡ 1
+
+abbrev pub AreRingWords : (order start pushed replied : ℕ) (pages : List ℕ) → FrontStage → (mapped : ℕ) → Type 0
+AreRingWords order start pushed replied pages stage mapped = AreWords start pushed replied pages mapped (RingBegun start pages stage) (has_ring stage) (named_pages stage (2 ^ order)) (granted_pages stage (2 ^ order))
 
 -- word i of the entry of index k, as memory has it
 abbrev pub slot_of : List ℕ → Shape → ℕ → ℕ → ℕ
@@ -439,24 +450,29 @@ pub record IsOfTheDisk (config : Options) (size : ℕ) (fixed : Bool) (submitted
   pub served : (k : ℕ) (r : Request) → slice_get submitted k ≡ Some r → is_moving r.transfer ≡ false → config.read_only ≡ false
   pub short : (k : ℕ) (r : Request) → slice_get submitted k ≡ Some r → is_indirect r.count ≡ true → frames_for r.count ≤ config.indirect
 
+-- what no move of an end changes: how both began, the disk, all that was submitted, and that the back serves
+pub record IsSettled (config : Options) (start : ℕ) (began : Bool) (shape : Shape) (asked : List Request) (front_start : ℕ) (front_closes : Bool) (front_shape : Shape) (size : ℕ) (fixed : Bool) (last : ℕ) (disk : DiskInfo) (halted : Option Halt) : Type 0 where
+  pub started : IsStarted config.start start front_start began front_closes
+  pub shaped : IsOfShape config shape front_shape
+  pub sized : IsOfTheDisk config size fixed asked
+  pub submitted : AreSubmitted asked size last
+  pub info : disk ≡ info_of config
+  pub unhalted : halted ≡ None
+
 -- the machine with the front at stage s and the back at stage b, the flow of its words, and the pipeline that it stands for
 pub record Holds (config : Options) (w : World) (g : Flow) (d : Pipeline) (s : FrontStage) (b : BackStage) : Type 0 where
-  pub started : IsStarted config.start g.start w.front.start g.closing w.front.closing
-  pub shaped : IsOfShape config g.shape w.front.shape
-  pub sized : IsOfTheDisk config w.front.sectors w.front.read_only g.submitted
+  pub settled : IsSettled config g.start g.closing g.shape g.submitted w.front.start w.front.closing w.front.shape w.front.sectors w.front.read_only w.front.last w.back.jobs.info w.back.halted
+  pub open settled use *
   pub indices : AreIndices g w.front.ring w.back.ring w.front.seen w.back.seen w.back.fetched w.front.last w.front.waiting (length w.front.requests) (ending_of s)
   pub queue : AreQueued g.submitted g.series g.pushed w.front.requests w.front.waiting
-  pub submitted : AreSubmitted g.submitted w.front.sectors w.front.last
   pub pool : ArePooled w.front.pool w.front.requests (ending_at s w.front.ending)
   pub stations : AreStations config g d (is_ready s) (is_issuing s) (is_fetching b) (ending_at s w.front.ending) (telling_at s) (reply_at b) w.front.requests w.back.jobs.works w.under.pages
   pub works : AreWorks g.submitted g.series g.fetched w.back.jobs.works
   pub counted : length w.back.jobs.works + reply_count (reply_at b) + g.replied ≡ g.fetched
-  pub info : w.back.jobs.info ≡ info_of config
   pub replies : AreReplies g.series g.fetched g.taken g.replied g.replies
   pub front_at : FrontAt g.shape g.start g.pushed g.taken g.front_seen g.submitted g.replies (next_request w.front) w.front.entry w.front.ending s
   pub offered : IsOffered (is_ready s) config.read_only config.indirect w.front.offers g.pushed
   pub back_at : BackAt g.shape g.start g.fetched g.back_seen g.replied g.series w.back.jobs.works w.back.entry b
-  pub unhalted : w.back.halted ≡ None
   pub memory : length w.under.pages ≡ 1114112
   pub ring : AreRingWords g.shape.order g.start g.pushed g.replied w.under.pages s (length w.back.pages)
   pub slots : AreSlots g.shape g.start g.fetched g.pushed g.taken g.replied g.series g.replies w.under.pages s b

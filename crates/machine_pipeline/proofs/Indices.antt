@@ -13,28 +13,7 @@ pub indices_seen : (g : Flow) (whole : ℕ) (front_ring back_ring : Ring) (front
     → seen ≡ wrapped g.start whole → g.taken ≤ whole → whole ≤ g.replied → unfinished + ending' ≤ entries_of g.shape.order
     → AreIndices g front_ring back_ring front_seen back_seen number last waiting unfinished ending
     → AreIndices (record g { front_seen = whole }) front_ring back_ring seen back_seen number last waiting unfinished ending'
-indices_seen g whole front_ring back_ring front_seen seen back_seen number last waiting unfinished ending ending' saw from to room h = record {
-  front_entries = h.front_entries;
-  pushed = h.pushed;
-  taken = h.taken;
-  replied = h.replied;
-  fetched = h.fetched;
-  front_saw = saw;
-  back_saw = h.back_saw;
-  count = h.count;
-  taken_replied = h.taken_replied;
-  replied_fetched = h.replied_fetched;
-  fetched_pushed = h.fetched_pushed;
-  front_from = from;
-  front_to = to;
-  back_from = h.back_from;
-  back_to = h.back_to;
-  all = h.all;
-  given = h.given;
-  few = h.few;
-  held = h.held;
-  room = room;
-}
+indices_seen g whole front_ring back_ring front_seen seen back_seen number last waiting unfinished ending ending' saw from to room h = omega (arith, h)
 
 -- as many responses as before
 pub indices_room : (g : Flow) (front_ring back_ring : Ring) (front_seen back_seen number last waiting unfinished ending ending' : ℕ)
@@ -62,28 +41,4 @@ pub indices_epoch : (config : Options) (front_ring back_ring : Ring) (before fro
     → AreFirst config front_ring back_ring front_seen back_seen
     → length series ≤ last → last < 2 ^ 32 → length series + ending ≤ entries_of config.order
     → AreIndices (epoch_flow (record { abi = config.abi; order = config.order }) config.start before submitted series closing) front_ring back_ring front_seen back_seen 0 last (length series) (length series) ending
-indices_epoch config front_ring back_ring before front_seen back_seen last ending submitted series closing plain h given few room = record {
-  front_entries = h.entries;
-  pushed = h.front_prod ∙ begins;
-  taken = h.front_cons ∙ begins;
-  replied = h.back_prod ∙ begins;
-  fetched = h.back_cons ∙ begins;
-  front_saw = h.front_saw ∙ begins;
-  back_saw = h.back_saw ∙ begins;
-  count = refl;
-  taken_replied = omega arith;
-  replied_fetched = omega arith;
-  fetched_pushed = omega arith;
-  front_from = omega arith;
-  front_to = omega arith;
-  back_from = omega arith;
-  back_to = omega arith;
-  all = omega arith;
-  given = given;
-  few = few;
-  held = omega arith;
-  room = omega arith;
-}
-  where
-    begins : config.start ≡ wrapped config.start 0
-    begins = at_first config.start plain.start
+indices_epoch config front_ring back_ring before front_seen back_seen last ending submitted series closing plain h given few room = let begins = at_first config.start plain.start in omega (arith, h)

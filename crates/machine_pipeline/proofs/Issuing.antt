@@ -144,8 +144,7 @@ frames_elsewhere config w g d s b h new same n x lt =
 pub entries_elsewhere : (config : Options) (w : World) (g : Flow) (d : Pipeline) (s : FrontStage) (b : BackStage) → Holds config w g d s b → (new : List ℕ) → ((gref : ℕ) → gref < 1024 → SameEntry w.under.pages new gref) → All (SameGrants w.under.pages new) w.front.requests
 entries_elsewhere config w g d s b h new same n x lt = λ place in_it.
     let is = is_submitted config w g d s b h n (get_or w.front.requests n x) (slice_get-get_or w.front.requests n x lt) in
-    let pooled = pooled_at (get_or w.front.requests n x) is.frames place in
-    same _ (omega (arith, pooled.1))
+    same _ (omega (arith, (pooled_at (get_or w.front.requests n x) is.frames place).1))
 
 -- how both ends sleep, where their event words stay
 front_sleep_turned : (start taken replied : ℕ) (old new : List ℕ) (asleep pending : Bool) (s s' : FrontStage) (b : BackStage)
@@ -199,27 +198,18 @@ pub issue_moved : (config : Options) (w : World) (g : Flow) (d d' : Pipeline) (s
 issue_moved config w g d d' s s' entry pages m m' h stations at sized words named slots frames entries sends =
     let i = issuing s m in
     let i' = issuing s' m' in
-    let ended : ending_of s' ≡ ending_of s = i'.ended ∙ sym i.ended in
-    let ending : ending_at s' w.front.ending ≡ ending_at s w.front.ending = i'.ending w.front.ending ∙ sym (i.ending w.front.ending) in
-    let ready : is_ready s' ≡ is_ready s = i'.ready ∙ sym i.ready in
-    let connected : is_connected s' ≡ is_connected s = as_connected s' s i'.ready i.ready in
     record {
-      started = h.started;
-      shaped = h.shaped;
-      sized = h.sized;
-      indices = rw ended h.indices;
+      settled = h.settled;
+      indices = rw (i'.ended ∙ sym i.ended) h.indices;
       queue = h.queue;
-      submitted = h.submitted;
-      pool = rw ending h.pool;
+      pool = rw (i'.ending w.front.ending ∙ sym (i.ending w.front.ending)) h.pool;
       stations = stations;
       works = h.works;
       counted = h.counted;
-      info = h.info;
       replies = h.replies;
       front_at = at;
-      offered = rw ready h.offered;
+      offered = rw (i'.ready ∙ sym i.ready) h.offered;
       back_at = h.back_at;
-      unhalted = h.unhalted;
       memory = sized;
       ring = ring_turned g.shape.order g.start g.pushed g.replied w.under.pages pages s s' (length w.back.pages) h.shaped.narrow m m' words named h.ring;
       slots = slots;
@@ -230,7 +220,7 @@ issue_moved config w g d d' s s' entry pages m m' h stations at sized words name
       paged = h.paged;
       front_sleep = front_sleep_turned g.start g.taken g.replied w.under.pages pages w.front.asleep w.under.channels.front_pending s s' w.back.stage m' (words 3 (omega arith)) h.front_sleep;
       back_sleep = back_sleep_turned g.start g.fetched g.pushed w.under.pages pages w.back.asleep w.under.channels.back_pending s s' w.back.stage (words 1 (omega arith)) sends h.back_sleep;
-      ports = rw connected h.ports;
+      ports = rw (as_connected s' s i'.ready i.ready) h.ports;
     }
 
 -- where the pipeline stays, and the frames of the pool

@@ -34,11 +34,11 @@ use Rattle.pipeline_laws.specs.Disk.{DiskDoes}
 use Rattle.machine_pipeline.specs.Step.{IsSame, CallOf}
 use Rattle.machine_pipeline.proofs.Flow.{Flow, worked, job_of}
 use Rattle.machine_pipeline.proofs.ReadBack.{IsReadBack, ReadAt}
-use Rattle.machine_pipeline.proofs.Holds.{Holds, AtWork, AreMapped}
+use Rattle.machine_pipeline.proofs.Holds.{Holds}
 use Rattle.machine_pipeline.proofs.Lists.{get_set_here, set_again, set_was}
-use Rattle.machine_pipeline.proofs.Turns.{GoesBy, Stepped, does_then}
-use Rattle.machine_pipeline.proofs.Jobs.{StationsWith, ascending_after, job_holds}
-use Rattle.machine_pipeline.proofs.JobMoves.{IsAt, JobGoesAt, stays, work_of, hands_step, read_was}
+use Rattle.machine_pipeline.proofs.Turns.{GoesBy, Stepped, does_then, goes_by}
+use Rattle.machine_pipeline.proofs.Jobs.{StationsWith, ascending_after, job_rests}
+use Rattle.machine_pipeline.proofs.JobMoves.{IsAt, JobGoesAt, stays, work_of, hands_step, IsDoing, read_now}
 use Rattle.machine_pipeline.proofs.JobSteps.{AreOrdered, jobs_ordered, job_moves, job_stepped, clear, lines_of}
 
 -- a flush or a discard has one place
@@ -86,15 +86,10 @@ called : (call : (before after : List (List ℕ)) → Type 0) (config : Options)
     → (s : Stepped None call d (line ∷ []) (λ x. StationsWith config w g x (slice_set w.back.jobs.works p mid) w.under.pages))
     → Stepped None IsSame (next d s.step) [] (λ x. StationsWith config w g x (slice_set w.back.jobs.works p (record t { stage = job.Done status })) w.under.pages)
     → GoesBy None call config (lines.Move shown ∷ line ∷ []) (record { front = w.front; back = record w.back { jobs = record w.back.jobs { works = slice_set w.back.jobs.works p (record t { stage = job.Done status }) }; told = None }; under = w.under }) d
-called call config w g d p t mid r status shown line h is hands s end = record {
-  flow = g;
-  steps = s.step ∷ end.step ∷ [];
-  does = does_then shown (line ∷ []) refl s end;
-  holds = job_holds config w g d (next (next d s.step) end.step) p t then w.under.pages w.under.grants h is.free refl end.now
-      (work_of w g d (next (next d s.step) end.step) p t then r is refl refl refl tt)
-      h.memory (λ f low high v lt. refl) (λ page lt. record { flags = refl; frame = refl }) (λ f low high v lt. refl) h.entries
-      (subst (AreMapped w.under.grants.live) (sym hands) h.mapped);
-}
+called call config w g d p t mid r status shown line h is hands s end = goes_by (does_then shown (line ∷ []) refl s end)
+    (job_rests config w g d (next (next d s.step) end.step) p t then h is.free refl end.now
+    (work_of w g d (next (next d s.step) end.step) p t then r is refl refl refl tt)
+    hands)
   where
     then : Work
     then = record t { stage = job.Done status }
@@ -113,13 +108,10 @@ does_well call config w g d p t r j shown line h is bare works unread hands s =
     called call config w g d p t mid r Okay shown line h is hands s
     (ends config w g d (next d s.step) p t mid r Okay h is refl s.now
     (λ q asked. (ap (λ (n : ℕ). Working n) (ap places_of asked ∙ one_place r.transfer r.sector r.count bare) ∙ sym works, tt))
-    (λ ok q was reads. subst (λ (n : ℕ). IsReadBack w.under.pages r n q.words) (sym none) (unread q.words (stations.reads.working p mid r q (get_set_here w.back.jobs.works p t mid is.place) is.known was reads))))
+    (λ ok q was reads. subst (λ (n : ℕ). IsReadBack w.under.pages r n q.words) (sym none) (unread q.words (s.now.reads.working p mid r q (get_set_here w.back.jobs.works p t mid is.place) is.known was reads))))
   where
     mid : Work
     mid = record t { moved = 1; stage = j }
-
-    stations : StationsWith config w g (next d s.step) (slice_set w.back.jobs.works p mid) w.under.pages
-    stations = s.now
 
     none : r.count ≡ 0
     none = let its = h.submitted.each (t.id - 1) r is.known in its.shaped.counted.none bare
@@ -143,65 +135,58 @@ fails_so call config w g d p t r shown h is bare unmoved works hands disk =
 
     s : Stepped None call d (lines.Fault t.id t.moved ∷ []) (λ x. StationsWith config w g x (slice_set w.back.jobs.works p mid) w.under.pages)
     s = job_stepped call config w g d p t mid r (Fails t.moved) (lines.Fault t.id t.moved ∷ []) h is refl refl (lines_of w g d p t r lines.Fault is) (λ q was reads. (tt, λ t. absurd (false≢true t))) (λ q asked.
-        let one : places_of q.job ≡ 1 = ap places_of asked ∙ one_place r.transfer r.sector r.count bare in
         record {
           before = sym works;
           after = refl;
-          may = (omega (arith, one, unmoved), clear config w g d p t r q h is asked);
+          may = (omega (arith, (ap places_of asked ∙ one_place r.transfer r.sector r.count bare), unmoved), clear config w g d p t r q h is asked);
           disk = disk q asked;
         })
 
 pub flush_goes : (config : Options) (w : World) (g : Flow) (d : Pipeline) (number p : ℕ) (t : Work) (r : Request) (o : Outcome)
-    → Holds config w g d w.front.stage w.back.stage
-    → IsAt w g d p t r
-    → t.stage ≡ job.Flush
-    → AtWork r t job.Flush
+    → IsDoing config w g d p t r job.Flush
     → JobGoesAt config w d number p t job.Flush o
-flush_goes config w g d number p t r o h is e at = by_outcome o
+flush_goes config w g d number p t r o doing = by_outcome o
   where
     bare : is_moving r.transfer ≡ false
-    bare = ap is_moving at.0
+    bare = ap is_moving doing.at.0
 
     job_is : (q : Asked) → q.job ≡ job_of r.transfer r.sector r.count → q.job ≡ Flush
-    job_is q asked = asked ∙ ap (λ (way : Transfer). job_of way r.sector r.count) at.0
+    job_is q asked = asked ∙ ap (λ (way : Transfer). job_of way r.sector r.count) doing.at.0
 
     s : Stepped None (CallOf (ask_at job.Flush t) Took) d (lines.Flushed t.id ∷ []) (λ x. StationsWith config w g x (slice_set w.back.jobs.works p (record t { moved = 1; stage = job.Flush })) w.under.pages)
-    s = job_stepped (CallOf (ask_at job.Flush t) Took) config w g d p t (record t { moved = 1; stage = job.Flush }) r Flushes (lines.Flushed t.id ∷ []) h is refl refl (lines_of w g d p t r (λ n i. lines.Flushed n) is)
-        (λ q was reads. (read_was config w g d p t r h is e q was reads, λ t. absurd (false≢true t)))
-        (λ q asked. record { before = rw (e, at.1) refl; after = refl; may = rw (job_is q asked) refl; disk = λ a b call. same_Some b a call.1 })
+    s = job_stepped (CallOf (ask_at job.Flush t) Took) config w g d p t (record t { moved = 1; stage = job.Flush }) r Flushes (lines.Flushed t.id ∷ []) doing.holds doing.is refl refl (lines_of w g d p t r (λ n i. lines.Flushed n) doing.is)
+        (λ q was reads. (read_now doing q was reads, λ t. absurd (false≢true t)))
+        (λ q asked. record { before = rw (doing.stage, doing.at.1) refl; after = refl; may = rw (job_is q asked) refl; disk = λ a b call. same_Some b a call.1 })
 
     by_outcome : (o : Outcome) → JobGoesAt config w d number p t job.Flush o
-    by_outcome (Gave words) = stays (CallOf (ask_at job.Flush t) (Gave words)) config w g d (λ a b call. same_Some b a call.1) h
-    by_outcome Took = does_well (CallOf (ask_at job.Flush t) Took) config w g d p t r job.Flush (moves.DiskFlush number) (lines.Flushed t.id) h is bare refl (λ noted none. none) (hands_step w p t job.Flush answer.Done is.place e tt) s
-    by_outcome DiskFailed = fails_so (CallOf (ask_at job.Flush t) DiskFailed) config w g d p t r (moves.DiskFlush number) h is bare at.1 (rw e refl) (hands_step w p t job.Flush answer.DiskFailed is.place e tt)
+    by_outcome (Gave words) = stays (CallOf (ask_at job.Flush t) (Gave words)) config w g d (λ a b call. same_Some b a call.1) doing.holds
+    by_outcome Took = does_well (CallOf (ask_at job.Flush t) Took) config w g d p t r job.Flush (moves.DiskFlush number) (lines.Flushed t.id) doing.holds doing.is bare refl (λ noted none. none) (hands_step w p t job.Flush answer.Done doing.is.place doing.stage tt) s
+    by_outcome DiskFailed = fails_so (CallOf (ask_at job.Flush t) DiskFailed) config w g d p t r (moves.DiskFlush number) doing.holds doing.is bare doing.at.1 (rw doing.stage refl) (hands_step w p t job.Flush answer.DiskFailed doing.is.place doing.stage tt)
         (λ q asked a b call. rw (job_is q asked) (subst (λ (x : List (List ℕ)). SameBut 0 0 (Some a) (Some x)) (sym (same_Some b a call.1)) (refl, λ i out. refl)))
 
 pub trim_goes : (config : Options) (w : World) (g : Flow) (d : Pipeline) (number p : ℕ) (t : Work) (r : Request) (count : ℕ) (o : Outcome)
-    → Holds config w g d w.front.stage w.back.stage
-    → IsAt w g d p t r
-    → t.stage ≡ job.Trim count
-    → AtWork r t (job.Trim count)
+    → IsDoing config w g d p t r (job.Trim count)
     → JobGoesAt config w d number p t (job.Trim count) o
-trim_goes config w g d number p t r count o h is e at = by_outcome o
+trim_goes config w g d number p t r count o doing = by_outcome o
   where
     bare : is_moving r.transfer ≡ false
-    bare = ap is_moving at.0
+    bare = ap is_moving doing.at.0
 
     job_is : (q : Asked) → q.job ≡ job_of r.transfer r.sector r.count → q.job ≡ Discard r.sector count
-    job_is q asked = asked ∙ ap (λ (way : Transfer). job_of way r.sector r.count) at.0
+    job_is q asked = asked ∙ ap (λ (way : Transfer). job_of way r.sector r.count) doing.at.0
 
     s : Stepped None (CallOf (ask_at (job.Trim count) t) Took) d (lines.Trimmed t.id ∷ []) (λ x. StationsWith config w g x (slice_set w.back.jobs.works p (record t { moved = 1; stage = job.Trim count })) w.under.pages)
-    s = job_stepped (CallOf (ask_at (job.Trim count) t) Took) config w g d p t (record t { moved = 1; stage = job.Trim count }) r Trims (lines.Trimmed t.id ∷ []) h is refl refl (lines_of w g d p t r (λ n i. lines.Trimmed n) is)
-        (λ q was reads. (read_was config w g d p t r h is e q was reads, λ t. absurd (false≢true t)))
+    s = job_stepped (CallOf (ask_at (job.Trim count) t) Took) config w g d p t (record t { moved = 1; stage = job.Trim count }) r Trims (lines.Trimmed t.id ∷ []) doing.holds doing.is refl refl (lines_of w g d p t r (λ n i. lines.Trimmed n) doing.is)
+        (λ q was reads. (read_now doing q was reads, λ t. absurd (false≢true t)))
         (λ q asked. record {
-          before = rw (e, at.1) refl;
+          before = rw (doing.stage, doing.at.1) refl;
           after = refl;
-          may = (rw (job_is q asked) refl, clear config w g d p t r q h is asked (rw (job_is q asked) refl));
-          disk = λ a b call. rw (job_is q asked) (same_Some b (zeroed a t.disk count) call ∙ ap (λ (sector : ℕ). zeroed a sector count) at.2);
+          may = (rw (job_is q asked) refl, clear config w g d p t r q doing.holds doing.is asked (rw (job_is q asked) refl));
+          disk = λ a b call. rw (job_is q asked) (same_Some b (zeroed a t.disk count) call ∙ ap (λ (sector : ℕ). zeroed a sector count) doing.at.2);
         })
 
     by_outcome : (o : Outcome) → JobGoesAt config w d number p t (job.Trim count) o
-    by_outcome (Gave words) = stays (CallOf (ask_at (job.Trim count) t) (Gave words)) config w g d (λ a b call. absurd call) h
-    by_outcome Took = does_well (CallOf (ask_at (job.Trim count) t) Took) config w g d p t r (job.Trim count) (moves.DiskTrim number t.disk count) (lines.Trimmed t.id) h is bare refl (λ noted none. none) (hands_step w p t (job.Trim count) answer.Done is.place e tt) s
-    by_outcome DiskFailed = fails_so (CallOf (ask_at (job.Trim count) t) DiskFailed) config w g d p t r (moves.DiskTrim number t.disk count) h is bare at.1 (rw e refl) (hands_step w p t (job.Trim count) answer.DiskFailed is.place e tt)
-        (λ q asked a b call. rw (job_is q asked) (subst (λ (sector : ℕ). SameBut sector count (Some a) (Some b)) at.2 call))
+    by_outcome (Gave words) = stays (CallOf (ask_at (job.Trim count) t) (Gave words)) config w g d (λ a b call. absurd call) doing.holds
+    by_outcome Took = does_well (CallOf (ask_at (job.Trim count) t) Took) config w g d p t r (job.Trim count) (moves.DiskTrim number t.disk count) (lines.Trimmed t.id) doing.holds doing.is bare refl (λ noted none. none) (hands_step w p t (job.Trim count) answer.Done doing.is.place doing.stage tt) s
+    by_outcome DiskFailed = fails_so (CallOf (ask_at (job.Trim count) t) DiskFailed) config w g d p t r (moves.DiskTrim number t.disk count) doing.holds doing.is bare doing.at.1 (rw doing.stage refl) (hands_step w p t (job.Trim count) answer.DiskFailed doing.is.place doing.stage tt)
+        (λ q asked a b call. rw (job_is q asked) (subst (λ (sector : ℕ). SameBut sector count (Some a) (Some b)) doing.at.2 call))

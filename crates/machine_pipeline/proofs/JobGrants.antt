@@ -84,8 +84,7 @@ entries_marked {series} pushed pages live live' s ending requests i r place flag
   each = all_from (IsGranted series pushed new live' s) requests (λ j x e. by_place j x e (j == i) refl);
   ending = λ e same a from lt.
       let its = last e same a lt in
-      let entry = beside (frame_at e.request a) its.0 its.1 in
-      entry.flags ∙ h.ending e same a from lt;
+      (beside (frame_at e.request a) its.0 its.1).flags ∙ h.ending e same a from lt;
 }
   where
     new : List ℕ
@@ -105,10 +104,7 @@ entries_marked {series} pushed pages live live' s ending requests i r place flag
             let at : a ≡ place = grind (arith, nat_tests) in
             subst (λ (k : ℕ). entry_word1 new (frame_at r k + 6) ≡ entry_word1 pages (frame_at r k + 6)) (sym at)
             (other_word pages ((frame_at r place + 6) / 512) (2 * ((frame_at r place + 6) % 512)) flags (2 * ((frame_at r place + 6) % 512) + 1) (omega arith))
-        by_frame false t =
-            let off : a ≢ place = grind (arith, nat_tests) in
-            let entry = beside (frame_at r a) (bound i r here a) (own a off lt) in
-            entry.frame
+        by_frame false t = (beside (frame_at r a) (bound i r here a) (own a (grind (arith, nat_tests)) lt)).frame
 
     now : IsAmong series pushed r → (a : ℕ) → a < frames_of r → entry_word0 new (frame_at r a + 6) ≡ flags_with r a (mappings_of (frame_at r a + 6) live')
     now le a lt = by_frame (a == place) refl
@@ -119,16 +115,13 @@ entries_marked {series} pushed pages live live' s ending requests i r place flag
             subst (λ (k : ℕ). entry_word0 new (frame_at r k + 6) ≡ flags_with r k (mappings_of (frame_at r k + 6) live')) (sym at)
             (written pages ((frame_at r place + 6) / 512) (2 * ((frame_at r place + 6) % 512)) flags sized (omega arith) (omega arith) ∙ marked)
         by_frame false t =
-            let off : a ≢ place = grind (arith, nat_tests) in
-            let frames = own a off lt in
-            let entry = beside (frame_at r a) (bound i r here a) frames in
-            entry.flags ∙ (it.flags le a lt ∙ ap (λ (n : ℕ). flags_with r a n) (sym (others (frame_at r a) frames)))
+            let frames = own a (grind (arith, nat_tests)) lt in
+            (beside (frame_at r a) (bound i r here a) frames).flags ∙ (it.flags le a lt ∙ ap (λ (n : ℕ). flags_with r a n) (sym (others (frame_at r a) frames)))
 
     by_place : (j : ℕ) (x : Request) → slice_get requests j ≡ Some x → (b : Bool) → (j == i) ≡ b → IsGranted series pushed new live' s x
     by_place j x e true t =
         let at : j ≡ i = grind (arith, nat_tests) in
-        let same : r ≡ x = same_Some r x (sym here ∙ (ap (slice_get requests) (sym at) ∙ e)) in
-        subst (IsGranted series pushed new live' s) same (record {
+        subst (IsGranted series pushed new live' s) (same_Some r x (sym here ∙ (ap (slice_get requests) (sym at) ∙ e))) (record {
           named = λ le a lt. named a lt ∙ it.named le a lt;
           named_next = λ n a t lt. named a lt ∙ it.named_next n a t lt;
           flags = now;

@@ -30,13 +30,12 @@ use Rattle.back_jobs.specs.Jobs.{mapping_at}
 use Rattle.back_jobs.specs.Hands.{HandsAfter, HasOneMore}
 use Rattle.blk_back.specs.Hands.{hands_of, hands_at}
 use Rattle.split_model.specs.World.{World}
-use Rattle.split_model.specs.Safe.{AreHeld}
 use Rattle.machine_pipeline.proofs.Flow.{Flow, frames_of, ending_at, worked}
 use Rattle.machine_pipeline.proofs.Segments.{data_frames, own_here, few_pages_for, page_here}
 use Rattle.machine_pipeline.proofs.Data.{pooled_at}
 use Rattle.machine_pipeline.proofs.Holds.{Holds, IsPooled, IsMoving, IsHand, IsCopying, is_only_read, AtWork, IsWork, IsGranted, AreEntries, AreMapped, ArePooled, mapped_at, flags_with}
 use Rattle.machine_pipeline.proofs.ReadBack.{ReadAt}
-use Rattle.machine_pipeline.proofs.Turns.{GoesBy, nothing}
+use Rattle.machine_pipeline.proofs.Turns.{GoesBy, nothing, goes_by}
 use Rattle.machine_pipeline.proofs.Lists.{all_at, set_was}
 use Rattle.machine_pipeline.proofs.Hands.{frames_apart, own_apart, ending_apart}
 use Rattle.machine_pipeline.proofs.Frames.{is_submitted, unmapped, none_in_hands}
@@ -45,7 +44,7 @@ use Rattle.machine_pipeline.proofs.Kept.{SameFrame, SameEntry, other_frame, othe
 use Rattle.machine_pipeline.proofs.BackStill.{revoking_ends, ending_submitted}
 use Rattle.machine_pipeline.proofs.JobGrants.{may_map, set_flags, cleared_flags, entries_marked}
 use Rattle.machine_pipeline.proofs.Jobs.{StationsWith, stations_stay, job_holds, other_number}
-use Rattle.machine_pipeline.proofs.JobMoves.{IsAt, IsOwn, own_at, JobGoesAt, job_says, job_next, work_of, at_work, read_was, live_hand, hands_step, copying}
+use Rattle.machine_pipeline.proofs.JobMoves.{IsAt, IsOwn, JobGoesAt, job_says, job_next, work_of, live_hand, hands_step, IsDoing, read_now}
 use Rattle.machine_pipeline.specs.Step.{CallOf}
 
 -- the grant entries once the flags of a frame's entry were made anew
@@ -63,15 +62,12 @@ marked config w g d t r a live' flags h own in_r same others =
     (λ b off in_b. own_apart w.front.pool w.front.requests (ending_at w.front.stage w.front.ending) own.place r h.pool own.at b a off in_b in_r
     (pooled_at r own.frames b))
     (λ j x off e b in_x.
-    let is = is_submitted config w g d w.front.stage w.back.stage h j x e in
     frames_apart w.front.pool w.front.requests (ending_at w.front.stage w.front.ending) j own.place x r h.pool off e own.at b a in_x in_r
-    (pooled_at x is.frames b))
+    (pooled_at x (is_submitted config w g d w.front.stage w.back.stage h j x e).frames b))
     (λ e revoked b in_e.
     let same : ending_at w.front.stage w.front.ending ≡ Some e = revoking_ends w.front.stage w.front.ending e revoked in
-    let is = ending_submitted config w g d w.front.stage w.back.stage e h same in
-    let its = pooled_at e.request is.frames b in
     let apart = ending_apart w.front.pool w.front.requests e own.place r (subst (ArePooled w.front.pool w.front.requests) same h.pool) own.at a b in_r in_e pooled in
-    (its.1, λ t. apart (sym t)))
+    ((pooled_at e.request (ending_submitted config w g d w.front.stage w.back.stage e h same).frames b).1, λ t. apart (sym t)))
     h.entries
 
 -- what a write of an entry's flags leaves of the ring's frames, of their entries, and of data
@@ -88,8 +84,7 @@ ring_entry_same w gref value few low page lt = other_entry w.under.pages gref (8
 more_mappings : (gref : ℕ) (live : List Held) (x : Held) → mappings_of gref (live ++ x ∷ []) ≡ mappings_of gref live + cond (x.mapping.gref == gref) 1 0
 more_mappings gref live x =
     let all = sum_by-append (λ (y : Held). cond (y.mapping.gref == gref) 1 0) live (x ∷ []) in
-    let one = sum_by-cons (λ (y : Held). cond (y.mapping.gref == gref) 1 0) x [] in
-    omega arith
+    omega (arith, sum_by-cons (λ (y : Held). cond (y.mapping.gref == gref) 1 0) x [])
 
 -- a job's first stage with a mapping is at the station of its map
 worked_begun : (b : Bool) (m : Mapping) (moved : ℕ) → worked (sector_stage b m) moved ≡ Working moved
@@ -137,11 +132,9 @@ no_mapping config w g d p t r place h x =
         by_place : (b : Bool) → (i == p) ≡ b → mapping_at u.stage ≡ None
         by_place true t' =
             let here : i ≡ p = grind (arith, nat_tests) in
-            let it : t ≡ u = same_Some t u (sym x.is.place ∙ (ap (slice_get w.back.jobs.works) (sym here) ∙ f)) in
-            subst (λ (y : Work). mapping_at y.stage ≡ None) it x.bare
+            subst (λ (y : Work). mapping_at y.stage ≡ None) (same_Some t u (sym x.is.place ∙ (ap (slice_get w.back.jobs.works) (sym here) ∙ f))) x.bare
         by_place false t' =
-            let off : i ≢ p = grind (arith, nat_tests) in
-            absurd (other_number w.back.jobs.works p i t u h.works.ascending off x.is.place f (same ∙ x.own.number))
+            absurd (other_number w.back.jobs.works p i t u h.works.ascending (grind (arith, nat_tests)) x.is.place f (same ∙ x.own.number))
 
 -- so it is granted, and may be mapped
 acted_so : (config : Options) (w : World) (g : Flow) (d : Pipeline) (number p : ℕ) (t : Work) (r : Request) (place : ℕ) (o : Outcome)
@@ -243,103 +236,65 @@ only_page r page = let beyond : nat_lt (frames_for r.count + page) (frames_for r
 
 -- the job maps the frame of its present segment
 pub map_goes : (config : Options) (w : World) (g : Flow) (d : Pipeline) (number p : ℕ) (t : Work) (r : Request) (o : Outcome)
-    → Holds config w g d w.front.stage w.back.stage
-    → IsAt w g d p t r
-    → t.stage ≡ job.Map
-    → AtWork r t job.Map
+    → IsDoing config w g d p t r job.Map
     → JobGoesAt config w d number p t job.Map o
-map_goes config w g d number p t r o h is e at = subst (λ (x : Option BackAct). GoesBy None (CallOf (ask_at job.Map t) o) config (job_says t job.Map x) (job_next w p t job.Map x) d) (sym acted) (record {
-  flow = g;
-  steps = [];
-  does = nothing (CallOf (ask_at job.Map t) o) _ d (λ a b call. same_Some b a (subst (λ (x : BackAsk). CallOf x o a b) asked call).1);
-  holds = subst (λ (x : Work). let v : World = record { front = w.front; back = record w.back { jobs = record w.back.jobs { works = slice_set w.back.jobs.works p x }; told = None }; under = under_with w r place } in Holds config v g d v.front.stage v.back.stage) (sym stepped)
-      (mapped_holds config w g d p t r place later h maps refl
-      (stations_stay config w g d p t later r w.under.pages h.stations is.place is.known refl
-      (worked_begun (is_write r.transfer) m t.moved ∙ sym (ap (λ (j : JobStage). worked j t.moved) e))
-      (λ q was reads. subst (λ (b : Bool). ReadAt w.under.pages r t.moved t.words q.words (sector_stage b m)) (sym reads) (read_was config w g d p t r h is e q was reads)))
-      (work_of w g d d p t later r is refl refl refl (begun (is_write r.transfer) refl))
-      (comes w p t later r place job.Map is.place e asked stepped));
-})
+map_goes config w g d number p t r o doing = subst (λ (x : Option BackAct). GoesBy None (CallOf (ask_at job.Map t) o) config (job_says t job.Map x) (job_next w p t job.Map x) d) (sym acted) (goes_by (nothing (CallOf (ask_at job.Map t) o) _ d (λ a b call. same_Some b a (subst (λ (x : BackAsk). CallOf x o a b) asked call).1))
+    (subst (λ (x : Work). let v : World = record { front = w.front; back = record w.back { jobs = record w.back.jobs { works = slice_set w.back.jobs.works p x }; told = None }; under = under_with w r doing.at.0.place } in Holds config v g d v.front.stage v.back.stage) (sym stepped)
+    (mapped_holds config w g d p t r doing.at.0.place later doing.holds maps refl
+    (stations_stay config w g d p t later r w.under.pages doing.holds.stations doing.is.place doing.is.known refl
+    (worked_begun (is_write r.transfer) m t.moved ∙ sym (ap (λ (j : JobStage). worked j t.moved) doing.stage))
+    (λ q was reads. subst (λ (b : Bool). ReadAt w.under.pages r t.moved t.words q.words (sector_stage b m)) (sym reads) (read_now doing q was reads)))
+    (work_of w g d d p t later r doing.is refl refl refl (begun (is_write r.transfer) refl))
+    (comes w p t later r doing.at.0.place job.Map doing.is.place doing.stage asked stepped))))
   where
-    moving : IsMoving t r
-    moving = at.0
-
-    place : ℕ
-    place = moving.place
-
-    own : IsOwn w g t r
-    own = own_at config w g d p t r h is (at_work w g d p t r is e at)
-
-    maps : IsMapping w g d p t r place
-    maps = record { is = is; own = own; here = data_frames r place own.shaped moving.here; bare = rw e refl }
+    maps : IsMapping w g d p t r doing.at.0.place
+    maps = record { is = doing.is; own = doing.own; here = data_frames r doing.at.0.place doing.own.shaped doing.at.0.here; bare = rw doing.stage refl }
 
     m : Mapping
-    m = made_of w r place
+    m = made_of w r doing.at.0.place
 
     later : Work
     later = record t { stage = sector_stage (is_write r.transfer) m }
 
-    still_moving : IsMoving later r
-    still_moving = record {
-      place = moving.place;
-      here = moving.here;
-      writes = moving.writes;
-      within = moving.within;
-      rest = moving.rest;
-      moved = moving.moved;
-      disk = moving.disk;
-      words = moving.words;
-    }
+    asked : ask_at job.Map t ≡ ask.Map (frame_at r doing.at.0.place + 6) (mode_of (is_only_read r doing.at.0.place))
+    asked = ap (λ (rest : List Segment). map_ask rest t.writes) (doing.at.0.rest ∙ own_here r doing.at.0.place doing.own.shaped doing.at.0.here)
+        ∙ ap (λ (b : Bool). ask.Map (frame_at r doing.at.0.place + 6) (mode_of b)) (doing.at.0.writes ∙ sym (only_data r doing.at.0.place doing.at.0.here))
 
-    asked : ask_at job.Map t ≡ ask.Map (frame_at r place + 6) (mode_of (is_only_read r place))
-    asked = ap (λ (rest : List Segment). map_ask rest t.writes) (moving.rest ∙ own_here r moving.place own.shaped moving.here)
-        ∙ ap (λ (b : Bool). ask.Map (frame_at r place + 6) (mode_of b)) (moving.writes ∙ sym (only_data r place moving.here))
-
-    acted : back_act w.under (back_mover.Job number) (ask_at job.Map t) o ≡ Some (act_with w r place number)
-    acted = ap (λ (a : BackAsk). back_act w.under (back_mover.Job number) a o) asked ∙ acted_so config w g d number p t r place o h maps
+    acted : back_act w.under (back_mover.Job number) (ask_at job.Map t) o ≡ Some (act_with w r doing.at.0.place number)
+    acted = ap (λ (a : BackAsk). back_act w.under (back_mover.Job number) a o) asked ∙ acted_so config w g d number p t r doing.at.0.place o doing.holds maps
 
     stepped : step_at job.Map t (answer.Mapped m) ≡ later
-    stepped = ap (λ (b : Bool). record t { stage = sector_stage b m }) moving.writes
+    stepped = ap (λ (b : Bool). record t { stage = sector_stage b m }) doing.at.0.writes
 
     begun : (b : Bool) → is_write r.transfer ≡ b → AtWork r later (sector_stage b m)
-    begun true writes = (still_moving, record { gref = refl; mode = refl }, omega arith, writes, λ i lt. absurd (omega arith))
-    begun false reads = (still_moving, record { gref = refl; mode = refl }, reads)
+    begun true writes = (doing.at.0, record { gref = refl; mode = refl }, omega arith, writes, λ i lt. absurd (omega arith))
+    begun false reads = (doing.at.0, record { gref = refl; mode = refl }, reads)
 
 -- the job maps the indirect page that it comes to
 pub map_page_goes : (config : Options) (w : World) (g : Flow) (d : Pipeline) (number p : ℕ) (t : Work) (r : Request) (o : Outcome)
-    → Holds config w g d w.front.stage w.back.stage
-    → IsAt w g d p t r
-    → t.stage ≡ job.MapPage
-    → AtWork r t job.MapPage
+    → IsDoing config w g d p t r job.MapPage
     → JobGoesAt config w d number p t job.MapPage o
-map_page_goes config w g d number p t r o h is e at = subst (λ (x : Option BackAct). GoesBy None (CallOf (ask_at job.MapPage t) o) config (job_says t job.MapPage x) (job_next w p t job.MapPage x) d) (sym acted) (record {
-  flow = g;
-  steps = [];
-  does = nothing (CallOf (ask_at job.MapPage t) o) _ d (λ a b call. same_Some b a (subst (λ (x : BackAsk). CallOf x o a b) asked call).1);
-  holds = mapped_holds config w g d p t r place later h maps refl
-      (stations_stay config w g d p t later r w.under.pages h.stations is.place is.known refl (sym (ap (λ (j : JobStage). worked j t.moved) e))
-      (λ q was reads. read_was config w g d p t r h is e q was reads))
-      (work_of w g d d p t later r is refl refl refl now)
-      (comes w p t later r place job.MapPage is.place e asked refl);
-})
+map_page_goes config w g d number p t r o doing = subst (λ (x : Option BackAct). GoesBy None (CallOf (ask_at job.MapPage t) o) config (job_says t job.MapPage x) (job_next w p t job.MapPage x) d) (sym acted) (goes_by (nothing (CallOf (ask_at job.MapPage t) o) _ d (λ a b call. same_Some b a (subst (λ (x : BackAsk). CallOf x o a b) asked call).1))
+    (mapped_holds config w g d p t r place later doing.holds maps refl
+    (stations_stay config w g d p t later r w.under.pages doing.holds.stations doing.is.place doing.is.known refl (sym (ap (λ (j : JobStage). worked j t.moved) doing.stage))
+    (λ q was reads. read_now doing q was reads))
+    (work_of w g d d p t later r doing.is refl refl refl now)
+    (comes w p t later r place job.MapPage doing.is.place doing.stage asked refl)))
   where
     page : ℕ
-    page = at.0
+    page = doing.at.0
 
     copies : IsCopying t r page
-    copies = at.1
+    copies = doing.at.1
 
     place : ℕ
     place = frames_for r.count + page
 
-    own : IsOwn w g t r
-    own = own_at config w g d p t r h is (at_work w g d p t r is e at)
-
     in_it : place < frames_of r
-    in_it = let frames = own.shaped.frames in let here = copies.here in omega arith
+    in_it = let frames = doing.own.shaped.frames in let here = copies.here in omega arith
 
     maps : IsMapping w g d p t r place
-    maps = record { is = is; own = own; here = in_it; bare = rw e refl }
+    maps = record { is = doing.is; own = doing.own; here = in_it; bare = rw doing.stage refl }
 
     m : Mapping
     m = made_of w r place
@@ -348,21 +303,21 @@ map_page_goes config w g d number p t r o h is e at = subst (λ (x : Option Back
     later = record t { stage = job.PageReference m }
 
     asked : ask_at job.MapPage t ≡ ask.Map (frame_at r place + 6) (mode_of (is_only_read r place))
-    asked = ap page_ask (copies.pages ∙ page_here r page (let few = few_pages_for r.count own.shaped.counted.few in let here = copies.here in omega arith))
+    asked = ap page_ask (copies.pages ∙ page_here r page (let few = few_pages_for r.count doing.own.shaped.counted.few in let here = copies.here in omega arith))
         ∙ (ap (λ (f : Option ℕ). ask.Map (reference_in f) (mode_of true)) (slice_get-get_or r.frames.items place 18 in_it)
         ∙ ap (λ (b : Bool). ask.Map (frame_at r place + 6) (mode_of b)) (sym (only_page r page)))
 
     acted : back_act w.under (back_mover.Job number) (ask_at job.MapPage t) o ≡ Some (act_with w r place number)
-    acted = ap (λ (a : BackAsk). back_act w.under (back_mover.Job number) a o) asked ∙ acted_so config w g d number p t r place o h maps
+    acted = ap (λ (a : BackAsk). back_act w.under (back_mover.Job number) a o) asked ∙ acted_so config w g d number p t r place o doing.holds maps
 
     now : AtWork r later (job.PageReference m)
     now = record {
       page = page;
-      copies = copying later page copies refl refl refl refl refl refl refl refl;
+      copies = copies;
       hand = record { gref = refl; mode = refl };
-      from = (let count = at.2 in omega arith);
-      to = (let count = at.2 in omega arith);
-      left = at.3;
+      from = (let count = doing.at.2 in omega arith);
+      to = (let count = doing.at.2 in omega arith);
+      left = doing.at.3;
     }
 
 -- how many mappings of a frame of the request there are while the job has its one in hand, and when it gave it up
@@ -380,17 +335,12 @@ hand_counted config w g d p t t' r h is own a in_r none test apart =
     by_place : (i : ℕ) (u : Work) (m : Mapping) → mapping_at u.stage ≡ Some m → ((i ≡ p) × (u ≡ t')) ⊎ ((i ≢ p) × (slice_get w.back.jobs.works i ≡ Some u)) → (k : ℕ) × (slice_get w.back.jobs.works k ≡ Some u) × (u.id ≢ r.number)
     by_place i u m f (inl at) = absurd (none-some m (sym none ∙ (ap (λ (x : Work). mapping_at x.stage) (sym at.1) ∙ f)))
     by_place i u m f (inr other) =
-        let differs = other_number w.back.jobs.works p i t u h.works.ascending other.0 is.place other.1 in
-        let number = own.number in
-        (i, other.1, λ same. differs (same ∙ number))
+        (i, other.1, λ same. (other_number w.back.jobs.works p i t u h.works.ascending other.0 is.place other.1) (same ∙ own.number))
 
 -- the job gives its mapping up, and is at its next stage
-pub unmap_holds : (config : Options) (w : World) (g : Flow) (d d' : Pipeline) (p : ℕ) (t t' : Work) (r : Request) (m : Mapping)
-    → Holds config w g d w.front.stage w.back.stage
-    → AreHeld w.under.grants (hands_of w.back)
-    → IsAt w g d p t r
-    → IsWork g.submitted g.series g.fetched t
-    → mapping_at t.stage ≡ Some m
+pub unmap_holds : (config : Options) (w : World) (g : Flow) (d d' : Pipeline) (p : ℕ) (t t' : Work) (r : Request) (m : Mapping) (j : JobStage)
+    → IsDoing config w g d p t r j
+    → mapping_at j ≡ Some m
     → (a : ℕ) → a < frames_of r → IsHand m r a
     → mapping_at t'.stage ≡ None
     → t'.id ≡ t.id
@@ -398,21 +348,18 @@ pub unmap_holds : (config : Options) (w : World) (g : Flow) (d d' : Pipeline) (p
     → IsWork g.submitted g.series g.fetched t'
     → HasOneMore m (hands_at w.back.stage (record w.back { jobs = record w.back.jobs { works = slice_set w.back.jobs.works p t' } })) (hands_of w.back)
     → (let v : World = record { front = w.front; back = record w.back { jobs = record w.back.jobs { works = slice_set w.back.jobs.works p t' }; told = None }; under = record w.under { pages = unmap_pages w.under.grants w.under.pages m; grants = unmap_table w.under.grants m } } in Holds config v g d' v.front.stage v.back.stage)
-unmap_holds config w g d d' p t t' r m h held is work has a in_r hand none number stations now more =
+unmap_holds config w g d d' p t t' r m j doing has a in_r hand none number stations now more =
     subst (λ (pages : List ℕ). let v : World = record { front = w.front; back = record w.back { jobs = record w.back.jobs { works = slice_set w.back.jobs.works p t' }; told = None }; under = record w.under { pages = pages; grants = unmap_table w.under.grants m } } in Holds config v g d' v.front.stage v.back.stage) (sym written_so)
-    (job_holds config w g d d' p t t' pages (unmap_table w.under.grants m) h is.free number stations now
+    (job_holds config w g d d' p t t' pages (unmap_table w.under.grants m) doing.holds doing.is.free number stations now
     sized (ring_frame_same w (frame + 6) value (omega (arith, pooled.1)))
     (ring_entry_same w (frame + 6) value (omega (arith, pooled.1)) (omega (arith, pooled.0))) (pool_same w (frame + 6) value (omega (arith, pooled.1)))
-    (marked config w g d t r a left value h own in_r (sym (ap (λ (n : ℕ). flags_with r a n) gone)) others) fewer)
+    (marked config w g d t r a left value doing.holds doing.own in_r (sym (ap (λ (n : ℕ). flags_with r a n) gone)) others) fewer)
   where
-    own : IsOwn w g t r
-    own = own_at config w g d p t r h is work
-
     frame : ℕ
     frame = frame_at r a
 
     pooled : IsPooled frame
-    pooled = pooled_at r own.frames a
+    pooled = pooled_at r doing.own.frames a
 
     value : ℕ
     value = flags_at r a
@@ -424,46 +371,39 @@ unmap_holds config w g d d' p t t' r m h held is work has a in_r hand none numbe
     left = without m.number w.under.grants.live
 
     sized : length pages ≡ 1114112
-    sized = length-set w.under.pages ((frame + 6) / 512 * 1024 + 2 * ((frame + 6) % 512)) value ∙ h.memory
+    sized = length-set w.under.pages ((frame + 6) / 512 * 1024 + 2 * ((frame + 6) % 512)) value ∙ doing.holds.memory
 
     fewer : AreMapped left (hands_at w.back.stage (record w.back { jobs = record w.back.jobs { works = slice_set w.back.jobs.works p t' } }))
-    fewer = mapped_less w.under.grants (hands_of w.back) (hands_at w.back.stage (record w.back { jobs = record w.back.jobs { works = slice_set w.back.jobs.works p t' } })) m held (live_hand w p t m is.place has held) more h.mapped
+    fewer = mapped_less w.under.grants (hands_of w.back) (hands_at w.back.stage (record w.back { jobs = record w.back.jobs { works = slice_set w.back.jobs.works p t' } })) m doing.held (live_hand w p t m doing.is.place (ap mapping_at doing.stage ∙ has) doing.held) more doing.holds.mapped
 
     gone : mappings_of (frame + 6) left ≡ 0
-    gone = fewer.counted (λ (x : Mapping). x.gref == frame + 6) ∙ hand_counted config w g d p t t' r h is own a in_r none (λ (x : Mapping). x.gref == frame + 6) (λ x apart. grind (arith, nat_tests))
+    gone = fewer.counted (λ (x : Mapping). x.gref == frame + 6) ∙ hand_counted config w g d p t t' r doing.holds doing.is doing.own a in_r none (λ (x : Mapping). x.gref == frame + 6) (λ x apart. grind (arith, nat_tests))
 
     none_writes : writers_of (frame + 6) left ≡ 0
-    none_writes = fewer.counted (λ (x : Mapping). x.gref == frame + 6 && is_for_writing x.mode) ∙ hand_counted config w g d p t t' r h is own a in_r none (λ (x : Mapping). x.gref == frame + 6 && is_for_writing x.mode) (λ x apart. let differs : (x.gref == frame + 6) ≡ false = grind (arith, nat_tests) in rw differs refl)
+    none_writes = fewer.counted (λ (x : Mapping). x.gref == frame + 6 && is_for_writing x.mode) ∙ hand_counted config w g d p t t' r doing.holds doing.is doing.own a in_r none (λ (x : Mapping). x.gref == frame + 6 && is_for_writing x.mode) (λ x apart. let differs : (x.gref == frame + 6) ≡ false = grind (arith, nat_tests) in rw differs refl)
 
     counts : (f : ℕ) → mappings_of (f + 6) w.under.grants.live ≡ mappings_of (f + 6) left + cond (m.gref == f + 6) 1 0
     counts f =
-        let all = h.mapped.counted (λ (x : Mapping). x.gref == f + 6) in
-        let rest = fewer.counted (λ (x : Mapping). x.gref == f + 6) in
         let one = hands_more (λ (x : Mapping). x.gref == f + 6) m (hands_at w.back.stage (record w.back { jobs = record w.back.jobs { works = slice_set w.back.jobs.works p t' } })) (hands_of w.back) more in
-        omega arith
+        omega (arith, fewer.counted (λ (x : Mapping). x.gref == f + 6), doing.holds.mapped.counted (λ (x : Mapping). x.gref == f + 6))
 
     one_mapping : mappings_of (frame + 6) w.under.grants.live ≡ 1
     one_mapping =
-        let gref = hand.gref in
-        let same : (m.gref == frame + 6) ≡ true = grind (arith, nat_tests) in
+        let same : (m.gref == frame + 6) ≡ true = grind (arith, nat_tests, hand.gref) in
         let one : ◌≡◌ {A = ℕ} (cond (m.gref == frame + 6) 1 0) 1 = rw same refl in
-        let none_left = gone in
-        let all = counts frame in
-        omega arith
+        omega (arith, counts frame, gone, hand.gref)
 
     others : (f : ℕ) → f ≢ frame → mappings_of (f + 6) left ≡ mappings_of (f + 6) w.under.grants.live
     others f apart =
-        let gref = hand.gref in
-        let differs : (m.gref == f + 6) ≡ false = grind (arith, nat_tests) in
+        let differs : (m.gref == f + 6) ≡ false = grind (arith, nat_tests, hand.gref) in
         let none_more : ◌≡◌ {A = ℕ} (cond (m.gref == f + 6) 1 0) 0 = rw differs refl in
-        let all = counts f in
-        omega arith
+        omega (arith, counts f, hand.gref)
 
     granted : IsGranted g.series g.pushed w.under.pages w.under.grants.live w.front.stage r
-    granted = all_at (IsGranted g.series g.pushed w.under.pages w.under.grants.live w.front.stage) w.front.requests own.place r h.entries.each own.at
+    granted = all_at (IsGranted g.series g.pushed w.under.pages w.under.grants.live w.front.stage) w.front.requests doing.own.place r doing.holds.entries.each doing.own.at
 
     flags : entry_word0 w.under.pages (frame + 6) ≡ mapped_at r a
-    flags = granted.flags own.reached a in_r ∙ ap (λ (n : ℕ). flags_with r a n) one_mapping
+    flags = granted.flags doing.own.reached a in_r ∙ ap (λ (n : ℕ). flags_with r a n) one_mapping
 
     written_so : unmap_pages w.under.grants w.under.pages m ≡ pages
     written_so =

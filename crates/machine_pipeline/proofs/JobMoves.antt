@@ -1,7 +1,7 @@
 -- Each move of a job, by its stage.
-use Rattle.std.proofs.Common.{◌≡◌, ◌≢◌, ℕ, zero, ◌+◌, ◌-◌, ◌*◌, ◌%◌, ◌^◌, ◌<◌, ◌≤◌, ◌==◌, if◌then◌else◌, Bool, true, false, List, [], ◌∷◌, refl, ap, sym, ◌∙◌, subst, arith, length-set, get_or-set_other}
+use Rattle.std.proofs.Common.{◌≡◌, ◌≢◌, ℕ, zero, ◌+◌, ◌-◌, ◌*◌, ◌%◌, ◌^◌, ◌<◌, ◌≤◌, ◌==◌, if◌then◌else◌, Bool, true, false, List, [], ◌∷◌, refl, ap, sym, ◌∙◌, subst, arith, length-set, get_or-set_other, take}
 use Rattle.std.proofs.lemmas.Grind.{get_or-set_at}
-use Rattle.std.specs.Prelude.{All, Option, Some, None, slice_get, slice_set, slice_index, nat_lt, take, length}
+use Rattle.std.specs.Prelude.{All, Option, Some, None, slice_get, slice_set, slice_index, nat_lt, length, drop}
 use Rattle.std.proofs.lemmas.Option.{same_Some}
 use Rattle.std.proofs.lemmas.Bool.{false≢true}
 use Rattle.std.proofs.lemmas.List.Elements.{All-contains}
@@ -20,7 +20,7 @@ use Rattle.pipeline_laws.specs.Station.{Working, Request as Asked}
 use Rattle.pipeline_laws.specs.Pipeline.{Pipeline}
 use Rattle.hypervisor.specs.Act.{BackAct, Outcome, back_act}
 use Rattle.blk_front.specs.declared.request.Request.{Request}
-use Rattle.blk_front.specs.Request.{is_write, tag_of, operation_of, frames_for, words_in, frame_at, filling_at, IsShaped}
+use Rattle.blk_front.specs.Request.{is_write, tag_of, operation_of, frames_for, words_in, frame_at, filling_at, IsShaped, pages_for, page_references}
 use Rattle.back_jobs.specs.declared.stage.Stage.{Stage as JobStage}
 use Rattle.back_jobs.specs.declared.stage.Stage.TheVariants as job
 use Rattle.back_jobs.specs.Task.{Work, ask_at, step_at, word_at, last_of, sector_stage, next_sector, IsAnswer}
@@ -33,18 +33,18 @@ use Rattle.blk_back.specs.Step.{told_effect}
 use Rattle.split_model.specs.World.{World}
 use Rattle.split_model.specs.Shown.{back_lines}
 use Rattle.split_model.specs.Safe.{AreHeld}
-use Rattle.machine_pipeline.proofs.Flow.{Flow, data_word, own_segments, is_own, worked}
+use Rattle.machine_pipeline.proofs.Flow.{Flow, data_word, is_own, worked, own_segments}
 use Rattle.blk_layout.specs.declared.segment.Segment.{Segment}
 use Rattle.machine_pipeline.proofs.Data.{own_among, data_value}
 use Rattle.machine_pipeline.proofs.Segments.{own_here, within_last, word_place, data_place}
 use Rattle.machine_pipeline.proofs.ReadBack.{ReadAt}
 use Rattle.machine_pipeline.proofs.Series.{IsAmong, among_apart}
-use Rattle.machine_pipeline.proofs.Holds.{Holds, IsWork, IsPooled, IsHand, IsInSegment, IsMoving, IsReturning, IsCopying, AtWork, IsFilled, AreMapped, last_in, sector_word}
-use Rattle.machine_pipeline.proofs.Turns.{GoesBy, nothing, no_move}
+use Rattle.machine_pipeline.proofs.Holds.{Holds, IsWork, IsPooled, IsHand, IsInSegment, IsMoving, IsReturning, AtWork, IsFilled, last_in, sector_word, IsPlaced, AreCopied}
+use Rattle.machine_pipeline.proofs.Turns.{GoesBy, nothing, no_move, goes_by}
 use Rattle.machine_pipeline.proofs.Lists.{all_at, all_same}
 use Rattle.machine_pipeline.proofs.Mapped.{frame_live}
 use Rattle.machine_pipeline.proofs.Frames.{work_queued}
-use Rattle.machine_pipeline.proofs.Jobs.{MayMove, stations_stay, job_holds}
+use Rattle.machine_pipeline.proofs.Jobs.{MayMove, stations_stay, job_rests}
 use Rattle.machine_pipeline.specs.Step.{CallOf}
 
 -- the act of the job at a place, and what it makes of the machine
@@ -93,21 +93,13 @@ work_of w g d d' p t t' r is number id op at = record {
 pub live_hand : (w : World) (p : ℕ) (t : Work) (m : Mapping) → slice_get w.back.jobs.works p ≡ Some t → mapping_at t.stage ≡ Some m → AreHeld w.under.grants (hands_of w.back) → IsLive w.under.grants m
 live_hand w p t m place e held =
     let own : Names (hand_of t) (ask.Unmap m) = rw e (zero, omega arith, refl) in
-    let names : Names (hands_of w.back) (ask.Unmap m) = job_names w.back (ask.Unmap m) (named_in w.back.jobs.works p t (ask.Unmap m) place own) in
-    All-contains (IsLive w.under.grants) (hands_of w.back) m held.live names
+    All-contains (IsLive w.under.grants) (hands_of w.back) m held.live (job_names w.back (ask.Unmap m) (named_in w.back.jobs.works p t (ask.Unmap m) place own))
 
 -- what a move makes of the mappings in hands
 pub hands_step : (w : World) (p : ℕ) (t : Work) (j : JobStage) (x : BackAnswer) → slice_get w.back.jobs.works p ≡ Some t → t.stage ≡ j → IsAnswer (ask_at j t) x → HandsAfter (ask_at j t) x (hands_of w.back) (hands_at w.back.stage (record w.back { jobs = record w.back.jobs { works = slice_set w.back.jobs.works p (step_at j t x) } }))
 hands_step w p t j x place e =
     subst (λ (s : JobStage). IsAnswer (ask_at s t) x → HandsAfter (ask_at s t) x (hands_of w.back) (hands_at w.back.stage (record w.back { jobs = record w.back.jobs { works = slice_set w.back.jobs.works p (step_at s t x) } }))) e
     (λ own. between (ask_at t.stage t) x (given_up w.back.stage) w.back.pages (hands_in w.back.jobs.works) (hands_in (slice_set w.back.jobs.works p (step_at t.stage t x))) (told_hands w.back.jobs.works (Some p) false (Some t) x place own))
-
-pub at_work : (w : World) (g : Flow) (d : Pipeline) (p : ℕ) (t : Work) (r : Request) {j : JobStage} → IsAt w g d p t r → t.stage ≡ j → AtWork r t j → IsWork g.submitted g.series g.fetched t
-at_work w g d p t r is e at = work_of w g d d p t t r is refl refl refl (subst (AtWork r t) (sym e) at)
-
--- what a read's job has in hand, and its frames hold
-pub read_was : (config : Options) (w : World) (g : Flow) (d : Pipeline) (p : ℕ) (t : Work) (r : Request) {j : JobStage} → Holds config w g d w.front.stage w.back.stage → IsAt w g d p t r → t.stage ≡ j → (q : Asked) → slice_get d.requests (t.id - 1) ≡ Some q → is_write r.transfer ≡ false → ReadAt w.under.pages r t.moved t.words q.words j
-read_was config w g d p t r h is e q was reads = subst (ReadAt w.under.pages r t.moved t.words q.words) e (h.stations.reads.working p t r q is.place is.known was reads)
 
 -- the job's request among the front's
 pub record IsOwn (w : World) (g : Flow) (t : Work) (r : Request) : Type 0 where
@@ -128,27 +120,41 @@ own_at config w g d p t r h is work =
     let positive = is.positive in
     let counted = is.counted in
     let reached = is.reached in
-    let indices = h.indices in
-    let pushed = indices.fetched_pushed in
+    let pushed = h.indices.fetched_pushed in
     let among : IsAmong g.series g.pushed r = record { index = t.number - 1; early = omega arith; at = is.issued } in
     record { place = its.place; at = its.at ∙ ap Some same; number = omega arith; reached = among; begun = λ at. among_apart g.submitted g.series g.pushed g.pushed r r (let queue = h.queue in queue.ordered) among at (omega arith) refl; shaped = number.shaped; frames = number.frames }
 
+-- a job at this stage, of a machine that holds
+pub record IsDoing (config : Options) (w : World) (g : Flow) (d : Pipeline) (p : ℕ) (t : Work) (r : Request) (j : JobStage) : Type 0 where
+  pub holds : Holds config w g d w.front.stage w.back.stage
+  pub held : AreHeld w.under.grants (hands_of w.back)
+  pub is : IsAt w g d p t r
+  pub stage : t.stage ≡ j
+  pub at : AtWork r t j
+  pub work : IsWork g.submitted g.series g.fetched t
+  pub own : IsOwn w g t r
+
+pub doing_at : (config : Options) (w : World) (g : Flow) (d : Pipeline) (p : ℕ) (t : Work) (r : Request) (j : JobStage) → Holds config w g d w.front.stage w.back.stage → AreHeld w.under.grants (hands_of w.back) → IsAt w g d p t r → t.stage ≡ j → AtWork r t j → IsDoing config w g d p t r j
+doing_at config w g d p t r j h held is e at =
+    let work = work_of w g d d p t t r is refl refl refl (subst (AtWork r t) (sym e) at) in
+    record { holds = h; held = held; is = is; stage = e; at = at; work = work; own = own_at config w g d p t r h is work }
+
+-- what a read's job has in hand, and its frames hold
+pub read_now : {config : Options} {w : World} {g : Flow} {d : Pipeline} {p : ℕ} {t : Work} {r : Request} {j : JobStage} → IsDoing config w g d p t r j → (q : Asked) → slice_get d.requests (t.id - 1) ≡ Some q → is_write r.transfer ≡ false → ReadAt w.under.pages r t.moved t.words q.words j
+read_now {w = w} {p = p} {t = t} {r = r} doing q was reads = subst (ReadAt w.under.pages r t.moved t.words q.words) doing.stage (doing.holds.stations.reads.working p t r q doing.is.place doing.is.known was reads)
+
 -- the words of a write lie in its frames
-filled_at : (config : Options) (w : World) (g : Flow) (d : Pipeline) (p : ℕ) (t : Work) (r : Request)
-    → Holds config w g d w.front.stage w.back.stage
-    → IsAt w g d p t r
-    → IsWork g.submitted g.series g.fetched t
+filled_at : (config : Options) (w : World) (g : Flow) (d : Pipeline) (p : ℕ) (t : Work) (r : Request) (j : JobStage)
+    → IsDoing config w g d p t r j
     → is_write r.transfer ≡ true
     → (n : ℕ) → n < words_in r → data_word w.under.pages r n ≡ filling_at r.transfer n
-filled_at config w g d p t r h is work writes =
-    let own = own_at config w g d p t r h is work in
-    let filled = all_at (IsFilled g.series g.pushed w.under.pages w.front.stage) w.front.requests own.place r h.frames own.at in
+filled_at config w g d p t r j doing writes =
+    let filled = all_at (IsFilled g.series g.pushed w.under.pages w.front.stage) w.front.requests doing.own.place r doing.holds.frames doing.own.at in
     λ n lt.
-    let shaped = own.shaped in
     let in_data : nat_lt n (1024 * frames_for r.count) ≡ true = grind (arith, nat_tests) in
     let in_words : nat_lt n (words_in r) ≡ true = grind (arith, nat_tests) in
     let it : is_own r n ≡ true = rw (in_data, writes, in_words) refl in
-    filled.whole own.reached n (own_among r n shaped it) it ∙ data_value r n lt
+    filled.whole doing.own.reached n (own_among r n doing.own.shaped it) it ∙ data_value r n lt
 
 -- the sector that a job is at is one of its request's
 pub sectors_left : (t : Work) (r : Request) (ahead : ℕ) → IsShaped r → IsInSegment t r ahead → (t.moved + ahead ≤ r.count) × (t.within ≤ 7) × (r.count ≤ 7680)
@@ -158,23 +164,17 @@ sectors_left t r ahead shaped x = (
   shaped.counted.few,
 )
 
--- a job that copies segments goes on with the same ones, where nothing of them changed
-pub copying : {t : Work} {r : Request} (t' : Work) (page : ℕ) → IsCopying t r page
-    → t'.writes ≡ t.writes → t'.named ≡ t.named → t'.rest ≡ t.rest → t'.pages ≡ t.pages → t'.moved ≡ t.moved → t'.disk ≡ t.disk → t'.size ≡ t.size → t'.words ≡ t.words
-    → IsCopying t' r page
-copying {t} {r} t' page x writes named rest pages moved disk size words = record {
-  here = x.here;
-  large = x.large;
-  writes = writes ∙ x.writes;
-  named = named ∙ x.named;
-  rest = rest ∙ (x.rest ∙ ap (λ (l : List Segment). take (length l) (own_segments r)) (sym rest));
-  few = (let same : length t'.rest ≡ length t.rest = ap length rest in let few = x.few in omega arith);
-  pages = pages ∙ x.pages;
-  moved = moved ∙ x.moved;
-  disk = disk ∙ x.disk;
-  fits = (let fits = x.fits in omega arith);
-  words = ap length words ∙ x.words;
-}
+-- the job goes on at the same segment
+abbrev pub placed_on : {writing : Bool} {left : List Segment} {inner count sector : ℕ} {read : List ℕ} {r : Request} {ahead : ℕ} (inner' count' sector' : ℕ) (read' : List ℕ) (ahead' : ℕ) (x : IsPlaced writing left inner count sector read r ahead)
+    → inner' ≤ last_in r x.place → count' + ahead' ≡ 8 * x.place + inner' + 1 → sector' ≡ r.sector + count' → length read' ≡ 128
+    → IsPlaced writing left inner' count' sector' read' r ahead'
+placed_on inner' count' sector' read' ahead' x within moved disk words = record { place = x.place; here = x.here; writes = x.writes; rest = x.rest; within = within; moved = moved; disk = disk; words = words }
+
+-- the job goes on copying, with more segments or fewer pages
+abbrev pub copied_on : {writing : Bool} {count : ℕ} {copied : List Segment} {references : List ℕ} {done sector size : ℕ} {read : List ℕ} {r : Request} {page : ℕ} (copied' : List Segment) (references' : List ℕ) (page' : ℕ) → AreCopied writing count copied references done sector size read r page
+    → page' < pages_for r.count → copied' ≡ take (length copied') (own_segments r) → length copied' ≤ frames_for r.count → references' ≡ drop page' (page_references r)
+    → AreCopied writing count copied' references' done sector size read r page'
+copied_on copied' references' page' x here rest few pages = record { here = here; large = x.large; writes = x.writes; named = x.named; rest = rest; few = few; pages = pages; moved = x.moved; disk = x.disk; fits = x.fits; words = x.words }
 
 -- a sector was moved: the job is at the next one of its segment, or gives the frame up where that was the last one
 abbrev pub further : Work → Request → Mapping → Bool → Work
@@ -206,28 +206,11 @@ pub at_further : (t : Work) (r : Request) (m : Mapping) (last : Bool)
     → IsHand m r x.place
     → (t.within == last_in r x.place) ≡ last
     → AtWork r (further t r m last) (if last then job.Unmap m else sector_stage (is_write r.transfer) m)
-at_further t r m true x hand tested = (
-  record {
-    place = x.place;
-    here = x.here;
-    writes = x.writes;
-    rest = x.rest;
-    within = x.within;
-    moved = x.moved;
-    disk = x.disk;
-    words = x.words;
-  },
-  hand,
-  grind (arith, nat_tests),
-)
+at_further t r m true x hand tested = (x, hand, grind (arith, nat_tests))
 at_further t r m false x hand tested = by_way (is_write r.transfer) refl
   where
     next : IsMoving (further t r m false) r
-    next =
-        let within = x.within in
-        let moved = x.moved in
-        let apart : t.within ≢ last_in r x.place = grind (arith, nat_tests) in
-        record { place = x.place; here = x.here; writes = x.writes; rest = x.rest; within = omega arith; moved = omega arith; disk = x.disk; words = x.words }
+    next = let apart : t.within ≢ last_in r x.place = grind (arith, nat_tests) in placed_on _ _ _ _ 1 x (omega (arith, x.within)) (omega (arith, x.moved)) x.disk x.words
 
     by_way : (b : Bool) → is_write r.transfer ≡ b → AtWork r (further t r m false) (sector_stage b m)
     by_way true writes = (next, hand, omega arith, writes, λ i lt. absurd (omega arith))
@@ -235,42 +218,27 @@ at_further t r m false x hand tested = by_way (is_write r.transfer) refl
 
 -- a word of data is read
 pub read_goes : (config : Options) (w : World) (g : Flow) (d : Pipeline) (number p : ℕ) (t : Work) (r : Request) (m : Mapping) (k : ℕ) (o : Outcome)
-    → Holds config w g d w.front.stage w.back.stage
-    → AreHeld w.under.grants (hands_of w.back)
-    → IsAt w g d p t r
-    → t.stage ≡ job.ReadWord m k
-    → AtWork r t (job.ReadWord m k)
+    → IsDoing config w g d p t r (job.ReadWord m k)
     → JobGoesAt config w d number p t (job.ReadWord m k) o
-read_goes config w g d number p t r m k o h held is e at = record {
-  flow = g;
-  steps = [];
-  does = nothing (CallOf (ask_at (job.ReadWord m k) t) o) _ d (λ a b same. same_Some b a same.1);
-  holds = job_holds config w g d d p t (step_at (job.ReadWord m k) t (answer.Word value)) w.under.pages w.under.grants h is.free refl (stations_stay config w g d p t (step_at (job.ReadWord m k) t (answer.Word value)) r w.under.pages h.stations is.place is.known refl (read_station (k == 127)) (λ q was reads. absurd (false≢true (sym reads ∙ at.3))))
-      (work_of w g d d p t (step_at (job.ReadWord m k) t (answer.Word value)) r is refl refl refl (by_test (k == 127) refl))
-      h.memory (λ f low high v lt. refl) (λ page lt. record { flags = refl; frame = refl }) (λ f low high v lt. refl) h.entries
-      (subst (AreMapped w.under.grants.live) (sym (hands_step w p t (job.ReadWord m k) (answer.Word value) is.place e tt)) h.mapped);
-}
+read_goes config w g d number p t r m k o doing = goes_by (nothing (CallOf (ask_at (job.ReadWord m k) t) o) _ d (λ a b same. same_Some b a same.1))
+    (job_rests config w g d d p t (step_at (job.ReadWord m k) t (answer.Word value)) doing.holds doing.is.free refl (stations_stay config w g d p t (step_at (job.ReadWord m k) t (answer.Word value)) r w.under.pages doing.holds.stations doing.is.place doing.is.known refl (read_station (k == 127)) (λ q was reads. absurd (false≢true (sym reads ∙ doing.at.3))))
+    (work_of w g d d p t (step_at (job.ReadWord m k) t (answer.Word value)) r doing.is refl refl refl (by_test (k == 127) refl))
+    (hands_step w p t (job.ReadWord m k) (answer.Word value) doing.is.place doing.stage tt))
   where
     value : ℕ
     value = word_of w.under.pages (frame_of w.under.grants m) (word_at t k)
 
-    moving : IsMoving t r
-    moving = at.0
-
     is_word : value ≡ sector_word r t
     is_word =
-        let frame : frame_of w.under.grants m ≡ frame_at r moving.place =
-        (let hand = at.1 in frame_live w.under.grants m (frame_at r moving.place)
-        (live_hand w p t m is.place (rw e refl) held) h.mapped.framed hand.gref) in
-        let work = at_work w g d p t r is e at in
-        let own = own_at config w g d p t r h is work in
-        let left = sectors_left t r 1 own.shaped moving in
-        let moved = moving.moved in
-        let its = word_place moving.place t.within t.moved k left.1 (omega arith) at.2 in
+        let frame : frame_of w.under.grants m ≡ frame_at r doing.at.0.place =
+        (let hand = doing.at.1 in frame_live w.under.grants m (frame_at r doing.at.0.place)
+        (live_hand w p t m doing.is.place (rw doing.stage refl) doing.held) doing.holds.mapped.framed hand.gref) in
+        let left = sectors_left t r 1 doing.own.shaped doing.at.0 in
+        let moved = doing.at.0.moved in
         ap (λ (f : ℕ). word_of w.under.pages f (word_at t k)) frame
-        ∙ (sym (data_place w.under.pages r moving.place t.within t.moved k left.1 (omega arith) at.2)
-        ∙ (filled_at config w g d p t r h is work at.3 (128 * t.moved + k) (omega (arith, left.0, at.2))
-        ∙ ap (λ (i : ℕ). (tag_of r.transfer + i) % 2 ^ 32) its.2))
+        ∙ (sym (data_place w.under.pages r doing.at.0.place t.within t.moved k left.1 (omega arith) doing.at.2)
+        ∙ (filled_at config w g d p t r (job.ReadWord m k) doing doing.at.3 (128 * t.moved + k) (omega (arith, left.0, doing.at.2))
+        ∙ ap (λ (i : ℕ). (tag_of r.transfer + i) % 2 ^ 32) (word_place doing.at.0.place t.within t.moved k left.1 (omega arith) doing.at.2).2))
 
     words : List ℕ
     words = slice_set t.words k value
@@ -281,28 +249,19 @@ read_goes config w g d number p t r m k o h held is e at = record {
         by_place : (b : Bool) → (i == k) ≡ b → slice_index words i ≡ sector_word r t
         by_place true same =
             let it : i ≡ k = grind (arith, nat_tests) in
-            let long = moving.words in
-            get_or-set_at t.words k i value 0 (omega (arith, at.2)) (omega arith) ∙ is_word
+            let long = doing.at.0.words in
+            get_or-set_at t.words k i value 0 (omega (arith, doing.at.2)) (omega arith) ∙ is_word
         by_place false same =
             let apart : i ≢ k = grind (arith, nat_tests) in
-            get_or-set_other t.words k i value 0 (omega arith) ∙ at.4 i (omega arith)
+            get_or-set_other t.words k i value 0 (omega arith) ∙ doing.at.4 i (omega arith)
 
     moved_so : IsMoving (step_at (job.ReadWord m k) t (answer.Word value)) r
-    moved_so = record {
-      place = moving.place;
-      here = moving.here;
-      writes = moving.writes;
-      within = moving.within;
-      rest = moving.rest;
-      moved = moving.moved;
-      disk = moving.disk;
-      words = length-set t.words k value ∙ moving.words;
-    }
+    moved_so = placed_on _ _ _ _ 1 doing.at.0 doing.at.0.within doing.at.0.moved doing.at.0.disk (length-set t.words k value ∙ doing.at.0.words)
 
     by_test : (b : Bool) → (k == 127) ≡ b → AtWork r (step_at (job.ReadWord m k) t (answer.Word value)) (if b then job.DiskWrite m else job.ReadWord m (k + 1))
-    by_test true last = (moved_so, at.1, at.3, (let long = moved_so.words in all_same 128 words (sector_word r t) long (λ i lt. filled i (let top : k ≡ 127 = grind (arith, nat_tests) in omega arith))))
-    by_test false last = (moved_so, at.1, (let apart : k ≢ 127 = grind (arith, nat_tests) in omega (arith, at.2)), at.3, filled)
+    by_test true last = (moved_so, doing.at.1, doing.at.3, (let long = moved_so.words in all_same 128 words (sector_word r t) long (λ i lt. filled i (let top : k ≡ 127 = grind (arith, nat_tests) in omega arith))))
+    by_test false last = (moved_so, doing.at.1, (let apart : k ≢ 127 = grind (arith, nat_tests) in omega (arith, doing.at.2)), doing.at.3, filled)
 
     read_station : (b : Bool) → worked (if b then job.DiskWrite m else job.ReadWord m (k + 1)) t.moved ≡ worked t.stage t.moved
-    read_station true = rw e refl
-    read_station false = rw e refl
+    read_station true = rw doing.stage refl
+    read_station false = rw doing.stage refl

@@ -18,7 +18,7 @@ use Rattle.grant_table.specs.Table.{frame_of, unmap_pages, unmap_table}
 use Rattle.pipeline_laws.specs.Pipeline.{Pipeline}
 use Rattle.hypervisor.specs.Act.{Outcome}
 use Rattle.blk_front.specs.declared.request.Request.{Request}
-use Rattle.blk_front.specs.Request.{frames_for, pages_for, page_references, segment_at, naming_words, naming_at, frame_at, IsShaped}
+use Rattle.blk_front.specs.Request.{frames_for, pages_for, page_references, segment_at, naming_words, naming_at, frame_at}
 use Rattle.back_jobs.specs.declared.stage.Stage.{Stage as JobStage}
 use Rattle.back_jobs.specs.declared.stage.Stage.TheVariants as job
 use Rattle.back_jobs.specs.Task.{Work, ask_at, step_at, first_of, page_word, is_copied_out, judged}
@@ -27,16 +27,15 @@ use Rattle.back_jobs.specs.Jobs.{mapping_at}
 use Rattle.machine_pipeline.proofs.ReadBack.{ReadAt}
 use Rattle.blk_back.specs.Hands.{hands_of, hands_at}
 use Rattle.split_model.specs.World.{World}
-use Rattle.split_model.specs.Safe.{AreHeld}
 use Rattle.machine_pipeline.proofs.Flow.{Flow, frames_of, own_segments, is_own, worked}
 use Rattle.machine_pipeline.proofs.Segments.{frame_segment, segment_is, data_frames, own_here, own_sound, own_sectors, own_count}
 use Rattle.machine_pipeline.proofs.Data.{own_among, page_value}
-use Rattle.machine_pipeline.proofs.Holds.{Holds, IsCopying, IsInPage, AtWork, IsFilled, AreMapped, last_in}
-use Rattle.machine_pipeline.proofs.Turns.{GoesBy, nothing}
+use Rattle.machine_pipeline.proofs.Holds.{Holds, IsCopying, IsInPage, AtWork, IsFilled, last_in}
+use Rattle.machine_pipeline.proofs.Turns.{GoesBy, nothing, goes_by}
 use Rattle.machine_pipeline.proofs.Lists.{all_at}
 use Rattle.machine_pipeline.proofs.Mapped.{frame_live}
-use Rattle.machine_pipeline.proofs.Jobs.{stations_stay, job_holds}
-use Rattle.machine_pipeline.proofs.JobMoves.{IsAt, IsOwn, own_at, JobGoesAt, job_says, act_at, work_of, at_work, read_was, live_hand, hands_step, copying}
+use Rattle.machine_pipeline.proofs.Jobs.{stations_stay, job_rests}
+use Rattle.machine_pipeline.proofs.JobMoves.{IsAt, IsOwn, JobGoesAt, job_says, act_at, work_of, live_hand, hands_step, IsDoing, read_now, copied_on}
 use Rattle.machine_pipeline.proofs.JobMaps.{unmap_holds}
 use Rattle.machine_pipeline.specs.Step.{CallOf}
 
@@ -71,29 +70,18 @@ word_read config w g d p t r m k h is own x framed few =
     it : is_own r at ≡ true
     it =
         let beyond : nat_lt at (1024 * frames_for r.count) ≡ false = grind (arith, nat_tests) in
-        let copies = x.copies in
-        let left = x.left in
-        let in_pages : nat_lt at (1024 * frames_for r.count + naming_words r) ≡ true = grind (arith, nat_tests) in
-        rw (beyond, copies.large) in_pages
+        let in_pages : nat_lt at (1024 * frames_for r.count + naming_words r) ≡ true = grind (arith, nat_tests, x.left) in
+        rw (beyond, x.copies.large) in_pages
 
 -- the reference of the segment that is copied next is read
 pub reference_goes : (config : Options) (w : World) (g : Flow) (d : Pipeline) (number p : ℕ) (t : Work) (r : Request) (m : Mapping) (o : Outcome)
-    → Holds config w g d w.front.stage w.back.stage
-    → AreHeld w.under.grants (hands_of w.back)
-    → IsAt w g d p t r
-    → t.stage ≡ job.PageReference m
-    → AtWork r t (job.PageReference m)
+    → IsDoing config w g d p t r (job.PageReference m)
     → JobGoesAt config w d number p t (job.PageReference m) o
-reference_goes config w g d number p t r m o h held is e at = record {
-  flow = g;
-  steps = [];
-  does = nothing (CallOf (ask_at (job.PageReference m) t) o) _ d (λ a b same. same_Some b a same.1);
-  holds = job_holds config w g d d p t later w.under.pages w.under.grants h is.free refl
-      (stations_stay config w g d p t later r w.under.pages h.stations is.place is.known refl (sym (ap (λ (j : JobStage). worked j t.moved) e)) (λ q was reads. read_was config w g d p t r h is e q was reads))
-      (work_of w g d d p t later r is refl refl refl (now, is_reference))
-      h.memory (λ f low high v lt. refl) (λ page lt. record { flags = refl; frame = refl }) (λ f low high v lt. refl) h.entries
-      (subst (AreMapped w.under.grants.live) (sym (hands_step w p t (job.PageReference m) (answer.Word value) is.place e tt)) h.mapped);
-}
+reference_goes config w g d number p t r m o doing = goes_by (nothing (CallOf (ask_at (job.PageReference m) t) o) _ d (λ a b same. same_Some b a same.1))
+    (job_rests config w g d d p t later doing.holds doing.is.free refl
+    (stations_stay config w g d p t later r w.under.pages doing.holds.stations doing.is.place doing.is.known refl (sym (ap (λ (j : JobStage). worked j t.moved) doing.stage)) (λ q was reads. read_now doing q was reads))
+    (work_of w g d d p t later r doing.is refl refl refl (now, is_reference))
+    (hands_step w p t (job.PageReference m) (answer.Word value) doing.is.place doing.stage tt))
   where
     value : ℕ
     value = word_of w.under.pages (frame_of w.under.grants m) (page_word t 0)
@@ -101,20 +89,17 @@ reference_goes config w g d number p t r m o h held is e at = record {
     later : Work
     later = record t { stage = job.PageSectors m value }
 
-    own : IsOwn w g t r
-    own = own_at config w g d p t r h is (at_work w g d p t r is e at)
-
-    framed : frame_of w.under.grants m ≡ frame_at r (frames_for r.count + at.page)
-    framed = let hand = at.hand in frame_live w.under.grants m (frame_at r (frames_for r.count + at.page)) (live_hand w p t m is.place (rw e refl) held) h.mapped.framed hand.gref
+    framed : frame_of w.under.grants m ≡ frame_at r (frames_for r.count + doing.at.page)
+    framed = let hand = doing.at.hand in frame_live w.under.grants m (frame_at r (frames_for r.count + doing.at.page)) (live_hand w p t m doing.is.place (rw doing.stage refl) doing.held) doing.holds.mapped.framed hand.gref
 
     now : IsInPage later r m
     now = record {
-      page = at.page;
-      copies = copying later at.page at.copies refl refl refl refl refl refl refl refl;
-      hand = at.hand;
-      from = at.from;
-      to = at.to;
-      left = at.left;
+      page = doing.at.page;
+      copies = doing.at.copies;
+      hand = doing.at.hand;
+      from = doing.at.from;
+      to = doing.at.to;
+      left = doing.at.left;
     }
 
     is_reference : (let s : Segment = segment_at r (length t.rest) in s.gref) ≡ value
@@ -122,7 +107,7 @@ reference_goes config w g d number p t r m o h held is e at = record {
         let n : (2 * length t.rest + 0) / 2 ≡ length t.rest = omega arith in
         let first : (2 * length t.rest + 0) % 2 ≡ 0 = omega arith in
         let words : naming_at r (2 * length t.rest + 0) ≡ (let s : Segment = segment_at r (length t.rest) in s.gref) = rw (n, first) refl in
-        sym (word_read config w g d p t r m 0 h is own at framed (omega arith) ∙ words)
+        sym (word_read config w g d p t r m 0 doing.holds doing.is doing.own doing.at framed (omega arith) ∙ words)
 
 -- a segment of two words that the front wrote is that segment
 segment_back : (gref last : ℕ) → last ≤ 7 → segment_of gref (0 + last * 2 ^ 8) ≡ record { gref = gref; first = 0; last = last }
@@ -136,27 +121,17 @@ one_more : (r : Request) (n : ℕ) → n < frames_for r.count → take n (own_se
 one_more r n lt =
     let was = take-map-range_with_len (segment_at r) 0 (frames_for r.count) n (omega arith) in
     let now = take-map-range_with_len (segment_at r) 0 (frames_for r.count) (n + 1) (omega arith) in
-    let more : map (segment_at r) (range_with_len 0 (n + 1)) ≡ map (segment_at r) (range_with_len 0 n) ++ segment_at r n ∷ [] = map-range_with_len_more (segment_at r) 0 n n (omega arith) in
-    ap (λ (l : List Segment). l ++ segment_at r n ∷ []) was ∙ (sym more ∙ sym now)
+    ap (λ (l : List Segment). l ++ segment_at r n ∷ []) was ∙ (sym (map-range_with_len_more (segment_at r) 0 n n (omega arith)) ∙ sym now)
 
 -- its sectors are read: it is copied
 pub sectors_goes : (config : Options) (w : World) (g : Flow) (d : Pipeline) (number p : ℕ) (t : Work) (r : Request) (m : Mapping) (gref : ℕ) (o : Outcome)
-    → Holds config w g d w.front.stage w.back.stage
-    → AreHeld w.under.grants (hands_of w.back)
-    → IsAt w g d p t r
-    → t.stage ≡ job.PageSectors m gref
-    → AtWork r t (job.PageSectors m gref)
+    → IsDoing config w g d p t r (job.PageSectors m gref)
     → JobGoesAt config w d number p t (job.PageSectors m gref) o
-sectors_goes config w g d number p t r m gref o h held is e at = record {
-  flow = g;
-  steps = [];
-  does = nothing (CallOf (ask_at (job.PageSectors m gref) t) o) _ d (λ a b same. same_Some b a same.1);
-  holds = job_holds config w g d d p t later w.under.pages w.under.grants h is.free refl
-      (stations_stay config w g d p t later r w.under.pages h.stations is.place is.known refl (station (is_copied_out t segments)) (λ q was reads. back (is_copied_out t segments) q.words (read_was config w g d p t r h is e q was reads)))
-      (work_of w g d d p t later r is refl refl refl (by_test (is_copied_out t segments) refl))
-      h.memory (λ f low high v lt. refl) (λ page lt. record { flags = refl; frame = refl }) (λ f low high v lt. refl) h.entries
-      (subst (AreMapped w.under.grants.live) (sym (hands_step w p t (job.PageSectors m gref) (answer.Word value) is.place e tt)) h.mapped);
-}
+sectors_goes config w g d number p t r m gref o doing = goes_by (nothing (CallOf (ask_at (job.PageSectors m gref) t) o) _ d (λ a b same. same_Some b a same.1))
+    (job_rests config w g d d p t later doing.holds doing.is.free refl
+    (stations_stay config w g d p t later r w.under.pages doing.holds.stations doing.is.place doing.is.known refl (station (is_copied_out t segments)) (λ q was reads. back (is_copied_out t segments) q.words (read_now doing q was reads)))
+    (work_of w g d d p t later r doing.is refl refl refl (by_test (is_copied_out t segments) refl))
+    (hands_step w p t (job.PageSectors m gref) (answer.Word value) doing.is.place doing.stage tt))
   where
     value : ℕ
     value = word_of w.under.pages (frame_of w.under.grants m) (page_word t 1)
@@ -168,16 +143,13 @@ sectors_goes config w g d number p t r m gref o h held is e at = record {
     later = record t { rest = segments; stage = if is_copied_out t segments then job.UnmapPage m else job.PageReference m }
 
     x : IsInPage t r m
-    x = at.0
-
-    own : IsOwn w g t r
-    own = own_at config w g d p t r h is (at_work w g d p t r is e at)
+    x = doing.at.0
 
     framed : frame_of w.under.grants m ≡ frame_at r (frames_for r.count + x.page)
-    framed = let hand = x.hand in frame_live w.under.grants m (frame_at r (frames_for r.count + x.page)) (live_hand w p t m is.place (rw e refl) held) h.mapped.framed hand.gref
+    framed = let hand = x.hand in frame_live w.under.grants m (frame_at r (frames_for r.count + x.page)) (live_hand w p t m doing.is.place (rw doing.stage refl) doing.held) doing.holds.mapped.framed hand.gref
 
     in_data : length t.rest < frames_of r
-    in_data = data_frames r (length t.rest) own.shaped x.left
+    in_data = data_frames r (length t.rest) doing.own.shaped x.left
 
     copied : segment_of gref value ≡ segment_at r (length t.rest)
     copied =
@@ -185,8 +157,8 @@ sectors_goes config w g d number p t r m gref o h held is e at = record {
         let second : (2 * length t.rest + 1) % 2 ≡ 1 = omega arith in
         let its : segment_at r (length t.rest) ≡ frame_segment r (length t.rest) = segment_is r (length t.rest) in_data in
         let words : naming_at r (2 * length t.rest + 1) ≡ 0 + last_in r (length t.rest) * 2 ^ 8 = rw (n, second, its) refl in
-        let read : value ≡ 0 + last_in r (length t.rest) * 2 ^ 8 = word_read config w g d p t r m 1 h is own x framed (omega arith) ∙ words in
-        let reference : gref ≡ frame_at r (length t.rest) + 6 = sym at.1 ∙ ap (λ (s : Segment). s.gref) its in
+        let read : value ≡ 0 + last_in r (length t.rest) * 2 ^ 8 = word_read config w g d p t r m 1 doing.holds doing.is doing.own x framed (omega arith) ∙ words in
+        let reference : gref ≡ frame_at r (length t.rest) + 6 = sym doing.at.1 ∙ ap (λ (s : Segment). s.gref) its in
         rw (reference, read) (segment_back (frame_at r (length t.rest) + 6) (last_in r (length t.rest)) (omega arith)) ∙ sym its
 
     long : length segments ≡ length t.rest + 1
@@ -194,27 +166,12 @@ sectors_goes config w g d number p t r m gref o h held is e at = record {
 
     all_so_far : segments ≡ take (length segments) (own_segments r)
     all_so_far =
-        let copies = x.copies in
         ap (λ (s : Segment). t.rest ++ s ∷ []) copied
-        ∙ (ap (λ (l : List Segment). l ++ segment_at r (length t.rest) ∷ []) copies.rest
+        ∙ (ap (λ (l : List Segment). l ++ segment_at r (length t.rest) ∷ []) x.copies.rest
         ∙ (one_more r (length t.rest) x.left ∙ ap (λ (n : ℕ). take n (own_segments r)) (sym long)))
 
     copies_on : IsCopying later r x.page
-    copies_on =
-        let copies = x.copies in
-        record {
-          here = copies.here;
-          large = copies.large;
-          writes = copies.writes;
-          named = copies.named;
-          rest = all_so_far;
-          few = (let left = x.left in let more = long in omega arith);
-          pages = copies.pages;
-          moved = copies.moved;
-          disk = copies.disk;
-          fits = copies.fits;
-          words = copies.words;
-        }
+    copies_on = copied_on segments t.pages x.page x.copies x.copies.here all_so_far (omega (arith, x.left, long)) x.copies.pages
 
     by_test : (b : Bool) → is_copied_out t segments ≡ b → AtWork r later (if b then job.UnmapPage m else job.PageReference m)
     by_test true out = record { page = x.page; copies = copies_on; hand = x.hand; through = by_end (length segments == t.named) refl out }
@@ -241,8 +198,8 @@ sectors_goes config w g d number p t r m gref o h held is e at = record {
         record { page = x.page; copies = copies_on; hand = x.hand; from = omega arith; to = omega arith; left = omega arith }
 
     station : (b : Bool) → worked (if b then job.UnmapPage m else job.PageReference m) t.moved ≡ worked t.stage t.moved
-    station true = rw e refl
-    station false = rw e refl
+    station true = rw doing.stage refl
+    station false = rw doing.stage refl
 
     back : (b : Bool) (noted : List (List ℕ)) → ReadAt w.under.pages r t.moved t.words noted (job.PageSectors m gref) → ReadAt w.under.pages r t.moved t.words noted (if b then job.UnmapPage m else job.PageReference m)
     back true noted was = was
@@ -250,31 +207,20 @@ sectors_goes config w g d number p t r m gref o h held is e at = record {
 
 -- the page is given up: the next one is mapped, or the first segment's frame where all are copied
 pub unmap_page_goes : (config : Options) (w : World) (g : Flow) (d : Pipeline) (number p : ℕ) (t : Work) (r : Request) (m : Mapping) (o : Outcome)
-    → Holds config w g d w.front.stage w.back.stage
-    → AreHeld w.under.grants (hands_of w.back)
-    → IsAt w g d p t r
-    → t.stage ≡ job.UnmapPage m
-    → AtWork r t (job.UnmapPage m)
+    → IsDoing config w g d p t r (job.UnmapPage m)
     → JobGoesAt config w d number p t (job.UnmapPage m) o
-unmap_page_goes config w g d number p t r m o h held is e at = subst (λ (x : Work). GoesBy None (CallOf (ask_at (job.UnmapPage m) t) o) config (job_says t (job.UnmapPage m) (act_at w number t (job.UnmapPage m) o)) (record { front = w.front; back = record w.back { jobs = record w.back.jobs { works = slice_set w.back.jobs.works p x }; told = None }; under = record w.under { pages = unmap_pages w.under.grants w.under.pages m; grants = unmap_table w.under.grants m } }) d) (sym stepped) (record {
-  flow = g;
-  steps = [];
-  does = nothing (CallOf (ask_at (job.UnmapPage m) t) o) _ d (λ a b call. same_Some b a call.1);
-  holds = unmap_holds config w g d d p t later r m h held is (at_work w g d p t r is e at) (rw e refl) (frames_for r.count + at.page) in_it at.hand (bare whole) (named_id whole)
-      (stations_stay config w g d p t later r w.under.pages h.stations is.place is.known (named_id whole) (station whole)
-      (λ q was reads. back whole q.words (read_was config w g d p t r h is e q was reads)))
-      (work_of w g d d p t later r is (numbered whole) (named_id whole) (named_op whole) (now whole refl))
-      (subst (λ (x : Work). HasOneMore m (hands_at w.back.stage (record w.back { jobs = record w.back.jobs { works = slice_set w.back.jobs.works p x } })) (hands_of w.back)) stepped (hands_step w p t (job.UnmapPage m) answer.Done is.place e tt));
-})
+unmap_page_goes config w g d number p t r m o doing = subst (λ (x : Work). GoesBy None (CallOf (ask_at (job.UnmapPage m) t) o) config (job_says t (job.UnmapPage m) (act_at w number t (job.UnmapPage m) o)) (record { front = w.front; back = record w.back { jobs = record w.back.jobs { works = slice_set w.back.jobs.works p x }; told = None }; under = record w.under { pages = unmap_pages w.under.grants w.under.pages m; grants = unmap_table w.under.grants m } }) d) (sym stepped) (goes_by (nothing (CallOf (ask_at (job.UnmapPage m) t) o) _ d (λ a b call. same_Some b a call.1))
+    (unmap_holds config w g d d p t later r m (job.UnmapPage m) doing refl (frames_for r.count + doing.at.page) in_it doing.at.hand (alike whole).0 (alike whole).2
+    (stations_stay config w g d p t later r w.under.pages doing.holds.stations doing.is.place doing.is.known (alike whole).2 (alike whole).4
+    (λ q was reads. back whole q.words (read_now doing q was reads)))
+    (work_of w g d d p t later r doing.is (alike whole).1 (alike whole).2 (alike whole).3 (now whole refl))
+    (subst (λ (x : Work). HasOneMore m (hands_at w.back.stage (record w.back { jobs = record w.back.jobs { works = slice_set w.back.jobs.works p x } })) (hands_of w.back)) stepped (hands_step w p t (job.UnmapPage m) answer.Done doing.is.place doing.stage tt))))
   where
-    shaped : IsShaped r
-    shaped = let its = h.submitted.each (t.id - 1) r is.known in its.shaped
+    copies : IsCopying t r doing.at.page
+    copies = doing.at.copies
 
-    copies : IsCopying t r at.page
-    copies = at.copies
-
-    in_it : frames_for r.count + at.page < frames_of r
-    in_it = let frames = shaped.frames in let here = copies.here in omega arith
+    in_it : frames_for r.count + doing.at.page < frames_of r
+    in_it = let frames = doing.own.shaped.frames in let here = copies.here in omega arith
 
     whole : Bool
     whole = length t.rest == t.named
@@ -295,10 +241,9 @@ unmap_page_goes config w g d number p t r m o h held is e at = subst (λ (x : Wo
 
     passes_so : whole ≡ true → judged t ≡ begins
     passes_so t' =
-        let sound : list_any fails_test t.rest ≡ false = ap (list_any fails_test) (all t') ∙ own_sound r shaped in
-        let sectors : sectors_of t.rest ≡ r.count = ap sectors_of (all t') ∙ own_sectors r shaped in
+        let sectors : sectors_of t.rest ≡ r.count = ap sectors_of (all t') ∙ own_sectors r doing.own.shaped in
         let on_disk : nat_lt t.size (t.disk + sectors_of t.rest) ≡ false = (let fits = copies.fits in let disk = copies.disk in grind (arith, nat_tests)) in
-        rw (sound, on_disk) refl
+        rw ((ap (list_any fails_test) (all t') ∙ own_sound r doing.own.shaped), on_disk) refl
 
     stepped : step_at (job.UnmapPage m) t answer.Done ≡ later
     stepped = by_whole whole refl
@@ -307,25 +252,10 @@ unmap_page_goes config w g d number p t r m o h held is e at = subst (λ (x : Wo
         by_whole true t' = passes_so t'
         by_whole false t' = refl
 
-    bare : (b : Bool) → mapping_at (let x : Work = (if b then begins else goes_on) in x.stage) ≡ None
-    bare true = refl
-    bare false = refl
-
-    numbered : (b : Bool) → (let x : Work = (if b then begins else goes_on) in x.number) ≡ t.number
-    numbered true = refl
-    numbered false = refl
-
-    named_id : (b : Bool) → (let x : Work = (if b then begins else goes_on) in x.id) ≡ t.id
-    named_id true = refl
-    named_id false = refl
-
-    named_op : (b : Bool) → (let x : Work = (if b then begins else goes_on) in x.op) ≡ t.op
-    named_op true = refl
-    named_op false = refl
-
-    station : (b : Bool) → (let x : Work = (if b then begins else goes_on) in worked x.stage x.moved) ≡ worked t.stage t.moved
-    station true = rw e refl
-    station false = rw e refl
+    -- either way the job has no mapping, and is of the same request at the same station
+    alike : (b : Bool) → (let x : Work = (if b then begins else goes_on) in (mapping_at x.stage ≡ None) × (x.number ≡ t.number) × (x.id ≡ t.id) × (x.op ≡ t.op) × (worked x.stage x.moved ≡ worked t.stage t.moved))
+    alike true = (refl, refl, refl, refl, rw doing.stage refl)
+    alike false = (refl, refl, refl, refl, rw doing.stage refl)
 
     back : (b : Bool) (noted : List (List ℕ)) → ReadAt w.under.pages r t.moved t.words noted (job.UnmapPage m) → (let x : Work = (if b then begins else goes_on) in ReadAt w.under.pages r x.moved x.words noted x.stage)
     back true noted was = was
@@ -350,27 +280,15 @@ unmap_page_goes config w g d number p t r m o h held is e at = subst (λ (x : Wo
         some = let large = copies.large in let many : 11 < frames_for r.count = grind (arith, nat_tests) in omega arith
 
         first : first_of t.rest ≡ 0
-        first = ap first_of (all t') ∙ ap first_of (own_here r 0 shaped some)
+        first = ap first_of (all t') ∙ ap first_of (own_here r 0 doing.own.shaped some)
     now false t' =
         let apart : length t.rest ≢ t.named = grind (arith, nat_tests) in
         let named = copies.named in
         let few = copies.few in
-        let filled : length t.rest ≡ 512 * (at.page + 1) = elim at.through [ inl ended ↦ absurd (omega arith) | inr next ↦ next ] in
+        let filled : length t.rest ≡ 512 * (doing.at.page + 1) = elim doing.at.through [ inl ended ↦ absurd (omega arith) | inr next ↦ next ] in
         let pages : pages_for r.count ≡ (frames_for r.count + 511) / 512 = rw copies.large refl in (
-          at.page + 1,
-          record {
-            here = omega arith;
-            large = copies.large;
-            writes = copies.writes;
-            named = copies.named;
-            rest = copies.rest;
-            few = copies.few;
-            pages = ap (drop 1) copies.pages ∙ drop-drop 1 at.page (page_references r);
-            moved = copies.moved;
-            disk = copies.disk;
-            fits = copies.fits;
-            words = copies.words;
-          },
+          doing.at.page + 1,
+          copied_on t.rest (drop 1 t.pages) (doing.at.page + 1) copies (omega arith) copies.rest copies.few (ap (drop 1) copies.pages ∙ drop-drop 1 doing.at.page (page_references r)),
           filled,
           omega arith,
         )

@@ -32,7 +32,7 @@ use Rattle.pipeline_laws.specs.Allowed.{May, IsClear, is_working, is_in_way}
 use Rattle.pipeline_laws.specs.Disk.{DiskDoes}
 use Rattle.machine_pipeline.proofs.Flow.{Flow, worked, ending_at, reply_at, is_issuing, is_fetching, telling_at, job_of}
 use Rattle.machine_pipeline.proofs.ReadBack.{IsReadBack, ReadAt, has_data_at}
-use Rattle.machine_pipeline.proofs.Holds.{Holds, IsWork, IsMoving, AtWork}
+use Rattle.machine_pipeline.proofs.Holds.{Holds, IsWork, IsMoving}
 use Rattle.machine_pipeline.proofs.Segments.{moves_sectors}
 use Rattle.machine_pipeline.proofs.Series.{lower}
 use Rattle.machine_pipeline.proofs.Lists.{all_at, pair_at, get_within}
@@ -40,7 +40,7 @@ use Rattle.machine_pipeline.proofs.Stations.{StandsAt, kind_of}
 use Rattle.machine_pipeline.proofs.StationsBack.{job_steps}
 use Rattle.machine_pipeline.proofs.Turns.{Stepped}
 use Rattle.machine_pipeline.proofs.Jobs.{StationsWith}
-use Rattle.machine_pipeline.proofs.JobMoves.{IsAt, read_was, sectors_left}
+use Rattle.machine_pipeline.proofs.JobMoves.{IsAt, sectors_left, IsDoing, read_now}
 use Rattle.machine_pipeline.specs.Step.{CallOf}
 
 -- a write or a barrier, as the pipeline has it
@@ -73,10 +73,7 @@ all_places way sector count moves = absurd (false≢true moves)
 -- what a barrier orders is what the operation of the job says
 same_order : (op : ℕ) (x : Job) (way : Transfer) (sector count : ℕ) → op ≡ operation_of way → x ≡ job_of way sector count → ((op == 1 || op == 2 || op == 5) ≡ is_ordered x) × ((op == 2) ≡ is_barrier x)
 same_order op x transfer.Read sector count this that = rw (this, that) (refl, refl)
-same_order op x (transfer.Write tag) sector count this that = rw (this, that) (refl, refl)
-same_order op x (transfer.Barrier tag) sector count this that = rw (this, that) (refl, refl)
-same_order op x transfer.Flush sector count this that = rw (this, that) (refl, refl)
-same_order op x (transfer.Discard sectors) sector count this that = rw (this, that) (refl, refl)
+same_order op x way sector count this that = rw (this, that) (refl, refl)
 
 -- a job that doesn't hold up an ordered one isn't in its way
 not_in_way : (t u : Work) (x : Job) (y : Asked) → (orders t ≡ is_ordered x) × (bars t ≡ is_barrier x) → (orders u ≡ is_ordered y.job) × (bars u ≡ is_barrier y.job)
@@ -181,9 +178,7 @@ stands_before works p i t u up here at lower = elim (cases_lt i p) [
   | inl before ↦ before
   | inr behind ↦ elim (cases_eq i p) [
     | inl same ↦
-        let one : u ≡ t = same_Some u t (sym at ∙ (ap (slice_get works) same ∙ here)) in
-        let number : u.id ≡ t.id = ap (λ (x : Work). x.id) one in
-        absurd (omega (arith, number, lower))
+        absurd (omega (arith, (ap (λ (x : Work). x.id) (same_Some u t (sym at ∙ (ap (slice_get works) same ∙ here)))), lower))
     | inr apart ↦ (let above = pair_at (λ (x y : Work). x.id < y.id) works p i t u up (omega arith) here at in absurd (omega (arith, above, lower)))
   ]
 ]
@@ -211,11 +206,10 @@ clears config w g d p t r q h is asked ordered i y before here = by_working (is_
         let place : u.id - 1 ≡ i = omega (arith, its.3) in
         let x = h.stations.works its.0 u its.2 in
         let one : x.q ≡ y = same_Some x.q y (sym x.at ∙ (ap (slice_get d.requests) place ∙ here)) in
-        let stands : y.station ≡ worked u.stage u.moved = ap (λ (z : Asked). z.station) (sym one) ∙ x.there in
         let known = h.stations.known.each i work.r y (ap (slice_get g.submitted) (sym place) ∙ work.known) here in
         not_in_way t u q.job y (same_order t.op q.job r.transfer r.sector r.count is.op asked)
         (let z : Request = work.r in same_order u.op y.job z.transfer z.sector z.count work.op known)
-        (working_undone y.job u.stage u.moved (ap (is_working y.job) (sym stands) ∙ working)) ordered
+        (working_undone y.job u.stage u.moved (ap (is_working y.job) (sym (ap (λ (z : Asked). z.station) (sym one) ∙ x.there)) ∙ working)) ordered
         (is.free.clear its.0 u (stands_before w.back.jobs.works p its.0 t u h.works.ascending is.place its.2 (omega (arith, its.3, before))) its.2)
 
 pub clear : (config : Options) (w : World) (g : Flow) (d : Pipeline) (p : ℕ) (t : Work) (r : Request) (q : Asked)
@@ -237,8 +231,7 @@ clear config w g d p t r q h is asked ordered = record {
     by_index i j y before at here x =
         let place : (let z : Request = x.0 in z.number - 1) ≡ j = same_Some _ j (sym (h.stations.ring.entries i x.0 (omega (arith, before, is.reached, h.indices.fetched_pushed)) x.1) ∙ at) in
         let less = lower g.series i (t.number - 1) x.0 r h.queue.ordered.ascending x.1 is.issued before in
-        let positive = h.queue.ordered.positive i x.0 x.1 in
-        clears config w g d p t r q h is asked ordered j y (omega (arith, place, less, named, positive)) here
+        clears config w g d p t r q h is asked ordered j y (omega (arith, place, less, named, (h.queue.ordered.positive i x.0 x.1))) here
 
 -- the lines of a move at its next sector
 pub lines_of : (w : World) (g : Flow) (d : Pipeline) (p : ℕ) (t : Work) (r : Request) (line : ℕ → ℕ → Line) → IsAt w g d p t r → line (t.id - 1 + 1) t.moved ∷ [] ≡ line t.id t.moved ∷ []
@@ -255,8 +248,7 @@ sector_left : (config : Options) (w : World) (g : Flow) (d : Pipeline) (p : ℕ)
     → IsMoving t r
     → (t.moved < r.count) × (r.count ≤ 7680)
 sector_left config w g d p t r h is moving =
-    let its = h.submitted.each (t.id - 1) r is.known in
-    let left = sectors_left t r 1 its.shaped moving in
+    let left = sectors_left t r 1 (h.submitted.each (t.id - 1) r is.known).shaped moving in
     (omega (arith, left.0), left.2)
 
 moves_at : (config : Options) (w : World) (g : Flow) (d : Pipeline) (p : ℕ) (t : Work) (r : Request)
@@ -268,75 +260,65 @@ moves_at config w g d p t r h is moving = let its = h.submitted.each (t.id - 1) 
 
 -- the disk takes the sector
 pub fills : (config : Options) (w : World) (g : Flow) (d : Pipeline) (p : ℕ) (t t' : Work) (r : Request) (m : Mapping)
-    → Holds config w g d w.front.stage w.back.stage
-    → IsAt w g d p t r
-    → t.stage ≡ job.DiskWrite m
-    → AtWork r t (job.DiskWrite m)
+    → IsDoing config w g d p t r (job.DiskWrite m)
     → t'.id ≡ t.id
     → worked t'.stage t'.moved ≡ Working (t.moved + 1)
     → Stepped None (CallOf (ask_at (job.DiskWrite m) t) Took) d (lines.Effect t.id t.moved ∷ []) (λ x. StationsWith config w g x (slice_set w.back.jobs.works p t') w.under.pages)
-fills config w g d p t t' r m h is e at number next =
-    job_stepped (CallOf (ask_at (job.DiskWrite m) t) Took) config w g d p t t' r (Fills t.moved) (lines.Effect t.id t.moved ∷ []) h is number refl (lines_of w g d p t r lines.Effect is) (reads_none w d t t' r (Fills t.moved) at.2) (λ q asked.
-    let so = filled_job q.job r asked at.2 in
-    let left = sector_left config w g d p t r h is at.0 in
+fills config w g d p t t' r m doing number next =
+    job_stepped (CallOf (ask_at (job.DiskWrite m) t) Took) config w g d p t t' r (Fills t.moved) (lines.Effect t.id t.moved ∷ []) doing.holds doing.is number refl (lines_of w g d p t r lines.Effect doing.is) (reads_none w d t t' r (Fills t.moved) doing.at.2) (λ q asked.
+    let so = filled_job q.job r asked doing.at.2 in
+    let left = sector_left config w g d p t r doing.holds doing.is doing.at.0 in
     record {
-      before = rw e refl;
+      before = rw doing.stage refl;
       after = sym next;
-      may = (so.writes, omega (arith, so.places, left.0), clear config w g d p t r q h is asked (rw so.writes refl));
+      may = (so.writes, omega (arith, so.places, left.0), clear config w g d p t r q doing.holds doing.is asked (rw so.writes refl));
       disk = λ a b call. rw (so.first, so.words t.moved) (same_Some b (slice_set a t.disk t.words) call
-          ∙ (ap (λ (s : ℕ). slice_set a s t.words) at.0.disk ∙ ap (slice_set a (r.sector + t.moved)) at.3));
+          ∙ (ap (λ (s : ℕ). slice_set a s t.words) doing.at.0.disk ∙ ap (slice_set a (r.sector + t.moved)) doing.at.3));
     })
 
 -- or fails at it
 pub fails : (config : Options) (w : World) (g : Flow) (d : Pipeline) (p : ℕ) (t t' : Work) (r : Request) (m : Mapping)
-    → Holds config w g d w.front.stage w.back.stage
-    → IsAt w g d p t r
-    → t.stage ≡ job.DiskWrite m
-    → AtWork r t (job.DiskWrite m)
+    → IsDoing config w g d p t r (job.DiskWrite m)
     → t'.id ≡ t.id
     → worked t'.stage t'.moved ≡ Failed
     → Stepped None (CallOf (ask_at (job.DiskWrite m) t) DiskFailed) d (lines.Fault t.id t.moved ∷ []) (λ x. StationsWith config w g x (slice_set w.back.jobs.works p t') w.under.pages)
-fails config w g d p t t' r m h is e at number next =
-    job_stepped (CallOf (ask_at (job.DiskWrite m) t) DiskFailed) config w g d p t t' r (Fails t.moved) (lines.Fault t.id t.moved ∷ []) h is number refl (lines_of w g d p t r lines.Fault is) (reads_none w d t t' r (Fails t.moved) at.2) (λ q asked.
-    let so = filled_job q.job r asked at.2 in
-    let left = sector_left config w g d p t r h is at.0 in
+fails config w g d p t t' r m doing number next =
+    job_stepped (CallOf (ask_at (job.DiskWrite m) t) DiskFailed) config w g d p t t' r (Fails t.moved) (lines.Fault t.id t.moved ∷ []) doing.holds doing.is number refl (lines_of w g d p t r lines.Fault doing.is) (reads_none w d t t' r (Fails t.moved) doing.at.2) (λ q asked.
+    let so = filled_job q.job r asked doing.at.2 in
     record {
-      before = rw e refl;
+      before = rw doing.stage refl;
       after = sym next;
-      may = (omega (arith, so.places, left.0), clear config w g d p t r q h is asked);
-      disk = λ a b call. rw (so.writes, so.first) (subst (λ (s : ℕ). SameBut s 1 (Some a) (Some b)) at.0.disk call);
+      may = (omega (arith, so.places, (sector_left config w g d p t r doing.holds doing.is doing.at.0).0), clear config w g d p t r q doing.holds doing.is asked);
+      disk = λ a b call. rw (so.writes, so.first) (subst (λ (s : ℕ). SameBut s 1 (Some a) (Some b)) doing.at.0.disk call);
     })
 
 -- the disk gives the sector
 pub gives : (config : Options) (w : World) (g : Flow) (d : Pipeline) (p : ℕ) (t : Work) (r : Request) (m : Mapping) (words : List ℕ)
-    → Holds config w g d w.front.stage w.back.stage
-    → IsAt w g d p t r
-    → t.stage ≡ job.DiskRead m
-    → AtWork r t (job.DiskRead m)
+    → IsDoing config w g d p t r (job.DiskRead m)
     → length words ≡ 128
     → Stepped None (CallOf (ask_at (job.DiskRead m) t) (Gave words)) d (lines.EffectRead t.id t.moved words ∷ []) (λ x. StationsWith config w g x (slice_set w.back.jobs.works p (record (counted t) { words = words; stage = job.WriteWord m 0 })) w.under.pages)
-gives config w g d p t r m words h is e at sized =
-    job_stepped (CallOf (ask_at (job.DiskRead m) t) (Gave words)) config w g d p t then r (Reads t.moved words) (lines.EffectRead t.id t.moved words ∷ []) h is refl refl (lines_of w g d p t r (λ n i. lines.EffectRead n i words) is) has (λ q asked.
-    let so : q.job ≡ Read r.sector r.count = asked ∙ read_job r.transfer r.sector r.count (moves_at config w g d p t r h is at.0) at.2 in
+gives config w g d p t r m words doing sized =
+    job_stepped (CallOf (ask_at (job.DiskRead m) t) (Gave words)) config w g d p t then r (Reads t.moved words) (lines.EffectRead t.id t.moved words ∷ []) doing.holds doing.is refl refl (lines_of w g d p t r (λ n i. lines.EffectRead n i words) doing.is) has (λ q asked.
+    let so : q.job ≡ Read r.sector r.count = asked ∙ read_job r.transfer r.sector r.count (moves_at config w g d p t r doing.holds doing.is doing.at.0) doing.at.2 in
     record {
-      before = rw e refl;
+      before = rw doing.stage refl;
       after = ap (λ (n : ℕ). Working n) (sym one_more);
       may = (rw so refl, rw so left.0);
-      disk = λ a b call. rw so (ap (slice_get a) (sym at.0.disk) ∙ call.0, same_Some b a call.1);
+      disk = λ a b call. rw so (ap (slice_get a) (sym doing.at.0.disk) ∙ call.0, same_Some b a call.1);
     })
   where
     then : Work
     then = record (counted t) { words = words; stage = job.WriteWord m 0 }
 
     left : (t.moved < r.count) × (r.count ≤ 7680)
-    left = sector_left config w g d p t r h is at.0
+    left = sector_left config w g d p t r doing.holds doing.is doing.at.0
 
     one_more : (t.moved + 1) % 2 ^ 32 ≡ t.moved + 1
     one_more = omega (arith, left.0, left.1)
 
     has : HasRead w d t then r (Reads t.moved words)
     has q was reads =
-        let old = read_was config w g d p t r h is e q was reads in
+        let old = read_now doing q was reads in
         let long = old.counted in (
           record {
             earlier = q.words;
@@ -352,49 +334,41 @@ gives config w g d p t r m words h is e at sized =
 
 -- or fails at it
 pub fails_to_give : (config : Options) (w : World) (g : Flow) (d : Pipeline) (p : ℕ) (t : Work) (r : Request) (m : Mapping)
-    → Holds config w g d w.front.stage w.back.stage
-    → IsAt w g d p t r
-    → t.stage ≡ job.DiskRead m
-    → AtWork r t (job.DiskRead m)
+    → IsDoing config w g d p t r (job.DiskRead m)
     → Stepped None (CallOf (ask_at (job.DiskRead m) t) DiskFailed) d (lines.Fault t.id t.moved ∷ []) (λ x. StationsWith config w g x (slice_set w.back.jobs.works p (record t { stage = job.GiveUp m })) w.under.pages)
-fails_to_give config w g d p t r m h is e at =
-    job_stepped (CallOf (ask_at (job.DiskRead m) t) DiskFailed) config w g d p t (record t { stage = job.GiveUp m }) r (Fails t.moved) (lines.Fault t.id t.moved ∷ []) h is refl refl (lines_of w g d p t r lines.Fault is) (λ q was reads. (tt, λ t. absurd (false≢true t))) (λ q asked.
-    let so : q.job ≡ Read r.sector r.count = asked ∙ read_job r.transfer r.sector r.count (moves_at config w g d p t r h is at.0) at.2 in
-    let left = sector_left config w g d p t r h is at.0 in
+fails_to_give config w g d p t r m doing =
+    job_stepped (CallOf (ask_at (job.DiskRead m) t) DiskFailed) config w g d p t (record t { stage = job.GiveUp m }) r (Fails t.moved) (lines.Fault t.id t.moved ∷ []) doing.holds doing.is refl refl (lines_of w g d p t r lines.Fault doing.is) (λ q was reads. (tt, λ t. absurd (false≢true t))) (λ q asked.
+    let so : q.job ≡ Read r.sector r.count = asked ∙ read_job r.transfer r.sector r.count (moves_at config w g d p t r doing.holds doing.is doing.at.0) doing.at.2 in
     record {
-      before = rw e refl;
+      before = rw doing.stage refl;
       after = refl;
-      may = (rw so left.0, clear config w g d p t r q h is asked);
+      may = (rw so (sector_left config w g d p t r doing.holds doing.is doing.at.0).0, clear config w g d p t r q doing.holds doing.is asked);
       disk = λ a b call. rw so (subst (λ (x : List (List ℕ)). SameBut r.sector 0 (Some a) (Some x)) (sym (same_Some b a call.1)) (refl, λ i out. refl));
     })
 
 -- its last mapping is given up: the job ends, as it went
 pub ends_well : (o : Outcome) (config : Options) (w : World) (g : Flow) (d : Pipeline) (p : ℕ) (t : Work) (r : Request) (m : Mapping) (rest : List Segment)
-    → Holds config w g d w.front.stage w.back.stage
-    → IsAt w g d p t r
-    → t.stage ≡ job.Unmap m
+    → IsDoing config w g d p t r (job.Unmap m)
     → is_moving r.transfer ≡ true
     → t.moved ≡ r.count
     → Stepped None (CallOf (ask_at (job.Unmap m) t) o) d [] (λ x. StationsWith config w g x (slice_set w.back.jobs.works p (record t { rest = rest; stage = job.Done Okay })) w.under.pages)
-ends_well o config w g d p t r m rest h is e moves all =
-    job_stepped (CallOf (ask_at (job.Unmap m) t) o) config w g d p t (record t { rest = rest; stage = job.Done Okay }) r (Ends Okay) [] h is refl refl refl
-    (λ q was reads. (tt, λ ok. subst (λ (n : ℕ). IsReadBack w.under.pages r n q.words) all (read_was config w g d p t r h is e q was reads)))
+ends_well o config w g d p t r m rest doing moves all =
+    job_stepped (CallOf (ask_at (job.Unmap m) t) o) config w g d p t (record t { rest = rest; stage = job.Done Okay }) r (Ends Okay) [] doing.holds doing.is refl refl refl
+    (λ q was reads. (tt, λ ok. subst (λ (n : ℕ). IsReadBack w.under.pages r n q.words) all (read_now doing q was reads)))
     (λ q asked. record {
       before = ap (λ (n : ℕ). Working n) (ap places_of asked ∙ (all_places r.transfer r.sector r.count moves ∙ sym all))
-          ∙ sym (ap (λ (j : JobStage). worked j t.moved) e);
+          ∙ sym (ap (λ (j : JobStage). worked j t.moved) doing.stage);
       after = refl;
       may = tt;
       disk = λ a b call. same_Some b a call.1;
     })
 
 pub ends_badly : (o : Outcome) (config : Options) (w : World) (g : Flow) (d : Pipeline) (p : ℕ) (t : Work) (r : Request) (m : Mapping)
-    → Holds config w g d w.front.stage w.back.stage
-    → IsAt w g d p t r
-    → t.stage ≡ job.GiveUp m
+    → IsDoing config w g d p t r (job.GiveUp m)
     → Stepped None (CallOf (ask_at (job.GiveUp m) t) o) d [] (λ x. StationsWith config w g x (slice_set w.back.jobs.works p (record t { stage = job.Done Error })) w.under.pages)
-ends_badly o config w g d p t r m h is e =
-    job_stepped (CallOf (ask_at (job.GiveUp m) t) o) config w g d p t (record t { stage = job.Done Error }) r (Ends Error) [] h is refl refl refl (λ q was reads. (tt, λ t. absurd (false≢true t))) (λ q asked. record {
-      before = rw e refl;
+ends_badly o config w g d p t r m doing =
+    job_stepped (CallOf (ask_at (job.GiveUp m) t) o) config w g d p t (record t { stage = job.Done Error }) r (Ends Error) [] doing.holds doing.is refl refl refl (λ q was reads. (tt, λ t. absurd (false≢true t))) (λ q asked. record {
+      before = rw doing.stage refl;
       after = refl;
       may = tt;
       disk = λ a b call. same_Some b a call.1;

@@ -17,7 +17,7 @@ use Rattle.schedule_text.specs.declared.line.Line.{Line}
 use Rattle.pipeline_laws.specs.Pipeline.{Pipeline, next}
 use Rattle.hypervisor.specs.Act.{BackAct, Outcome, back_act}
 use Rattle.blk_front.specs.declared.request.Request.{Request}
-use Rattle.blk_front.specs.Request.{frames_for, IsShaped}
+use Rattle.blk_front.specs.Request.{frames_for}
 use Rattle.back_jobs.specs.declared.stage.Stage.{Stage as JobStage}
 use Rattle.back_jobs.specs.declared.stage.Stage.TheVariants as job
 use Rattle.back_jobs.specs.Task.{Work, ask_at, step_at, rest_of, next_segment}
@@ -30,11 +30,11 @@ use Rattle.hypervisor.specs.Act.{IsGiven}
 use Rattle.split_model.specs.Happening.{job_after, job_shows}
 use Rattle.machine_pipeline.proofs.Flow.{Flow, own_segments, worked}
 use Rattle.machine_pipeline.proofs.Segments.{frame_segment, data_frames, own_here, own_end, moves_sectors, all_moved, frame_moved}
-use Rattle.machine_pipeline.proofs.Holds.{Holds, IsMoving, AtWork, IsWork, IsUnhindered, AreWorks}
+use Rattle.machine_pipeline.proofs.Holds.{Holds, IsMoving, IsWork, IsUnhindered, AreWorks}
 use Rattle.machine_pipeline.proofs.Removals.{taken_has}
-use Rattle.machine_pipeline.proofs.Turns.{GoesBy, Stepped, nothing, does_step, JobGoes}
+use Rattle.machine_pipeline.proofs.Turns.{GoesBy, Stepped, nothing, does_step, JobGoes, goes_by}
 use Rattle.machine_pipeline.proofs.Lists.{all_at, pair_at, found_at, any_at}
-use Rattle.machine_pipeline.proofs.JobMoves.{IsAt, JobGoesAt, act_at, job_says, job_next, stays, work_of, at_work, hands_step, read_was, read_goes}
+use Rattle.machine_pipeline.proofs.JobMoves.{JobGoesAt, act_at, job_says, job_next, stays, work_of, hands_step, read_goes, doing_at, IsDoing, read_now}
 use Rattle.machine_pipeline.proofs.Jobs.{MayMove, held_less, StationsWith, stations_stay}
 use Rattle.machine_pipeline.proofs.JobSteps.{ends_well, ends_badly}
 use Rattle.machine_pipeline.proofs.JobDisk.{disk_goes, disk_gives}
@@ -46,147 +46,107 @@ use Rattle.machine_pipeline.specs.Step.{CallOf}
 
 -- the last segment is done: the job is at its end
 unmap_ends : (config : Options) (w : World) (g : Flow) (d : Pipeline) (number p : ℕ) (t : Work) (r : Request) (m : Mapping) (o : Outcome)
-    → Holds config w g d w.front.stage w.back.stage
-    → AreHeld w.under.grants (hands_of w.back)
-    → IsAt w g d p t r
-    → t.stage ≡ job.Unmap m
-    → (at : AtWork r t (job.Unmap m))
-    → at.0.place + 1 ≡ frames_for r.count
+    → (doing : IsDoing config w g d p t r (job.Unmap m))
+    → doing.at.0.place + 1 ≡ frames_for r.count
     → JobGoesAt config w d number p t (job.Unmap m) o
-unmap_ends config w g d number p t r m o h held is e at over = subst (λ (x : Work). GoesBy None (CallOf (ask_at (job.Unmap m) t) o) config (job_says t (job.Unmap m) (act_at w number t (job.Unmap m) o)) (record { front = w.front; back = record w.back { jobs = record w.back.jobs { works = slice_set w.back.jobs.works p x }; told = None }; under = record w.under { pages = unmap_pages w.under.grants w.under.pages m; grants = unmap_table w.under.grants m } }) d) (sym stepped) (record {
-  flow = g;
-  steps = s.step ∷ [];
-  does = does_step _ [] refl s;
-  holds = unmap_holds config w g d (next d s.step) p t later r m h held is (at_work w g d p t r is e at) (rw e refl) at.0.place (data_frames r at.0.place shaped at.0.here) at.1 refl refl s.now
-      (work_of w g d (next d s.step) p t later r is refl refl refl tt)
-      (subst (λ (x : Work). HasOneMore m (hands_at w.back.stage (record w.back { jobs = record w.back.jobs { works = slice_set w.back.jobs.works p x } })) (hands_of w.back)) stepped (hands_step w p t (job.Unmap m) answer.Done is.place e tt));
-})
+unmap_ends config w g d number p t r m o doing over = subst (λ (x : Work). GoesBy None (CallOf (ask_at (job.Unmap m) t) o) config (job_says t (job.Unmap m) (act_at w number t (job.Unmap m) o)) (record { front = w.front; back = record w.back { jobs = record w.back.jobs { works = slice_set w.back.jobs.works p x }; told = None }; under = record w.under { pages = unmap_pages w.under.grants w.under.pages m; grants = unmap_table w.under.grants m } }) d) (sym stepped) (goes_by (does_step _ [] refl s)
+    (unmap_holds config w g d (next d s.step) p t later r m (job.Unmap m) doing refl doing.at.0.place (data_frames r doing.at.0.place doing.own.shaped doing.at.0.here) doing.at.1 refl refl s.now
+    (work_of w g d (next d s.step) p t later r doing.is refl refl refl tt)
+    (subst (λ (x : Work). HasOneMore m (hands_at w.back.stage (record w.back { jobs = record w.back.jobs { works = slice_set w.back.jobs.works p x } })) (hands_of w.back)) stepped (hands_step w p t (job.Unmap m) answer.Done doing.is.place doing.stage tt))))
   where
     later : Work
     later = record t { rest = []; stage = job.Done Okay }
 
-    shaped : IsShaped r
-    shaped = let its = h.submitted.each (t.id - 1) r is.known in its.shaped
-
     rest : rest_of t.rest ≡ []
-    rest = ap rest_of (at.0.rest ∙ own_here r at.0.place shaped at.0.here) ∙ own_end r (at.0.place + 1) over
+    rest = ap rest_of (doing.at.0.rest ∙ own_here r doing.at.0.place doing.own.shaped doing.at.0.here) ∙ own_end r (doing.at.0.place + 1) over
 
     stepped : step_at (job.Unmap m) t answer.Done ≡ later
     stepped = ap (next_segment t) rest
 
     s : Stepped None (CallOf (ask_at (job.Unmap m) t) o) d [] (λ x. StationsWith config w g x (slice_set w.back.jobs.works p later) w.under.pages)
-    s = ends_well o config w g d p t r m [] h is e (moves_sectors r at.0.place shaped at.0.here) (all_moved r.count (frames_for r.count) at.0.place t.within t.moved refl over at.2 at.0.moved)
+    s = ends_well o config w g d p t r m [] doing (moves_sectors r doing.at.0.place doing.own.shaped doing.at.0.here) (all_moved r.count (frames_for r.count) doing.at.0.place t.within t.moved refl over doing.at.2 doing.at.0.moved)
 
 -- another segment comes: its frame is mapped next
 unmap_next : (config : Options) (w : World) (g : Flow) (d : Pipeline) (number p : ℕ) (t : Work) (r : Request) (m : Mapping) (o : Outcome)
-    → Holds config w g d w.front.stage w.back.stage
-    → AreHeld w.under.grants (hands_of w.back)
-    → IsAt w g d p t r
-    → t.stage ≡ job.Unmap m
-    → (at : AtWork r t (job.Unmap m))
-    → at.0.place + 1 < frames_for r.count
+    → (doing : IsDoing config w g d p t r (job.Unmap m))
+    → doing.at.0.place + 1 < frames_for r.count
     → JobGoesAt config w d number p t (job.Unmap m) o
-unmap_next config w g d number p t r m o h held is e at more = subst (λ (x : Work). GoesBy None (CallOf (ask_at (job.Unmap m) t) o) config (job_says t (job.Unmap m) (act_at w number t (job.Unmap m) o)) (record { front = w.front; back = record w.back { jobs = record w.back.jobs { works = slice_set w.back.jobs.works p x }; told = None }; under = record w.under { pages = unmap_pages w.under.grants w.under.pages m; grants = unmap_table w.under.grants m } }) d) (sym stepped) (record {
-  flow = g;
-  steps = [];
-  does = nothing (CallOf (ask_at (job.Unmap m) t) o) _ d (λ a b call. same_Some b a call.1);
-  holds = unmap_holds config w g d d p t later r m h held is (at_work w g d p t r is e at) (rw e refl) at.0.place (data_frames r at.0.place shaped at.0.here) at.1 refl refl
-      (stations_stay config w g d p t later r w.under.pages h.stations is.place is.known refl (sym (ap (λ (j : JobStage). worked j t.moved) e))
-      (λ q was reads. read_was config w g d p t r h is e q was reads))
-      (work_of w g d d p t later r is refl refl refl (next_moving, refl))
-      (subst (λ (x : Work). HasOneMore m (hands_at w.back.stage (record w.back { jobs = record w.back.jobs { works = slice_set w.back.jobs.works p x } })) (hands_of w.back)) stepped (hands_step w p t (job.Unmap m) answer.Done is.place e tt));
-})
+unmap_next config w g d number p t r m o doing more = subst (λ (x : Work). GoesBy None (CallOf (ask_at (job.Unmap m) t) o) config (job_says t (job.Unmap m) (act_at w number t (job.Unmap m) o)) (record { front = w.front; back = record w.back { jobs = record w.back.jobs { works = slice_set w.back.jobs.works p x }; told = None }; under = record w.under { pages = unmap_pages w.under.grants w.under.pages m; grants = unmap_table w.under.grants m } }) d) (sym stepped) (goes_by (nothing (CallOf (ask_at (job.Unmap m) t) o) _ d (λ a b call. same_Some b a call.1))
+    (unmap_holds config w g d d p t later r m (job.Unmap m) doing refl doing.at.0.place (data_frames r doing.at.0.place doing.own.shaped doing.at.0.here) doing.at.1 refl refl
+    (stations_stay config w g d p t later r w.under.pages doing.holds.stations doing.is.place doing.is.known refl (sym (ap (λ (j : JobStage). worked j t.moved) doing.stage))
+    (λ q was reads. read_now doing q was reads))
+    (work_of w g d d p t later r doing.is refl refl refl (next_moving, refl))
+    (subst (λ (x : Work). HasOneMore m (hands_at w.back.stage (record w.back { jobs = record w.back.jobs { works = slice_set w.back.jobs.works p x } })) (hands_of w.back)) stepped (hands_step w p t (job.Unmap m) answer.Done doing.is.place doing.stage tt))))
   where
     place : ℕ
-    place = at.0.place + 1
-
-    shaped : IsShaped r
-    shaped = let its = h.submitted.each (t.id - 1) r is.known in its.shaped
+    place = doing.at.0.place + 1
 
     later : Work
     later = record t { rest = frame_segment r place ∷ drop (place + 1) (own_segments r); within = 0; stage = job.Map }
 
     rest : rest_of t.rest ≡ frame_segment r place ∷ drop (place + 1) (own_segments r)
-    rest = ap rest_of (at.0.rest ∙ own_here r at.0.place shaped at.0.here) ∙ own_here r place shaped more
+    rest = ap rest_of (doing.at.0.rest ∙ own_here r doing.at.0.place doing.own.shaped doing.at.0.here) ∙ own_here r place doing.own.shaped more
 
     stepped : step_at (job.Unmap m) t answer.Done ≡ later
     stepped = ap (next_segment t) rest
 
     next_moving : IsMoving later r
     next_moving =
-        let moved = frame_moved r.count (frames_for r.count) at.0.place t.within t.moved refl more at.2 at.0.moved in
+        let moved = frame_moved r.count (frames_for r.count) doing.at.0.place t.within t.moved refl more doing.at.2 doing.at.0.moved in
         record {
           place = place;
           here = more;
-          writes = at.0.writes;
-          rest = sym (own_here r place shaped more);
+          writes = doing.at.0.writes;
+          rest = sym (own_here r place doing.own.shaped more);
           within = omega arith;
           moved = omega arith;
-          disk = at.0.disk;
-          words = at.0.words;
+          disk = doing.at.0.disk;
+          words = doing.at.0.words;
         }
 
 -- a segment is done
 unmap_goes : (config : Options) (w : World) (g : Flow) (d : Pipeline) (number p : ℕ) (t : Work) (r : Request) (m : Mapping) (o : Outcome)
-    → Holds config w g d w.front.stage w.back.stage
-    → AreHeld w.under.grants (hands_of w.back)
-    → IsAt w g d p t r
-    → t.stage ≡ job.Unmap m
-    → AtWork r t (job.Unmap m)
+    → IsDoing config w g d p t r (job.Unmap m)
     → JobGoesAt config w d number p t (job.Unmap m) o
-unmap_goes config w g d number p t r m o h held is e at = by_rest (nat_lt (at.0.place + 1) (frames_for r.count)) refl
+unmap_goes config w g d number p t r m o doing = by_rest (nat_lt (doing.at.0.place + 1) (frames_for r.count)) refl
   where
-    by_rest : (b : Bool) → nat_lt (at.0.place + 1) (frames_for r.count) ≡ b → JobGoesAt config w d number p t (job.Unmap m) o
-    by_rest true more = unmap_next config w g d number p t r m o h held is e at (grind (arith, nat_tests))
-    by_rest false over = unmap_ends config w g d number p t r m o h held is e at (let here = at.0.here in grind (arith, nat_tests))
+    by_rest : (b : Bool) → nat_lt (doing.at.0.place + 1) (frames_for r.count) ≡ b → JobGoesAt config w d number p t (job.Unmap m) o
+    by_rest true more = unmap_next config w g d number p t r m o doing (grind (arith, nat_tests))
+    by_rest false over = unmap_ends config w g d number p t r m o doing (let here = doing.at.0.here in grind (arith, nat_tests))
 
 give_up_goes : (config : Options) (w : World) (g : Flow) (d : Pipeline) (number p : ℕ) (t : Work) (r : Request) (m : Mapping) (o : Outcome)
-    → Holds config w g d w.front.stage w.back.stage
-    → AreHeld w.under.grants (hands_of w.back)
-    → IsAt w g d p t r
-    → t.stage ≡ job.GiveUp m
-    → AtWork r t (job.GiveUp m)
+    → IsDoing config w g d p t r (job.GiveUp m)
     → JobGoesAt config w d number p t (job.GiveUp m) o
-give_up_goes config w g d number p t r m o h held is e at = record {
-  flow = g;
-  steps = s.step ∷ [];
-  does = does_step _ [] refl s;
-  holds = unmap_holds config w g d (next d s.step) p t later r m h held is (at_work w g d p t r is e at) (rw e refl) at.0 (data_frames r at.0 shaped at.1) at.2 refl refl s.now
-      (work_of w g d (next d s.step) p t later r is refl refl refl tt)
-      (hands_step w p t (job.GiveUp m) answer.Done is.place e tt);
-}
+give_up_goes config w g d number p t r m o doing = goes_by (does_step _ [] refl s)
+    (unmap_holds config w g d (next d s.step) p t later r m (job.GiveUp m) doing refl doing.at.0 (data_frames r doing.at.0 doing.own.shaped doing.at.1) doing.at.2 refl refl s.now
+    (work_of w g d (next d s.step) p t later r doing.is refl refl refl tt)
+    (hands_step w p t (job.GiveUp m) answer.Done doing.is.place doing.stage tt))
   where
-    shaped : IsShaped r
-    shaped = let its = h.submitted.each (t.id - 1) r is.known in its.shaped
-
     later : Work
     later = record t { stage = job.Done Error }
 
     s : Stepped None (CallOf (ask_at (job.GiveUp m) t) o) d [] (λ x. StationsWith config w g x (slice_set w.back.jobs.works p later) w.under.pages)
-    s = ends_badly o config w g d p t r m h is e
+    s = ends_badly o config w g d p t r m doing
 
 by_stage : (config : Options) (w : World) (g : Flow) (d : Pipeline) (number p : ℕ) (t : Work) (r : Request) (o : Outcome) (j : JobStage)
     → Holds config w g d w.front.stage w.back.stage
-    → AreHeld w.under.grants (hands_of w.back)
-    → (is_done_at j ≡ false → IsAt w g d p t r)
-    → t.stage ≡ j
-    → AtWork r t j
+    → (is_done_at j ≡ false → IsDoing config w g d p t r j)
     → IsGiven o
     → JobGoesAt config w d number p t j o
-by_stage config w g d number p t r o job.MapPage h held is e at given = map_page_goes config w g d number p t r o h (is refl) e at
-by_stage config w g d number p t r o (job.PageReference m) h held is e at given = reference_goes config w g d number p t r m o h held (is refl) e at
-by_stage config w g d number p t r o (job.PageSectors m gref) h held is e at given = sectors_goes config w g d number p t r m gref o h held (is refl) e at
-by_stage config w g d number p t r o (job.UnmapPage m) h held is e at given = unmap_page_goes config w g d number p t r m o h held (is refl) e at
-by_stage config w g d number p t r o job.Map h held is e at given = map_goes config w g d number p t r o h (is refl) e at
-by_stage config w g d number p t r o (job.ReadWord m k) h held is e at given = read_goes config w g d number p t r m k o h held (is refl) e at
-by_stage config w g d number p t r o (job.DiskWrite m) h held is e at given = disk_goes config w g d number p t r m o h (is refl) e at
-by_stage config w g d number p t r o (job.DiskRead m) h held is e at given = disk_gives config w g d number p t r m o h (is refl) e at given
-by_stage config w g d number p t r o (job.WriteWord m k) h held is e at given = write_goes config w g d number p t r m k o h held (is refl) e at
-by_stage config w g d number p t r o (job.Unmap m) h held is e at given = unmap_goes config w g d number p t r m o h held (is refl) e at
-by_stage config w g d number p t r o (job.GiveUp m) h held is e at given = give_up_goes config w g d number p t r m o h held (is refl) e at
-by_stage config w g d number p t r o (job.Done status) h held is e at given = stays (CallOf (ask_at (job.Done status) t) o) config w g d (λ a b call. same_Some b a call.1) h
-by_stage config w g d number p t r o job.Flush h held is e at given = flush_goes config w g d number p t r o h (is refl) e at
-by_stage config w g d number p t r o (job.Trim count) h held is e at given = trim_goes config w g d number p t r count o h (is refl) e at
+by_stage config w g d number p t r o job.MapPage h doing given = map_page_goes config w g d number p t r o (doing refl)
+by_stage config w g d number p t r o (job.PageReference m) h doing given = reference_goes config w g d number p t r m o (doing refl)
+by_stage config w g d number p t r o (job.PageSectors m gref) h doing given = sectors_goes config w g d number p t r m gref o (doing refl)
+by_stage config w g d number p t r o (job.UnmapPage m) h doing given = unmap_page_goes config w g d number p t r m o (doing refl)
+by_stage config w g d number p t r o job.Map h doing given = map_goes config w g d number p t r o (doing refl)
+by_stage config w g d number p t r o (job.ReadWord m k) h doing given = read_goes config w g d number p t r m k o (doing refl)
+by_stage config w g d number p t r o (job.DiskWrite m) h doing given = disk_goes config w g d number p t r m o (doing refl)
+by_stage config w g d number p t r o (job.DiskRead m) h doing given = disk_gives config w g d number p t r m o (doing refl) given
+by_stage config w g d number p t r o (job.WriteWord m k) h doing given = write_goes config w g d number p t r m k o (doing refl)
+by_stage config w g d number p t r o (job.Unmap m) h doing given = unmap_goes config w g d number p t r m o (doing refl)
+by_stage config w g d number p t r o (job.GiveUp m) h doing given = give_up_goes config w g d number p t r m o (doing refl)
+by_stage config w g d number p t r o (job.Done status) h doing given = stays (CallOf (ask_at (job.Done status) t) o) config w g d (λ a b call. same_Some b a call.1) h
+by_stage config w g d number p t r o job.Flush h doing given = flush_goes config w g d number p t r o (doing refl)
+by_stage config w g d number p t r o (job.Trim count) h doing given = trim_goes config w g d number p t r count o (doing refl)
 
 -- the move of the job at a place is that of its number
 at_place : (config : Options) (w : World) (d : Pipeline) (number p : ℕ) (t : Work) (o : Outcome)
@@ -245,8 +205,8 @@ job_kept config w g d number o h held given = by_place (place_of w.back.jobs.wor
     by_wait p t e here false free =
         let work = all_at (IsWork g.submitted g.series g.fetched) w.back.jobs.works p t h.works.each here in
         at_place config w d number p t o h.unhalted e here free
-        (by_stage config w g d number p t work.r o t.stage h held
-        (λ undone. record { place = here; free = may_move g.submitted g.fetched w.back.jobs.works p t h.works here free undone; known = work.known; positive = work.positive; issued = work.issued; counted = work.counted; reached = work.reached; op = work.op }) refl work.at given)
+        (by_stage config w g d number p t work.r o t.stage h
+        (λ undone. doing_at config w g d p t work.r t.stage h held (record { place = here; free = may_move g.submitted g.fetched w.back.jobs.works p t h.works here free undone; known = work.known; positive = work.positive; issued = work.issued; counted = work.counted; reached = work.reached; op = work.op }) refl work.at) given)
 
     by_place : (place : Option ℕ) → place_of w.back.jobs.works number ≡ place → JobGoes config w d number o
     by_place None e = waits_goes config w g d number o h (rw (h.unhalted, e) refl)

@@ -18,18 +18,17 @@ use Rattle.blk_front.specs.Request.{is_write, words_in, frame_at}
 use Rattle.back_jobs.specs.declared.stage.Stage.{Stage as JobStage}
 use Rattle.back_jobs.specs.declared.stage.Stage.TheVariants as job
 use Rattle.back_jobs.specs.Task.{Work, ask_at, step_at, word_at, sector_stage, next_sector}
-use Rattle.blk_back.specs.Hands.{hands_of, hands_at}
+use Rattle.blk_back.specs.Hands.{hands_at}
 use Rattle.split_model.specs.World.{World}
-use Rattle.split_model.specs.Safe.{AreHeld}
 use Rattle.machine_pipeline.proofs.Flow.{Flow, frames_of, data_word, span, is_own, worked, ending_at}
 use Rattle.machine_pipeline.proofs.Segments.{word_place}
 use Rattle.machine_pipeline.proofs.Data.{SameData, pooled_at, place_in, place_among, own_before, data_written, data_other, data_apart}
 use Rattle.machine_pipeline.proofs.Growing.{push_was}
-use Rattle.machine_pipeline.proofs.ReadBack.{IsHeld, IsReadBack, IsReturned, ReadAt, AreReadBack, has_data_at}
+use Rattle.machine_pipeline.proofs.ReadBack.{IsHeld, IsReadBack, IsReturned, ReadAt, AreReadBack, has_data_at, returned_on}
 use Rattle.machine_pipeline.proofs.ReadsKept.{read_at_kept, back_kept}
 use Rattle.machine_pipeline.proofs.Stations.{StandsAt, worked_open}
 use Rattle.machine_pipeline.proofs.Holds.{Holds, IsEnding, ArePooled, IsWork, AtWork, IsFilled, AreDataWords, AreEntries, AreMapped, last_in}
-use Rattle.machine_pipeline.proofs.Turns.{nothing}
+use Rattle.machine_pipeline.proofs.Turns.{nothing, goes_by}
 use Rattle.machine_pipeline.proofs.Lists.{all_at, all_from, place_of_any}
 use Rattle.machine_pipeline.proofs.Hands.{frames_apart, own_apart, ending_apart}
 use Rattle.machine_pipeline.proofs.Frames.{is_submitted, ending_is, told_few}
@@ -37,7 +36,7 @@ use Rattle.machine_pipeline.proofs.Mapped.{frame_live}
 use Rattle.machine_pipeline.proofs.Kept.{SameFrame, SameGrants, other_frame, same_entry, data_kept, entries_kept}
 use Rattle.machine_pipeline.proofs.BackStill.{ending_submitted, revoking_ends, grants_same}
 use Rattle.machine_pipeline.proofs.Jobs.{StationsWith, stations_stay, job_makes, other_number}
-use Rattle.machine_pipeline.proofs.JobMoves.{IsAt, IsOwn, own_at, JobGoesAt, work_of, at_work, read_was, live_hand, hands_step, sectors_left, next_sector_is, worked_further, at_further}
+use Rattle.machine_pipeline.proofs.JobMoves.{IsAt, IsOwn, JobGoesAt, work_of, live_hand, hands_step, sectors_left, next_sector_is, worked_further, at_further, IsDoing, read_now}
 use Rattle.machine_pipeline.specs.Step.{CallOf}
 
 -- the frames of another unfinished request are others
@@ -54,11 +53,10 @@ frame_apart config w g d r x k place q h here known at going other = elim (h.sta
       let found = place_of_any (λ (y : Request). y.number == k + 1) w.front.requests any in
       let number : (let y : Request = found.1 in y.number) ≡ k + 1 = grind (arith, nat_tests, found.3) in
       let one : found.1 ≡ x = same_Some found.1 x (sym (all_at (λ (z : Request). slice_get g.submitted (z.number - 1) ≡ Some z) w.front.requests found.0 found.1 h.queue.known found.2) ∙ (ap (slice_get g.submitted) (omega (arith, number)) ∙ known)) in
-      let is = is_submitted config w g d w.front.stage w.back.stage h found.0 found.1 found.2 in
       subst (λ (z : Request). (a b : ℕ) → a < frames_of z → b < frames_of r → frame_at z a ≢ frame_at r b) one
       (λ a b in_z in_r. frames_apart w.front.pool w.front.requests (ending_at w.front.stage w.front.ending) found.0 place found.1 r h.pool
       (λ same. other (ap (λ (z : Request). z.number) (sym (same_Some found.1 r (sym found.2 ∙ (ap (slice_get w.front.requests) same ∙ here)))) ∙ number))
-      found.2 here a b in_z in_r (pooled_at found.1 is.frames a))
+      found.2 here a b in_z in_r (pooled_at found.1 (is_submitted config w g d w.front.stage w.back.stage h found.0 found.1 found.2).frames a))
   | inr last ↦
       let e : Ending = last.0 in
       let its : IsEnding g.submitted g.replies e = ending_is g.shape _ _ _ _ _ _ _ _ w.front.ending w.front.stage e h.front_at last.1 in
@@ -74,22 +72,12 @@ open_with_data : (s : Station) → has_data_at s ≡ true → is_finished s ≡ 
 open_with_data (Finished status) t = absurd (false≢true t)
 open_with_data s t = refl
 
--- a job that writes word j of its sector, of a request of the front's
-record IsWriting (w : World) (g : Flow) (d : Pipeline) (p : ℕ) (t : Work) (r : Request) (m : Mapping) (j : ℕ) : Type 0 where
-  is : IsAt w g d p t r
-  own : IsOwn w g t r
-  stage : t.stage ≡ job.WriteWord m j
-  at : AtWork r t (job.WriteWord m j)
-
 -- its place among the words of the request's data
 abbrev word_now : Work → ℕ → ℕ
 word_now t j = 128 * (t.moved - 1) + j
 
-now_in : (w : World) (g : Flow) (d : Pipeline) (p : ℕ) (t : Work) (r : Request) (m : Mapping) (j : ℕ) → IsWriting w g d p t r m j → word_now t j < words_in r
-now_in w g d p t r m j x =
-    let left = sectors_left t r 0 x.own.shaped x.at.0 in
-    let moved = x.at.0.moved in
-    omega (arith, left.0, x.at.2)
+now_in : (config : Options) (w : World) (g : Flow) (d : Pipeline) (p : ℕ) (t : Work) (r : Request) (m : Mapping) (j : ℕ) → IsDoing config w g d p t r (job.WriteWord m j) → word_now t j < words_in r
+now_in config w g d p t r m j x = omega (arith, (sectors_left t r 0 x.own.shaped x.at.0).0, x.at.2, x.at.0.moved)
 
 -- memory with that word
 abbrev with_data : World → Work → Request → ℕ → List ℕ
@@ -107,23 +95,21 @@ after_word t r m j wrote last = record t {
 
 -- another word of the request's data is as it was
 other_data : (config : Options) (w : World) (g : Flow) (d : Pipeline) (p : ℕ) (t : Work) (r : Request) (m : Mapping) (j : ℕ)
-    → Holds config w g d w.front.stage w.back.stage
-    → IsWriting w g d p t r m j
+    → IsDoing config w g d p t r (job.WriteWord m j)
     → (i : ℕ) → i < span r → i ≢ word_now t j → data_word (with_data w t r j) r i ≡ data_word w.under.pages r i
-other_data config w g d p t r m j h x i lt other =
+other_data config w g d p t r m j x i lt other =
     data_other w.under.pages r (word_now t j) (slice_index t.words j) i other
-    (λ places. own_apart w.front.pool w.front.requests (ending_at w.front.stage w.front.ending) x.own.place r h.pool x.own.at (i / 1024)
-    (word_now t j / 1024) places (place_among r i x.own.shaped lt) (place_in r (word_now t j) x.own.shaped (now_in w g d p t r m j x))
+    (λ places. own_apart w.front.pool w.front.requests (ending_at w.front.stage w.front.ending) x.own.place r x.holds.pool x.own.at (i / 1024)
+    (word_now t j / 1024) places (place_among r i x.own.shaped lt) (place_in r (word_now t j) x.own.shaped (now_in config w g d p t r m j x))
     (pooled_at r x.own.frames (i / 1024)))
 
 -- so are the sectors that were moved before
 back_written : (config : Options) (w : World) (g : Flow) (d : Pipeline) (p : ℕ) (t : Work) (r : Request) (m : Mapping) (j moved : ℕ) (noted : List (List ℕ))
-    → Holds config w g d w.front.stage w.back.stage
-    → IsWriting w g d p t r m j
+    → IsDoing config w g d p t r (job.WriteWord m j)
     → moved + 1 ≡ t.moved
     → IsReadBack w.under.pages r moved noted
     → IsReadBack (with_data w t r j) r moved noted
-back_written config w g d p t r m j moved noted h x one_more b = record {
+back_written config w g d p t r m j moved noted x one_more b = record {
   counted = b.counted;
   few = b.few;
   sectors = λ i words at.
@@ -131,94 +117,77 @@ back_written config w g d p t r m j moved noted h x one_more b = record {
       let was = b.sectors i words at in
       let counted = b.counted in
       let few = b.few in
-      record { size = was.size; held = λ k lt. other_data config w g d p t r m j h x (128 * i + k) (omega arith) (omega arith) ∙ was.held k lt };
+      record { size = was.size; held = λ k lt. other_data config w g d p t r m j x (128 * i + k) (omega arith) (omega arith) ∙ was.held k lt };
 }
 
 -- the frames of all reads, with that word
-returned : (config : Options) (w : World) (g : Flow) (d : Pipeline) (p : ℕ) (t : Work) (r : Request) (m : Mapping) (j : ℕ) → Holds config w g d w.front.stage w.back.stage → IsWriting w g d p t r m j → AreReadBack g.submitted d.requests w.back.jobs.works (with_data w t r j)
-returned config w g d p t r m j h x = record {
+returned : (config : Options) (w : World) (g : Flow) (d : Pipeline) (p : ℕ) (t : Work) (r : Request) (m : Mapping) (j : ℕ) → IsDoing config w g d p t r (job.WriteWord m j) → AreReadBack g.submitted d.requests w.back.jobs.works (with_data w t r j)
+returned config w g d p t r m j x = record {
   working = λ i u y q here its was reads. elim (cases_eq i p) [
     | inl same ↦
-        let it : t ≡ u = same_Some t u (sym is.place ∙ (ap (slice_get w.back.jobs.works) (sym same) ∙ here)) in
-        let one : r ≡ y = same_Some r y (sym is.known ∙ (ap (λ (v : Work). slice_get g.submitted (v.id - 1)) it ∙ its)) in
-        let old = read_was config w g d p t r h is x.stage q (ap (λ (v : Work). slice_get d.requests (v.id - 1)) it ∙ was) x.at.3 in
+        let it : t ≡ u = same_Some t u (sym x.is.place ∙ (ap (slice_get w.back.jobs.works) (sym same) ∙ here)) in
+        let one : r ≡ y = same_Some r y (sym x.is.known ∙ (ap (λ (v : Work). slice_get g.submitted (v.id - 1)) it ∙ its)) in
+        let old = read_now x q (ap (λ (v : Work). slice_get d.requests (v.id - 1)) it ∙ was) x.at.3 in
         subst (λ (v : Work). ReadAt new y v.moved v.words q.words v.stage) it
         (subst (λ (z : Request). ReadAt new z t.moved t.words q.words t.stage) one
         (subst (λ (s : JobStage). ReadAt new r t.moved t.words q.words s) (sym x.stage) (still q.words old)))
     | inr other ↦
-        let number = other_number w.back.jobs.works p i t u h.works.ascending other is.place here in
-        let work = all_at (IsWork g.submitted g.series g.fetched) w.back.jobs.works i u h.works.each here in
-        let at : StandsAt d.requests (u.id - 1) (worked u.stage u.moved) = h.stations.works i u here in
+        let number = other_number w.back.jobs.works p i t u x.holds.works.ascending other x.is.place here in
+        let work = all_at (IsWork g.submitted g.series g.fetched) w.back.jobs.works i u x.holds.works.each here in
+        let at : StandsAt d.requests (u.id - 1) (worked u.stage u.moved) = x.holds.stations.works i u here in
         let one : at.q ≡ q = same_Some at.q q (sym at.at ∙ was) in
-        read_at_kept w.under.pages new y u.moved u.words q.words u.stage (apart (u.id - 1) y q its was (ap (λ (z : Asked). is_finished z.station) (sym one) ∙ (ap is_finished at.there ∙ worked_open u.stage u.moved)) (omega (arith, work.positive, is.positive))) (h.stations.reads.working i u y q here its was reads)
+        read_at_kept w.under.pages new y u.moved u.words q.words u.stage (apart (u.id - 1) y q its was (ap (λ (z : Asked). is_finished z.station) (sym one) ∙ (ap is_finished at.there ∙ worked_open u.stage u.moved)) (omega (arith, work.positive, x.is.positive))) (x.holds.stations.reads.working i u y q here its was reads)
   ];
   after = λ k y q its was reads there. elim (cases_eq k (t.id - 1)) [
     | inl same ↦
-        let at : StandsAt d.requests (t.id - 1) (worked t.stage t.moved) = h.stations.works p t is.place in
+        let at : StandsAt d.requests (t.id - 1) (worked t.stage t.moved) = x.holds.stations.works p t x.is.place in
         let one : at.q ≡ q = same_Some at.q q (sym at.at ∙ (ap (slice_get d.requests) (sym same) ∙ was)) in
         absurd (false≢true (sym (ap (λ (s : JobStage). has_data_at (worked s t.moved)) x.stage) ∙ (sym (ap has_data_at at.there) ∙ (ap (λ (z : Asked). has_data_at z.station) one ∙ there))))
-    | inr other ↦ back_kept w.under.pages new y y.count q.words (apart k y q its was (open_with_data q.station there) other) (h.stations.reads.after k y q its was reads there)
+    | inr other ↦ back_kept w.under.pages new y y.count q.words (apart k y q its was (open_with_data q.station there) other) (x.holds.stations.reads.after k y q its was reads there)
   ];
 }
   where
-    is : IsAt w g d p t r
-    is = x.is
-
-    own : IsOwn w g t r
-    own = x.own
-
     new : List ℕ
     new = with_data w t r j
 
     still : (noted : List (List ℕ)) → IsReturned w.under.pages r t.moved t.words noted j → IsReturned new r t.moved t.words noted j
-    still noted old =
-        let counted = old.counted in
-        let few = old.few in
-        record {
-          earlier = old.earlier;
-          with_hand = old.with_hand;
-          counted = old.counted;
-          few = old.few;
-          back = back_written config w g d p t r m j (length old.earlier) old.earlier h x old.counted old.back;
-          size = old.size;
-          so_far = λ k lt sized. other_data config w g d p t r m j h x (128 * length old.earlier + k) (omega arith) (omega arith) ∙ old.so_far k lt sized;
-        }
+    still noted old = returned_on new j old (back_written config w g d p t r m j (length old.earlier) old.earlier x old.counted old.back)
+        (λ k lt sized. other_data config w g d p t r m j x (128 * length old.earlier + k) (omega (arith, old.counted, old.few)) (omega (arith, old.counted, old.few)) ∙ old.so_far k lt sized)
 
     apart : (k : ℕ) (y : Request) (q : Asked) → slice_get g.submitted k ≡ Some y → slice_get d.requests k ≡ Some q → is_finished q.station ≡ false → k ≢ t.id - 1 → SameData w.under.pages new y
     apart k y q its was going other =
-        let sub = h.submitted.each k y its in
+        let sub = x.holds.submitted.each k y its in
         data_apart w.under.pages (frame_at r (word_now t j / 1024)) (word_now t j % 1024) (slice_index t.words j) y (omega arith) sub.shaped
-        (λ a lt. frame_apart config w g d r y k own.place q h own.at its was going (omega (arith, own.number, is.positive)) a (word_now t j / 1024) lt
-        (place_in r (word_now t j) own.shaped (now_in w g d p t r m j x)))
+        (λ a lt. frame_apart config w g d r y k x.own.place q x.holds x.own.at its was going (omega (arith, x.own.number, x.is.positive)) a (word_now t j / 1024) lt
+        (place_in r (word_now t j) x.own.shaped (now_in config w g d p t r m j x)))
 
 -- what the job has at its next stage
 then_read : (config : Options) (w : World) (g : Flow) (d : Pipeline) (p : ℕ) (t : Work) (r : Request) (m : Mapping) (j : ℕ) (wrote last : Bool)
-    → Holds config w g d w.front.stage w.back.stage
-    → IsWriting w g d p t r m j
+    → IsDoing config w g d p t r (job.WriteWord m j)
     → (j == 127) ≡ wrote
     → (q : Asked) → slice_get d.requests (t.id - 1) ≡ Some q → is_write r.transfer ≡ false
     → ReadAt (with_data w t r j) r t.moved t.words q.words (stage_after r m j wrote last)
-then_read config w g d p t r m j wrote last h x tested q was reads = by_test wrote last tested
+then_read config w g d p t r m j wrote last x tested q was reads = by_test wrote last tested
   where
     new : List ℕ
     new = with_data w t r j
 
     old : IsReturned w.under.pages r t.moved t.words q.words j
-    old = read_was config w g d p t r h x.is x.stage q was reads
+    old = read_now x q was reads
 
     earlier : IsReadBack new r (length old.earlier) old.earlier
-    earlier = back_written config w g d p t r m j (length old.earlier) old.earlier h x old.counted old.back
+    earlier = back_written config w g d p t r m j (length old.earlier) old.earlier x old.counted old.back
 
     word : (k : ℕ) → k < j + 1 → k < 128 → data_word new r (128 * length old.earlier + k) ≡ slice_index t.words k
     word k lt few = elim (cases_eq k j) [
       | inl same ↦
           let at : 128 * length old.earlier + k ≡ word_now t j = omega (arith, old.counted) in
-          ap (data_word new r) at ∙ (data_written w.under.pages r (word_now t j) (slice_index t.words j) h.memory
+          ap (data_word new r) at ∙ (data_written w.under.pages r (word_now t j) (slice_index t.words j) x.holds.memory
           (pooled_at r x.own.frames (word_now t j / 1024)) ∙ ap (slice_index t.words) (sym same))
       | inr other ↦
           let counted = old.counted in
           let most = old.few in
-          other_data config w g d p t r m j h x (128 * length old.earlier + k) (omega arith) (omega arith) ∙ old.so_far k (omega arith) few
+          other_data config w g d p t r m j x (128 * length old.earlier + k) (omega arith) (omega arith) ∙ old.so_far k (omega arith) few
     ]
 
     held : j ≡ 127 → IsHeld new r (length old.earlier) t.words
@@ -237,64 +206,45 @@ then_read config w g d p t r m j wrote last h x tested q was reads = by_test wro
     by_test : (b c : Bool) → (j == 127) ≡ b → ReadAt new r t.moved t.words q.words (stage_after r m j b c)
     by_test true true over = whole (grind (arith, nat_tests))
     by_test true false over = subst (λ (way : Bool). ReadAt new r t.moved t.words q.words (sector_stage way m)) (sym reads) (whole (grind (arith, nat_tests)))
-    by_test false c over = record {
-      earlier = old.earlier;
-      with_hand = old.with_hand;
-      counted = old.counted;
-      few = old.few;
-      back = earlier;
-      size = old.size;
-      so_far = word;
-    }
+    by_test false c over = returned_on new (j + 1) old earlier word
 
 -- so the stations
 stations_returned : (config : Options) (w : World) (g : Flow) (d : Pipeline) (p : ℕ) (t : Work) (r : Request) (m : Mapping) (j : ℕ) (wrote last : Bool)
-    → Holds config w g d w.front.stage w.back.stage
-    → IsWriting w g d p t r m j
+    → IsDoing config w g d p t r (job.WriteWord m j)
     → (j == 127) ≡ wrote
     → StationsWith config w g d (slice_set w.back.jobs.works p (after_word t r m j wrote last)) (with_data w t r j)
-stations_returned config w g d p t r m j wrote last h x tested =
+stations_returned config w g d p t r m j wrote last x tested =
     stations_stay config w g d p t (after_word t r m j wrote last) r (with_data w t r j) (record {
-      options = h.stations.options;
-      front = h.stations.front;
-      ring = h.stations.ring;
-      known = h.stations.known;
-      opened = h.stations.opened;
-      issued = h.stations.issued;
-      waiting = h.stations.waiting;
-      pushed = h.stations.pushed;
-      works = h.stations.works;
-      held = h.stations.held;
-      going = h.stations.going;
-      replying = h.stations.replying;
-      replied = h.stations.replied;
-      taking = h.stations.taking;
-      reads = returned config w g d p t r m j h x;
+      options = x.holds.stations.options;
+      front = x.holds.stations.front;
+      ring = x.holds.stations.ring;
+      stand = x.holds.stations.stand;
+      reads = returned config w g d p t r m j x;
     }) x.is.place x.is.known refl (same_station wrote ∙ sym (ap (λ (s : JobStage). worked s t.moved) x.stage))
-    (then_read config w g d p t r m j wrote last h x tested)
+    (then_read config w g d p t r m j wrote last x tested)
   where
     same_station : (b : Bool) → worked (stage_after r m j b last) t.moved ≡ Working t.moved
     same_station true = worked_further last (is_write r.transfer) m t.moved
     same_station false = refl
 
 -- no word of a write changes
-frames_returned : (config : Options) (w : World) (g : Flow) (d : Pipeline) (p : ℕ) (t : Work) (r : Request) (m : Mapping) (j : ℕ) → Holds config w g d w.front.stage w.back.stage → IsWriting w g d p t r m j → All (IsFilled g.series g.pushed (with_data w t r j) w.front.stage) w.front.requests
-frames_returned config w g d p t r m j h x = all_from (IsFilled g.series g.pushed (with_data w t r j) w.front.stage) w.front.requests (λ i y at. elim (cases_eq i x.own.place) [
+frames_returned : (config : Options) (w : World) (g : Flow) (d : Pipeline) (p : ℕ) (t : Work) (r : Request) (m : Mapping) (j : ℕ) → IsDoing config w g d p t r (job.WriteWord m j) → All (IsFilled g.series g.pushed (with_data w t r j) w.front.stage) w.front.requests
+frames_returned config w g d p t r m j x = all_from (IsFilled g.series g.pushed (with_data w t r j) w.front.stage) w.front.requests (λ i y at. elim (cases_eq i x.own.place) [
   | inl same ↦
       let one : r ≡ y = same_Some r y (sym x.own.at ∙ (ap (slice_get w.front.requests) (sym same) ∙ at)) in
-      let was = all_at (IsFilled g.series g.pushed w.under.pages w.front.stage) w.front.requests x.own.place r h.frames x.own.at in
-      let kept : (n : ℕ) → n < span r → is_own r n ≡ true → data_word (with_data w t r j) r n ≡ data_word w.under.pages r n = λ n lt own. other_data config w g d p t r m j h x n lt (pages_alone n own) in
+      let was = all_at (IsFilled g.series g.pushed w.under.pages w.front.stage) w.front.requests x.own.place r x.holds.frames x.own.at in
+      let kept : (n : ℕ) → n < span r → is_own r n ≡ true → data_word (with_data w t r j) r n ≡ data_word w.under.pages r n = λ n lt own. other_data config w g d p t r m j x n lt (pages_alone n own) in
       subst (IsFilled g.series g.pushed (with_data w t r j) w.front.stage) one (record {
         whole = λ le n lt own. kept n lt own ∙ was.whole le n lt own;
         begun = λ number n f lt own. kept n lt own ∙ was.begun number n f lt own;
       })
   | inr other ↦
-      let is = is_submitted config w g d w.front.stage w.back.stage h i y at in
+      let is = is_submitted config w g d w.front.stage w.back.stage x.holds i y at in
       let kept : SameData w.under.pages (with_data w t r j) y = data_apart w.under.pages (frame_at r (word_now t j / 1024)) (word_now t j % 1024)
       (slice_index t.words j) y (omega arith) is.shaped
-      (λ a lt. frames_apart w.front.pool w.front.requests (ending_at w.front.stage w.front.ending) i x.own.place y r h.pool other at x.own.at a
-      (word_now t j / 1024) lt (place_in r (word_now t j) x.own.shaped (now_in w g d p t r m j x)) (pooled_at y is.frames a)) in
-      let was = all_at (IsFilled g.series g.pushed w.under.pages w.front.stage) w.front.requests i y h.frames at in
+      (λ a lt. frames_apart w.front.pool w.front.requests (ending_at w.front.stage w.front.ending) i x.own.place y r x.holds.pool other at x.own.at a
+      (word_now t j / 1024) lt (place_in r (word_now t j) x.own.shaped (now_in config w g d p t r m j x)) (pooled_at y is.frames a)) in
+      let was = all_at (IsFilled g.series g.pushed w.under.pages w.front.stage) w.front.requests i y x.holds.frames at in
       record {
         whole = λ le k lt own. kept k lt ∙ was.whole le k lt own;
         begun = λ number k f lt own. kept k lt ∙ was.begun number k f lt own;
@@ -303,118 +253,89 @@ frames_returned config w g d p t r m j h x = all_from (IsFilled g.series g.pushe
   where
     -- of a read the front's own words are those of its indirect pages, and no word of data
     pages_alone : (n : ℕ) → is_own r n ≡ true → n ≢ word_now t j
-    pages_alone n own = λ same. false≢true (sym x.at.3 ∙ (own_before r n own (let in_data = now_in w g d p t r m j x in omega arith)).0)
+    pages_alone n own = λ same. false≢true (sym x.at.3 ∙ (own_before r n own (let in_data = now_in config w g d p t r m j x in omega arith)).0)
 
 -- nor one of the data that are told
-data_returned : (config : Options) (w : World) (g : Flow) (d : Pipeline) (p : ℕ) (t : Work) (r : Request) (m : Mapping) (j : ℕ) → Holds config w g d w.front.stage w.back.stage → IsWriting w g d p t r m j → AreDataWords (with_data w t r j) w.front.words w.front.ending w.front.stage
-data_returned config w g d p t r m j h x =
+data_returned : (config : Options) (w : World) (g : Flow) (d : Pipeline) (p : ℕ) (t : Work) (r : Request) (m : Mapping) (j : ℕ) → IsDoing config w g d p t r (job.WriteWord m j) → AreDataWords (with_data w t r j) w.front.words w.front.ending w.front.stage
+data_returned config w g d p t r m j x =
     data_kept w.under.pages (with_data w t r j) w.front.words w.front.ending w.front.stage
     (λ e same.
-    let is = ending_submitted config w g d w.front.stage w.back.stage e h same in
+    let is = ending_submitted config w g d w.front.stage w.back.stage e x.holds same in
     data_apart w.under.pages (frame_at r (word_now t j / 1024)) (word_now t j % 1024) (slice_index t.words j) e.request (omega arith) is.shaped
     (λ a lt.
-    let far = ending_apart w.front.pool w.front.requests e x.own.place r (subst (ArePooled w.front.pool w.front.requests) same h.pool) x.own.at
-    (word_now t j / 1024) a (place_in r (word_now t j) x.own.shaped (now_in w g d p t r m j x)) lt (pooled_at r x.own.frames (word_now t j / 1024)) in
+    let far = ending_apart w.front.pool w.front.requests e x.own.place r (subst (ArePooled w.front.pool w.front.requests) same x.holds.pool) x.own.at
+    (word_now t j / 1024) a (place_in r (word_now t j) x.own.shaped (now_in config w g d p t r m j x)) lt (pooled_at r x.own.frames (word_now t j / 1024)) in
     λ s. far (sym s)))
-    (told_few g.shape _ _ _ _ _ _ _ _ w.front.ending w.front.stage h.front_at) h.telling
+    (told_few g.shape _ _ _ _ _ _ _ _ w.front.ending w.front.stage x.holds.front_at) x.holds.telling
 
 -- another frame is as it was
-frame_returned : (w : World) (g : Flow) (d : Pipeline) (p : ℕ) (t : Work) (r : Request) (m : Mapping) (j : ℕ)
-    → IsWriting w g d p t r m j
+frame_returned : (config : Options) (w : World) (g : Flow) (d : Pipeline) (p : ℕ) (t : Work) (r : Request) (m : Mapping) (j : ℕ)
+    → IsDoing config w g d p t r (job.WriteWord m j)
     → (f : ℕ)
     → f < 18
     → SameFrame w.under.pages (with_data w t r j) f
-frame_returned w g d p t r m j x f low =
+frame_returned config w g d p t r m j x f low =
     let pooled = pooled_at r x.own.frames (word_now t j / 1024) in
     other_frame w.under.pages (frame_at r (word_now t j / 1024)) (word_now t j % 1024) (slice_index t.words j) f (omega arith) (omega (arith, pooled.0))
 
 -- the entries are as they were
-entries_returned : (config : Options) (w : World) (g : Flow) (d : Pipeline) (p : ℕ) (t : Work) (r : Request) (m : Mapping) (j : ℕ) → Holds config w g d w.front.stage w.back.stage → IsWriting w g d p t r m j → AreEntries g.series g.pushed (with_data w t r j) w.under.grants.live w.front.stage w.front.ending w.front.requests
-entries_returned config w g d p t r m j h x =
+entries_returned : (config : Options) (w : World) (g : Flow) (d : Pipeline) (p : ℕ) (t : Work) (r : Request) (m : Mapping) (j : ℕ) → IsDoing config w g d p t r (job.WriteWord m j) → AreEntries g.series g.pushed (with_data w t r j) w.under.grants.live w.front.stage w.front.ending w.front.requests
+entries_returned config w g d p t r m j x =
     entries_kept g.pushed w.under.pages (with_data w t r j) w.under.grants.live w.front.stage w.front.ending w.front.requests
     (all_from (SameGrants w.under.pages (with_data w t r j)) w.front.requests
-    (λ i y at. let is = is_submitted config w g d w.front.stage w.back.stage h i y at in grants_same w.under.pages (with_data w t r j) y is.frames zeroth first))
+    (λ i y at. let is = is_submitted config w g d w.front.stage w.back.stage x.holds i y at in grants_same w.under.pages (with_data w t r j) y is.frames zeroth first))
     (λ e same.
-    let is = ending_submitted config w g d w.front.stage w.back.stage e h (revoking_ends w.front.stage w.front.ending e same) in
+    let is = ending_submitted config w g d w.front.stage w.back.stage e x.holds (revoking_ends w.front.stage w.front.ending e same) in
     grants_same w.under.pages (with_data w t r j) e.request is.frames zeroth first)
-    h.entries
+    x.holds.entries
   where
     zeroth : SameFrame w.under.pages (with_data w t r j) 0
-    zeroth = frame_returned w g d p t r m j x 0 (omega arith)
+    zeroth = frame_returned config w g d p t r m j x 0 (omega arith)
 
     first : SameFrame w.under.pages (with_data w t r j) 1
-    first = frame_returned w g d p t r m j x 1 (omega arith)
+    first = frame_returned config w g d p t r m j x 1 (omega arith)
 
 -- a word of data is written
 pub write_goes : (config : Options) (w : World) (g : Flow) (d : Pipeline) (number p : ℕ) (t : Work) (r : Request) (m : Mapping) (j : ℕ) (o : Outcome)
-    → Holds config w g d w.front.stage w.back.stage
-    → AreHeld w.under.grants (hands_of w.back)
-    → IsAt w g d p t r
-    → t.stage ≡ job.WriteWord m j
-    → AtWork r t (job.WriteWord m j)
+    → IsDoing config w g d p t r (job.WriteWord m j)
     → JobGoesAt config w d number p t (job.WriteWord m j) o
-write_goes config w g d number p t r m j o h held is e at = record {
-  flow = g;
-  steps = [];
-  does = nothing (CallOf (ask_at (job.WriteWord m j) t) o) _ d (λ a b same. same_Some b a same.1);
-  holds = subst (λ (pages : List ℕ). let v : World = record { front = w.front; back = record w.back { jobs = record w.back.jobs { works = slice_set w.back.jobs.works p (step_at (job.WriteWord m j) t answer.Done) }; told = None }; under = record w.under { pages = pages } } in Holds config v g d v.front.stage v.back.stage) (sym written_so)
-      (subst (λ (u : Work). let v : World = record { front = w.front; back = record w.back { jobs = record w.back.jobs { works = slice_set w.back.jobs.works p u }; told = None }; under = record w.under { pages = with_data w t r j } } in Holds config v g d v.front.stage v.back.stage) (sym stepped)
-      (job_makes config w g d d p t later (with_data w t r j) w.under.grants h is.free refl (stations_returned config w g d p t r m j (j == 127) last h x refl)
-      (work_of w g d d p t later r is refl refl refl (at_next (j == 127) refl))
-      (length-set w.under.pages (frame_at r (word_now t j / 1024) * 1024 + word_now t j % 1024) (slice_index t.words j) ∙ h.memory)
-      (λ f low high. frame_returned w g d p t r m j x f high)
-      (λ page lt. same_entry w.under.pages (with_data w t r j) (8 + page) (omega arith) (frame_returned w g d p t r m j x 0 (omega arith))
-      (frame_returned w g d p t r m j x 1 (omega arith)))
-      (frames_returned config w g d p t r m j h x) (data_returned config w g d p t r m j h x) (entries_returned config w g d p t r m j h x)
-      (subst (λ (u : Work). AreMapped w.under.grants.live (hands_at w.back.stage (record w.back { jobs = record w.back.jobs { works = slice_set w.back.jobs.works p u } }))) stepped
-      (subst (AreMapped w.under.grants.live) (sym (hands_step w p t (job.WriteWord m j) answer.Done is.place e tt)) h.mapped))));
-}
+write_goes config w g d number p t r m j o doing = goes_by (nothing (CallOf (ask_at (job.WriteWord m j) t) o) _ d (λ a b same. same_Some b a same.1))
+    (subst (λ (pages : List ℕ). let v : World = record { front = w.front; back = record w.back { jobs = record w.back.jobs { works = slice_set w.back.jobs.works p (step_at (job.WriteWord m j) t answer.Done) }; told = None }; under = record w.under { pages = pages } } in Holds config v g d v.front.stage v.back.stage) (sym written_so)
+    (subst (λ (u : Work). let v : World = record { front = w.front; back = record w.back { jobs = record w.back.jobs { works = slice_set w.back.jobs.works p u }; told = None }; under = record w.under { pages = with_data w t r j } } in Holds config v g d v.front.stage v.back.stage) (sym stepped)
+    (job_makes config w g d d p t later (with_data w t r j) w.under.grants doing.holds doing.is.free refl (stations_returned config w g d p t r m j (j == 127) last doing refl)
+    (work_of w g d d p t later r doing.is refl refl refl (at_next (j == 127) refl))
+    (length-set w.under.pages (frame_at r (word_now t j / 1024) * 1024 + word_now t j % 1024) (slice_index t.words j) ∙ doing.holds.memory)
+    (λ f low high. frame_returned config w g d p t r m j doing f high)
+    (λ page lt. same_entry w.under.pages (with_data w t r j) (8 + page) (omega arith) (frame_returned config w g d p t r m j doing 0 (omega arith))
+    (frame_returned config w g d p t r m j doing 1 (omega arith)))
+    (frames_returned config w g d p t r m j doing) (data_returned config w g d p t r m j doing) (entries_returned config w g d p t r m j doing)
+    (subst (λ (u : Work). AreMapped w.under.grants.live (hands_at w.back.stage (record w.back { jobs = record w.back.jobs { works = slice_set w.back.jobs.works p u } }))) stepped
+    (subst (AreMapped w.under.grants.live) (sym (hands_step w p t (job.WriteWord m j) answer.Done doing.is.place doing.stage tt)) doing.holds.mapped)))))
   where
-    own : IsOwn w g t r
-    own = own_at config w g d p t r h is (at_work w g d p t r is e at)
-
-    x : IsWriting w g d p t r m j
-    x = record { is = is; own = own; stage = e; at = at }
-
     last : Bool
-    last = t.within == last_in r at.0.place
+    last = t.within == last_in r doing.at.0.place
 
     later : Work
     later = after_word t r m j (j == 127) last
 
     left : (t.moved + 0 ≤ r.count) × (t.within ≤ 7) × (r.count ≤ 7680)
-    left = sectors_left t r 0 own.shaped at.0
+    left = sectors_left t r 0 doing.own.shaped doing.at.0
 
     written_so : with_word w.under.pages (frame_of w.under.grants m) (word_at t j) (slice_index t.words j) ≡ with_data w t r j
     written_so =
-        let moved = at.0.moved in
-        let its = word_place at.0.place t.within (t.moved - 1) j left.1 (omega arith) at.2 in
-        let frame : frame_of w.under.grants m ≡ frame_at r at.0.place = frame_live w.under.grants m (frame_at r at.0.place)
-        (live_hand w p t m is.place (rw e refl) held) h.mapped.framed at.1.gref in
+        let its = word_place doing.at.0.place t.within (t.moved - 1) j left.1 (omega (arith, doing.at.0.moved)) doing.at.2 in
+        let frame : frame_of w.under.grants m ≡ frame_at r doing.at.0.place = frame_live w.under.grants m (frame_at r doing.at.0.place)
+        (live_hand w p t m doing.is.place (rw doing.stage refl) doing.held) doing.holds.mapped.framed doing.at.1.gref in
         ap (λ (f : ℕ). with_word w.under.pages f (word_at t j) (slice_index t.words j)) (frame ∙ ap (frame_at r) (sym its.0))
         ∙ ap (λ (k : ℕ). with_word w.under.pages (frame_at r (word_now t j / 1024)) k (slice_index t.words j)) (sym its.1)
 
     next_is : (b : Bool) → (if b then next_sector t m else record t { stage = job.WriteWord m (j + 1) }) ≡ after_word t r m j b last
-    next_is true = next_sector_is t r m own.shaped at.0
+    next_is true = next_sector_is t r m doing.own.shaped doing.at.0
     next_is false = refl
 
     stepped : step_at (job.WriteWord m j) t answer.Done ≡ later
     stepped = next_is (j == 127)
 
     at_next : (b : Bool) → (j == 127) ≡ b → AtWork r (after_word t r m j b last) (stage_after r m j b last)
-    at_next true over = at_further t r m last at.0 at.1 refl
-    at_next false over = (
-      record {
-        place = at.0.place;
-        here = at.0.here;
-        writes = at.0.writes;
-        rest = at.0.rest;
-        within = at.0.within;
-        moved = at.0.moved;
-        disk = at.0.disk;
-        words = at.0.words;
-      },
-      at.1,
-      (let apart : j ≢ 127 = grind (arith, nat_tests) in omega (arith, at.2)),
-      at.3,
-    )
+    at_next true over = at_further t r m last doing.at.0 doing.at.1 refl
+    at_next false over = (doing.at.0, doing.at.1, (let apart : j ≢ 127 = grind (arith, nat_tests) in omega (arith, doing.at.2)), doing.at.3)

@@ -16,7 +16,7 @@ use Rattle.back_jobs.specs.Jobs.{is_done, is_ordered, is_barrier, is_fresh_at, i
 use Rattle.blk_back.specs.declared.stage.Reply.{Reply}
 use Rattle.blk_back.specs.declared.stage.Stage.{Stage as BackStage}
 use Rattle.blk_back.specs.declared.stage.Stage.TheVariants as back
-use Rattle.blk_back.specs.Hands.{hands_at}
+use Rattle.blk_back.specs.Hands.{hands_at, hands_of}
 use Rattle.split_model.specs.World.{World}
 use Rattle.blk_front.specs.Submit.{is_ready}
 use Rattle.machine_pipeline.proofs.Flow.{Flow, ending_at, reply_at, is_issuing, is_fetching, worked, telling_at}
@@ -43,10 +43,7 @@ pub ascending_after : (works : List Work) (p : ℕ) (t t' : Work) → slice_get 
 ascending_after works p t t' here same pairs = pairs_from (λ (x y : Work). x.id < y.id) (slice_set works p t') (λ i j x y lt first second.
     let one = id_was works p i t t' x here same first in
     let two = id_was works p j t t' y here same second in
-    let up = pair_at (λ (a b : Work). a.id < b.id) works i j one.0 two.0 pairs lt one.1 two.1 in
-    let first_number = one.2 in
-    let second_number = two.2 in
-    omega arith)
+    omega (arith, two.2, one.2, pair_at (λ (a b : Work). a.id < b.id) works i j one.0 two.0 pairs lt one.1 two.1))
 
 -- another job has another id
 pub other_number : (works : List Work) (p i : ℕ) (t u : Work) → AllPairs (λ (x y : Work). x.id < y.id) works → i ≢ p → slice_get works p ≡ Some t → slice_get works i ≡ Some u → u.id ≢ t.id
@@ -96,8 +93,7 @@ clear_after works p t t' free same pairs = pairs_from IsUnhindered (slice_set wo
         subst (λ (u : Work). is_held y (holds_barriers u) (holds_all u) ≡ false) (sym one.1) (after_holds t t' y free.undone same was)
     by_places i j x y lt undone begun (inr one) (inl two) =
         let clear : is_held t (holds_barriers x) (holds_all x) ≡ false = free.clear i x (omega (arith, two.0)) one.1 in
-        let op : y.op ≡ t.op = ap (λ (u : Work). u.op) two.1 ∙ same in
-        ap (λ (n : ℕ). (n == 2 && holds_barriers x) || ((n == 1 || n == 2 || n == 5) && holds_all x)) op ∙ clear
+        ap (λ (n : ℕ). (n == 2 && holds_barriers x) || ((n == 1 || n == 2 || n == 5) && holds_all x)) (ap (λ (u : Work). u.op) two.1 ∙ same) ∙ clear
     by_places i j x y lt undone begun (inr one) (inr two) = pair_at IsUnhindered works i j x y pairs lt one.1 two.1 undone begun
 
 works_after : {series : List Request} (submitted : List Request) (fetched : ℕ) (works : List Work) (p : ℕ) (t t' : Work)
@@ -134,8 +130,7 @@ back_works shape start fetched back_seen replied series works works' entry b alo
 alone_after : (works : List Work) (p : ℕ) (t t' : Work) (id : ℕ) → slice_get works p ≡ Some t → t'.id ≡ t.id → All (λ (x : Work). x.id ≢ id) works → All (λ (x : Work). x.id ≢ id) (slice_set works p t')
 alone_after works p t t' id here same alone = all_from (λ (x : Work). x.id ≢ id) (slice_set works p t') (λ i x e.
     let was = id_was works p i t t' x here same e in
-    let apart = all_at (λ (y : Work). y.id ≢ id) works i was.0 alone was.1 in
-    λ it. apart (sym was.2 ∙ it))
+    λ it. (all_at (λ (y : Work). y.id ≢ id) works i was.0 alone was.1) (sym was.2 ∙ it))
 
 -- the stations with these jobs
 abbrev pub StationsWith : Options → World → Flow → Pipeline → List Work → List ℕ → Type 0
@@ -174,22 +169,17 @@ pub job_makes : (config : Options) (w : World) (g : Flow) (d d' : Pipeline) (p :
     → AreMapped grants'.live (hands_at w.back.stage (record w.back { jobs = record w.back.jobs { works = slice_set w.back.jobs.works p t' } }))
     → (let v : World = record { front = w.front; back = record w.back { jobs = record w.back.jobs { works = slice_set w.back.jobs.works p t' }; told = None }; under = record w.under { pages = pages'; grants = grants' } } in Holds config v g d' v.front.stage v.back.stage)
 job_makes config w g d d' p t t' pages' grants' h free number stations now sized ring entry frames told entries mapped = record {
-  started = h.started;
-  shaped = h.shaped;
-  sized = h.sized;
+  settled = h.settled;
   indices = h.indices;
   queue = h.queue;
-  submitted = h.submitted;
   pool = h.pool;
   stations = stations;
   works = works_after g.submitted g.fetched w.back.jobs.works p t t' free number now h.works;
   counted = let long = length-set w.back.jobs.works p t' in let was = h.counted in omega arith;
-  info = h.info;
   replies = h.replies;
   front_at = h.front_at;
   offered = h.offered;
   back_at = back_works g.shape g.start g.fetched g.back_seen g.replied g.series w.back.jobs.works (slice_set w.back.jobs.works p t') w.back.entry w.back.stage (λ rep alone. alone_after w.back.jobs.works p t t' rep.id free.here number alone) h.back_at;
-  unhalted = h.unhalted;
   memory = sized;
   ring = ring_kept g.shape.order g.start g.pushed g.replied w.under.pages pages' w.front.stage (length w.back.pages) (λ v lt. ring 2 (omega arith) (omega arith) v (omega arith)) (few_words g.shape _ _ _ _ _ _ _ _ _ w.front.stage h.front_at) (λ page lt. entry page (let few = named_at g.shape _ _ _ _ _ _ _ _ _ w.front.stage h.shaped.narrow h.front_at in omega arith)) h.ring;
   slots = slots_kept g.shape g.start g.fetched g.pushed g.taken g.replied g.series g.replies w.under.pages pages' w.front.stage w.back.stage h.shaped.narrow (same_slots w.under.pages pages' (λ f v from to within. ring f from to v within)) h.slots;
@@ -223,3 +213,16 @@ job_holds config w g d d' p t t' pages' grants' h free number stations now sized
     now sized ring entry
     (frames_elsewhere config w g d w.front.stage w.back.stage pages' h frames)
     (told_elsewhere config w g d w.front.stage w.back.stage pages' h frames) entries mapped
+
+-- where memory and the mappings stay
+pub job_rests : (config : Options) (w : World) (g : Flow) (d d' : Pipeline) (p : ℕ) (t t' : Work)
+    → Holds config w g d w.front.stage w.back.stage
+    → MayMove w.back.jobs.works p t
+    → t'.id ≡ t.id
+    → StationsWith config w g d' (slice_set w.back.jobs.works p t') w.under.pages
+    → IsWork g.submitted g.series g.fetched t'
+    → hands_at w.back.stage (record w.back { jobs = record w.back.jobs { works = slice_set w.back.jobs.works p t' } }) ≡ hands_of w.back
+    → (let v : World = record { front = w.front; back = record w.back { jobs = record w.back.jobs { works = slice_set w.back.jobs.works p t' }; told = None }; under = w.under } in Holds config v g d' v.front.stage v.back.stage)
+job_rests config w g d d' p t t' h free number stations now hands =
+    job_holds config w g d d' p t t' w.under.pages w.under.grants h free number stations now
+    h.memory (λ f low high v lt. refl) (λ page lt. record { flags = refl; frame = refl }) (λ f low high v lt. refl) h.entries (subst (AreMapped w.under.grants.live) (sym hands) h.mapped)

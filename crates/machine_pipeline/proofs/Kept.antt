@@ -1,5 +1,5 @@
 -- What a write leaves as it was, subject by subject.
-use Rattle.std.proofs.Common.{◌≡◌, ◌≢◌, ℕ, zero, suc, ◌+◌, ◌*◌, ◌/◌, ◌%◌, ◌^◌, ◌<◌, ◌≤◌, Bool, true, true≢false, List, length, refl, ap, sym, ◌∙◌, arith, get_or-set_other}
+use Rattle.std.proofs.Common.{◌≡◌, ◌≢◌, ℕ, zero, suc, ◌+◌, ◌*◌, ◌/◌, ◌%◌, ◌^◌, ◌<◌, ◌≤◌, Bool, true, true≢false, List, length, refl, ap, sym, ◌∙◌, arith, get_or-set_other, false}
 use Rattle.std.specs.Prelude.{All, Option, Some}
 use Rattle.std.proofs.lemmas.Grind.{get_or-set_at}
 use Rattle.ring_words.specs.Shape.{Shape, entry_words_of}
@@ -15,7 +15,7 @@ use Rattle.blk_back.specs.declared.stage.Reply.{Reply}
 use Rattle.blk_back.specs.declared.stage.Stage.{Stage as BackStage}
 use Rattle.blk_back.specs.declared.stage.Stage.TheVariants as back
 use Rattle.blk_front.specs.Request.{frame_at, words_in}
-use Rattle.machine_pipeline.proofs.Flow.{wrapped, named_pages, granted_pages, ending_at, revoking_at, word_at, responded, frames_of}
+use Rattle.machine_pipeline.proofs.Flow.{wrapped, named_pages, granted_pages, ending_at, revoking_at, word_at, responded, frames_of, is_front_arming, is_back_arming}
 use Rattle.machine_pipeline.proofs.Slots.{response_fits, SameSlots, slot_kept}
 use Rattle.machine_pipeline.proofs.Data.{SameData, pooled_at}
 use Rattle.machine_pipeline.proofs.Holds.{IsPooled, RingBegun, AreRingWords, slot_of, AreSlots, IsFilled, IsReadSoFar, AreDataWords, AreEntries, IsFrontSleep, IsBackSleep}
@@ -88,8 +88,6 @@ ring_begun start old new s same few h = tt
 
 -- each frame that is granted is named too
 granted_named : (s : FrontStage) (pages page : ℕ) → page < granted_pages s pages → page < named_pages s pages
-granted_named (front.RingWord k) pages page lt = lt
-granted_named (front.RingFrame p) pages page lt = lt
 granted_named (front.RingFence p) pages page lt = omega arith
 granted_named (front.RingFlags p) pages page lt = omega arith
 granted_named s pages page lt = lt
@@ -110,8 +108,6 @@ ring_kept order start pushed replied old new s mapped same few entry h = record 
 
 pub responded_few : (b : BackStage) → responded b ≤ 3
 responded_few (back.ReplyHigh r) = omega arith
-responded_few (back.ReplyLast r) = omega arith
-responded_few (back.Producer r) = omega arith
 responded_few b = omega arith
 
 pub slots_kept : (shape : Shape) (start fetched pushed taken replied : ℕ) (series : List Request) (replies : List Reply) (old new : List ℕ) (s : FrontStage) (b : BackStage)
@@ -194,3 +190,10 @@ back_sleep_kept start fetched pushed old new asleep pending s b same h = record 
   may = h.may;
   woken = h.woken;
 }
+
+-- an end that is awake
+pub awake_front : (start taken replied : ℕ) (pages : List ℕ) (asleep pending : Bool) (s : FrontStage) (b : BackStage) → asleep ≡ false → is_front_arming s ≡ false → IsFrontSleep start taken replied pages asleep pending s b
+awake_front start taken replied pages asleep pending s b awake unarmed = record { arming = λ t. absurd (true≢false (sym t ∙ unarmed)); armed = λ t. absurd (true≢false (sym t ∙ awake)); may = λ t. awake; woken = λ t. absurd (true≢false (sym t ∙ awake)) }
+
+pub awake_back : (start fetched pushed : ℕ) (pages : List ℕ) (asleep pending : Bool) (s : FrontStage) (b : BackStage) → asleep ≡ false → is_back_arming b ≡ false → IsBackSleep start fetched pushed pages asleep pending s b
+awake_back start fetched pushed pages asleep pending s b awake unarmed = record { arming = λ t. absurd (true≢false (sym t ∙ unarmed)); armed = λ t. absurd (true≢false (sym t ∙ awake)); may = λ t. awake; woken = λ t. absurd (true≢false (sym t ∙ awake)) }

@@ -1,5 +1,5 @@
 -- The pipeline stands in no key: where keys alone change it goes on, whoever does what with them.
-use Rattle.std.proofs.Common.{◌≡◌, ℕ, true, List, [], ◌∷◌, refl, ap, sym, subst}
+use Rattle.std.proofs.Common.{Bool, ◌≡◌, ℕ, true, List, [], ◌∷◌, refl, ap, sym, subst}
 use Rattle.std.specs.Prelude.{None}
 use Rattle.std.specs.List.{AllByRecursion, list_all}
 use Rattle.std.proofs.lemmas.List.{append-nil}
@@ -24,32 +24,32 @@ use Rattle.split_model.specs.Keys.{KeyMove, negotiated, negotiated_lines}
 use Rattle.split_model.specs.Happening.{Negotiates, happens, lines_at}
 use Rattle.split_model.proofs.Keys.{negotiated_lines_are}
 use Rattle.machine_pipeline.proofs.Flow.{Flow}
-use Rattle.machine_pipeline.proofs.Holds.{Holds}
-use Rattle.machine_pipeline.proofs.Turns.{Goes, said_nothing}
+use Rattle.machine_pipeline.proofs.Holds.{Holds, IsFrontSleep, IsBackSleep}
+use Rattle.machine_pipeline.proofs.Turns.{Goes, said_nothing, goes_by}
 use Rattle.machine_pipeline.specs.Step.{Does, IsSame}
 
 -- the machine with those keys
 abbrev pub keyed : World → Directory → World
 keyed w keys = record { front = w.front; back = w.back; under = with_keys w.under keys }
 
-pub holds_keyed : (config : Options) (w : World) (g : Flow) (d : Pipeline) (s : FrontStage) (b : BackStage) (keys : Directory) → Holds config w g d s b → Holds config (keyed w keys) g d s b
-holds_keyed config w g d s b keys h = record {
-  started = h.started;
-  shaped = h.shaped;
-  sized = h.sized;
+-- other keys, and other marks with which both ends would wake as well
+beside : (config : Options) (w : World) (g : Flow) (d : Pipeline) (s : FrontStage) (b : BackStage) (keys : Directory) (front_pending back_pending : Bool)
+    → IsFrontSleep g.start g.taken g.replied w.under.pages w.front.asleep front_pending s b
+    → IsBackSleep g.start g.fetched g.pushed w.under.pages w.back.asleep back_pending s b
+    → Holds config w g d s b
+    → Holds config (record { front = w.front; back = w.back; under = record w.under { channels = record w.under.channels { front_pending = front_pending; back_pending = back_pending }; keys = keys } }) g d s b
+beside config w g d s b keys front_pending back_pending front_sleep back_sleep h = record {
+  settled = h.settled;
   indices = h.indices;
   queue = h.queue;
-  submitted = h.submitted;
   pool = h.pool;
   stations = h.stations;
   works = h.works;
   counted = h.counted;
-  info = h.info;
   replies = h.replies;
   front_at = h.front_at;
   offered = h.offered;
   back_at = h.back_at;
-  unhalted = h.unhalted;
   memory = h.memory;
   ring = h.ring;
   slots = h.slots;
@@ -58,10 +58,20 @@ holds_keyed config w g d s b keys h = record {
   entries = h.entries;
   mapped = h.mapped;
   paged = h.paged;
-  front_sleep = h.front_sleep;
-  back_sleep = h.back_sleep;
+  front_sleep = front_sleep;
+  back_sleep = back_sleep;
   ports = h.ports;
 }
+
+pub marked : (config : Options) (w : World) (g : Flow) (d : Pipeline) (s : FrontStage) (b : BackStage) (front_pending back_pending : Bool)
+    → IsFrontSleep g.start g.taken g.replied w.under.pages w.front.asleep front_pending s b
+    → IsBackSleep g.start g.fetched g.pushed w.under.pages w.back.asleep back_pending s b
+    → Holds config w g d s b
+    → Holds config (record { front = w.front; back = w.back; under = record w.under { channels = record w.under.channels { front_pending = front_pending; back_pending = back_pending } } }) g d s b
+marked config w g d s b front_pending back_pending front_sleep back_sleep h = beside config w g d s b w.under.keys front_pending back_pending front_sleep back_sleep h
+
+pub holds_keyed : (config : Options) (w : World) (g : Flow) (d : Pipeline) (s : FrontStage) (b : BackStage) (keys : Directory) → Holds config w g d s b → Holds config (keyed w keys) g d s b
+holds_keyed config w g d s b keys h = beside config w g d s b keys w.under.channels.front_pending w.under.channels.back_pending h.front_sleep h.back_sleep h
 
 pub goes_keyed : (config : Options) (said : List Line) (w : World) (d : Pipeline) (keys : Directory) → Goes config said w d → Goes config said (keyed w keys) d
 goes_keyed config said w d keys p = record { flow = p.flow; steps = p.steps; does = p.does; holds = holds_keyed config w p.flow (after_steps p.steps d) w.front.stage w.back.stage keys p.holds }
@@ -76,13 +86,8 @@ pub watched_goes : (config : Options) (w : World) (g : Flow) (d : Pipeline) (pat
     → Holds config w g d w.front.stage w.back.stage
     → Goes config (lines.Move (moves.Watched mover.Front path) ∷ front_lines w.front.told) (record { front = (let v : View = w.front in record v { told = None }); back = w.back; under = watch_taken w.under end.Front }) d
 watched_goes config w g d path told h =
-    let left : Hypervisor = watch_taken w.under end.Front in
-    goes_keyed config _ _ d left.keys (record {
-      flow = g;
-      steps = [];
-      does = said_nothing d (moves.Watched mover.Front path) w.front.told told;
-      holds = subst (λ (x : World). Holds config x g d x.front.stage x.back.stage) (untold w told) h;
-    })
+    goes_keyed config _ _ d (watch_taken w.under end.Front).keys (goes_by (said_nothing d (moves.Watched mover.Front path) w.front.told told)
+    (subst (λ (x : World). Holds config x g d x.front.stage x.back.stage) (untold w told) h))
 
 -- lines that are nothing to the pipeline
 words_aside : (ls : List Line) → AllByRecursion (λ (line : Line). is_aside line ≡ true) ls → list_all is_aside ls ≡ true
@@ -93,12 +98,7 @@ pub asides_do : (d : Pipeline) (ls : List Line) → AllByRecursion (λ (line : L
 asides_do d ls all = record { asides = ls; aside = words_aside ls all; shows = sym (append-nil ls); asks = refl; allowed = tt; disk = λ a b e. e }
 
 pub asides_go : (config : Options) (w : World) (g : Flow) (d : Pipeline) (ls : List Line) → AllByRecursion (λ (line : Line). is_aside line ≡ true) ls → Holds config w g d w.front.stage w.back.stage → Goes config ls w d
-asides_go config w g d ls all h = record {
-  flow = g;
-  steps = [];
-  does = asides_do d ls all;
-  holds = h;
-}
+asides_go config w g d ls all h = goes_by (asides_do d ls all) h
 
 -- what an end does with the keys
 pub negotiates_goes : (config : Options) (w : World) (g : Flow) (d : Pipeline) (at : End) (move : KeyMove) → Holds config w g d w.front.stage w.back.stage

@@ -35,7 +35,7 @@ use Rattle.machine_pipeline.proofs.Lists.{all_from, pairs_from}
 use Rattle.machine_pipeline.proofs.Slots.{few_pages, some_pages}
 use Rattle.machine_pipeline.proofs.Hands.{mapped_few, nothing_given_up}
 use Rattle.machine_pipeline.proofs.Turns.{no_move}
-use Rattle.machine_pipeline.proofs.Over.{may_begin, IsDrained, IsGivingUp, AreOwn, AreUnmapped, IsLeaving, Over, HasGone, unclosed}
+use Rattle.machine_pipeline.proofs.Over.{may_begin, IsDrained, IsGivingUp, AreOwn, AreUnmapped, IsLeaving, Over, HasGone, unclosed, gone_by}
 use Rattle.line_text.proofs.Both.{both_true}
 use Rattle.machine_pipeline.proofs.Drained.{no_element, drained_at, no_job_left, finished_at}
 
@@ -64,10 +64,9 @@ one_port before false made ports p = ap length p.1
 unmapped_yet : (config : Options) (w : World) (g : Flow) (d : Pipeline) (s : FrontStage) (b : BackStage) → Holds config w g d s b → granted_pages s (2 ^ g.shape.order) ≡ 2 ^ g.shape.order → AreUnmapped w.front.shape.order w.under.pages w.back.pages
 unmapped_yet config w g d s b h all page within other =
     let known : w.front.shape.order ≡ g.shape.order = ap (λ (x : Shape). x.order) h.shaped.known in
-    let among : page < 2 ^ g.shape.order = subst (λ (order : ℕ). page < 2 ^ order) known within in
     elim (cases_lt page (length w.back.pages)) [
       | inl mapped ↦ absurd (other page no_page mapped (h.paged.gref page mapped))
-      | inr left ↦ ap is_mapped (h.ring.granted page (subst (λ (n : ℕ). page < n) (sym all) among) (omega arith))
+      | inr left ↦ ap is_mapped (h.ring.granted page (subst (λ (n : ℕ). page < n) (sym all) (subst (λ (order : ℕ). page < 2 ^ order) known within)) (omega arith))
     ]
 
 -- the pages that it mapped have references of their own
@@ -80,9 +79,7 @@ own_pages config w g d s b h = record {
       let many = mapped_few b g.shape.order (length w.back.pages) h.paged.mapped in
       (omega arith, omega arith));
   distinct = pairs_from (λ (m n : Mapping). m.gref ≢ n.gref) w.back.pages (λ i j m n lt e f.
-      let first = gref i m e in
-      let second = gref j n f in
-      λ same. omega arith);
+      λ same. omega (arith, gref j n f, gref i m e));
 }
   where
     gref : (i : ℕ) (m : Mapping) → slice_get w.back.pages i ≡ Some m → m.gref ≡ 8 + i
@@ -163,14 +160,11 @@ abbrev Leaving : Options → World → Pipeline → View → Type 0
 Leaving config w d v = HasGone None IsSame config (halt_lines w.back.halted v.halted) (backed w v) d
 
 leaves : (config : Options) (w : World) (g : Flow) (d : Pipeline) (why : Halt) (v : View) → Holds config w g d w.front.stage w.back.stage → IsFarewell w why → v.halted ≡ Some why → Over config (backed w v) d w.front.stage v.stage → Leaving config w d v
-leaves config w g d why v h farewell halted over = record {
-  steps = Leaves (halt_line why) ∷ [];
-  does = record { asides = []; aside = refl; shows = rw (h.unhalted, halted) refl; asks = refl; allowed = ((over.closing, farewell.gone, over.finished), tt); disk = λ a b e. (b, e, refl) };
-  kept = inr over;
-}
+leaves config w g d why v h farewell halted over = gone_by {steps = Leaves (halt_line why) ∷ []} (record { asides = []; aside = refl; shows = rw (h.unhalted, halted) refl; asks = refl; allowed = ((over.closing, farewell.gone, over.finished), tt); disk = λ a b e. (b, e, refl) })
+    (inr over)
 
 -- a back that isn't bound holds pages that it mapped, or none
-giving_unbound : (held : List Mapping) → IsGivingUp held (unbound held)
+pub giving_unbound : (held : List Mapping) → IsGivingUp held (unbound held)
 giving_unbound [] = refl
 giving_unbound (m ∷ held) = λ none. cc
 

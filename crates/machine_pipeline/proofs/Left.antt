@@ -1,5 +1,5 @@
 -- The data of a read that were in hand as the guest was suspended are told before anything else; then the ring is made.
-use Rattle.std.proofs.Common.{◌≡◌, ℕ, ◌+◌, ◌%◌, ◌^◌, ◌<◌, ◌≤◌, ◌==◌, ◌⊎◌, inl, inr, Bool, true, false, List, length, refl, ap, sym, ◌∙◌, subst, arith, true≢false}
+use Rattle.std.proofs.Common.{◌≡◌, ℕ, ◌+◌, ◌%◌, ◌^◌, ◌<◌, ◌≤◌, ◌==◌, ◌⊎◌, Bool, true, false, List, length, refl, ap, sym, ◌∙◌, subst, arith, true≢false}
 use Rattle.std.specs.Prelude.{Option, None, nat_lt}
 use Rattle.std.proofs.lemmas.Option.{none-some}
 use Rattle.blk_base.specs.Options.{Options}
@@ -14,12 +14,14 @@ use Rattle.blk_front.specs.Submit.{is_ready, is_connected, ending_of}
 use Rattle.blk_front.specs.View.{next_request}
 use Rattle.split_model.specs.World.{World}
 use Rattle.machine_pipeline.proofs.Flow.{Flow, has_ring, is_issuing, filled, named_frames, granted_frames, named_pages, granted_pages, entered, ending_at, revoking_at, telling_at, is_front_arming, may_front_sleep, is_fetching, reply_at, is_bound_back}
-use Rattle.machine_pipeline.proofs.Holds.{FrontAt, FrontSends, RingBegun, IsOffered, ArePooled, AreDataWords, PortsAt, Holds}
+use Rattle.machine_pipeline.proofs.Holds.{FrontAt, FrontSends, RingBegun, IsOffered, ArePooled, AreDataWords, PortsAt, Holds, AreRingWords}
 use Rattle.machine_pipeline.proofs.Stations.{AreStations}
+use Rattle.machine_pipeline.proofs.Resting.{back_sleep_rests}
 use Rattle.machine_pipeline.proofs.Turns.{FrontGoes}
 use Rattle.machine_pipeline.proofs.Indices.{indices_room}
 use Rattle.machine_pipeline.proofs.Ended.{ActGoes, finishing_at}
 use Rattle.machine_pipeline.proofs.Telling.{IsTelling, HoldsMore, HoldsAll, Becomes, word, next_at, told_by}
+use Rattle.machine_pipeline.proofs.Kept.{awake_front}
 
 -- a stage at which an epoch begins: nothing of the ring is made
 pub record IsUnbegun (s : FrontStage) : Type 0 where
@@ -77,6 +79,16 @@ first_word = record {
   quiet = λ pushed fetched x. x;
 }
 
+-- nothing is said of the ring's words
+pub ring_unbegun : (order start pushed replied : ℕ) (pages : List ℕ) (s : FrontStage) (mapped : ℕ) → IsUnbegun s → AreRingWords order start pushed replied pages s mapped
+ring_unbegun order start pushed replied pages s mapped i = record {
+  begun = i.begun start pages;
+  requests = λ t. absurd (true≢false (sym t ∙ i.ringless));
+  responses = λ t. absurd (true≢false (sym t ∙ i.ringless));
+  named = λ page lt unmapped. absurd (let none = i.named (2 ^ order) in omega arith);
+  granted = λ page lt unmapped. absurd (let none = i.granted (2 ^ order) in omega arith);
+}
+
 -- the data and the frames in hand alone change
 pub left_on : (config : Options) (w : World) (g : Flow) (d d' : Pipeline) (s s' : FrontStage) (ending : Option Ending) (pool : List Bool) (words : List ℕ)
     → IsUnbegun s → IsUnbegun s' → ending_of s' ≤ ending_of s
@@ -87,30 +99,19 @@ pub left_on : (config : Options) (w : World) (g : Flow) (d d' : Pipeline) (s s' 
     → AreDataWords w.under.pages words ending s'
     → Holds config (finishing_at w s' ending pool words w.under.pages) g d' s' w.back.stage
 left_on config w g d d' s s' ending pool words i i' fewer h stations pooled at told = record {
-  started = h.started;
-  shaped = h.shaped;
-  sized = h.sized;
+  settled = h.settled;
   indices = indices_room g w.front.ring w.back.ring w.front.seen w.back.seen w.back.fetched w.front.last w.front.waiting (length w.front.requests) (ending_of s) (ending_of s') (let was = h.indices in let room = was.room in omega arith) h.indices;
   queue = h.queue;
-  submitted = h.submitted;
   pool = pooled;
   stations = stations;
   works = h.works;
   counted = h.counted;
-  info = h.info;
   replies = h.replies;
   front_at = at;
   offered = subst (λ (b : Bool). IsOffered b config.read_only config.indirect w.front.offers g.pushed) (i.unready ∙ sym i'.unready) h.offered;
   back_at = h.back_at;
-  unhalted = h.unhalted;
   memory = h.memory;
-  ring = record {
-    begun = i'.begun g.start w.under.pages;
-    requests = λ t. absurd (true≢false (sym t ∙ i'.ringless));
-    responses = λ t. absurd (true≢false (sym t ∙ i'.ringless));
-    named = λ page lt unmapped. absurd (let none = i'.named (2 ^ g.shape.order) in omega arith);
-    granted = λ page lt unmapped. absurd (let none = i'.granted (2 ^ g.shape.order) in omega arith);
-  };
+  ring = ring_unbegun g.shape.order g.start g.pushed g.replied w.under.pages s' (length w.back.pages) i';
   slots = (let was = h.slots in record { entries = was.entries; entry = λ r e k lt in_it. absurd (let none = i'.entered_none in omega arith); responses = was.responses; response = was.response });
   frames = λ k x lt. (let was = h.frames k x lt in record { whole = was.whole; begun = λ e n f. absurd (i'.unfilled _ n f) });
   telling = told;
@@ -125,20 +126,10 @@ left_on config w g d d' s s' ending pool words i i' fewer h stations pooled at t
   };
   mapped = h.mapped;
   paged = h.paged;
-  front_sleep = (let was = h.front_sleep in record {
-    arming = λ t. absurd (true≢false (sym t ∙ i'.unarmed));
-    armed = λ t. absurd (true≢false (sym t ∙ was.may i.restless));
-    may = λ t. was.may i.restless;
-    woken = was.woken;
-  });
-  back_sleep = (let was = h.back_sleep in record { arming = was.arming; armed = was.armed; may = was.may; woken = λ t. by_wake (was.woken t) });
+  front_sleep = awake_front g.start g.taken g.replied w.under.pages w.front.asleep w.under.channels.front_pending s' w.back.stage (h.front_sleep.may i.restless) i'.unarmed;
+  back_sleep = back_sleep_rests g.start g.fetched g.pushed w.under.pages w.under.pages w.back.asleep w.under.channels.back_pending w.under.channels.back_pending s s' w.back.stage refl refl (i.quiet g.pushed g.fetched) h.back_sleep;
   ports = subst (λ (b : Bool). PortsAt g.before b (is_bound_back w.back.stage) w.under.channels.made w.under.channels.ports) (i.unconnected ∙ sym i'.unconnected) h.ports;
 }
-  where
-    by_wake : (g.pushed ≡ g.fetched) ⊎ (w.under.channels.back_pending ≡ true) ⊎ FrontSends s g.pushed g.fetched → (g.pushed ≡ g.fetched) ⊎ (w.under.channels.back_pending ≡ true) ⊎ FrontSends s' g.pushed g.fetched
-    by_wake (inl same) = inl same
-    by_wake (inr (inl t)) = inr (inl t)
-    by_wake (inr (inr sends)) = absurd (i.quiet g.pushed g.fetched sends)
 
 -- a word of them is read
 pub left_goes : (config : Options) (w : World) (g : Flow) (d : Pipeline) (n : ℕ)

@@ -21,17 +21,10 @@ use Rattle.split_model.specs.World.{World}
 use Rattle.split_model.specs.Shown.{front_lines}
 use Rattle.machine_pipeline.proofs.Flow.{Flow, wrapped}
 use Rattle.machine_pipeline.proofs.Holds.{Holds, IsFrontSleep, FrontAt}
-use Rattle.machine_pipeline.proofs.Turns.{Goes, FrontGoes, said_nothing}
+use Rattle.machine_pipeline.proofs.Turns.{Goes, FrontGoes, said_nothing, goes_by}
 use Rattle.machine_pipeline.proofs.Kept.{SameFrame, written, other_word, other_frame}
 use Rattle.machine_pipeline.proofs.Wrapped.{distance_at, same_wrapped, next_wrapped}
 use Rattle.machine_pipeline.proofs.Resting.{IsResting, at_loop, at_look, at_store, at_fence, rest_kept}
-
--- the front becomes this, and tells nothing
-pub becomes : (config : Options) (w : World) (g : Flow) (d : Pipeline) (m : Move) (x : View) (under : Hypervisor)
-    → x.told ≡ None
-    → Holds config (record { front = record x { told = None }; back = w.back; under = under }) g d x.stage w.back.stage
-    → Goes config (lines.Move m ∷ front_lines x.told) (record { front = record x { told = None }; back = w.back; under = under }) d
-becomes config w g d m x under told h = record { flow = g; steps = []; does = said_nothing d m x.told told; holds = h }
 
 too_far : (far near : ℕ) → near ≤ far → nat_lt far near ≡ true → ⊥
 too_far far near le t = grind (arith, nat_tests)
@@ -55,26 +48,20 @@ looked_goes config w g d s m word otherwise i zero h told awake read nothing = b
         let v : View = w.front in
         let indices = h.indices in
         subst (λ (a : Bool). Goes config (lines.Move m ∷ front_lines found.told) (record { front = record v { seen = word; stage = front.Loop; asleep = a; told = None }; back = w.back; under = w.under }) d) (sym awake)
-        (record {
-          flow = record g { front_seen = g.replied };
-          steps = [];
-          does = said_nothing d m found.told told;
-          holds = rest_kept config w g d s front.Loop word g.replied false w.under.pages w.under.channels i at_loop zero refl h tt read indices.taken_replied (omega arith) h.memory (λ f apart x lt. refl) (λ x apart lt. refl) refl refl refl
-              (record { arming = λ t. absurd (true≢false (sym t)); armed = λ t. absurd (true≢false (sym t)); may = λ t. refl; woken = λ t. absurd (true≢false (sym t)) });
-        })
+        (goes_by {g = record g { front_seen = g.replied }} (said_nothing d m found.told told)
+        (rest_kept config w g d s front.Loop word g.replied false w.under.pages w.under.channels i at_loop zero refl h tt read indices.taken_replied (omega arith) h.memory (λ f apart x lt. refl) (λ x apart lt. refl) refl refl refl
+        (record { arming = λ t. absurd (true≢false (sym t)); armed = λ t. absurd (true≢false (sym t)); may = λ t. refl; woken = λ t. absurd (true≢false (sym t)) })))
 
     by_new : (b : Bool) → (word == w.front.ring.cons) ≡ b → (let x : View = (if b then otherwise else found) in Goes config (lines.Move m ∷ front_lines x.told) (record { front = record x { told = None }; back = w.back; under = w.under }) d)
     by_new true t =
-        let indices = h.indices in
         let same : word ≡ w.front.ring.cons = grind (arith, nat_tests) in
-        nothing (same_wrapped g.start g.taken g.replied indices.taken_replied (omega arith) (sym read ∙ (same ∙ indices.taken)))
+        nothing (same_wrapped g.start g.taken g.replied h.indices.taken_replied (omega arith) (sym read ∙ (same ∙ h.indices.taken)))
     by_new false t = new
 
     by_break : (b : Bool) → nat_lt (distance_of w.front.ring.cons w.front.ring.prod) (distance_of w.front.ring.cons word) ≡ b → (let x : View = (if b then broken word w.front else (if word == w.front.ring.cons then otherwise else found)) in Goes config (lines.Move m ∷ front_lines x.told) (record { front = record x { told = None }; back = w.back; under = w.under }) d)
     by_break true t =
-        let indices = h.indices in
-        let far = distance_at g.start g.taken g.pushed w.front.ring.cons w.front.ring.prod indices.taken indices.pushed (omega arith) (omega arith) in
-        let near = distance_at g.start g.taken g.replied w.front.ring.cons word indices.taken read indices.taken_replied (omega arith) in
+        let far = distance_at g.start g.taken g.pushed w.front.ring.cons w.front.ring.prod h.indices.taken h.indices.pushed (omega arith) (omega arith) in
+        let near = distance_at g.start g.taken g.replied w.front.ring.cons word h.indices.taken read h.indices.taken_replied (omega arith) in
         absurd (too_far _ _ (omega arith) t)
     by_break false t = by_new (word == w.front.ring.cons) refl
 
@@ -84,13 +71,9 @@ pub look_again_goes : (config : Options) (w : World) (g : Flow) (d : Pipeline)
     → Holds config w g d front.LookAgain w.back.stage
     → FrontGoes config w d front.LookAgain
 look_again_goes config w g d told h =
-    looked_goes config w g d front.LookAgain (moves.FrontRead 2 2 word) word asleep at_look refl h told awake read (λ same. record {
-      flow = record g { front_seen = g.replied };
-      steps = [];
-      does = said_nothing d (moves.FrontRead 2 2 word) asleep.told told;
-      holds = (let indices = h.indices in rest_kept config w g d front.LookAgain front.Loop word g.replied true w.under.pages w.under.channels at_look at_loop refl refl h tt read indices.taken_replied (omega arith) h.memory (λ f apart x lt. refl) (λ x apart lt. refl) refl refl refl
-          (let sleep = h.front_sleep in record { arming = λ t. absurd (true≢false (sym t)); armed = λ t. sleep.arming refl; may = λ t. absurd (true≢false t); woken = λ t. inl same }));
-    })
+    looked_goes config w g d front.LookAgain (moves.FrontRead 2 2 word) word asleep at_look refl h told awake read (λ same. goes_by {g = record g { front_seen = g.replied }} (said_nothing d (moves.FrontRead 2 2 word) asleep.told told)
+    ((let indices = h.indices in rest_kept config w g d front.LookAgain front.Loop word g.replied true w.under.pages w.under.channels at_look at_loop refl refl h tt read indices.taken_replied (omega arith) h.memory (λ f apart x lt. refl) (λ x apart lt. refl) refl refl refl
+    (let sleep = h.front_sleep in record { arming = λ t. absurd (true≢false (sym t)); armed = λ t. sleep.arming refl; may = λ t. absurd (true≢false t); woken = λ t. inl same }))))
   where
     word : ℕ
     word = word_of w.under.pages 2 2
@@ -118,12 +101,8 @@ pub at_stage_goes : (config : Options) (w : World) (g : Flow) (d : Pipeline) (s 
     → (let x : View = at s' w.front in Goes config (lines.Move m ∷ front_lines x.told) (record { front = record x { told = None }; back = w.back; under = record w.under { pages = pages } }) d)
 at_stage_goes config w g d s s' m pages i i' zero zero' told h place sized frames words sleep =
     let indices = h.indices in
-    record {
-      flow = g;
-      steps = [];
-      does = said_nothing d m w.front.told told;
-      holds = rest_kept config w g d s s' w.front.seen g.front_seen w.front.asleep pages w.under.channels i i' zero zero' h place indices.front_saw indices.front_from indices.front_to sized frames words refl refl refl sleep;
-    }
+    goes_by (said_nothing d m w.front.told told)
+    (rest_kept config w g d s s' w.front.seen g.front_seen w.front.asleep pages w.under.channels i i' zero zero' h place indices.front_saw indices.front_from indices.front_to sized frames words refl refl refl sleep)
 
 -- it stores its event word one past what it took
 pub store_goes : (config : Options) (w : World) (g : Flow) (d : Pipeline)
@@ -135,13 +114,10 @@ store_goes config w g d told h =
     (length-set w.under.pages (2 * 1024 + 3) (next_of w.front.ring.cons) ∙ h.memory)
     (λ f apart. other_frame w.under.pages 2 3 (next_of w.front.ring.cons) f (omega arith) apart)
     (λ x apart lt. other_word w.under.pages 2 3 (next_of w.front.ring.cons) x apart)
-    (record { arming = λ t. stored; armed = λ t. stored; may = sleep.may; woken = sleep.woken })
+    (record { arming = λ t. stored; armed = λ t. stored; may = h.front_sleep.may; woken = h.front_sleep.woken })
   where
     pages : List ℕ
     pages = with_word w.under.pages 2 3 (next_of w.front.ring.cons)
-
-    sleep : IsFrontSleep g.start g.taken g.replied w.under.pages w.front.asleep w.under.channels.front_pending front.StoreEvent w.back.stage
-    sleep = h.front_sleep
 
     stored : word_of pages 2 3 ≡ wrapped g.start (g.taken + 1)
     stored = let indices = h.indices in written w.under.pages 2 3 (next_of w.front.ring.cons) h.memory (omega arith) (omega arith) ∙ next_wrapped g.start g.taken w.front.ring.cons indices.taken

@@ -20,9 +20,7 @@ use Rattle.machine_pipeline.proofs.Lists.{all_at}
 count_more : {X : Type 0} (test : X → Bool) (m : X) (before behind : List X) → count_by test (before ++ m ∷ behind) ≡ count_by test (before ++ behind) + cond (test m) 1 0
 count_more {X} test m before behind =
     let all = sum_by-append (λ (x : X). cond (test x) 1 0) before (m ∷ behind) in
-    let fewer = sum_by-append (λ (x : X). cond (test x) 1 0) before behind in
-    let one = sum_by-cons (λ (x : X). cond (test x) 1 0) m behind in
-    omega arith
+    omega (arith, sum_by-cons (λ (x : X). cond (test x) 1 0) m behind, sum_by-append (λ (x : X). cond (test x) 1 0) before behind)
 
 pub hands_more : (test : Mapping → Bool) (m : Mapping) (fewer more : List Mapping) → HasOneMore m fewer more → count_by test more ≡ count_by test fewer + cond (test m) 1 0
 hands_more test m fewer more is = rw (is.without, is.with_it) (count_more test m is.front is.rest)
@@ -31,10 +29,8 @@ pub mapped_more : (live : List Held) (hands hands' : List Mapping) (m : Mapping)
 mapped_more live hands hands' m frame e more h = record {
   counted = λ test.
       let before = h.counted test in
-      let its = hands_more test m hands hands' more in
       let all = sum_by-append (λ (x : Held). cond (test x.mapping) 1 0) live (record { mapping = m; frame = frame } ∷ []) in
-      let one = sum_by-cons (λ (x : Held). cond (test x.mapping) 1 0) (record { mapping = m; frame = frame }) [] in
-      omega arith;
+      omega (arith, sum_by-cons (λ (x : Held). cond (test x.mapping) 1 0) (record { mapping = m; frame = frame }) [], hands_more test m hands hands' more);
   framed = All-push (λ (x : Held). x.mapping.gref ≡ x.frame + 6) live (record { mapping = m; frame = frame }) h.framed e;
 }
 
@@ -44,8 +40,7 @@ without_low number low [] up le = refl
 without_low number low (x ∷ live) up le =
     let first = up.0 in
     let other : not (x.mapping.number == number) ≡ true = grind (arith, nat_tests) in
-    let rest = without_low number x.mapping.number live up.1 (omega arith) in
-    rw other (ap (λ (xs : List Held). x ∷ xs) rest)
+    rw other (ap (λ (xs : List Held). x ∷ xs) (without_low number x.mapping.number live up.1 (omega arith)))
 
 -- the live mapping of a number is counted once
 count_less : (test : Held → Bool) (number low : ℕ) (live : List Held) (x : Held) → IsAscending low live → held_of number live ≡ Some x → count_by test live ≡ count_by test (without number live) + cond (test x) 1 0
@@ -57,19 +52,14 @@ count_less test number low (y ∷ live) x up e = by_test (y.mapping.number == nu
 
     by_test : (b : Bool) → (y.mapping.number == number) ≡ b → (held_of number live ≡ Some x → count_by test live ≡ count_by test (without number live) + cond (test x) 1 0) → count_by test (y ∷ live) ≡ count_by test (without number (y ∷ live)) + cond (test x) 1 0
     by_test true t recur =
-        let same : y ≡ x = same_Some y x (sym (by_true t) ∙ e) in
         let left : without number (y ∷ live) ≡ live = rw t (without_low number y.mapping.number live up.1 (grind (arith, nat_tests))) in
-        rw left (subst (λ (z : Held). count_by test (y ∷ live) ≡ count_by test live + cond (test z) 1 0) same one)
+        rw left (subst (λ (z : Held). count_by test (y ∷ live) ≡ count_by test live + cond (test z) 1 0) (same_Some y x (sym (by_true t) ∙ e)) one)
       where
         by_true : (y.mapping.number == number) ≡ true → held_of number (y ∷ live) ≡ Some y
         by_true t = rw t refl
     by_test false t recur =
-        let found : held_of number live ≡ Some x = sym (by_false t) ∙ e in
-        let rest = recur found in
         let left : without number (y ∷ live) ≡ y ∷ without number live = rw t refl in
-        let more = sum_by-cons (λ (z : Held). cond (test z) 1 0) y (without number live) in
-        let first = one in
-        rw left (omega arith)
+        rw left (omega (arith, one, sum_by-cons (λ (z : Held). cond (test z) 1 0) y (without number live), recur (sym (by_false t) ∙ e)))
       where
         by_false : (y.mapping.number == number) ≡ false → held_of number (y ∷ live) ≡ held_of number live
         by_false t = rw t refl
@@ -83,10 +73,8 @@ mapped_less table hands hands' m held is_live more h = record {
   counted = λ test.
       let its = live_of (held_of m.number table.live) m is_live in
       let before = h.counted test in
-      let fewer = hands_more test m hands' hands more in
-      let live = count_less (λ (x : Held). test x.mapping) m.number 0 table.live its.0 held.ascending its.1 in
       let same : ◌≡◌ {A = ℕ} (cond (test (let x : Held = its.0 in x.mapping)) 1 0) (cond (test m) 1 0) = ap (λ (n : Mapping). cond (test n) 1 0) its.2 in
-      omega arith;
+      omega (arith, count_less (λ (x : Held). test x.mapping) m.number 0 table.live its.0 held.ascending its.1, hands_more test m hands' hands more);
   framed = All-filter (λ (x : Held). not (x.mapping.number == m.number)) (λ (x : Held). x.mapping.gref ≡ x.frame + 6) table.live h.framed;
 }
 

@@ -20,13 +20,7 @@ use Rattle.machine_pipeline.proofs.Stations.{StandsAt, AreOpen, kind_of, early_o
 
 -- no more wait than are unfinished
 pub waiting_few : {g : Flow} {front_ring back_ring : Ring} {front_seen back_seen number last waiting unfinished ending : ℕ} → AreIndices g front_ring back_ring front_seen back_seen number last waiting unfinished ending → waiting ≤ unfinished
-waiting_few h =
-    let all = h.all in
-    let held = h.held in
-    let taken = h.taken_replied in
-    let replied = h.replied_fetched in
-    let fetched = h.fetched_pushed in
-    omega arith
+waiting_few h = omega (arith, h.fetched_pushed, h.replied_fetched, h.taken_replied, h.held, h.all)
 
 -- no frame of one request is one of the other
 abbrev pub FramesApart : Request → Request → Type 0

@@ -11,7 +11,8 @@ use Rattle.split_model.specs.World.{World}
 use Rattle.split_model.specs.Happening.{Notifies, happens}
 use Rattle.machine_pipeline.proofs.Flow.{Flow}
 use Rattle.machine_pipeline.proofs.Holds.{Holds, Stands, IsFrontSleep, IsBackSleep}
-use Rattle.machine_pipeline.proofs.Turns.{Goes, no_move}
+use Rattle.machine_pipeline.proofs.Keyed.{marked}
+use Rattle.machine_pipeline.proofs.Turns.{Goes, no_move, goes_by}
 use Rattle.machine_pipeline.specs.Step.{IsSame}
 
 -- a further mark wakes no less
@@ -41,49 +42,9 @@ set_or_kept : (bound pending : Bool) → pending ≡ true → (if bound then tru
 set_or_kept true pending t = refl
 set_or_kept false pending t = t
 
--- other marks, with which both ends would wake as well
-pub marked : (config : Options) (w : World) (g : Flow) (d : Pipeline) (s : FrontStage) (b : BackStage) (front_pending back_pending : Bool)
-    → IsFrontSleep g.start g.taken g.replied w.under.pages w.front.asleep front_pending s b
-    → IsBackSleep g.start g.fetched g.pushed w.under.pages w.back.asleep back_pending s b
-    → Holds config w g d s b
-    → Holds config (record { front = w.front; back = w.back; under = record w.under { channels = record w.under.channels { front_pending = front_pending; back_pending = back_pending } } }) g d s b
-marked config w g d s b front_pending back_pending front_sleep back_sleep h = record {
-  started = h.started;
-  shaped = h.shaped;
-  sized = h.sized;
-  indices = h.indices;
-  queue = h.queue;
-  submitted = h.submitted;
-  pool = h.pool;
-  stations = h.stations;
-  works = h.works;
-  counted = h.counted;
-  info = h.info;
-  replies = h.replies;
-  front_at = h.front_at;
-  offered = h.offered;
-  back_at = h.back_at;
-  unhalted = h.unhalted;
-  memory = h.memory;
-  ring = h.ring;
-  slots = h.slots;
-  frames = h.frames;
-  telling = h.telling;
-  entries = h.entries;
-  mapped = h.mapped;
-  paged = h.paged;
-  front_sleep = front_sleep;
-  back_sleep = back_sleep;
-  ports = h.ports;
-}
-
 pub notified_goes : (config : Options) (w : World) (g : Flow) (d : Pipeline) (at : End) → Stands config w g d → Goes config [] (happens w (Notifies at)) d
-notified_goes config w g d at stands = record {
-  flow = g;
-  steps = [];
-  does = no_move IsSame d (λ a b same. same);
-  holds = by_end at;
-}
+notified_goes config w g d at stands = goes_by (no_move IsSame d (λ a b same. same))
+    (by_end at)
   where
     h : Holds config w g d w.front.stage w.back.stage
     h = stands.holds

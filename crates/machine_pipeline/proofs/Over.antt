@@ -137,11 +137,11 @@ abbrev pub IsAlike : Pipeline → Pipeline → Type 0
 IsAlike d d' = (d'.options ≡ d.options) × (d'.requests ≡ d.requests) × (d'.front.closing ≡ d.front.closing)
 
 -- what stands where the pipeline, memory, mappings and both stages change
-pub over_at : {config : Options} {d d' : Pipeline} {x : Lasting} {front_closes : Bool} {requests : List Request} {front_cons : ℕ} {halt : Option Halt} {works : List Work} {held held' : List Mapping} {back_cons made made' : ℕ} {live live' : List Held} {pages pages' : List ℕ} {s s' : FrontStage} {b b' : BackStage}
+pub over_at : {config : Options} {d d' : Pipeline} {x : Lasting} {front_closes : Bool} {requests : List Request} {front_cons front_cons' : ℕ} {halt : Option Halt} {works : List Work} {held held' : List Mapping} {back_cons made made' : ℕ} {live live' : List Held} {pages pages' : List ℕ} {s s' : FrontStage} {b b' : BackStage}
     → IsOver config d x front_closes requests front_cons halt works held back_cons made live pages s b
     → IsAlike d d' → d'.front.closed ≡ is_closed s' → length pages' ≡ 1114112 → IsGivingUp held' b' → AreOwn held' → AreMapped live' held'
-    → made' ≡ made → IsLeaving d'.front.connected made x.shape.order pages' held' b' s' → (made ≢ 0 → IsDrained pages' front_cons back_cons)
-    → IsOver config d' x front_closes requests front_cons halt works held' back_cons made' live' pages' s' b'
+    → made' ≡ made → IsLeaving d'.front.connected made x.shape.order pages' held' b' s' → (made ≢ 0 → IsDrained pages' front_cons' back_cons)
+    → IsOver config d' x front_closes requests front_cons' halt works held' back_cons made' live' pages' s' b'
 over_at {config = config} {d' = d'} {x = x} {held' = held'} {pages' = pages'} {s' = s'} {b' = b'} o alike closed memory back_at own mapped same front_at ring = record {
   options = alike.0 ∙ o.options;
   closing = alike.2 ∙ o.closing;
@@ -177,6 +177,10 @@ pub record HasGone (asked : Option Job) (call : (before after : List (List ℕ))
   pub steps : List Step
   pub does : Does asked call said d steps
   pub kept : IsKept config w (after_steps steps d)
+
+-- so it is by these steps
+pub gone_by : {asked : Option Job} {call : (before after : List (List ℕ)) → Type 0} {config : Options} {said : List Line} {w : World} {d : Pipeline} {steps : List Step} → Does asked call said d steps → IsKept config w (after_steps steps d) → HasGone asked call config said w d
+gone_by {steps = steps} does kept = record { steps = steps; does = does; kept = kept }
 
 -- so it is where the ends go on serving
 pub goes_on : {asked : Option Job} {call : (before after : List (List ℕ)) → Type 0} (config : Options) (said : List Line) (w : World) (d : Pipeline) → GoesBy asked call config said w d → HasGone asked call config said w d

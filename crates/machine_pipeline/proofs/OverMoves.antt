@@ -61,7 +61,8 @@ use Rattle.machine_pipeline.proofs.Lists.{pair_at, pairs_from, count_none}
 use Rattle.machine_pipeline.proofs.Slots.{few_pages}
 use Rattle.machine_pipeline.proofs.Kept.{written, other_frame, other_entry}
 use Rattle.machine_pipeline.proofs.Mapped.{mapped_less}
-use Rattle.machine_pipeline.proofs.Over.{IsDrained, IsGivingUp, AreOwn, AreUnmapped, IsLeaving, Over, HasGone, over_at}
+use Rattle.machine_pipeline.proofs.Over.{IsDrained, IsGivingUp, AreOwn, AreUnmapped, IsLeaving, Over, HasGone, over_at, gone_by}
+use Rattle.machine_pipeline.proofs.Leaving.{giving_unbound}
 
 -- the machine with that front, and its lines
 abbrev next_by : (FrontAnswer → front_view.View) → World → Option FrontAct → World
@@ -138,11 +139,8 @@ reads_grant : (config : Options) (w : World) (d : Pipeline) (page : ℕ) → w.f
 reads_grant config w d page told o =
     subst (λ (b : Bool). let x : front_view.View = (if b then broken word w.front else at (front.RingEnd page word) w.front) in
     HasGone None IsSame config (lines.Move (moves.FrontRead frame place word) ∷ front_lines x.told) (record { front = record x { told = None }; back = w.back; under = w.under }) d) (sym unmapped)
-    (record {
-      steps = [];
-      does = said_nothing d (moves.FrontRead frame place word) w.front.told told;
-      kept = inr (over_at o (refl, refl, refl) o.closed o.memory o.back_at o.own o.mapped refl (o.front_at.0, o.front_at.1, o.front_at.2, sym (ring_flags w.under.pages page)) o.ring);
-    })
+    (gone_by (said_nothing d (moves.FrontRead frame place word) w.front.told told)
+    (inr (over_at o (refl, refl, refl) o.closed o.memory o.back_at o.own o.mapped refl (o.front_at.0, o.front_at.1, o.front_at.2, sym (ring_flags w.under.pages page)) o.ring)))
   where
     frame : ℕ
     frame = entry_frame (ring_page_frame page)
@@ -204,25 +202,16 @@ ends_grant config w d page seen told o =
     by_more : (b : Bool) → nat_lt (page + 1) (2 ^ w.front.shape.order) ≡ b
         → (let x : front_view.View = at (if b then front.RingRead (page + 1) else front.ClosePort) w.front in HasGone None IsSame config (lines.Move (moves.FrontCas frame place seen 0 word) ∷ front_lines x.told)
         (record { front = record x { told = None }; back = w.back; under = (let h = w.under in record h { pages = pages }) }) d)
-    by_more true more = record {
-      steps = [];
-      does = said_nothing d (moves.FrontCas frame place seen 0 word) w.front.told told;
-      kept = inr (over_at o (refl, refl, refl) o.closed sized o.back_at o.own o.mapped refl (o.front_at.0, (let lt : page + 1 < 2 ^ w.front.shape.order = grind (arith, nat_tests) in lt), unmapped) drained);
-    }
-    by_more false last = record {
-      steps = [];
-      does = said_nothing d (moves.FrontCas frame place seen 0 word) w.front.told told;
-      kept = inr (over_at o (refl, refl, refl) o.closed sized o.back_at o.own o.mapped refl tt drained);
-    }
+    by_more true more = gone_by (said_nothing d (moves.FrontCas frame place seen 0 word) w.front.told told)
+        (inr (over_at o (refl, refl, refl) o.closed sized o.back_at o.own o.mapped refl (o.front_at.0, (let lt : page + 1 < 2 ^ w.front.shape.order = grind (arith, nat_tests) in lt), unmapped) drained))
+    by_more false last = gone_by (said_nothing d (moves.FrontCas frame place seen 0 word) w.front.told told)
+        (inr (over_at o (refl, refl, refl) o.closed sized o.back_at o.own o.mapped refl tt drained))
 
 -- its port is closed
 closes_port : (config : Options) (w : World) (d : Pipeline) → w.front.told ≡ None → Over config w d front.ClosePort w.back.stage
     → HasGone None IsSame config (front_says front.ClosePort w (front_turn_at front.ClosePort w)) (front_next front.ClosePort w (front_turn_at front.ClosePort w)) d
-closes_port config w d told o = record {
-  steps = [];
-  does = said_nothing d (moves.ClosePort mover.Front) w.front.told told;
-  kept = inr (over_at o (refl, refl, refl) o.closed o.memory o.back_at o.own o.mapped (length-map w.under.channels.ports shut) tt o.ring);
-}
+closes_port config w d told o = gone_by (said_nothing d (moves.ClosePort mover.Front) w.front.told told)
+    (inr (over_at o (refl, refl, refl) o.closed o.memory o.back_at o.own o.mapped (length-map w.under.channels.ports shut) tt o.ring))
 
 pub front_ends : (config : Options) (w : World) (d : Pipeline) (s : FrontStage) → is_connected s ≡ true → w.front.told ≡ None → w.front.stage ≡ s → Over config w d s w.back.stage
     → HasGone None IsSame config (front_says s w (front_turn_at s w)) (front_next s w (front_turn_at s w)) d
@@ -283,12 +272,13 @@ abbrev unmap_next : World → back_view.View → Option BackAct → World
 unmap_next w v None = w
 unmap_next w v (Some a) = record { front = w.front; back = record v { told = None }; under = a.under }
 
+-- one of the rest stands one further among all
+get_behind : (m : Mapping) (rest : List Mapping) (i : ℕ) (x : Mapping) → slice_get rest i ≡ Some x → slice_get (m ∷ rest) (i + 1) ≡ Some x
+get_behind m rest i x e = (let next : i + 1 ≡ suc i = omega arith in ap (slice_get (m ∷ rest)) next) ∙ e
+
 -- the references of those that are left are others
 none_left : (m : Mapping) (rest : List Mapping) (test : Mapping → Bool) → AreOwn (m ∷ rest) → ((x : Mapping) → x.gref ≢ m.gref → test x ≡ false) → count_by test rest ≡ 0
 none_left m rest test own passes = count_none test rest (λ i x e. passes x (λ same. pair_at (λ (a b : Mapping). a.gref ≢ b.gref) (m ∷ rest) 0 (i + 1) m x own.distinct (omega arith) refl (get_behind m rest i x e) (sym same)))
-  where
-    get_behind : (m : Mapping) (rest : List Mapping) (i : ℕ) (x : Mapping) → slice_get rest i ≡ Some x → slice_get (m ∷ rest) (i + 1) ≡ Some x
-    get_behind m rest i x e = (let next : i + 1 ≡ suc i = omega arith in ap (slice_get (m ∷ rest)) next) ∙ e
 
 -- the back's first page is unmapped
 unmaps_first : (config : Options) (w : World) (d : Pipeline) (b : BackStage) (next : List Mapping → BackStage) (m : Mapping) (rest : List Mapping)
@@ -301,7 +291,7 @@ unmaps_first : (config : Options) (w : World) (d : Pipeline) (b : BackStage) (ne
 unmaps_first config w d b next m rest e serves gives held o =
     subst (λ (ms : List ℕ). Over config (record { front = w.front; back = record w.back { pages = rest; stage = next rest; told = None }; under = (let h = w.under in record h { grants = unmap_table h.grants m; pages = ms }) }) d w.front.stage (next rest)) (sym written_so)
     (over_at o (refl, refl, refl) o.closed (length-set w.under.pages (m.gref / 512 * 1024 + 2 * (m.gref % 512)) flags ∙ o.memory) (gives rest)
-    (record { grefs = All-tail (λ (x : Mapping). (8 ≤ x.gref) × (x.gref < 24)) m rest own.grefs; distinct = pairs_from (λ (x y : Mapping). x.gref ≢ y.gref) rest (λ i j x y lt first second. pair_at (λ (a b : Mapping). a.gref ≢ b.gref) (m ∷ rest) (i + 1) (j + 1) x y own.distinct (omega arith) (get_behind i x first) (get_behind j y second)) })
+    (record { grefs = All-tail (λ (x : Mapping). (8 ≤ x.gref) × (x.gref < 24)) m rest own.grefs; distinct = pairs_from (λ (x y : Mapping). x.gref ≢ y.gref) rest (λ i j x y lt first second. pair_at (λ (a b : Mapping). a.gref ≢ b.gref) (m ∷ rest) (i + 1) (j + 1) x y own.distinct (omega arith) (get_behind m rest i x first) (get_behind m rest j y second)) })
     mapped refl
     (gave_up d.front.connected (length w.under.channels.ports) w.front.shape.order w.under.pages pages w.back.pages rest b (next rest) w.front.stage serves still o.front_at)
     (λ made. still_drained w.under.pages pages w.front.ring.cons w.back.ring.cons (other_frame w.under.pages (m.gref / 512) (2 * (m.gref % 512)) flags 2 (omega (arith, among.1)) (omega (arith, among.1))) (o.ring made)))
@@ -311,9 +301,6 @@ unmaps_first config w d b next m rest e serves gives held o =
 
     among : (8 ≤ m.gref) × (m.gref < 24)
     among = All-head (λ (x : Mapping). (8 ≤ x.gref) × (x.gref < 24)) m rest own.grefs
-
-    get_behind : (i : ℕ) (x : Mapping) → slice_get rest i ≡ Some x → slice_get (m ∷ rest) (i + 1) ≡ Some x
-    get_behind i x at = (let next : i + 1 ≡ suc i = omega arith in ap (slice_get (m ∷ rest)) next) ∙ at
 
     left : List Held
     left = without m.number w.under.grants.live
@@ -360,19 +347,12 @@ unmaps : (config : Options) (w : World) (d : Pipeline) (b : BackStage) (next : L
     → Over config w d w.front.stage b
     → (let act : Option BackAct = back_act w.under back_mover.Back (unmap_ask ms) Took in HasGone None IsSame config (unmap_says w act) (unmap_next w (record w.back { pages = other_pages ms; stage = next (other_pages ms) }) act) d)
 unmaps config w d b next [] e told some serves gives held o = absurd (some refl)
-unmaps config w d b next (m ∷ rest) e told some serves gives held o = record {
-  steps = [];
-  does = said_back d (moves.Unmap back_mover.Back m.number) w.back.told w.back.halted back_answer.Done told;
-  kept = inr (unmaps_first config w d b next m rest e serves gives held o);
-}
+unmaps config w d b next (m ∷ rest) e told some serves gives held o = gone_by (said_back d (moves.Unmap back_mover.Back m.number) w.back.told w.back.halted back_answer.Done told)
+    (inr (unmaps_first config w d b next m rest e serves gives held o))
 
 gives_bound : (held : List Mapping) → IsGivingUp held (bound held)
 gives_bound [] = refl
 gives_bound (m ∷ held) = λ none. cc
-
-gives_unbound : (held : List Mapping) → IsGivingUp held (unbound held)
-gives_unbound [] = refl
-gives_unbound (m ∷ held) = λ none. cc
 
 -- and its port
 closed_port : (connected : Bool) (made order : ℕ) (pages : List ℕ) (held : List Mapping) (s : FrontStage) → IsLeaving connected made order pages held back.ClosePort s → IsLeaving connected made order pages held back.Halted s
@@ -389,11 +369,8 @@ closed_port connected made order pages held s p = absurd p
 -- the back's port is closed
 closes_back : (config : Options) (w : World) (d : Pipeline) → w.back.told ≡ None → Over config w d w.front.stage back.ClosePort
     → HasGone None IsSame config (back_says back.ClosePort w (back_turn_at back.ClosePort w)) (back_next back.ClosePort w (back_turn_at back.ClosePort w)) d
-closes_back config w d told o = record {
-  steps = [];
-  does = said_back d (moves.ClosePort mover.Back) w.back.told w.back.halted back_answer.Done told;
-  kept = inr (over_at o (refl, refl, refl) o.closed o.memory o.back_at o.own o.mapped (length-map w.under.channels.ports unbound_port) (closed_port d.front.connected (length w.under.channels.ports) w.front.shape.order w.under.pages w.back.pages w.front.stage o.front_at) o.ring);
-}
+closes_back config w d told o = gone_by (said_back d (moves.ClosePort mover.Back) w.back.told w.back.halted back_answer.Done told)
+    (inr (over_at o (refl, refl, refl) o.closed o.memory o.back_at o.own o.mapped (length-map w.under.channels.ports unbound_port) (closed_port d.front.connected (length w.under.channels.ports) w.front.shape.order w.under.pages w.back.pages w.front.stage o.front_at) o.ring))
 
 -- it has halted, and waits
 back_waits : (config : Options) (w : World) (d : Pipeline) → w.back.told ≡ None → Over config w d w.front.stage w.back.stage
@@ -414,7 +391,7 @@ back_ends config w d back.UnmapRing safe e o = unmaps config w d back.UnmapRing 
 
     held : AreHeld w.under.grants w.back.pages
     held = subst (λ (works : List Work). AreHeld w.under.grants (hands_in works ++ w.back.pages)) o.no_job at
-back_ends config w d back.UnmapUnbound safe e o = unmaps config w d back.UnmapUnbound unbound w.back.pages refl safe.back_told o.back_at (λ same. cc) gives_unbound held o
+back_ends config w d back.UnmapUnbound safe e o = unmaps config w d back.UnmapUnbound unbound w.back.pages refl safe.back_told o.back_at (λ same. cc) giving_unbound held o
   where
     at : AreHeld w.under.grants (hands_at back.UnmapUnbound w.back)
     at = subst (λ (b : BackStage). AreHeld w.under.grants (hands_at b w.back)) e safe.held

@@ -43,15 +43,12 @@ use Rattle.machine_pipeline.proofs.Connecting.{initialised_is, yet_open}
 use Rattle.line_text.proofs.Both.{both_true}
 use Rattle.machine_pipeline.proofs.OverMoves.{no_halt}
 use Rattle.machine_pipeline.proofs.Slots.{some_pages}
-use Rattle.machine_pipeline.proofs.Over.{IsGivingUp, AreUnmapped, IsLeaving, Over, HasGone, over_at, unclosed}
+use Rattle.machine_pipeline.proofs.Over.{IsGivingUp, AreUnmapped, IsLeaving, Over, HasGone, over_at, unclosed, gone_by}
 
 -- what an end does with the keys
 pub keys_end : (config : Options) (w : World) (d : Pipeline) (at : End) (move : KeyMove) → Over config w d w.front.stage w.back.stage → HasGone None IsSame config (lines_at w (Negotiates at move)) (happens w (Negotiates at move)) d
-keys_end config w d at move o = record {
-  steps = [];
-  does = asides_do d _ (negotiated_lines_are (λ (line : Line). is_aside line ≡ true) w.back.stage at move w.under.keys (λ path. refl) (λ path text. refl) (λ path. refl) (λ path. refl));
-  kept = inr o;
-}
+keys_end config w d at move o = gone_by (asides_do d _ (negotiated_lines_are (λ (line : Line). is_aside line ≡ true) w.back.stage at move w.under.keys (λ path. refl) (λ path text. refl) (λ path. refl) (λ path. refl)))
+    (inr o)
 
 -- a spurious event
 pub notified_ends : (config : Options) (w : World) (d : Pipeline) (at : End) → Over config w d w.front.stage w.back.stage → HasGone None IsSame config [] (happens w (Notifies at)) d
@@ -87,19 +84,13 @@ staged w s = record { front = (let v : View = w.front in record v { stage = s })
 -- it is connected, but serves nothing
 connects_late : (config : Options) (w : World) (d : Pipeline) (offers : Offers) → Over config w d front.Initialised w.back.stage
     → HasGone None IsSame config (lines.Ready ∷ []) (record { front = (let v : View = w.front in record v { offers = offers; stage = front.Loop }); back = w.back; under = w.under }) d
-connects_late config w d offers o = record {
-  steps = Connects ∷ [];
-  does = record { asides = []; aside = refl; shows = refl; asks = refl; allowed = ((o.front_at.0, o.closed), tt); disk = λ a b e. (b, e, refl) };
-  kept = inr (over_at o (refl, refl, refl) o.closed o.memory o.back_at o.own o.mapped refl o.front_at.2 o.ring);
-}
+connects_late config w d offers o = gone_by {steps = Connects ∷ []} (record { asides = []; aside = refl; shows = refl; asks = refl; allowed = ((o.front_at.0, o.closed), tt); disk = λ a b e. (b, e, refl) })
+    (inr (over_at o (refl, refl, refl) o.closed o.memory o.back_at o.own o.mapped refl o.front_at.2 o.ring))
 
 -- the back has left: the grants of the ring's frames are ended next
 leaves_ring : (config : Options) (w : World) (d : Pipeline) (s : FrontStage) → is_made s ≡ true → w.back.stage ≡ back.Halted → Over config w d s w.back.stage → HasGone None IsSame config [] (staged w (front.RingRead 0)) d
-leaves_ring config w d s made halted o = record {
-  steps = [];
-  does = no_move IsSame d (λ a b same. same);
-  kept = inr (over_at o (refl, refl, refl) (o.closed ∙ unclosed is_made refl s made) o.memory o.back_at o.own o.mapped refl (halted, some_pages w.front.shape.order, by_stage s made (subst (λ (b : BackStage). IsLeaving d.front.connected (length w.under.channels.ports) w.front.shape.order w.under.pages w.back.pages b s) halted o.front_at)) o.ring);
-}
+leaves_ring config w d s made halted o = gone_by (no_move IsSame d (λ a b same. same))
+    (inr (over_at o (refl, refl, refl) (o.closed ∙ unclosed is_made refl s made) o.memory o.back_at o.own o.mapped refl (halted, some_pages w.front.shape.order, by_stage s made (subst (λ (b : BackStage). IsLeaving d.front.connected (length w.under.channels.ports) w.front.shape.order w.under.pages w.back.pages b s) halted o.front_at)) o.ring))
   where
     by_stage : (s : FrontStage) → is_made s ≡ true → IsLeaving d.front.connected (length w.under.channels.ports) w.front.shape.order w.under.pages w.back.pages back.Halted s → AreUnmapped w.front.shape.order w.under.pages w.back.pages
     by_stage front.Initialised t p = p.2
@@ -108,41 +99,16 @@ leaves_ring config w d s made halted o = record {
 
 -- it is closed
 is_closed_now : (config : Options) (w : World) (d : Pipeline) (s : FrontStage) → is_bare s ≡ true → Over config w d s w.back.stage → HasGone None IsSame config (lines.Closed ∷ []) (staged w front.Closed) d
-is_closed_now config w d s bare o = record {
-  steps = Closes ∷ [];
-  does = record { asides = []; aside = refl; shows = refl; asks = refl; allowed = ((o.closing, o.closed ∙ unclosed is_bare refl s bare, o.finished), tt); disk = λ a b e. (b, e, refl) };
-  kept = inr (over_at o (refl, refl, refl) refl o.memory o.back_at o.own o.mapped refl tt o.ring);
-}
+is_closed_now config w d s bare o = gone_by {steps = Closes ∷ []} (record { asides = []; aside = refl; shows = refl; asks = refl; allowed = ((o.closing, o.closed ∙ unclosed is_bare refl s bare, o.finished), tt); disk = λ a b e. (b, e, refl) })
+    (inr (over_at o (refl, refl, refl) refl o.memory o.back_at o.own o.mapped refl tt o.ring))
 
 -- the order that it wished leaves a front as it is that hasn't begun its ring
 agrees_late : (config : Options) (w : World) (d : Pipeline) (order : ℕ) → order ≡ w.front.shape.order → is_unmade w.front.stage ≡ true → Over config w d w.front.stage w.back.stage
     → HasGone None IsSame config [] (record { front = in_state (states.Agreed order) w.front; back = w.back; under = w.under }) d
 agrees_late config w d order wished unmade o =
     subst (λ (n : ℕ). HasGone None IsSame config [] (record { front = in_state (states.Agreed n) w.front; back = w.back; under = w.under }) d) (sym wished)
-    (record {
-      steps = [];
-      does = no_move IsSame d (λ a b same. same);
-      kept = inr (record {
-        options = o.options;
-        closing = o.closing;
-        closed = o.closed;
-        finished = o.finished;
-        counted = o.counted;
-        begins = o.begins;
-        pooled = o.pooled;
-        closes = o.closes;
-        no_request = o.no_request;
-        narrow = o.narrow;
-        halted = o.halted;
-        no_job = o.no_job;
-        memory = o.memory;
-        back_at = o.back_at;
-        own = o.own;
-        mapped = o.mapped;
-        front_at = o.front_at;
-        ring = λ made. absurd (unmade_yet w.front.stage unmade o.front_at made);
-      });
-    })
+    (gone_by (no_move IsSame d (λ a b same. same))
+    (inr (over_at o (refl, refl, refl) o.closed o.memory o.back_at o.own o.mapped refl o.front_at (λ made. absurd (unmade_yet w.front.stage unmade o.front_at made)))))
   where
     unmade_yet : (s : FrontStage) → is_unmade s ≡ true → IsLeaving d.front.connected (length w.under.channels.ports) w.front.shape.order w.under.pages w.back.pages w.back.stage s → length w.under.channels.ports ≢ 0 → ⊥
     unmade_yet (front.RingWord k) t p made = made p.1

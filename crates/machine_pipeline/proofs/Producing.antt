@@ -21,7 +21,7 @@ use Rattle.machine_pipeline.proofs.Holds.{IsWork, Holds, BackAt}
 use Rattle.machine_pipeline.proofs.Kept.{SameFrame, SameEntry, written, other_word, other_frame, same_entry}
 use Rattle.machine_pipeline.proofs.Issuing.{frames_elsewhere, entries_elsewhere}
 use Rattle.machine_pipeline.proofs.Next.{waiting_few, IsNext, next_is}
-use Rattle.machine_pipeline.proofs.Turns.{FrontGoes, Stepped, does_step}
+use Rattle.machine_pipeline.proofs.Turns.{FrontGoes, Stepped, does_step, goes_by}
 use Rattle.machine_pipeline.proofs.Frames.{unmapped}
 use Rattle.machine_pipeline.proofs.Lists.{all_at}
 use Rattle.machine_pipeline.proofs.Pushing.{pushed_flow, indices_pushed, queue_pushed, slots_pushed, frames_pushed, entries_pushed}
@@ -39,65 +39,54 @@ pub producer_goes : (config : Options) (w : World) (g : Flow) (d : Pipeline) →
 producer_goes config w g d safe h =
     let x = h.indices in
     let y = h.ring in
-    let z = h.front_sleep in
-    let u = h.back_sleep in
-    record {
-      flow = pushed_flow g;
-      steps = s.step ∷ [];
-      does = does_step _ (front_lines w.front.told) (rw safe.front_told refl) s;
-      holds = record {
-        started = h.started;
-        shaped = h.shaped;
-        sized = h.sized;
-        indices = indices_pushed g w.front.ring w.back.ring w.front.seen w.back.seen w.back.fetched w.front.last w.front.waiting (length w.front.requests) next.waits h.indices;
-        queue = queue_pushed g.submitted w.front.requests g.pushed w.front.waiting r next (waiting_few h.indices) h.queue;
-        submitted = h.submitted;
-        pool = h.pool;
-        stations = stations_elsewhere config (pushed_flow g) _ true false (is_fetching w.back.stage) None None (reply_at w.back.stage) w.front.requests w.back.jobs.works w.under.pages new w.front.sectors w.front.last h.submitted (λ f low high. elsewhere f (omega arith)) s.now;
-        works = h.works;
-        counted = h.counted;
-        info = h.info;
-        replies = h.replies;
-        front_at = (omega arith, x.pushed ∙ ap (λ (n : ℕ). wrapped g.start n) (one_less g.pushed));
-        offered = h.offered;
-        back_at = h.back_at;
-        unhalted = h.unhalted;
-        memory = length-set w.under.pages (2 * 1024 + 0) (next_of w.front.ring.prod) ∙ h.memory;
-        ring = record {
-          begun = tt;
-          requests = λ t. written w.under.pages 2 0 (next_of w.front.ring.prod) h.memory (omega arith) (omega arith) ∙ next_wrapped g.start g.pushed w.front.ring.prod x.pushed;
-          responses = λ t. ring_word 2 (omega arith) ∙ y.responses t;
-          named = λ page lt unmapped. let few = few_pages g.shape.order h.shaped.narrow in let entry = entry_same (8 + page) (omega arith) in entry.frame ∙ y.named page lt unmapped;
-          granted = λ page lt unmapped. let few = few_pages g.shape.order h.shaped.narrow in let entry = entry_same (8 + page) (omega arith) in entry.flags ∙ y.granted page lt unmapped;
-        };
-        slots = slots_pushed g.shape g.start g.fetched g.pushed g.taken g.replied w.front.ring.prod g.series g.replies w.under.pages new w.back.stage h.shaped.narrow (index_written w.under.pages 0 (next_of w.front.ring.prod) (omega arith)) h.slots;
-        frames = frames_pushed g.pushed w.front.ring.prod w.under.pages new w.front.requests next.shaped
-            (frames_elsewhere config w g d front.Producer w.back.stage h new (λ f from. elsewhere f (omega arith))) h.frames;
-        telling = record { size = h.telling.size; so_far = tt };
-        entries = entries_pushed g.submitted w.front.requests g.pushed w.front.waiting w.front.ring.prod w.under.pages new w.under.grants.live w.front.ending
-            r next
-            (λ place in_it. unmapped config w g d front.Producer w.back.stage h (length w.front.requests - w.front.waiting) r next.place place in_it none_begun (λ (m : Mapping). m.gref == frame_at r place + 6) (λ m apart. grind (arith, nat_tests)))
-            (entries_elsewhere config w g d front.Producer w.back.stage h new entry_same) h.entries;
-        mapped = h.mapped;
-        paged = h.paged;
-        front_sleep = record {
-          arming = λ t. absurd (cc);
-          armed = λ t. ring_word 3 (omega arith) ∙ z.armed t;
-          may = λ t. absurd (cc);
-          woken = z.woken;
-        };
-        back_sleep = record {
-          arming = λ t. ring_word 1 (omega arith) ∙ u.arming t;
-          armed = λ t. ring_word 1 (omega arith) ∙ u.armed t;
-          may = u.may;
-          woken = λ t. elim (u.woken t) [
-            | inl none ↦ inr (inr (omega arith))
-            | inr some ↦ elim some [ inl pending ↦ inr (inl pending) | inr comes ↦ absurd comes ]
-          ];
-        };
-        ports = h.ports;
+    goes_by {g = pushed_flow g} (does_step _ (front_lines w.front.told) (rw safe.front_told refl) s)
+    (record {
+      settled = h.settled;
+      indices = indices_pushed g w.front.ring w.back.ring w.front.seen w.back.seen w.back.fetched w.front.last w.front.waiting (length w.front.requests) next.waits h.indices;
+      queue = queue_pushed g.submitted w.front.requests g.pushed w.front.waiting r next (waiting_few h.indices) h.queue;
+      pool = h.pool;
+      stations = stations_elsewhere config (pushed_flow g) _ true false (is_fetching w.back.stage) None None (reply_at w.back.stage) w.front.requests w.back.jobs.works w.under.pages new w.front.sectors w.front.last h.submitted (λ f low high. elsewhere f (omega arith)) s.now;
+      works = h.works;
+      counted = h.counted;
+      replies = h.replies;
+      front_at = (omega arith, x.pushed ∙ ap (λ (n : ℕ). wrapped g.start n) (one_less g.pushed));
+      offered = h.offered;
+      back_at = h.back_at;
+      memory = length-set w.under.pages (2 * 1024 + 0) (next_of w.front.ring.prod) ∙ h.memory;
+      ring = record {
+        begun = tt;
+        requests = λ t. written w.under.pages 2 0 (next_of w.front.ring.prod) h.memory (omega arith) (omega arith) ∙ next_wrapped g.start g.pushed w.front.ring.prod x.pushed;
+        responses = λ t. ring_word 2 (omega arith) ∙ y.responses t;
+        named = λ page lt unmapped. let few = few_pages g.shape.order h.shaped.narrow in let entry = entry_same (8 + page) (omega arith) in entry.frame ∙ y.named page lt unmapped;
+        granted = λ page lt unmapped. let few = few_pages g.shape.order h.shaped.narrow in let entry = entry_same (8 + page) (omega arith) in entry.flags ∙ y.granted page lt unmapped;
       };
-    }
+      slots = slots_pushed g.shape g.start g.fetched g.pushed g.taken g.replied w.front.ring.prod g.series g.replies w.under.pages new w.back.stage h.shaped.narrow (index_written w.under.pages 0 (next_of w.front.ring.prod) (omega arith)) h.slots;
+      frames = frames_pushed g.pushed w.front.ring.prod w.under.pages new w.front.requests next.shaped
+          (frames_elsewhere config w g d front.Producer w.back.stage h new (λ f from. elsewhere f (omega arith))) h.frames;
+      telling = record { size = h.telling.size; so_far = tt };
+      entries = entries_pushed g.submitted w.front.requests g.pushed w.front.waiting w.front.ring.prod w.under.pages new w.under.grants.live w.front.ending
+          r next
+          (λ place in_it. unmapped config w g d front.Producer w.back.stage h (length w.front.requests - w.front.waiting) r next.place place in_it none_begun (λ (m : Mapping). m.gref == frame_at r place + 6) (λ m apart. grind (arith, nat_tests)))
+          (entries_elsewhere config w g d front.Producer w.back.stage h new entry_same) h.entries;
+      mapped = h.mapped;
+      paged = h.paged;
+      front_sleep = record {
+        arming = λ t. absurd (cc);
+        armed = λ t. ring_word 3 (omega arith) ∙ h.front_sleep.armed t;
+        may = λ t. absurd (cc);
+        woken = h.front_sleep.woken;
+      };
+      back_sleep = record {
+        arming = λ t. ring_word 1 (omega arith) ∙ h.back_sleep.arming t;
+        armed = λ t. ring_word 1 (omega arith) ∙ h.back_sleep.armed t;
+        may = h.back_sleep.may;
+        woken = λ t. elim (h.back_sleep.woken t) [
+          | inl none ↦ inr (inr (omega arith))
+          | inr some ↦ elim some [ inl pending ↦ inr (inl pending) | inr comes ↦ absurd comes ]
+        ];
+      };
+      ports = h.ports;
+    })
   where
     r : Request
     r = h.front_at.0
@@ -118,10 +107,9 @@ producer_goes config w g d safe h =
     none_begun i t e same =
         let work = all_at (IsWork g.submitted g.series g.fetched) w.back.jobs.works i t h.works.each e in
         let queue = h.queue in
-        let number = h.submitted.each (t.id - 1) work.r work.known in
         let x = h.indices in
         absurd (among_apart g.submitted g.series g.pushed g.pushed work.r r queue.ordered (record { index = t.number - 1; early = omega (arith, work.reached, work.counted, x.fetched_pushed); at = work.issued }) next.at (omega arith)
-        (omega (arith, number.number, work.positive, same)))
+        (omega (arith, (h.submitted.each (t.id - 1) work.r work.known).number, work.positive, same)))
 
     new : List ℕ
     new = with_word w.under.pages 2 0 (next_of w.front.ring.prod)

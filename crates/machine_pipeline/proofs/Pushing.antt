@@ -17,6 +17,7 @@ use Rattle.blk_back.specs.declared.stage.Stage.{Stage as BackStage}
 use Rattle.machine_pipeline.proofs.Flow.{Flow, wrapped, frames_of, is_own}
 use Rattle.ring_words.specs.Shape.{Shape, entry_words_of}
 use Rattle.machine_pipeline.proofs.Series.{IsAmong, among_more, among_last}
+use Rattle.machine_pipeline.proofs.Wrapped.{next_wrapped}
 use Rattle.machine_pipeline.proofs.Holds.{AreIndices, AreQueued, AreSlots, IsFilled, AreEntries, flags_with, slot_of}
 use Rattle.machine_pipeline.proofs.Kept.{SameGrants, responded_few}
 use Rattle.machine_pipeline.proofs.Data.{SameData, own_upto}
@@ -32,32 +33,7 @@ pub indices_pushed : (g : Flow) (ring back_ring : Ring) (front_seen back_seen nu
     → AreIndices g ring back_ring front_seen back_seen number last waiting unfinished 0
     → AreIndices (pushed_flow g) (record ring { prod = next_of ring.prod }) back_ring front_seen back_seen number last (waiting - 1) unfinished 0
 indices_pushed g ring back_ring front_seen back_seen number last waiting unfinished waits h =
-    let prod = h.pushed in
-    let all = h.all in
-    let fetched = h.fetched_pushed in
-    let saw = h.back_to in
-    record {
-      front_entries = h.front_entries;
-      pushed = rw prod (omega arith);
-      taken = h.taken;
-      replied = h.replied;
-      fetched = h.fetched;
-      front_saw = h.front_saw;
-      back_saw = h.back_saw;
-      count = h.count;
-      taken_replied = h.taken_replied;
-      replied_fetched = h.replied_fetched;
-      fetched_pushed = omega arith;
-      front_from = h.front_from;
-      front_to = h.front_to;
-      back_from = h.back_from;
-      back_to = omega arith;
-      all = omega arith;
-      given = h.given;
-      few = h.few;
-      held = h.held;
-      room = h.room;
-    }
+    let prod = next_wrapped g.start g.pushed ring.prod h.pushed in omega (arith, h)
 
 pub queue_pushed : {series : List Request} (submitted requests : List Request) (pushed waiting : ℕ) (r : Request) → IsNext submitted series requests pushed waiting r → waiting ≤ length requests → AreQueued submitted series pushed requests waiting → AreQueued submitted series (pushed + 1) requests (waiting - 1)
 queue_pushed {series} submitted requests pushed waiting r next few h =
@@ -110,13 +86,11 @@ pub frames_pushed : {series : List Request} (pushed old_word : ℕ) (old new : L
     → All (IsFilled series pushed old front.Producer) requests
     → All (IsFilled series (pushed + 1) new (front.ProducerFence old_word)) requests
 frames_pushed {series} pushed old_word old new requests shaped same h k d lt =
-    let here = same k d lt in
     let was = h k d lt in
-    let shape = shaped k d lt in
     record {
-      whole = λ one n l own. here n l ∙ (elim (among_last pushed (get_or requests k d) one) [
+      whole = λ one n l own. (same k d lt) n l ∙ (elim (among_last pushed (get_or requests k d) one) [
         | inl before ↦ was.whole before n l own
-        | inr last ↦ was.begun last n (own_reached (get_or requests k d) n shape own) l own
+        | inr last ↦ was.begun last n (own_reached (get_or requests k d) n (shaped k d lt) own) l own
       ]);
       begun = λ e n l. absurd (omega arith);
     }
@@ -132,8 +106,7 @@ entries_pushed submitted requests pushed waiting old_word old new live ending r 
   each = λ k d lt.
       let here = same k d lt in
       let was = h.each k d lt in
-      let shape = next.shaped k d lt in
-      let few = few_frames (get_or requests k d) shape in
+      let few = few_frames (get_or requests k d) (next.shaped k d lt) in
       record {
         named = λ one place in_it. let entry = here place in_it in entry.frame ∙ (elim (among_last pushed (get_or requests k d) one) [
           | inl before ↦ was.named before place in_it

@@ -39,7 +39,7 @@ use Rattle.split_model.proofs.Overwriting.{dump_lines_are}
 use Rattle.machine_pipeline.proofs.Flow.{Flow, ending_at, count_of, reply_at, reply_count}
 use Rattle.machine_pipeline.proofs.Holds.{Holds, Stands, FrontAt, BackAt, FrontSends, BackSends}
 use Rattle.machine_pipeline.specs.Step.{IsSame}
-use Rattle.machine_pipeline.proofs.Over.{IsKept, HasGone}
+use Rattle.machine_pipeline.proofs.Over.{IsKept, HasGone, gone_by}
 use Rattle.machine_pipeline.proofs.Keyed.{asides_do}
 use Rattle.machine_pipeline.proofs.Drained.{finished_at}
 use Rattle.machine_pipeline.proofs.Leaving.{through_is}
@@ -59,10 +59,7 @@ front_acts false x y e f t = true≢false (sym t ∙ f)
 
 issue_acts : (v : front_view.View) (r : Request) (way : Transfer) → front_submit.is_wait (front_ask.issue_ask v r way) ≡ true → ⊥
 issue_acts v r transfer.Read t = front_acts (is_indirect r.count) (front_ask.page_ask (Some r) 0) (front_ask.name_ask (Some r) 0) refl refl t
-issue_acts v r (transfer.Write tag) t = true≢false (sym t)
-issue_acts v r (transfer.Barrier tag) t = true≢false (sym t)
-issue_acts v r transfer.Flush t = true≢false (sym t)
-issue_acts v r (transfer.Discard sectors) t = true≢false (sym t)
+issue_acts v r way t = true≢false (sym t)
 
 front_sleeps : (shape : Shape) (start pushed taken seen : ℕ) (submitted : List Request) (replies : List Reply) (entry : List ℕ) (v : front_view.View) (s : FrontStage)
     → not (front_submit.is_led s) ≡ true
@@ -137,10 +134,7 @@ pub record AreQuiet (front_waits back_idle front_pending back_pending : Bool) : 
 
 pub all_quiet : (a b c e : Bool) → (a && b && not c && not e) ≡ true → AreQuiet a b c e
 all_quiet true true false false t = record { front = refl; back = refl; no_front = refl; no_back = refl }
-all_quiet false b c e t = absurd (true≢false (sym t))
-all_quiet true false c e t = absurd (true≢false (sym t))
-all_quiet true true true e t = absurd (true≢false (sym t))
-all_quiet true true false true t = absurd (true≢false (sym t))
+all_quiet a b c e t = absurd (true≢false (sym t))
 
 -- an end that sleeps while no event is pending or comes has all that the other end pushed
 caught_up : (a b : ℕ) (pending : Bool) (Sends : Type 0) → pending ≡ false → (Sends → ⊥) → (a ≡ b) ⊎ (pending ≡ true) ⊎ Sends → a ≡ b
@@ -172,9 +166,6 @@ caught_up_at config w g d quiet stands = record {
   no_job = no_job;
 }
   where
-    h : Holds config w g d w.front.stage w.back.stage
-    h = stands.holds
-
     parts : AreQuiet (front_submit.is_idle w.front) (back_ask.is_idle w.back) (has_to_take w.under end.Front) (has_to_take w.under end.Back)
     parts = all_quiet _ _ _ _ quiet
 
@@ -182,7 +173,7 @@ caught_up_at config w g d quiet stands = record {
     waiting = both_true _ _ parts.front
 
     front_side : FrontSleeps w.front.stage w.front.asleep (next_request w.front) (length w.front.requests)
-    front_side = front_sleeps g.shape g.start g.pushed g.taken g.front_seen g.submitted g.replies w.front.entry w.front w.front.stage waiting.0 waiting.1 h.front_at
+    front_side = front_sleeps g.shape g.start g.pushed g.taken g.front_seen g.submitted g.replies w.front.entry w.front w.front.stage waiting.0 waiting.1 stands.holds.front_at
 
     none_held : ((not (back_ask.is_led w.back.stage) && back_ask.is_wait (back_ask.ask_of w.back)) ≡ true) × ((length w.back.jobs.works == 0) ≡ true)
     none_held = both_true _ _ parts.back
@@ -191,16 +182,16 @@ caught_up_at config w g d quiet stands = record {
     idle = both_true _ _ none_held.0
 
     back_side : BackSleeps w.back.stage w.back.asleep
-    back_side = back_sleeps g.shape g.start g.fetched g.back_seen g.replied g.series w.back.jobs.works w.back.entry w.back w.back.stage idle.0 idle.1 h.back_at
+    back_side = back_sleeps g.shape g.start g.fetched g.back_seen g.replied g.series w.back.jobs.works w.back.entry w.back w.back.stage idle.0 idle.1 stands.holds.back_at
 
     replies_taken : w.front.asleep ≡ true → g.replied ≡ g.taken
     replies_taken sleeps =
-        let sleep = h.front_sleep in
+        let sleep = stands.holds.front_sleep in
         caught_up g.replied g.taken w.under.channels.front_pending (BackSends w.back.stage g.replied g.taken) (neither _ _ parts.no_front) (back_side.sends_none g.replied g.taken) (sleep.woken sleeps)
 
     all_fetched : g.pushed ≡ g.fetched
     all_fetched =
-        let sleep = h.back_sleep in
+        let sleep = stands.holds.back_sleep in
         caught_up g.pushed g.fetched w.under.channels.back_pending (FrontSends w.front.stage g.pushed g.fetched) (neither _ _ parts.no_back) (front_side.sends_none g.pushed g.fetched) (sleep.woken back_side.sleeps)
 
     no_job : length w.back.jobs.works ≡ 0
@@ -208,19 +199,11 @@ caught_up_at config w g d quiet stands = record {
 
     all_replied : g.replied ≡ g.fetched
     all_replied =
-        let none = no_job in
-        let counted : length w.back.jobs.works + 0 + g.replied ≡ g.fetched = subst (λ (r : Option Reply). length w.back.jobs.works + reply_count r + g.replied ≡ g.fetched) back_side.no_reply h.counted in
-        omega arith
+        let counted : length w.back.jobs.works + 0 + g.replied ≡ g.fetched = subst (λ (r : Option Reply). length w.back.jobs.works + reply_count r + g.replied ≡ g.fetched) back_side.no_reply stands.holds.counted in
+        omega (arith, no_job)
 
     all_wait : w.front.asleep ≡ true → length w.front.requests ≡ w.front.waiting
-    all_wait sleeps =
-        let replied = all_replied in
-        let taken = replies_taken sleeps in
-        let fetched = all_fetched in
-        let indices = h.indices in
-        let all = indices.all in
-        let held = indices.held in
-        omega arith
+    all_wait sleeps = omega (arith, stands.holds.indices.held, stands.holds.indices.all, all_fetched, replies_taken sleeps, all_replied)
 
     no_request : length w.front.requests ≡ 0
     no_request = elim front_side.sleeps [
@@ -242,11 +225,8 @@ quiet_finished config w d safe (inr over) quiet = over.finished
 -- a look tells what was found, and all is quiet where it was found so
 look_goes : (config : Options) (w : World) (d : Pipeline) (quiet : Bool) (otherwise : Line) → is_aside otherwise ≡ true → (quiet ≡ true → is_quiet w ≡ true) → IsSafe w → IsKept config w d
     → HasGone None IsSame config ((if quiet then lines.Quiet else otherwise) ∷ []) w d
-look_goes config w d true otherwise passes found safe kept = record {
-  steps = Rests ∷ [];
-  does = record { asides = []; aside = refl; shows = refl; asks = refl; allowed = (quiet_finished config w d safe kept (found refl), tt); disk = λ a b e. (b, e, refl) };
-  kept = kept;
-}
+look_goes config w d true otherwise passes found safe kept = gone_by {steps = Rests ∷ []} (record { asides = []; aside = refl; shows = refl; asks = refl; allowed = (quiet_finished config w d safe kept (found refl), tt); disk = λ a b e. (b, e, refl) })
+    kept
 look_goes config w d false otherwise passes found safe kept = record { steps = []; does = asides_do d (otherwise ∷ []) (passes, tt); kept = kept }
 
 pub looks_goes : (config : Options) (w : World) (d : Pipeline) (quiet : Bool) → (quiet ≡ true → is_quiet w ≡ true) → IsSafe w → IsKept config w d → HasGone None IsSame config (lines_at w (Looks quiet)) w d

@@ -57,3 +57,9 @@ has_data_at station = false
 pub record AreReadBack (submitted : List Request) (asked : List Asked) (works : List Work) (pages : List ℕ) : Type 0 where
   pub working : (i : ℕ) (t : Work) (r : Request) (q : Asked) → slice_get works i ≡ Some t → slice_get submitted (t.id - 1) ≡ Some r → slice_get asked (t.id - 1) ≡ Some q → is_write r.transfer ≡ false → ReadAt pages r t.moved t.words q.words t.stage
   pub after : (k : ℕ) (r : Request) (q : Asked) → slice_get submitted k ≡ Some r → slice_get asked k ≡ Some q → is_write r.transfer ≡ false → has_data_at q.station ≡ true → IsReadBack pages r r.count q.words
+
+-- a sector in hand stays that, over another memory, with more of its words written
+abbrev pub returned_on : {pages : List ℕ} {r : Request} {moved : ℕ} {hand : List ℕ} {noted : List (List ℕ)} {j : ℕ} (pages' : List ℕ) (j' : ℕ) (x : IsReturned pages r moved hand noted j)
+    → IsReadBack pages' r (length x.earlier) x.earlier → ((k : ℕ) → k < j' → k < 128 → data_word pages' r (128 * length x.earlier + k) ≡ slice_index hand k)
+    → IsReturned pages' r moved hand noted j'
+returned_on pages' j' x back so_far = record { earlier = x.earlier; with_hand = x.with_hand; counted = x.counted; few = x.few; back = back; size = x.size; so_far = so_far }

@@ -14,7 +14,7 @@ use Rattle.back_jobs.specs.declared.stage.Stage.TheVariants as job
 use Rattle.back_jobs.specs.Task.{Work}
 use Rattle.blk_back.specs.declared.stage.Reply.{Reply}
 use Rattle.machine_pipeline.proofs.Flow.{Flow, worked}
-use Rattle.machine_pipeline.proofs.ReadBack.{IsHeld, IsReadBack, IsReturned, ReadAt, AreReadBack, has_data_at}
+use Rattle.machine_pipeline.proofs.ReadBack.{IsHeld, IsReadBack, IsReturned, ReadAt, AreReadBack, has_data_at, returned_on}
 use Rattle.machine_pipeline.proofs.Lists.{set_was}
 use Rattle.machine_pipeline.proofs.Growing.{push_was}
 use Rattle.machine_pipeline.proofs.Kept.{SameFrame, data_same}
@@ -36,12 +36,12 @@ was_asked asked moved k from to m words has j q at = elim (cases_eq j k) [
 ]
 
 -- a request moves on, with what it read
-pub reads_moved : (submitted : List Request) (asked moved : List Asked) (works : List Work) (pages : List ℕ) (k : ℕ) (from to : Station) (m : IsMoved asked moved k from to)
+pub reads_moved : {submitted : List Request} {asked moved : List Asked} {works : List Work} {pages : List ℕ} {k : ℕ} {from to : Station} (m : IsMoved asked moved k from to)
     → (let n : Asked = m.now in n.words) ≡ (let q : Asked = m.was.q in q.words)
     → (has_data_at to ≡ true → has_data_at from ≡ true)
     → AreReadBack submitted asked works pages
     → AreReadBack submitted moved works pages
-reads_moved submitted asked moved works pages k from to m words has h = record {
+reads_moved {asked = asked} {moved = moved} {pages = pages} {k = k} {from = from} {to = to} m words has h = record {
   working = λ i t r q here its at reads.
       let was = was_asked asked moved k from to m words has (t.id - 1) q at in
       subst (λ (ws : List (List ℕ)). ReadAt pages r t.moved t.words ws t.stage) was.2 (h.working i t r was.0 here its was.1 reads);
@@ -89,17 +89,15 @@ reads_step submitted asked moved works pages place t t' from to m here number ap
     | inl it ↦
         let k : u.id - 1 ≡ t.id - 1 = ap (λ (v : Work). v.id - 1) it.1 ∙ ap (λ (n : ℕ). n - 1) number in
         let one : m.now ≡ q = same_Some m.now q (sym m.here ∙ ap (slice_get moved) (sym k) ∙ was) in
-        let it_now = now r (ap (slice_get submitted) (sym k) ∙ its) reads in
         subst (λ (v : Work). ReadAt pages r v.moved v.words q.words v.stage) (sym it.1)
-        (subst (λ (x : Asked). ReadAt pages r t'.moved t'.words x.words t'.stage) one it_now.0)
+        (subst (λ (x : Asked). ReadAt pages r t'.moved t'.words x.words t'.stage) one (now r (ap (slice_get submitted) (sym k) ∙ its) reads).0)
     | inr other ↦ h.working i u r q other.1 its (sym (m.others (u.id - 1) (apart i u other.0 other.1)) ∙ was) reads
   ];
   after = λ j r q its at reads there. elim (cases_eq j (t.id - 1)) [
     | inl same ↦
         let one : m.now ≡ q = same_Some m.now q (sym m.here ∙ ap (slice_get moved) (sym same) ∙ at) in
-        let it_now = now r (ap (slice_get submitted) (sym same) ∙ its) reads in
         subst (λ (x : Asked). IsReadBack pages r r.count x.words) one
-        (it_now.1 (sym (ap has_data_at m.there) ∙ (ap (λ (x : Asked). has_data_at x.station) one ∙ there)))
+        ((now r (ap (slice_get submitted) (sym same) ∙ its) reads).1 (sym (ap has_data_at m.there) ∙ (ap (λ (x : Asked). has_data_at x.station) one ∙ there)))
     | inr other ↦ h.after j r q its (sym (m.others j other) ∙ at) reads there
   ];
 }
@@ -117,8 +115,7 @@ reads_fetched submitted asked moved works pages k from to m t apart number none 
   working = λ i u r q at its was reads. elim (push_was works t i u at) [
     | inl old ↦ h.working i u r q old its (sym (m.others (u.id - 1) (apart i u old)) ∙ was) reads
     | inr last ↦
-        let same : u.id - 1 ≡ k = ap (λ (v : Work). v.id - 1) last.1 ∙ number in
-        let one : m.now ≡ q = same_Some m.now q (sym m.here ∙ ap (slice_get moved) (sym same) ∙ was) in
+        let one : m.now ≡ q = same_Some m.now q (sym m.here ∙ ap (slice_get moved) (sym (ap (λ (v : Work). v.id - 1) last.1 ∙ number)) ∙ was) in
         subst (λ (v : Work). ReadAt pages r v.moved v.words q.words v.stage) (sym last.1)
         (subst (λ (ws : List (List ℕ)). ReadAt pages r t.moved t.words ws t.stage) (sym none ∙ ap (λ (x : Asked). x.words) one) (now r))
   ];
@@ -159,22 +156,12 @@ back_kept old new r moved noted same h = record {
   counted = h.counted;
   few = h.few;
   sectors = λ i words at.
-      let within = slice_get_within noted i words at in
-      let counted = h.counted in
-      let few = h.few in
-      held_kept old new r i words same (omega arith) (h.sectors i words at);
+      held_kept old new r i words same (omega (arith, h.few, h.counted, slice_get_within noted i words at)) (h.sectors i words at);
 }
 
 pub returned_kept : (old new : List ℕ) (r : Request) (moved : ℕ) (hand : List ℕ) (noted : List (List ℕ)) (j : ℕ) → SameData old new r → IsReturned old r moved hand noted j → IsReturned new r moved hand noted j
-returned_kept old new r moved hand noted j same h = record {
-  earlier = h.earlier;
-  with_hand = h.with_hand;
-  counted = h.counted;
-  few = h.few;
-  back = back_kept old new r (length h.earlier) h.earlier same h.back;
-  size = h.size;
-  so_far = λ k lt few. same (128 * length h.earlier + k) (let counted = h.counted in let most = h.few in omega arith) ∙ h.so_far k lt few;
-}
+returned_kept old new r moved hand noted j same h =
+    returned_on new j h (back_kept old new r (length h.earlier) h.earlier same h.back) (λ k lt few. same (128 * length h.earlier + k) (omega (arith, h.counted, h.few)) ∙ h.so_far k lt few)
 
 pub read_at_kept : (old new : List ℕ) (r : Request) (moved : ℕ) (hand : List ℕ) (noted : List (List ℕ)) (s : JobStage) → SameData old new r → ReadAt old r moved hand noted s → ReadAt new r moved hand noted s
 read_at_kept old new r moved hand noted job.MapPage same h = back_kept old new r moved noted same h
@@ -219,23 +206,8 @@ pub stations_kept : (config : Options) (g : Flow) (d : Pipeline) (connected issu
     → ((k : ℕ) (r : Request) (q : Asked) → slice_get g.submitted k ≡ Some r → slice_get d.requests k ≡ Some q → 4 ≤ kind_of q.station → kind_of q.station ≤ 7 → SameData old new r)
     → AreStations config g d connected issuing fetching ending telling replying requests works old
     → AreStations config g d connected issuing fetching ending telling replying requests works new
-stations_kept config g d connected issuing fetching ending telling replying requests works old new same h = record {
-  options = h.options;
-  front = h.front;
-  ring = h.ring;
-  known = h.known;
-  opened = h.opened;
-  issued = h.issued;
-  waiting = h.waiting;
-  pushed = h.pushed;
-  works = h.works;
-  held = h.held;
-  going = h.going;
-  replying = h.replying;
-  replied = h.replied;
-  taking = h.taking;
-  reads = reads_kept g.submitted d.requests works old new same h.works h.reads;
-}
+stations_kept config g d connected issuing fetching ending telling replying requests works old new same h =
+    record { options = h.options; front = h.front; ring = h.ring; stand = h.stand; reads = reads_kept g.submitted d.requests works old new same h.works h.reads }
 
 -- memory changes in no frame of the pool
 pub stations_elsewhere : (config : Options) (g : Flow) (d : Pipeline) (connected issuing fetching : Bool) (ending : Option Ending) (telling : Option ℕ) (replying : Option Reply) (requests : List Request) (works : List Work) (old new : List ℕ) (sectors last : ℕ)

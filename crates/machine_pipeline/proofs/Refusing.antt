@@ -68,13 +68,11 @@ free_place [] few = few
 free_place (false ∷ pool) few = omega arith
 free_place (true ∷ pool) few =
     let one = sum_by-cons (λ (b : Bool). cond b 1 0) true pool in
-    let rest = free_place pool (omega arith) in
-    omega arith
+    omega (arith, free_place pool (omega arith))
 
 pub lowest_free : (pool : List Bool) → count_by (λ (b : Bool). b) pool < length pool → lowest_of pool ≡ Some (18 + position_or_len not pool)
 lowest_free pool few =
-    let lt = free_place pool few in
-    let yes : nat_lt (position_or_len not pool) (length pool) ≡ true = grind (arith, nat_tests) in
+    let yes : nat_lt (position_or_len not pool) (length pool) ≡ true = grind (arith, nat_tests, free_place pool few) in
     rw yes refl
 
 -- the lowest free frame is free
@@ -103,18 +101,14 @@ taking_fits (suc n) pool frames few =
 no_place : (pool : List Bool) → count_by (λ (b : Bool). b) pool ≡ length pool → position_or_len not pool ≡ length pool
 no_place [] full = refl
 no_place (false ∷ pool) full =
-    let one = sum_by-cons (λ (b : Bool). cond b 1 0) false pool in
-    let few = count_by-le-length (λ (b : Bool). b) pool in
-    absurd (omega arith)
+    absurd (omega (arith, count_by-le-length (λ (b : Bool). b) pool, sum_by-cons (λ (b : Bool). cond b 1 0) false pool))
 no_place (true ∷ pool) full =
     let one = sum_by-cons (λ (b : Bool). cond b 1 0) true pool in
-    let rest = no_place pool (omega arith) in
-    omega arith
+    omega (arith, no_place pool (omega arith))
 
 no_free : (pool : List Bool) → count_by (λ (b : Bool). b) pool ≡ length pool → lowest_of pool ≡ None
 no_free pool full =
-    let place = no_place pool full in
-    let no : nat_lt (position_or_len not pool) (length pool) ≡ false = grind (arith, nat_tests) in
+    let no : nat_lt (position_or_len not pool) (length pool) ≡ false = grind (arith, nat_tests, no_place pool full) in
     rw no refl
 
 taking_lacks : (n : ℕ) (pool : List Bool) (frames : List ℕ) → length pool < count_by (λ (b : Bool). b) pool + n → taking n pool frames ≡ None
@@ -139,10 +133,8 @@ as_unfinished : (carried : List Carried) → count_by (λ (q : Asked). not (is_f
 as_unfinished [] = refl
 as_unfinished (x ∷ carried) =
     let one = sum_by-cons (λ (q : Asked). cond (not (is_finished q.stage)) 1 0) (asked x) (map asked carried) in
-    let other = sum_by-cons (λ (y : Carried). cond (not (is_ended y.station)) 1 0) x carried in
     let same : ◌≡◌ {A = ℕ} (cond (not (is_finished (stage_at x.station))) 1 0) (cond (not (is_ended x.station)) 1 0) = ap (λ (b : Bool). cond (not b) 1 0) (same_stage x.station) in
-    let rest = as_unfinished carried in
-    omega arith
+    omega (arith, as_unfinished carried, sum_by-cons (λ (y : Carried). cond (not (is_ended y.station)) 1 0) x carried)
 
 -- so many frames more are taken, or too few are free
 abbrev pub AreTaken : (n : ℕ) (pool : List Bool) (lacks : Bool) → Type 0
@@ -224,8 +216,7 @@ ruled_alike config v requests job narrow alike = by_job job
 
     bare : (count : ℕ) → nat_lt 11 (frames_for count) ≡ false → AreTaken (frames_taken count) v.pool (nat_lt 1000 (sum_by frames_held requests + (count + 7) / 8))
     bare count short =
-        let all : frames_taken count ≡ (count + 7) / 8 = rw short (omega arith) in
-        subst (λ (n : ℕ). AreTaken (frames_taken count) v.pool (nat_lt 1000 (sum_by frames_held requests + n))) all (free count)
+        subst (λ (n : ℕ). AreTaken (frames_taken count) v.pool (nat_lt 1000 (sum_by frames_held requests + n))) (rw short (omega arith)) (free count)
 
     by_job : (x : Job) → refusal_by (record { config = Some config; connected = is_ready v.stage; closing = v.closing; broken = false }) config requests x ≡ answer_of (submit_of v x).0
     by_job (Read sector count) = rw (alike.spent, alike.order, past (sector + count), alike.opened)
@@ -242,9 +233,8 @@ ruled_alike config v requests job narrow alike = by_job job
 -- of a machine that stands for a pipeline
 ruled : (config : Options) (w : World) (g : Flow) (d : Pipeline) (job : Job) → IsPlain config → Holds config w g d w.front.stage w.back.stage → refusal_by (record { config = Some config; connected = is_ready w.front.stage; closing = w.front.closing; broken = false }) config (map asked d.requests) job ≡ answer_of (submit_of w.front job).0
 ruled config w g d job plain h =
-    let known : AreKnown g.submitted d.requests = h.stations.known in
     ruled_alike config w.front (map asked d.requests) job plain.indirect (record {
-      spent = length-map d.requests asked ∙ known.as_many ∙ (let all = h.submitted in all.counted);
+      spent = length-map d.requests asked ∙ h.stations.known.as_many ∙ (let all = h.submitted in all.counted);
       opened = as_unfinished d.requests ∙ h.stations.opened.unfinished ∙ ap (λ (n : ℕ). length w.front.requests + n)
           (same_ending g.shape g.start g.pushed g.taken g.front_seen g.submitted g.replies (next_request w.front) w.front.entry w.front.ending w.front.stage h.front_at);
       held = frames_alike config w g d h;

@@ -71,9 +71,7 @@ taken_has (suc n) (x ∷ xs) (suc i) y e lt = taken_has n xs i y e (omega arith)
 -- a test that some element passes finds a place
 first_before : {X : Type 0} (test : X → Bool) (xs : List X) (i : ℕ) (x : X) → slice_get xs i ≡ Some x → test x ≡ true → position_or_len test xs ≤ i
 first_before test [] i x e t = absurd (none-some x e)
-first_before test (y ∷ xs) zero x e t =
-    let here : test y ≡ true = ap test (same_Some y x e) ∙ t in
-    rw here (omega arith)
+first_before test (y ∷ xs) zero x e t = rw (ap test (same_Some y x e) ∙ t) (omega arith)
 first_before test (y ∷ xs) (suc i) x e t = by_test (test y) refl (first_before test xs i x e t)
   where
     by_test : (b : Bool) → test y ≡ b → position_or_len test xs ≤ i → position_or_len test (y ∷ xs) ≤ suc i
@@ -82,7 +80,5 @@ first_before test (y ∷ xs) (suc i) x e t = by_test (test y) refl (first_before
 
 pub found_somewhere : {X : Type 0} (test : X → Bool) (xs : List X) (i : ℕ) (x : X) → slice_get xs i ≡ Some x → test x ≡ true → (k : ℕ) × (position test xs ≡ Some k)
 found_somewhere test xs i x e t =
-    let before = first_before test xs i x e t in
-    let within = slice_get_within xs i x e in
-    let lt : nat_lt (position_or_len test xs) (length xs) ≡ true = grind (arith, nat_tests) in
+    let lt : nat_lt (position_or_len test xs) (length xs) ≡ true = grind (arith, nat_tests, slice_get_within xs i x e, first_before test xs i x e t) in
     (position_or_len test xs, rw lt refl)

@@ -20,7 +20,7 @@ use Rattle.blk_front.specs.Submit.{is_ready, is_connected, ending_of}
 use Rattle.blk_back.specs.declared.stage.Stage.{Stage as BackStage}
 use Rattle.split_model.specs.World.{World}
 use Rattle.machine_pipeline.proofs.Flow.{Flow, wrapped, has_ring, named_pages, granted_pages, filled, named_frames, granted_frames, entered, ending_at, revoking_at, telling_at, is_bound_back, is_issuing, is_fetching, reply_at}
-use Rattle.machine_pipeline.proofs.Holds.{FrontAt, RingBegun, AreRingWords, AreSlots, IsFilled, IsGranted, AreEntries, ArePooled, IsOffered, IsFrontSleep, FrontSends, PortsAt, IsReadSoFar, AreDataWords, AreRevoked, Holds}
+use Rattle.machine_pipeline.proofs.Holds.{FrontAt, RingBegun, AreRingWords, AreSlots, IsFilled, IsGranted, AreEntries, ArePooled, IsOffered, IsFrontSleep, FrontSends, PortsAt, IsReadSoFar, AreDataWords, AreRevoked, Holds, IsBackSleep}
 use Rattle.machine_pipeline.proofs.Data.{SameData, pooled_at}
 use Rattle.machine_pipeline.proofs.Kept.{as_connected, SameFrame, SameGrants, data_same, same_entry, slots_kept, frames_kept, entries_kept, SameRing}
 use Rattle.machine_pipeline.proofs.Lists.{all_from}
@@ -30,6 +30,7 @@ use Rattle.machine_pipeline.proofs.Stations.{AreStations, saw_more, turned}
 use Rattle.machine_pipeline.proofs.ReadsKept.{stations_elsewhere}
 use Rattle.machine_pipeline.proofs.Indices.{indices_seen}
 use Rattle.machine_pipeline.proofs.Slots.{few_pages, slots_beside}
+use Rattle.machine_pipeline.proofs.Series.{IsAmong}
 
 -- a stage at which the ring is made and no request is issued
 pub record IsResting (s : FrontStage) : Type 0 where
@@ -143,6 +144,38 @@ entries_rest pushed pages live s s' ending ending' requests i' revoked h = recor
   ending = revoked;
 }
 
+-- where no request was pushed, nothing is said of the frames and the entries of any, at a stage that issues none and ends the grants of none
+pub unpushed : {series : List Request} (pushed : ℕ) (pages : List ℕ) (live : List Held) (s : FrontStage) (ending : Option Ending) (requests : List Request)
+    → pushed ≡ 0 → ((frames n : ℕ) → n < filled s frames → ⊥) → named_frames s ≡ 0 → granted_frames s ≡ 0 → ((e : Ending) → revoking_at s ending ≡ Some e → ⊥)
+    → All (IsFilled series pushed pages s) requests × AreEntries series pushed pages live s ending requests
+unpushed {series} pushed pages live s ending requests zero unfilled unnamed ungranted unrevoked = (
+  λ k d lt. record { whole = λ one. absurd (none (get_or requests k d) one); begun = λ at n f. absurd (unfilled _ n f) },
+  record {
+    each = λ k d lt. record {
+      named = λ one. absurd (none (get_or requests k d) one);
+      named_next = λ at place t. absurd (omega (arith, unnamed));
+      flags = λ one. absurd (none (get_or requests k d) one);
+      flags_next = λ at place t. absurd (omega (arith, ungranted));
+    };
+    ending = λ e same. absurd (unrevoked e same);
+  },
+)
+  where
+    none : (r : Request) → IsAmong series pushed r → ⊥
+    none r one = omega (arith, one.early, zero)
+
+-- how the back sleeps, where its event word and its mark stay, and the front owed it no event
+pub back_sleep_rests : (start fetched pushed : ℕ) (old new : List ℕ) (asleep pending pending' : Bool) (s s' : FrontStage) (b : BackStage)
+    → word_of new 2 1 ≡ word_of old 2 1 → pending' ≡ pending → (FrontSends s pushed fetched → ⊥)
+    → IsBackSleep start fetched pushed old asleep pending s b
+    → IsBackSleep start fetched pushed new asleep pending' s' b
+back_sleep_rests start fetched pushed old new asleep pending pending' s s' b word mark quiet h = record {
+  arming = λ t. word ∙ h.arming t;
+  armed = λ t. word ∙ h.armed t;
+  may = h.may;
+  woken = λ t. elim (h.woken t) [ inl same ↦ inl same | inr some ↦ elim some [ inl marked ↦ inr (inl (mark ∙ marked)) | inr sends ↦ absurd (quiet sends) ] ];
+}
+
 -- the machine with the front at another stage, another producer seen, asleep or not, and those words and marks
 abbrev pub rested : World → FrontStage → (seen : ℕ) → (asleep : Bool) → List ℕ → ChannelState → World
 rested w s seen asleep pages channels = record {
@@ -164,23 +197,18 @@ pub rest_kept : (config : Options) (w : World) (g : Flow) (d : Pipeline) (s s' :
     → IsFrontSleep g.start g.taken g.replied pages asleep channels.front_pending s' w.back.stage
     → Holds config (rested w s' seen asleep pages channels) (record g { front_seen = whole }) d s' w.back.stage
 rest_kept config w g d s s' seen whole asleep pages channels i i' zero zero' h at saw from to sized frames words made ports pending sleep = record {
-  started = h.started;
-  shaped = h.shaped;
-  sized = h.sized;
+  settled = h.settled;
   indices = indices_seen g whole w.front.ring w.back.ring w.front.seen seen w.back.seen w.back.fetched w.front.last w.front.waiting (length w.front.requests) (ending_of s) (ending_of s') saw from to (let was = h.indices in let room = was.room in omega arith) h.indices;
   queue = h.queue;
-  submitted = h.submitted;
   pool = subst (ArePooled w.front.pool w.front.requests) (none ∙ sym none') h.pool;
   stations = saw_more config g whole g.back_seen d (is_ready s') (is_issuing s') (is_fetching w.back.stage) (ending_at s' w.front.ending) (telling_at s') (reply_at w.back.stage) w.front.requests w.back.jobs.works pages
       (stations_elsewhere config g d (is_ready s') (is_issuing s') (is_fetching w.back.stage) (ending_at s' w.front.ending) (telling_at s') (reply_at w.back.stage) w.front.requests w.back.jobs.works w.under.pages pages w.front.sectors w.front.last h.submitted (λ f low high. frames f (omega arith)) stations);
   works = h.works;
   counted = h.counted;
-  info = h.info;
   replies = h.replies;
   front_at = at;
   offered = subst (λ (b : Bool). IsOffered b config.read_only config.indirect w.front.offers g.pushed) (i.ready ∙ sym i'.ready) h.offered;
   back_at = h.back_at;
-  unhalted = h.unhalted;
   memory = sized;
   ring = ring_rests g.shape.order g.start g.pushed g.replied pages s s' (length w.back.pages) i i' (ring_words h.ring);
   slots = slots_rest g.shape g.start g.fetched g.pushed g.taken g.replied g.series g.replies pages s s' w.back.stage i' (slots_kept g.shape g.start g.fetched g.pushed g.taken g.replied g.series g.replies w.under.pages pages s w.back.stage h.shaped.narrow (slots_beside w.under.pages pages frames (λ x from to. words x (omega arith) to)) h.slots);
@@ -195,12 +223,7 @@ rest_kept config w g d s s' seen whole asleep pages channels i i' zero zero' h a
   mapped = h.mapped;
   paged = h.paged;
   front_sleep = sleep;
-  back_sleep = (let was = h.back_sleep in record {
-    arming = λ t. words 1 (omega arith) (omega arith) ∙ was.arming t;
-    armed = λ t. words 1 (omega arith) (omega arith) ∙ was.armed t;
-    may = was.may;
-    woken = λ t. by_wake (was.woken t);
-  });
+  back_sleep = back_sleep_rests g.start g.fetched g.pushed w.under.pages pages w.back.asleep w.under.channels.back_pending channels.back_pending s s' w.back.stage (words 1 (omega arith) (omega arith)) pending (i.quiet g.pushed g.fetched) h.back_sleep;
   ports = subst (λ (b : Bool). PortsAt g.before b (is_bound_back w.back.stage) channels.made channels.ports) (as_connected s s' i.ready i'.ready)
       (subst (λ (n : ℕ). PortsAt g.before (is_connected s) (is_bound_back w.back.stage) n channels.ports) (sym made) (subst (PortsAt g.before (is_connected s) (is_bound_back w.back.stage) w.under.channels.made) (sym ports) h.ports));
 }
@@ -217,17 +240,11 @@ rest_kept config w g d s s' seen whole asleep pages channels i i' zero zero' h a
 
     same_grants : (j : ℕ) (r : Request) → slice_get w.front.requests j ≡ Some r → SameGrants w.under.pages pages r
     same_grants j r e place lt =
-        let is = is_submitted config w g d s w.back.stage h j r e in
-        let pooled = pooled_at r is.frames place in
+        let pooled = pooled_at r (is_submitted config w g d s w.back.stage h j r e).frames place in
         same_entry w.under.pages pages (frame_at r place + 6) (let top = pooled.1 in omega arith) (frames 0 (omega arith)) (frames 1 (omega arith))
 
     stations : AreStations config g d (is_ready s') (is_issuing s') (is_fetching w.back.stage) (ending_at s' w.front.ending) (telling_at s') (reply_at w.back.stage) w.front.requests w.back.jobs.works w.under.pages
     stations = turned config g d (is_ready s) (is_ready s') (is_issuing s) (is_issuing s') (is_fetching w.back.stage) (ending_at s w.front.ending) (ending_at s' w.front.ending) (telling_at s) (telling_at s') (reply_at w.back.stage) w.front.requests w.back.jobs.works w.under.pages (i'.ready ∙ sym i.ready) (i'.unissued ∙ sym i.unissued) (none' ∙ sym none) (untelling s' zero' ∙ sym (untelling s zero)) h.stations
-
-    by_wake : (g.pushed ≡ g.fetched) ⊎ (w.under.channels.back_pending ≡ true) ⊎ FrontSends s g.pushed g.fetched → (g.pushed ≡ g.fetched) ⊎ (channels.back_pending ≡ true) ⊎ FrontSends s' g.pushed g.fetched
-    by_wake (inl same) = inl same
-    by_wake (inr (inl t)) = inr (inl (pending ∙ t))
-    by_wake (inr (inr sends)) = absurd (i.quiet g.pushed g.fetched sends)
 
     ring_words : AreRingWords g.shape.order g.start g.pushed g.replied w.under.pages s (length w.back.pages) → AreRingWords g.shape.order g.start g.pushed g.replied pages s (length w.back.pages)
     ring_words ring =

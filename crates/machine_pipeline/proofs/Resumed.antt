@@ -62,10 +62,8 @@ unfinished_again : (asked : List Asked) → count_by (λ (q : Asked). not (is_fi
 unfinished_again [] = refl
 unfinished_again (p ∷ asked) =
     let now = sum_by-cons (λ (q : Asked). cond (not (is_finished q.station)) 1 0) (again p) (map again asked) in
-    let was = sum_by-cons (λ (q : Asked). cond (not (is_finished q.station)) 1 0) p asked in
     let here : ◌≡◌ {A = ℕ} (cond (not (is_finished (station_again p.station))) 1 0) (cond (not (is_finished p.station)) 1 0) = ap (λ (b : Bool). cond (not b) 1 0) (station_finished p.station) in
-    let rest = unfinished_again asked in
-    omega arith
+    omega (arith, unfinished_again asked, sum_by-cons (λ (q : Asked). cond (not (is_finished q.station)) 1 0) p asked)
 
 -- each is known as it was
 pub known_again : (submitted : List Request) (asked : List Asked) → AreKnown submitted asked → AreKnown submitted (map again asked)
@@ -113,27 +111,29 @@ resumes config d shape start before submitted closing pages after ending telling
     options = h.options;
     front = rw (h.closing_is, h.unclosed) refl;
     ring = record { pushed = refl; entries = λ i r lt. absurd (omega arith); fetched = refl; replied = refl; responses = λ i rep e. absurd (none-some rep e); taken = refl };
-    known = known_again submitted d.requests h.known;
-    opened = record {
-      unfinished = unfinished_again d.requests ∙ h.opened.unfinished;
-      held = λ k q e going.
+    stand = record {
+      known = known_again submitted d.requests h.known;
+      opened = record {
+        unfinished = unfinished_again d.requests ∙ h.opened.unfinished;
+        held = λ k q e going.
+            let was = again_was d.requests k q e in
+            h.opened.held k was.0 was.1 (sym (station_finished (let x : Asked = was.0 in x.station)) ∙ (sym (ap (λ (x : Asked). is_finished x.station) was.2) ∙ going));
+      };
+      issued = λ k q e some.
           let was = again_was d.requests k q e in
-          h.opened.held k was.0 was.1 (sym (station_finished (let x : Asked = was.0 in x.station)) ∙ (sym (ap (λ (x : Asked). is_finished x.station) was.2) ∙ going));
+          let left = h.waits.all k was.0 was.1 (unissued_again (let x : Asked = was.0 in x.station) (sym (ap (λ (x : Asked). is_unissued x.station) was.2) ∙ some)) in
+          record { index = left.0; late = omega arith; r = left.1; at = left.2; number = left.3 };
+      waiting = record { issued = λ t. absurd (false≢true t); rest = λ i r le at other. waiting_again d.requests after h.waits i r at };
+      pushed = record { copied = λ t. absurd (false≢true t); rest = λ i r le lt. absurd (omega arith) };
+      works = λ i t e. absurd (none-some t e);
+      held = λ k q e kind. absurd (no_job k q e kind);
+      going = λ i r at. let stands = waiting_again d.requests after h.waits i r at in record { q = stands.q; at = stands.at; early = (let kind = ap kind_of stands.there in omega (arith, kind)) };
+      replying = λ rep e. absurd (none-some rep e);
+      replied = λ i rep e. absurd (none-some rep e);
+      taking = λ e same.
+          let still = h.goes_on e same in
+          subst (λ (t : Option ℕ). StandsAt (map again d.requests) (e.request.number - 1) (finishing t e.status)) (sym still.1) (told_again d.requests (e.request.number - 1) still.0 still.2);
     };
-    issued = λ k q e some.
-        let was = again_was d.requests k q e in
-        let left = h.waits.all k was.0 was.1 (unissued_again (let x : Asked = was.0 in x.station) (sym (ap (λ (x : Asked). is_unissued x.station) was.2) ∙ some)) in
-        record { index = left.0; late = omega arith; r = left.1; at = left.2; number = left.3 };
-    waiting = record { issued = λ t. absurd (false≢true t); rest = λ i r le at other. waiting_again d.requests after h.waits i r at };
-    pushed = record { copied = λ t. absurd (false≢true t); rest = λ i r le lt. absurd (omega arith) };
-    works = λ i t e. absurd (none-some t e);
-    held = λ k q e kind. absurd (no_job k q e kind);
-    going = λ i r at. let stands = waiting_again d.requests after h.waits i r at in record { q = stands.q; at = stands.at; early = (let kind = ap kind_of stands.there in omega (arith, kind)) };
-    replying = λ rep e. absurd (none-some rep e);
-    replied = λ i rep e. absurd (none-some rep e);
-    taking = λ e same.
-        let still = h.goes_on e same in
-        subst (λ (t : Option ℕ). StandsAt (map again d.requests) (e.request.number - 1) (finishing t e.status)) (sym still.1) (told_again d.requests (e.request.number - 1) still.0 still.2);
     reads = record {
       working = λ i t r q at. absurd (none-some t at);
       after = λ k r q its at reads there.
@@ -228,20 +228,15 @@ back_at requests after x put = (length put.before, ap (λ (l : List Request). sl
 -- a sum over them has one summand more
 pub back_sum : (f : Request → ℕ) (requests after : List Request) (x : Request) → IsPutBack requests after x → sum_by f after ≡ sum_by f requests + f x
 back_sum f requests after x put =
-    let now = sum_by-append f put.before (x ∷ put.later) in
-    let one = sum_by-cons f x put.later in
-    let was = sum_by-append f put.before put.later in
     let these : sum_by f after ≡ sum_by f (put.before ++ x ∷ put.later) = ap (sum_by f) put.are in
     let those : sum_by f requests ≡ sum_by f (put.before ++ put.later) = ap (sum_by f) put.were in
-    omega arith
+    omega (arith, sum_by-append f put.before put.later, sum_by-cons f x put.later, sum_by-append f put.before (x ∷ put.later))
 
 pub back_many : (requests after : List Request) (x : Request) → IsPutBack requests after x → length after ≡ length requests + 1
 back_many requests after x put =
-    let now = length-append put.before (x ∷ put.later) in
-    let was = length-append put.before put.later in
     let these : length after ≡ length (put.before ++ x ∷ put.later) = ap (λ (l : List Request). length l) put.are in
     let those : length requests ≡ length (put.before ++ put.later) = ap (λ (l : List Request). length l) put.were in
-    omega arith
+    omega (arith, length-append put.before put.later, length-append put.before (x ∷ put.later))
 
 -- its frames are its own still
 pub back_pooled : (pool : List Bool) (requests after : List Request) (e : Ending) → IsPutBack requests after e.request → ArePooled pool requests (Some e) → ArePooled pool after None
@@ -306,5 +301,4 @@ told_again_beside asked requests e next opened going positive telling = record {
     among k q at waits (inr last) =
         let number : e.request.number ≡ k + 1 = ap (λ (f : Ending). f.request.number) (same_Some e last.0 last.1) ∙ last.2 in
         let one : telling.q ≡ q = same_Some telling.q q (sym telling.at ∙ (ap (slice_get asked) (omega arith) ∙ at)) in
-        let stands : q.station ≡ Telling next = ap (λ (x : Asked). x.station) (sym one) ∙ telling.there in
-        absurd (no_wait next (sym (ap station_again stands) ∙ waits))
+        absurd (no_wait next (sym (ap station_again (ap (λ (x : Asked). x.station) (sym one) ∙ telling.there)) ∙ waits))

@@ -38,7 +38,7 @@ use Rattle.machine_pipeline.proofs.ReadsKept.{stations_elsewhere}
 use Rattle.machine_pipeline.proofs.Turns.{Stepped, no_move, does_alone}
 use Rattle.machine_pipeline.proofs.Stations.{StandsAt, AreOpen, finishing, kind_of}
 use Rattle.machine_pipeline.proofs.Left.{IsUnbegun, left_data, first_word}
-use Rattle.machine_pipeline.proofs.Over.{Over, IsLeaving, MayBegin, may_begin, lasting_of, is_closed, HasGone}
+use Rattle.machine_pipeline.proofs.Over.{Over, IsLeaving, MayBegin, may_begin, lasting_of, is_closed, HasGone, gone_by}
 use Rattle.machine_pipeline.proofs.StartingHolds.{shape_of, begun_flow, BeginsEpoch, epoch_holds}
 use Rattle.machine_pipeline.proofs.Resumed.{AreAgain, MayResume, resumes, known_again, finished_again, finished_all, unfinished, all_again, IsPutBack, back_was, back_many, back_pooled, put_back_again, told_again_beside}
 
@@ -74,9 +74,6 @@ placed_all P r (s ∷ rest) p all = by_test (nat_lt r.number s.number) (placed_a
     by_test true others = All-cons P r (s ∷ rest) p all
     by_test false others = All-cons P s (by_number r rest) (All-head P s rest all) others
 
-first_ascends : (s : Request) (rest : List Request) → AllPairs Ascends (s ∷ rest) → All (Ascends s) rest
-first_ascends s rest pairs = all_from (Ascends s) rest (λ i r e. pair_at Ascends (s ∷ rest) 0 (suc i) s r pairs (omega arith) refl e)
-
 rest_ascends : (s : Request) (rest : List Request) → AllPairs Ascends (s ∷ rest) → AllPairs Ascends rest
 rest_ascends s rest pairs i j x lt within = pairs (suc i) (suc j) x (omega arith) (omega arith)
 
@@ -88,7 +85,7 @@ placed_ascending r [] pairs others = λ i j x lt within. absurd (omega arith)
 placed_ascending r (s ∷ rest) pairs others = by_test (nat_lt r.number s.number) refl (placed_ascending r rest (rest_ascends s rest pairs) (All-tail (λ (x : Request). x.number ≢ r.number) s rest others))
   where
     above : All (Ascends s) rest
-    above = first_ascends s rest pairs
+    above = all_from (Ascends s) rest (λ i r e. pair_at Ascends (s ∷ rest) 0 (suc i) s r pairs (omega arith) refl e)
 
     by_test : (b : Bool) → nat_lt r.number s.number ≡ b → AllPairs Ascends (by_number r rest) → AllPairs Ascends (if b then r ∷ s ∷ rest else s ∷ by_number r rest)
     by_test true t later =
@@ -380,30 +377,27 @@ module _ (config : Options) (w : World) (d : Pipeline) (o : Over config w d w.fr
   }
 
   gone_goes : is_open w.front.stage ≡ false → HasGone None IsSame config (lines.Epoch ∷ []) (gone_world w) d
-  gone_goes closed = record {
-    steps = Resumes ∷ [];
-    does = record { asides = []; aside = refl; shows = refl; asks = refl; allowed = (tt, tt); disk = λ a b e. (b, e, refl) };
-    kept = inr (record {
-      options = o.options;
-      closing = o.closing;
-      closed = o.closed;
-      finished = finished_again d o.finished;
-      counted = length-map d.requests again ∙ o.counted;
-      begins = (let was = o.begins in record { submitted = was.submitted; sized = was.sized; each = was.each; few = was.few; known = known_again was.submitted d.requests was.known; started = was.started; shaped = was.shaped; words = was.words; info = was.info });
-      pooled = o.pooled;
-      closes = o.closes;
-      no_request = o.no_request;
-      narrow = o.narrow;
-      halted = refl;
-      no_job = refl;
-      memory = cleared_many 2048 w.under.pages ∙ o.memory;
-      back_at = refl;
-      own = record { grefs = λ k x lt. absurd (omega arith); distinct = λ i j x lt within. absurd (omega arith) };
-      mapped = record { counted = λ test. refl; framed = λ k x lt. absurd (omega arith) };
-      front_at = subst (IsLeaving false 0 w.front.shape.order (tables_cleared w.under.pages) [] back.Halted) (sym (closed_then _ _ _ _ _ _ w.front.stage o.front_at closed)) tt;
-      ring = λ some. absurd (some refl);
-    });
-  }
+  gone_goes closed = gone_by {steps = Resumes ∷ []} (record { asides = []; aside = refl; shows = refl; asks = refl; allowed = (tt, tt); disk = λ a b e. (b, e, refl) })
+      (inr (record {
+        options = o.options;
+        closing = o.closing;
+        closed = o.closed;
+        finished = finished_again d o.finished;
+        counted = length-map d.requests again ∙ o.counted;
+        begins = (let was = o.begins in record { submitted = was.submitted; sized = was.sized; each = was.each; few = was.few; known = known_again was.submitted d.requests was.known; started = was.started; shaped = was.shaped; words = was.words; info = was.info });
+        pooled = o.pooled;
+        closes = o.closes;
+        no_request = o.no_request;
+        narrow = o.narrow;
+        halted = refl;
+        no_job = refl;
+        memory = cleared_many 2048 w.under.pages ∙ o.memory;
+        back_at = refl;
+        own = record { grefs = λ k x lt. absurd (omega arith); distinct = λ i j x lt within. absurd (omega arith) };
+        mapped = record { counted = λ test. refl; framed = λ k x lt. absurd (omega arith) };
+        front_at = subst (IsLeaving false 0 w.front.shape.order (tables_cleared w.under.pages) [] back.Halted) (sym (closed_then _ _ _ _ _ _ w.front.stage o.front_at closed)) tt;
+        ring = λ some. absurd (some refl);
+      }))
 
 -- and once the back has halted
 pub suspends_ends : (config : Options) (w : World) (d : Pipeline) → IsPlain config → Over config w d w.front.stage w.back.stage → HasGone None IsSame config (lines_at w Suspends) (happens w Suspends) d

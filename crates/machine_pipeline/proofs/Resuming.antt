@@ -28,7 +28,7 @@ use Rattle.split_model.specs.World.{World}
 use Rattle.split_model.specs.Shown.{front_lines}
 use Rattle.machine_pipeline.proofs.Flow.{Flow, wrapped}
 use Rattle.machine_pipeline.proofs.Holds.{Holds, IsTaken, slot_of}
-use Rattle.machine_pipeline.proofs.Turns.{Goes, FrontGoes, said_nothing}
+use Rattle.machine_pipeline.proofs.Turns.{Goes, FrontGoes, said_nothing, goes_by}
 use Rattle.machine_pipeline.proofs.Keyed.{watched_goes}
 use Rattle.machine_pipeline.proofs.Lists.{get_within}
 use Rattle.machine_pipeline.proofs.Wrapped.{distance_at}
@@ -67,14 +67,10 @@ wait_goes config w g d told e h = by_pending w.under.channels.front_pending (wat
     by_pending : (b : Bool) (next : Option (List ℕ)) → w.under.channels.front_pending ≡ b → (let act : Option FrontAct = (if b then Some (record { answer = answer.Event; under = record w.under { channels = channels }; shown = moves.Event mover.Front }) else front_watched w.under next) in Goes config (loop_says w None act) (loop_next w None act) d)
     by_pending false None t = stays IsSame config w g d (λ a b same. same) here
     by_pending false (Some path) t = watched_goes config w g d path told here
-    by_pending true next t = record {
-      flow = g;
-      steps = [];
-      does = said_nothing d (moves.Event mover.Front) w.front.told told;
-      holds = subst (λ (s : FrontStage). Holds config (rested w s w.front.seen false w.under.pages channels) g d s w.back.stage) (sym e)
-          (let indices = h.indices in rest_kept config w g d front.Loop front.Loop w.front.seen g.front_seen false w.under.pages channels at_loop at_loop refl refl h tt indices.front_saw indices.front_from indices.front_to h.memory (λ f apart x lt. refl) (λ x apart lt. refl) refl refl refl
-          (record { arming = λ t. absurd (true≢false (sym t)); armed = λ t. absurd (true≢false (sym t)); may = λ t. refl; woken = λ t. absurd (true≢false (sym t)) }));
-    }
+    by_pending true next t = goes_by (said_nothing d (moves.Event mover.Front) w.front.told told)
+        (subst (λ (s : FrontStage). Holds config (rested w s w.front.seen false w.under.pages channels) g d s w.back.stage) (sym e)
+        (let indices = h.indices in rest_kept config w g d front.Loop front.Loop w.front.seen g.front_seen false w.under.pages channels at_loop at_loop refl refl h tt indices.front_saw indices.front_from indices.front_to h.memory (λ f apart x lt. refl) (λ x apart lt. refl) refl refl refl
+        (record { arming = λ t. absurd (true≢false (sym t)); armed = λ t. absurd (true≢false (sym t)); may = λ t. refl; woken = λ t. absurd (true≢false (sym t)) })))
 
 -- awake, with no response left that it saw, it reads the producer
 look_goes : (config : Options) (w : World) (g : Flow) (d : Pipeline)
@@ -97,14 +93,9 @@ look_goes config w g d told awake none h = by_new
     stored : Goes config (lines.Move (moves.FrontRead 2 2 word) ∷ front_lines store.told) (record { front = record store { told = None }; back = w.back; under = w.under }) d
     stored =
         let indices = h.indices in
-        let sleep = h.front_sleep in
-        record {
-          flow = record g { front_seen = g.replied };
-          steps = [];
-          does = said_nothing d (moves.FrontRead 2 2 word) w.front.told told;
-          holds = rest_kept config w g d front.Loop front.StoreEvent word g.replied w.front.asleep w.under.pages w.under.channels at_loop at_store refl refl h tt read indices.taken_replied (omega arith) h.memory (λ f apart x lt. refl) (λ x apart lt. refl) refl refl refl
-              (record { arming = λ t. absurd (true≢false (sym t)); armed = sleep.armed; may = λ t. awake; woken = sleep.woken });
-        }
+        goes_by {g = record g { front_seen = g.replied }} (said_nothing d (moves.FrontRead 2 2 word) w.front.told told)
+        (rest_kept config w g d front.Loop front.StoreEvent word g.replied w.front.asleep w.under.pages w.under.channels at_loop at_store refl refl h tt read indices.taken_replied (omega arith) h.memory (λ f apart x lt. refl) (λ x apart lt. refl) refl refl refl
+        (record { arming = λ t. absurd (true≢false (sym t)); armed = h.front_sleep.armed; may = λ t. awake; woken = h.front_sleep.woken }))
 
     by_new : LoopGoes config w d None (ask.Read ring_frame 2)
     by_new = subst (λ (b : Bool). let x : View = (if b then looked w.front word store else at (front.ResponseHigh word) w.front) in Goes config (lines.Move (moves.FrontRead 2 2 word) ∷ front_lines x.told) (record { front = record x { told = None }; back = w.back; under = w.under }) d) (sym none)
@@ -117,9 +108,8 @@ pub response_read : (config : Options) (w : World) (g : Flow) (d : Pipeline) (s 
     → k < 3
     → word_of w.under.pages (slot_frame w.front.shape w.front.ring.cons k) (slot_word w.front.shape w.front.ring.cons k) ≡ response_word rep k
 response_read config w g d s rep k h oldest lt =
-    let indices = h.indices in
     let slots = h.slots in
-    let index : w.front.ring.cons ≡ wrapped g.start (g.taken + 0) = indices.taken ∙ ap (wrapped g.start) (omega arith) in
+    let index : w.front.ring.cons ≡ wrapped g.start (g.taken + 0) = h.indices.taken ∙ ap (wrapped g.start) (omega arith) in
     ap (λ (x : Shape). slot_of w.under.pages x w.front.ring.cons k) h.shaped.known ∙ (ap (λ (n : ℕ). slot_of w.under.pages g.shape n k) index ∙ slots.responses 0 rep oldest k lt)
 
 -- a response is there: its first word is read

@@ -67,11 +67,7 @@ few_pages_for count few = by_size (is_indirect count)
     by_size false = omega arith
 
 pub few_frames : (r : Request) → IsShaped r → frames_of r ≤ 962
-few_frames r shaped =
-    let few = shaped.counted.few in
-    let pages = few_pages_for r.count few in
-    let frames = shaped.frames in
-    omega arith
+few_frames r shaped = omega (arith, shaped.frames, few_pages_for r.count shaped.counted.few)
 
 -- those of a request that isn't indirect are the first that its entry has
 pub own_direct : (r : Request) → frames_for r.count ≤ 11 → take (frames_for r.count) (segments_of r) ≡ own_segments r

@@ -43,8 +43,7 @@ before series i j r s up first second less = elim (cases_lt i j) [
     | inl lt ↦ (let more = lower series j i s r up second first lt in absurd (omega arith))
     | inr ge ↦
         let same : i ≡ j = omega arith in
-        let one : r ≡ s = same_Some r s (sym first ∙ (ap (slice_get series) same ∙ second)) in
-        let equal : r.number ≡ s.number = ap (λ (x : Request). x.number) one in
+        let equal : r.number ≡ s.number = ap (λ (x : Request). x.number) (same_Some r s (sym first ∙ (ap (slice_get series) same ∙ second))) in
         absurd (omega arith)
   ]
 ]
@@ -65,9 +64,7 @@ other_number series i j r s up first second other same = other (same_index serie
 
 pub other_place : (submitted series : List Request) (i j : ℕ) (r s : Request) → IsSeries submitted series → slice_get series i ≡ Some r → slice_get series j ≡ Some s → i ≢ j → r.number - 1 ≢ s.number - 1
 other_place submitted series i j r s h first second other same =
-    let one = h.positive i r first in
-    let two = h.positive j s second in
-    other_number series i j r s h.ascending first second other (omega arith)
+    other_number series i j r s h.ascending first second other (omega (arith, h.positive j s second, h.positive i r first))
 
 -- one of the first is not a later one
 pub among_apart : (submitted series : List Request) (count j : ℕ) (r s : Request) → IsSeries submitted series → IsAmong series count r → slice_get series j ≡ Some s → count ≤ j → r.number ≢ s.number
@@ -107,8 +104,7 @@ index_under submitted series zero r h e = h.positive zero r e
 index_under submitted series (suc i) r h e =
     let before = get_within series i (let within = slice_get_within series (suc i) r e in omega arith) in
     let under = index_under submitted series i before.0 h before.1 in
-    let less = lower series i (suc i) before.0 r h.ascending before.1 e (omega arith) in
-    omega arith
+    omega (arith, lower series i (suc i) before.0 r h.ascending before.1 e (omega arith))
 
 pub series_few : (submitted series : List Request) → IsSeries submitted series → length series ≤ length submitted
 series_few submitted series h = by_length (length series) refl
@@ -117,6 +113,4 @@ series_few submitted series h = by_length (length series) refl
     by_length zero e = omega arith
     by_length (suc n) e =
         let last = get_within series n (omega arith) in
-        let under = index_under submitted series n last.0 h last.1 in
-        let within = slice_get_within submitted _ last.0 (h.known n last.0 last.1) in
-        omega arith
+        omega (arith, slice_get_within submitted _ last.0 (h.known n last.0 last.1), index_under submitted series n last.0 h last.1)

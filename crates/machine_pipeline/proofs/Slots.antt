@@ -78,9 +78,8 @@ below X32 entry i few within = omega arith
 pub ring_word_to : (s : Shape) (k i : ℕ) → s.order ≤ 4 → i < entry_words_of s.abi → ring_word_of s k i < 16384
 ring_word_to s k i narrow within =
     let few = few_entries s.order narrow in
-    let some = some_entries s.order in
-    let entry : k % entries_of s.order < entries_of s.order = mod_below k (entries_of s.order) (omega arith) in
-    below s.abi (k % entries_of s.order) i (omega arith) within
+    let entry : k % entries_of s.order < entries_of s.order = mod_below k (entries_of s.order) (omega (arith, some_entries s.order)) in
+    below s.abi (k % entries_of s.order) i (omega (arith, some_entries s.order)) within
 
 pub slot_frame_from : (s : Shape) (k i : ℕ) → 2 ≤ slot_frame s k i
 slot_frame_from s k i = omega arith
@@ -134,8 +133,7 @@ with_slot pages s k i value = with_word pages (slot_frame s k i) (slot_word s k 
 pub slot_written : (pages : List ℕ) (s : Shape) (k i value : ℕ) → length pages ≡ 1114112 → s.order ≤ 4 → i < entry_words_of s.abi → slot_of (with_slot pages s k i value) s k i ≡ value
 slot_written pages s k i value sized narrow within =
     let few = ring_word_to s k i narrow within in
-    let at = slot_at s k i in
-    get_or-set_at pages (slot_frame s k i * 1024 + slot_word s k i) (slot_frame s k i * 1024 + slot_word s k i) value 0 refl (omega arith)
+    get_or-set_at pages (slot_frame s k i * 1024 + slot_word s k i) (slot_frame s k i * 1024 + slot_word s k i) value 0 refl (omega (arith, slot_at s k i))
 
 pub other_slot : (pages : List ℕ) (s : Shape) (k i value n j : ℕ) → ring_word_of s k i ≢ ring_word_of s n j → slot_of (with_slot pages s k i value) s n j ≡ slot_of pages s n j
 other_slot pages s k i value n j apart =
@@ -146,14 +144,11 @@ other_slot pages s k i value n j apart =
 -- the 16 words before the entries, and the frames that aren't the ring's, are as they were
 pub indices_beside : (pages : List ℕ) (s : Shape) (k i value w : ℕ) → w < 16 → word_of (with_slot pages s k i value) 2 w ≡ word_of pages 2 w
 indices_beside pages s k i value w few =
-    let from = slot_from s k i in
-    get_or-set_other pages (slot_frame s k i * 1024 + slot_word s k i) (2 * 1024 + w) value 0 (λ same. omega arith)
+    get_or-set_other pages (slot_frame s k i * 1024 + slot_word s k i) (2 * 1024 + w) value 0 (λ same. omega (arith, slot_from s k i))
 
 pub frames_beside : (pages : List ℕ) (s : Shape) (k i value f : ℕ) → s.order ≤ 4 → i < entry_words_of s.abi → (f < 2) ⊎ (18 ≤ f) → (w : ℕ) → w < 1024 → word_of (with_slot pages s k i value) f w ≡ word_of pages f w
 frames_beside pages s k i value f narrow within (inl before) w few =
-    let from = slot_from s k i in
-    get_or-set_other pages (slot_frame s k i * 1024 + slot_word s k i) (f * 1024 + w) value 0 (λ same. omega arith)
+    get_or-set_other pages (slot_frame s k i * 1024 + slot_word s k i) (f * 1024 + w) value 0 (λ same. omega (arith, slot_from s k i))
 frames_beside pages s k i value f narrow within (inr behind) w few =
     let to = ring_word_to s k i narrow within in
-    let at = slot_at s k i in
-    get_or-set_other pages (slot_frame s k i * 1024 + slot_word s k i) (f * 1024 + w) value 0 (λ same. omega arith)
+    get_or-set_other pages (slot_frame s k i * 1024 + slot_word s k i) (f * 1024 + w) value 0 (λ same. omega (arith, slot_at s k i))

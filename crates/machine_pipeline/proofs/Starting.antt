@@ -1,9 +1,8 @@
 -- While the front makes its ring and its port, all its requests wait and nothing passes through the ring.
-use Rattle.std.proofs.Common.{◌≡◌, ℕ, ◌<◌, ◌≤◌, Bool, true, false, List, length, refl, sym, ◌∙◌, subst, arith, true≢false}
+use Rattle.std.proofs.Common.{◌≡◌, ℕ, ◌<◌, ◌≤◌, Bool, true, false, List, length, refl, sym, ◌∙◌, subst, arith, true≢false, All}
 use Rattle.blk_base.specs.Options.{Options}
 use Rattle.event_channel.specs.Channels.{ChannelState}
 use Rattle.pipeline_laws.specs.Pipeline.{Pipeline}
-use Rattle.blk_front.specs.declared.request.Request.{Request}
 use Rattle.blk_front.specs.declared.stage.Stage.{Stage as FrontStage}
 use Rattle.blk_front.specs.declared.stage.Stage.TheVariants as front
 use Rattle.blk_front.specs.View.{next_request}
@@ -13,12 +12,9 @@ use Rattle.blk_back.specs.declared.stage.Stage.{Stage as BackStage}
 use Rattle.blk_back.specs.declared.stage.Stage.TheVariants as back
 use Rattle.split_model.specs.World.{World}
 use Rattle.machine_pipeline.proofs.Flow.{Flow, filled, named_frames, granted_frames, entered, ending_at, is_front_arming, may_front_sleep, is_back_arming, may_back_sleep, is_bound_back, telling_at, is_issuing, is_fetching, reply_at}
-use Rattle.blk_front.specs.Request.{frames_for}
-use Rattle.machine_pipeline.proofs.Series.{IsAmong}
-use Rattle.machine_pipeline.proofs.Holds.{FrontAt, AreRingWords, AreSlots, IsFilled, IsGranted, ArePooled, IsOffered, PortsAt, Holds}
-use Rattle.machine_pipeline.proofs.Kept.{SameFrame, slots_kept}
-use Rattle.machine_pipeline.proofs.Lists.{all_from}
-use Rattle.machine_pipeline.proofs.Resting.{rested, unending, untelling, unrevoked, data_rests}
+use Rattle.machine_pipeline.proofs.Holds.{FrontAt, AreRingWords, AreSlots, IsFilled, ArePooled, IsOffered, PortsAt, Holds, AreEntries}
+use Rattle.machine_pipeline.proofs.Kept.{SameFrame, slots_kept, awake_front, awake_back}
+use Rattle.machine_pipeline.proofs.Resting.{rested, unending, untelling, unrevoked, data_rests, unpushed}
 use Rattle.machine_pipeline.proofs.ReadsKept.{stations_elsewhere}
 use Rattle.machine_pipeline.proofs.Stations.{AreStations, turned}
 use Rattle.machine_pipeline.proofs.Indices.{indices_room}
@@ -83,59 +79,33 @@ pub starts_on : (config : Options) (w : World) (g : Flow) (d : Pipeline) (s s' :
     → PortsAt g.before (is_connected s') (is_bound_back w.back.stage) channels.made channels.ports
     → Holds config (rested w s' w.front.seen w.front.asleep pages channels) g d s' w.back.stage
 starts_on config w g d s s' pages channels starting restless i i' h at sized words elsewhere ring ports = record {
-  started = h.started;
-  shaped = h.shaped;
-  sized = h.sized;
+  settled = h.settled;
   indices = indices_room g w.front.ring w.back.ring w.front.seen w.back.seen w.back.fetched w.front.last w.front.waiting (length w.front.requests) (ending_of s) (ending_of s') (let was = h.indices in let room = was.room in let e = i'.none_ends in omega arith) h.indices;
   queue = h.queue;
-  submitted = h.submitted;
   pool = subst (ArePooled w.front.pool w.front.requests) (unending s w.front.ending i.none_ends ∙ sym (unending s' w.front.ending i'.none_ends)) h.pool;
   stations = stations_elsewhere config g d (is_ready s') (is_issuing s') (is_fetching w.back.stage) (ending_at s' w.front.ending) (telling_at s') (reply_at w.back.stage) w.front.requests w.back.jobs.works w.under.pages pages w.front.sectors w.front.last h.submitted elsewhere stations;
   works = h.works;
   counted = h.counted;
-  info = h.info;
   replies = h.replies;
   front_at = at;
   offered = subst (λ (b : Bool). IsOffered b config.read_only config.indirect w.front.offers g.pushed) (i.unready ∙ sym i'.unready) h.offered;
   back_at = h.back_at;
-  unhalted = h.unhalted;
   memory = sized;
   ring = ring;
   slots = (let was = slots in record { entries = was.entries; entry = λ r e k lt in_it. let zero = i'.entered_none in absurd (omega arith); responses = was.responses; response = was.response });
-  frames = all_from (IsFilled g.series g.pushed pages s') w.front.requests (λ j r e. record {
-    whole = λ one. absurd (nothing r one);
-    begun = λ at n f. absurd (let zero = i'.filled_none (frames_for r.count) in omega arith);
-  });
+  frames = nothing.0;
   telling = data_rests w.under.pages pages w.front.words w.front.ending w.front.ending s s' (untelling s' i'.none_ends) h.telling;
-  entries = record {
-    each = all_from (IsGranted g.series g.pushed pages w.under.grants.live s') w.front.requests (λ j r e. record {
-      named = λ one. absurd (nothing r one);
-      named_next = λ at place t. absurd (let zero = i'.named_none in omega arith);
-      flags = λ one. absurd (nothing r one);
-      flags_next = λ at place t. absurd (let zero = i'.granted_none in omega arith);
-    });
-    ending = λ e same. absurd (unrevoked s' w.front.ending e i'.none_ends same);
-  };
+  entries = nothing.1;
   mapped = h.mapped;
   paged = h.paged;
-  front_sleep = (let was = h.front_sleep in record {
-    arming = λ t. absurd (true≢false (sym t ∙ i'.unarmed));
-    armed = λ t. absurd (true≢false (sym t ∙ was.may restless));
-    may = λ t. was.may restless;
-    woken = λ t. absurd (true≢false (sym t ∙ was.may restless));
-  });
-  back_sleep = (let was = h.back_sleep in record {
-    arming = λ t. absurd (true≢false (sym t ∙ awake.0));
-    armed = λ t. absurd (true≢false (sym t ∙ was.may awake.1));
-    may = was.may;
-    woken = λ t. absurd (true≢false (sym t ∙ was.may awake.1));
-  });
+  front_sleep = awake_front g.start g.taken g.replied pages w.front.asleep channels.front_pending s' w.back.stage (h.front_sleep.may restless) i'.unarmed;
+  back_sleep = awake_back g.start g.fetched g.pushed pages w.back.asleep channels.back_pending s' w.back.stage (h.back_sleep.may awake.1) awake.0;
   ports = ports;
 }
   where
     -- no request was pushed
-    nothing : (r : Request) → IsAmong g.series g.pushed r → ⊥
-    nothing r one = let none = none_yet config w g d s i.unready h in let early = one.early in omega arith
+    nothing : All (IsFilled g.series g.pushed pages s') w.front.requests × AreEntries g.series g.pushed pages w.under.grants.live s' w.front.ending w.front.requests
+    nothing = unpushed g.pushed pages w.under.grants.live s' w.front.ending w.front.requests (none_yet config w g d s i.unready h) (λ frames n lt. let zero = i'.filled_none frames in omega arith) i'.named_none i'.granted_none (λ e same. unrevoked s' w.front.ending e i'.none_ends same)
 
     stations : AreStations config g d (is_ready s') (is_issuing s') (is_fetching w.back.stage) (ending_at s' w.front.ending) (telling_at s') (reply_at w.back.stage) w.front.requests w.back.jobs.works w.under.pages
     stations = turned config g d (is_ready s) (is_ready s') (is_issuing s) (is_issuing s') (is_fetching w.back.stage) (ending_at s w.front.ending) (ending_at s' w.front.ending) (telling_at s) (telling_at s') (reply_at w.back.stage) w.front.requests w.back.jobs.works w.under.pages

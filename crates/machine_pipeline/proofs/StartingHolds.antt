@@ -1,6 +1,6 @@
 -- A machine at the start of an epoch, all of whose requests wait, and the pipeline; and the machine at the start, and the pipeline of which nothing was asked.
 use Rattle.std.proofs.Common.{◌≡◌, ℕ, zero, suc, ◌+◌, ◌-◌, ◌<◌, ◌≤◌, ◌^◌, Bool, false, cond, List, [], length, refl, ap, sym, ◌∙◌, arith, true≢false, length-take}
-use Rattle.std.specs.Prelude.{Some, None, slice_get, count_by, replicate, slice_index_or}
+use Rattle.std.specs.Prelude.{Some, None, slice_get, replicate, slice_index_or, All}
 use Rattle.std.proofs.Math.ListN.{length-replicate}
 use Rattle.std.proofs.lemmas.Option.{none-some}
 use Rattle.std.proofs.lemmas.List.Folds.{sum_by-replicate}
@@ -12,7 +12,6 @@ use Rattle.blk_front.specs.Pool.{empty_pool}
 use Rattle.blk_front.specs.declared.request.Request.{Request}
 use Rattle.blk_front.specs.declared.stage.Stage.{Stage as FrontStage}
 use Rattle.blk_front.specs.declared.stage.Stage.TheVariants as front
-use Rattle.blk_front.specs.Request.{frames_for}
 use Rattle.blk_front.specs.Submit.{ending_of}
 use Rattle.blk_front.specs.View.{next_request}
 use Rattle.blk_back.specs.declared.stage.Stage.TheVariants as back
@@ -22,12 +21,14 @@ use Rattle.split_model.proofs.Safe.{safe_start}
 use Rattle.machine_pipeline.specs.Plain.{IsPlain}
 use Rattle.machine_pipeline.proofs.Flow.{Flow, start_flow, epoch_flow, ending_at, telling_at}
 use Rattle.ring_words.specs.Shape.{Shape, entries_of}
-use Rattle.machine_pipeline.proofs.Series.{IsSeries, IsAmong, series_few}
+use Rattle.machine_pipeline.proofs.Series.{IsSeries, series_few}
 use Rattle.machine_pipeline.proofs.Lists.{all_from}
-use Rattle.machine_pipeline.proofs.Left.{IsUnbegun, first_word}
-use Rattle.machine_pipeline.proofs.Holds.{AreSubmitted, IsOfTheDisk, FrontAt, AreDataWords, IsFilled, IsGranted, ArePooled, Holds, Stands}
+use Rattle.machine_pipeline.proofs.Left.{IsUnbegun, first_word, ring_unbegun}
+use Rattle.machine_pipeline.proofs.Holds.{AreSubmitted, IsOfTheDisk, FrontAt, AreDataWords, IsFilled, ArePooled, Holds, Stands, AreEntries}
 use Rattle.machine_pipeline.proofs.Stations.{AreStations}
 use Rattle.machine_pipeline.proofs.Indices.{AreFirst, indices_epoch}
+use Rattle.machine_pipeline.proofs.Kept.{awake_front, awake_back}
+use Rattle.machine_pipeline.proofs.Resting.{unpushed}
 
 -- a frame of a pool in which none is in use
 free_at : (n f : ℕ) → slice_index_or (replicate n false) f false ≡ false
@@ -35,14 +36,11 @@ free_at zero f = refl
 free_at (suc n) zero = refl
 free_at (suc n) (suc f) = free_at n f
 
-none_used : (n : ℕ) → count_by (λ (b : Bool). b) (replicate n false) ≡ 0
-none_used n = omega (arith, sum_by-replicate (λ (b : Bool). cond b 1 0) n false)
-
 pub empty_pooled : ArePooled empty_pool [] None
 empty_pooled = record {
   size = length-replicate 1000 false;
   each = λ f lt. sym (ap (λ (b : Bool). cond b 1 0) (free_at 1000 f));
-  used = none_used 1000;
+  used = (omega (arith, sum_by-replicate (λ (b : Bool). cond b 1 0) 1000 false));
 }
 
 -- the ring's shape is the option's
@@ -55,17 +53,19 @@ start_stations config = record {
   options = refl;
   front = refl;
   ring = record { pushed = refl; entries = λ i r lt. absurd (omega arith); fetched = refl; replied = refl; responses = λ i rep e. absurd (none-some rep e); taken = refl };
-  known = record { as_many = refl; each = λ k r q e f. absurd (none-some r e) };
-  opened = record { unfinished = refl; held = λ k q e f. absurd (none-some q e) };
-  issued = λ k q e. absurd (none-some q e);
-  waiting = record { issued = λ t. absurd (true≢false (sym t)); rest = λ i r le at. absurd (none-some r at) };
-  pushed = record { copied = λ t. absurd (true≢false (sym t)); rest = λ i r le lt. absurd (omega arith) };
-  works = λ i t e. absurd (none-some t e);
-  held = λ k q e. absurd (none-some q e);
-  going = λ i r e. absurd (none-some r e);
-  replying = λ rep e. absurd (none-some rep e);
-  replied = λ i rep e. absurd (none-some rep e);
-  taking = λ e same. absurd (none-some e same);
+  stand = record {
+    known = record { as_many = refl; each = λ k r q e f. absurd (none-some r e) };
+    opened = record { unfinished = refl; held = λ k q e f. absurd (none-some q e) };
+    issued = λ k q e. absurd (none-some q e);
+    waiting = record { issued = λ t. absurd (true≢false (sym t)); rest = λ i r le at. absurd (none-some r at) };
+    pushed = record { copied = λ t. absurd (true≢false (sym t)); rest = λ i r le lt. absurd (omega arith) };
+    works = λ i t e. absurd (none-some t e);
+    held = λ k q e. absurd (none-some q e);
+    going = λ i r e. absurd (none-some r e);
+    replying = λ rep e. absurd (none-some rep e);
+    replied = λ i rep e. absurd (none-some rep e);
+    taking = λ e same. absurd (none-some e same);
+  };
   reads = record { working = λ i t r q at. absurd (none-some t at); after = λ k r q at. absurd (none-some r at) };
 }
 
@@ -105,9 +105,14 @@ pub record AreAllWaiting (config : Options) (w : World) (submitted : List Reques
 pub epoch_holds : (config : Options) (w : World) (submitted : List Request) (d : Pipeline) (s : FrontStage) → IsPlain config → IsUnbegun s → BeginsEpoch config w → AreAllWaiting config w submitted d s
     → Holds config w (begun_flow config w submitted) d s back.InitWait
 epoch_holds config w submitted d s plain i b h = record {
-  started = record { whole = refl; known = b.start; closing = refl };
-  shaped = record { whole = refl; narrow = plain.order; known = b.shape };
-  sized = h.sized;
+  settled = record {
+    started = record { whole = refl; known = b.start; closing = refl };
+    shaped = record { whole = refl; narrow = plain.order; known = b.shape };
+    sized = h.sized;
+    submitted = h.each;
+    info = b.info;
+    unhalted = b.unhalted;
+  };
   indices = rw (b.fetched, h.waiting) (indices_epoch config w.front.ring w.back.ring w.under.channels.made w.front.seen w.back.seen w.front.last (ending_of s) submitted w.front.requests w.front.closing plain b.indices (let all = h.each in let counted = all.counted in let few = series_few submitted w.front.requests h.series in omega arith) h.few h.room);
   queue = record {
     ordered = h.series;
@@ -116,42 +121,25 @@ epoch_holds config w submitted d s plain i b h = record {
     issued = λ k x lt. absurd (let none = h.waiting in omega (arith, length-take (length w.front.requests - w.front.waiting) w.front.requests));
     next = λ j r lt e. ap (slice_get w.front.requests) (let all = h.waiting in omega arith) ∙ e;
   };
-  submitted = h.each;
   pool = h.pool;
   stations = rw (i.unready, i.unissued, b.works) h.stations;
   works = rw b.works (record { each = λ k x lt. absurd (omega arith); ascending = λ i j x lt within. absurd (omega arith); clear = λ i j x lt within. absurd (omega arith) });
   counted = rw b.works refl;
-  info = b.info;
   replies = record { counted = refl; each = λ k x lt. absurd (omega arith); distinct = λ i j x lt within. absurd (omega arith) };
   front_at = h.front_at;
   offered = rw i.unready refl;
   back_at = refl;
-  unhalted = b.unhalted;
   memory = b.memory;
-  ring = record {
-    begun = i.begun config.start w.under.pages;
-    requests = λ t. absurd (true≢false (sym t ∙ i.ringless));
-    responses = λ t. absurd (true≢false (sym t ∙ i.ringless));
-    named = λ page lt unmapped. absurd (let none = i.named (2 ^ config.order) in omega arith);
-    granted = λ page lt unmapped. absurd (let none = i.granted (2 ^ config.order) in omega arith);
-  };
+  ring = ring_unbegun config.order config.start 0 0 w.under.pages s (length w.back.pages) i;
   slots = record {
     entries = λ k r from to. absurd (omega arith);
     entry = λ r e k lt in_it. absurd (let none = i.entered_none in omega arith);
     responses = λ k rep e. absurd (none-some rep e);
     response = λ rep e. absurd (none-some rep e);
   };
-  frames = all_from (IsFilled w.front.requests 0 w.under.pages s) w.front.requests (λ j r e. record { whole = λ one. absurd (none r one); begun = λ at n f. absurd (i.unfilled (frames_for r.count) n f) });
+  frames = nothing.0;
   telling = h.telling;
-  entries = record {
-    each = all_from (IsGranted w.front.requests 0 w.under.pages w.under.grants.live s) w.front.requests (λ j r e. record {
-      named = λ one. absurd (none r one);
-      named_next = λ at place t. absurd (let zero = i.unnamed in omega arith);
-      flags = λ one. absurd (none r one);
-      flags_next = λ at place t. absurd (let zero = i.ungranted in omega arith);
-    });
-    ending = λ e same. absurd (none-some e (sym (i.unrevoked w.front.ending) ∙ same));
-  };
+  entries = nothing.1;
   mapped = record { counted = λ test. rw (b.live, b.works, b.unmapped) refl; framed = rw b.live (λ k x lt. absurd (omega arith)) };
   paged = rw b.unmapped (record {
     shaped = λ t. absurd (true≢false (sym t));
@@ -162,23 +150,13 @@ epoch_holds config w submitted d s plain i b h = record {
     gref = λ page lt. absurd (omega arith);
     mode = λ page lt. absurd (omega arith);
   });
-  front_sleep = record {
-    arming = λ t. absurd (true≢false (sym t ∙ i.unarmed));
-    armed = λ t. absurd (true≢false (sym t ∙ b.front_awake));
-    may = λ t. b.front_awake;
-    woken = λ t. absurd (true≢false (sym t ∙ b.front_awake));
-  };
-  back_sleep = record {
-    arming = λ t. absurd (true≢false (sym t));
-    armed = λ t. absurd (true≢false (sym t ∙ b.back_awake));
-    may = λ t. b.back_awake;
-    woken = λ t. absurd (true≢false (sym t ∙ b.back_awake));
-  };
+  front_sleep = awake_front config.start 0 0 w.under.pages w.front.asleep w.under.channels.front_pending s back.InitWait b.front_awake i.unarmed;
+  back_sleep = awake_back config.start 0 0 w.under.pages w.back.asleep w.under.channels.back_pending s back.InitWait b.back_awake refl;
   ports = rw i.unconnected (refl, b.ports, refl);
 }
   where
-    none : (r : Request) → IsAmong w.front.requests 0 r → ⊥
-    none r one = let early = one.early in omega arith
+    nothing : All (IsFilled w.front.requests 0 w.under.pages s) w.front.requests × AreEntries w.front.requests 0 w.under.pages w.under.grants.live s w.front.ending w.front.requests
+    nothing = unpushed 0 w.under.pages w.under.grants.live s w.front.ending w.front.requests refl i.unfilled i.unnamed i.ungranted (λ e same. none-some e (sym (i.unrevoked w.front.ending) ∙ same))
 
 -- so it is at the first start, with no request
 start_waiting : (config : Options) → IsPlain config → AreAllWaiting config (start_of config) [] (pipeline_of config) (front.RingWord 0)

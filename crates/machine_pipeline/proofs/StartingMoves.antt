@@ -25,7 +25,7 @@ use Rattle.machine_pipeline.proofs.Holds.{Holds, FrontAt, RingBegun, AreRingWord
 use Rattle.std.proofs.lemmas.Bool.{cases_eq}
 use Rattle.ring_words.specs.Shape.{Shape}
 use Rattle.grant_table.specs.Table.{entry_word0, entry_word1}
-use Rattle.machine_pipeline.proofs.Turns.{Goes, FrontGoes, said_nothing}
+use Rattle.machine_pipeline.proofs.Turns.{Goes, FrontGoes, said_nothing, goes_by}
 use Rattle.machine_pipeline.proofs.Kept.{SameFrame, written, other_word, other_frame, other_entry}
 use Rattle.machine_pipeline.proofs.Starting.{IsBare, bare_word, bare_frame, bare_fence, bare_flags, bare_port, bare_initialised, none_yet, unbound_of, starts_on}
 use Rattle.machine_pipeline.proofs.Slots.{SameSlots, index_written, beside_written, few_pages, some_pages}
@@ -42,13 +42,9 @@ makes : (config : Options) (w : World) (g : Flow) (d : Pipeline) (s s' : FrontSt
     → ((f : ℕ) → 18 ≤ f → f < 1018 → SameFrame w.under.pages pages f)
     → AreRingWords g.shape.order g.start g.pushed g.replied pages s' (length w.back.pages)
     → (let x : View = at s' w.front in Goes config (lines.Move m ∷ front_lines x.told) (record { front = record x { told = None }; back = w.back; under = record w.under { pages = pages } }) d)
-makes config w g d s s' m pages told starting going restless i i' h place sized words elsewhere ring = record {
-  flow = g;
-  steps = [];
-  does = said_nothing d m w.front.told told;
-  holds = starts_on config w g d s s' pages w.under.channels starting restless i i' h place sized words elsewhere ring
-      (subst (λ (c : Bool). PortsAt g.before c (is_bound_back w.back.stage) w.under.channels.made w.under.channels.ports) (starting ∙ sym going) h.ports);
-}
+makes config w g d s s' m pages told starting going restless i i' h place sized words elsewhere ring = goes_by (said_nothing d m w.front.told told)
+    (starts_on config w g d s s' pages w.under.channels starting restless i i' h place sized words elsewhere ring
+    (subst (λ (c : Bool). PortsAt g.before c (is_bound_back w.back.stage) w.under.channels.made w.under.channels.ports) (starting ∙ sym going) h.ports))
 
 -- the ring's words, one after another
 word_goes : (config : Options) (w : World) (g : Flow) (d : Pipeline) (k : ℕ)
@@ -75,9 +71,7 @@ word_goes config w g d k plain told h = by_last (k == 15) refl
             ap (word_of pages 2) same ∙ (now ∙ (ap (λ (n : ℕ). fresh_word n k) (started.known ∙ sym started.whole) ∙ ap (fresh_word g.start) (sym same)))
         by_new false t =
             let apart : j ≢ k = grind (arith, nat_tests) in
-            let ring = h.ring in
-            let was : RingBegun g.start w.under.pages (front.RingWord k) = ring.begun in
-            other_word w.under.pages 2 k (fresh_word w.front.start k) j apart ∙ was j (omega arith)
+            other_word w.under.pages 2 k (fresh_word w.front.start k) j apart ∙ h.ring.begun j (omega arith)
 
     goes_to : (s' : FrontStage) → is_connected s' ≡ false → IsBare s' → FrontAt g.shape g.start g.pushed g.taken g.front_seen g.submitted g.replies (next_request w.front) w.front.entry w.front.ending s' → AreRingWords g.shape.order g.start g.pushed g.replied pages s' (length w.back.pages)
         → (let x : View = at s' w.front in Goes config (lines.Move (moves.FrontWrite 2 k (fresh_word w.front.start k)) ∷ front_lines x.told) (record { front = record x { told = None }; back = w.back; under = record w.under { pages = pages } }) d)
@@ -125,18 +119,15 @@ frame_goes config w g d page told h =
     (λ f low high. other_frame w.under.pages ((2 + page + 6) / 512) (2 * ((2 + page + 6) % 512) + 1) (2 + page) f (omega (arith, few)) (omega (arith, few)))
     (record {
       begun = tt;
-      requests = λ t. second 0 (omega arith) ∙ ring.requests refl;
-      responses = λ t. second 2 (omega arith) ∙ ring.responses refl;
+      requests = λ t. second 0 (omega arith) ∙ h.ring.requests refl;
+      responses = λ t. second 2 (omega arith) ∙ h.ring.responses refl;
       named = λ p lt unmapped. elim (cases_eq p page) [
         | inl is ↦ subst (λ (n : ℕ). entry_word1 pages (8 + n) ≡ 2 + n) (sym is) here
-        | inr apart ↦ (let entry = other_named w.under.pages (2 + page + 6) (8 + p) (2 + page) (omega (arith, few)) (omega (arith, few)) (omega arith) in entry.frame ∙ ring.named p (omega arith) unmapped)
+        | inr apart ↦ (let entry = other_named w.under.pages (2 + page + 6) (8 + p) (2 + page) (omega (arith, few)) (omega (arith, few)) (omega arith) in entry.frame ∙ h.ring.named p (omega arith) unmapped)
       ];
-      granted = λ p lt unmapped. let entry = other_named w.under.pages (2 + page + 6) (8 + p) (2 + page) (omega (arith, few)) (omega (arith, few)) (omega arith) in entry.flags ∙ ring.granted p lt unmapped;
+      granted = λ p lt unmapped. let entry = other_named w.under.pages (2 + page + 6) (8 + p) (2 + page) (omega (arith, few)) (omega (arith, few)) (omega arith) in entry.flags ∙ h.ring.granted p lt unmapped;
     })
   where
-    ring : AreRingWords g.shape.order g.start g.pushed g.replied w.under.pages (front.RingFrame page) (length w.back.pages)
-    ring = h.ring
-
     few : page < 16
     few = reference_few g.shape.order page h.shaped.narrow h.front_at
 
@@ -154,15 +145,8 @@ fence_goes : (config : Options) (w : World) (g : Flow) (d : Pipeline) (page : �
     → Holds config w g d (front.RingFence page) w.back.stage
     → FrontGoes config w d (front.RingFence page)
 fence_goes config w g d page told h =
-    let ring = h.ring in
     makes config w g d (front.RingFence page) (front.RingFlags page) (moves.Fence mover.Front) w.under.pages told refl refl refl (bare_fence page) (bare_flags page) h h.front_at h.memory (λ f x from to within behind. refl) (λ f low high x lt. refl)
-    (record {
-      begun = tt;
-      requests = λ t. ring.requests refl;
-      responses = λ t. ring.responses refl;
-      named = ring.named;
-      granted = ring.granted;
-    })
+    h.ring
 
 flags_goes : (config : Options) (w : World) (g : Flow) (d : Pipeline) (page : ℕ)
     → w.front.told ≡ None
@@ -170,14 +154,8 @@ flags_goes : (config : Options) (w : World) (g : Flow) (d : Pipeline) (page : �
     → FrontGoes config w d (front.RingFlags page)
 flags_goes config w g d page told h = by_last (nat_lt (page + 1) (2 ^ w.front.shape.order)) refl
   where
-    ring : AreRingWords g.shape.order g.start g.pushed g.replied w.under.pages (front.RingFlags page) (length w.back.pages)
-    ring = h.ring
-
-    within : page < 2 ^ g.shape.order
-    within = h.front_at
-
     few : page < 16
-    few = reference_few g.shape.order page h.shaped.narrow within
+    few = reference_few g.shape.order page h.shaped.narrow h.front_at
 
     known : 2 ^ w.front.shape.order ≡ 2 ^ g.shape.order
     known = ap (λ (x : Shape). 2 ^ x.order) h.shaped.known
@@ -197,14 +175,14 @@ flags_goes config w g d page told h = by_last (nat_lt (page + 1) (2 ^ w.front.sh
 
     named_now : (p : ℕ) → p < page + 1 → length w.back.pages ≤ p → entry_word1 pages (8 + p) ≡ 2 + p
     named_now p lt unmapped = elim (cases_eq p page) [
-      | inl is ↦ subst (λ (n : ℕ). entry_word1 pages (8 + n) ≡ entry_word1 w.under.pages (8 + n)) (sym is) still ∙ ring.named p lt unmapped
-      | inr apart ↦ (let entry = other_entry w.under.pages (2 + page + 6) (8 + p) 1 (omega (arith, few)) (omega (arith, few)) (omega arith) in entry.frame ∙ ring.named p lt unmapped)
+      | inl is ↦ subst (λ (n : ℕ). entry_word1 pages (8 + n) ≡ entry_word1 w.under.pages (8 + n)) (sym is) still ∙ h.ring.named p lt unmapped
+      | inr apart ↦ (let entry = other_entry w.under.pages (2 + page + 6) (8 + p) 1 (omega (arith, few)) (omega (arith, few)) (omega arith) in entry.frame ∙ h.ring.named p lt unmapped)
     ]
 
     granted_now : (p : ℕ) → p < page + 1 → length w.back.pages ≤ p → entry_word0 pages (8 + p) ≡ 1
     granted_now p lt unmapped = elim (cases_eq p page) [
       | inl is ↦ subst (λ (n : ℕ). entry_word0 pages (8 + n) ≡ 1) (sym is) here
-      | inr apart ↦ (let entry = other_entry w.under.pages (2 + page + 6) (8 + p) 1 (omega (arith, few)) (omega (arith, few)) (omega arith) in entry.flags ∙ ring.granted p (omega arith) unmapped)
+      | inr apart ↦ (let entry = other_entry w.under.pages (2 + page + 6) (8 + p) 1 (omega (arith, few)) (omega (arith, few)) (omega arith) in entry.flags ∙ h.ring.granted p (omega arith) unmapped)
     ]
 
     goes_to : (s' : FrontStage) → is_connected s' ≡ false → IsBare s' → FrontAt g.shape g.start g.pushed g.taken g.front_seen g.submitted g.replies (next_request w.front) w.front.entry w.front.ending s' → AreRingWords g.shape.order g.start g.pushed g.replied pages s' (length w.back.pages)
@@ -219,8 +197,8 @@ flags_goes config w g d page told h = by_last (nat_lt (page + 1) (2 ^ w.front.sh
         let more : page + 1 < 2 ^ w.front.shape.order = grind (arith, nat_tests) in
         goes_to (front.RingFrame (page + 1)) refl (bare_frame (page + 1)) (omega (arith, known, more)) (record {
           begun = tt;
-          requests = λ u. second 0 (omega arith) ∙ ring.requests refl;
-          responses = λ u. second 2 (omega arith) ∙ ring.responses refl;
+          requests = λ u. second 0 (omega arith) ∙ h.ring.requests refl;
+          responses = λ u. second 2 (omega arith) ∙ h.ring.responses refl;
           named = named_now;
           granted = granted_now;
         })
@@ -228,8 +206,8 @@ flags_goes config w g d page told h = by_last (nat_lt (page + 1) (2 ^ w.front.sh
         let last : 2 ^ w.front.shape.order ≤ page + 1 = grind (arith, nat_tests) in
         goes_to front.NewPort refl bare_port tt (record {
           begun = tt;
-          requests = λ u. second 0 (omega arith) ∙ ring.requests refl;
-          responses = λ u. second 2 (omega arith) ∙ ring.responses refl;
+          requests = λ u. second 0 (omega arith) ∙ h.ring.requests refl;
+          responses = λ u. second 2 (omega arith) ∙ h.ring.responses refl;
           named = λ p lt unmapped. named_now p (let among : p < 2 ^ g.shape.order = lt in omega (arith, known, last, among)) unmapped;
           granted = λ p lt unmapped. granted_now p (let among : p < 2 ^ g.shape.order = lt in omega (arith, known, last, among)) unmapped;
         })
@@ -244,22 +222,11 @@ port_goes : (config : Options) (w : World) (g : Flow) (d : Pipeline)
     → Holds config w g d front.NewPort w.back.stage
     → FrontGoes config w d front.NewPort
 port_goes config w g d told h =
-    let ring = h.ring in
     let none = unbound_of g.before false (is_bound_back w.back.stage) w.under.channels.made w.under.channels.ports refl h.ports in
-    record {
-      flow = g;
-      steps = [];
-      does = said_nothing d (moves.FrontPort (w.under.channels.made + 1)) w.front.told told;
-      holds = starts_on config w g d front.NewPort front.Initialised w.under.pages (with_port w.under.channels) refl refl bare_port bare_initialised h tt h.memory (λ f x from to within behind. refl) (λ f low high x lt. refl)
-          (record {
-            begun = tt;
-            requests = λ t. ring.requests refl;
-            responses = λ t. ring.responses refl;
-            named = ring.named;
-            granted = ring.granted;
-          })
-          (first_port g.before (is_bound_back w.back.stage) w.under.channels.made w.under.channels.ports none.0 none.1 none.2);
-    }
+    goes_by (said_nothing d (moves.FrontPort (w.under.channels.made + 1)) w.front.told told)
+    (starts_on config w g d front.NewPort front.Initialised w.under.pages (with_port w.under.channels) refl refl bare_port bare_initialised h tt h.memory (λ f x from to within behind. refl) (λ f low high x lt. refl)
+    h.ring
+    (first_port g.before (is_bound_back w.back.stage) w.under.channels.made w.under.channels.ports none.0 none.1 none.2))
 
 -- a front that isn't connected goes on at each stage
 pub start_moves : (config : Options) (w : World) (g : Flow) (d : Pipeline) (s : FrontStage)

@@ -14,7 +14,7 @@ use Rattle.blk_back.specs.declared.stage.Reply.{Reply}
 use Rattle.pipeline_laws.specs.Station.{Station, Pushed, Fetching, Working, Ended, Replying, Replied, Request as Asked}
 use Rattle.pipeline_laws.specs.Move.{Move, BeginsFetch, Fetches, BeginsResponse, Replies, moved, station_after, words_after}
 use Rattle.pipeline_laws.specs.Ring.{Ring, ring_after}
-use Rattle.pipeline_laws.specs.Pipeline.{Pipeline, Moves}
+use Rattle.pipeline_laws.specs.Pipeline.{Pipeline}
 use Rattle.machine_pipeline.specs.Step.{IsSame}
 use Rattle.machine_pipeline.proofs.Flow.{Flow, worked}
 use Rattle.machine_pipeline.proofs.Series.{IsSeries, other_place}
@@ -24,7 +24,8 @@ use Rattle.machine_pipeline.proofs.Lists.{pair_at, set_was, get_set_here, get_se
 use Rattle.machine_pipeline.proofs.Growing.{push_was}
 use Rattle.machine_pipeline.proofs.Removals.{removed_was, removed_has}
 use Rattle.machine_pipeline.proofs.Turns.{Stepped}
-use Rattle.machine_pipeline.proofs.Stations.{StandsAt, apart as stands_apart, AreStations, AreWorking, HaveJobs, IsRing, IsMoved, is_moved, stands_now, other_stays, kind_of, worked_kind, worked_open, worked_issued, known_moved, open_moved, issued_moved, waiting_moved, pushed_moved, works_moved, moved_was, held_moved, going_moved, replying_moved, replied_moved, taking_moved}
+use Rattle.machine_pipeline.proofs.StationsFront.{moves_on}
+use Rattle.machine_pipeline.proofs.Stations.{StandsAt, apart as stands_apart, AreStations, AreWorking, IsRing, IsMoved, is_moved, stands_now, stands_too, other_was, other_stays, kind_of, worked_kind, worked_open, worked_issued, known_moved, open_moved, issued_moved, waiting_moved, pushed_moved, works_moved, held_moved, going_moved, replying_moved, replied_moved, taking_moved}
 
 -- the next entry is begun to be copied
 pub begins_fetch : (config : Options) (g : Flow) (d : Pipeline) (connected issuing : Bool) (ending : Option Ending) (telling : Option ℕ) (replying : Option Reply) (requests : List Request) (works : List Work) (pages : List ℕ) (r : Request)
@@ -33,46 +34,26 @@ pub begins_fetch : (config : Options) (g : Flow) (d : Pipeline) (connected issui
     → g.fetched < g.pushed
     → AreStations config g d connected issuing false ending telling replying requests works pages
     → Stepped None IsSame d [] (λ p. AreStations config g p connected issuing true ending telling replying requests works pages)
-begins_fetch config g d connected issuing ending telling replying requests works pages r series next more h = record {
-  step = Moves k x.q BeginsFetch;
-  allowed = (record { here = x.at; there = x.there }, ap (slice_get (let ring : Ring = d.ring in ring.pushed)) h.ring.fetched ∙ h.ring.entries g.fetched r more next);
-  shows = refl;
-  asks = refl;
-  disk = λ a b e. e;
-  now = record {
-    options = h.options;
-    front = h.front;
-    ring = h.ring;
-    known = known_moved g.submitted d.requests new k Pushed Fetching m h.known;
-    opened = open_moved d.requests new k Pushed Fetching requests ending m refl refl h.opened;
-    issued = issued_moved g.pushed d.requests new k Pushed Fetching m refl h.issued;
-    waiting = waiting_moved g.pushed issuing d.requests new k Pushed Fetching m (omega arith) h.waiting;
-    pushed = record {
-      copied = λ t y at. subst (λ (z : Request). StandsAt new (z.number - 1) Fetching) (same_Some r y (sym next ∙ at)) (stands_now d.requests new k Pushed Fetching m);
-      rest = λ j y le lt at other. other_stays d.requests new (y.number - 1) k Pushed Pushed Fetching m
-          (other_place g.submitted g.series j g.fetched y r series at next (other refl)) (h.pushed.rest j y le lt at (λ t. absurd (false≢true t)));
-    };
-    works = works_moved works d.requests new k Pushed Fetching m (omega arith) h.works;
-    held = held_moved works d.requests new k Pushed Fetching m (omega arith) h.held;
-    going = going_moved requests d.requests new k Pushed Fetching m (λ le. omega arith) h.going;
-    replying = replying_moved replying d.requests new k Pushed Fetching m (omega arith) h.replying;
-    replied = replied_moved g.replies d.requests new k Pushed Fetching m (omega arith) h.replied;
-    taking = taking_moved ending telling d.requests new k Pushed Fetching m (omega arith) h.taking;
-    reads = reads_moved g.submitted d.requests new works pages k Pushed Fetching m refl (λ t. absurd (false≢true t)) h.reads;
-  };
-}
+begins_fetch config g d connected issuing ending telling replying requests works pages r series next more h =
+    moves_on x BeginsFetch h refl refl (ap (slice_get (let ring : Ring = d.ring in ring.pushed)) h.ring.fetched ∙ h.ring.entries g.fetched r more next) refl (λ a b e. e) refl h.ring (λ m. record {
+      known = known_moved m h.known;
+      opened = open_moved m refl refl h.opened;
+      issued = issued_moved m refl h.issued;
+      waiting = waiting_moved m (omega arith) h.waiting;
+      pushed = record {
+        copied = λ t y at. stands_too (λ (z : Request). z.number - 1) (λ (z : Request). Fetching) (same_Some r y (sym next ∙ at)) (stands_now m);
+        rest = λ j y le lt at other. other_stays m (other_place g.submitted g.series j g.fetched y r series at next (other refl)) (h.pushed.rest j y le lt at (λ t. absurd (false≢true t)));
+      };
+      works = works_moved works m (omega arith) h.works;
+      held = held_moved works m (omega arith) h.held;
+      going = going_moved requests m (λ le. omega arith) h.going;
+      replying = replying_moved m (omega arith) h.replying;
+      replied = replied_moved g.replies m (omega arith) h.replied;
+      taking = taking_moved telling m (omega arith) h.taking;
+    }) (reads_moved (is_moved x (moved x.q BeginsFetch) refl refl) refl (λ t. absurd (false≢true t)) h.reads)
   where
-    k : ℕ
-    k = r.number - 1
-
-    x : StandsAt d.requests k Pushed
+    x : StandsAt d.requests (r.number - 1) Pushed
     x = h.pushed.rest g.fetched r (omega arith) more next (λ t. absurd (false≢true t))
-
-    new : List Asked
-    new = slice_set d.requests k (moved x.q BeginsFetch)
-
-    m : IsMoved d.requests new k Pushed Fetching
-    m = is_moved d.requests k Pushed Fetching x.q (moved x.q BeginsFetch) x.at x.there refl refl
 
 -- it is copied, and a job made of it
 pub fetches : (config : Options) (g : Flow) (d : Pipeline) (connected issuing : Bool) (ending : Option Ending) (telling : Option ℕ) (replying : Option Reply) (requests : List Request) (works : List Work) (pages : List ℕ) (t : Work) (r : Request)
@@ -84,65 +65,37 @@ pub fetches : (config : Options) (g : Flow) (d : Pipeline) (connected issuing : 
     → ((r : Request) → ReadAt pages r t.moved t.words [] t.stage)
     → AreStations config g d connected issuing true ending telling replying requests works pages
     → Stepped None IsSame d [] (λ p. AreStations config (record g { fetched = g.fetched + 1 }) p connected issuing false ending telling replying requests (works ++ t ∷ []) pages)
-fetches config g d connected issuing ending telling replying requests works pages t r series next more number begun unread h = record {
-  step = Moves k x.q Fetches;
-  allowed = (record { here = x.at; there = x.there }, ap (slice_get (let ring : Ring = d.ring in ring.pushed)) h.ring.fetched ∙ h.ring.entries g.fetched r more next);
-  shows = refl;
-  asks = refl;
-  disk = λ a b e. e;
-  now = record {
-    options = h.options;
-    front = h.front;
-    ring = record { pushed = h.ring.pushed; entries = h.ring.entries; fetched = omega (arith, h.ring.fetched); replied = h.ring.replied; responses = h.ring.responses; taken = h.ring.taken };
-    known = known_moved g.submitted d.requests new k Fetching (Working 0) m h.known;
-    opened = open_moved d.requests new k Fetching (Working 0) requests ending m refl refl h.opened;
-    issued = issued_moved g.pushed d.requests new k Fetching (Working 0) m refl h.issued;
-    waiting = waiting_moved g.pushed issuing d.requests new k Fetching (Working 0) m (omega arith) h.waiting;
-    pushed = record {
-      copied = λ t. absurd (false≢true t);
-      rest = λ j y le lt at other. other_stays d.requests new (y.number - 1) k Pushed Fetching (Working 0) m
-          (other_place g.submitted g.series j g.fetched y r series at next (omega arith)) (h.pushed.rest j y (omega arith) lt at (λ u. omega arith));
-    };
-    works = working;
-    held = held;
-    going = going_moved requests d.requests new k Fetching (Working 0) m (λ le. omega arith) h.going;
-    replying = replying_moved replying d.requests new k Fetching (Working 0) m (omega arith) h.replying;
-    replied = replied_moved g.replies d.requests new k Fetching (Working 0) m (omega arith) h.replied;
-    taking = taking_moved ending telling d.requests new k Fetching (Working 0) m (omega arith) h.taking;
-    reads = reads_fetched g.submitted d.requests new works pages k Fetching (Working 0) m t
-        (λ i u at. stands_apart d.requests (u.id - 1) k (worked u.stage u.moved) Fetching (h.works i u at) x (omega (arith, worked_kind u.stage u.moved)))
-        (omega (arith, number)) refl refl unread h.reads;
-  };
-}
+fetches config g d connected issuing ending telling replying requests works pages t r series next more number begun unread h =
+    moves_on x Fetches h refl refl (ap (slice_get (let ring : Ring = d.ring in ring.pushed)) h.ring.fetched ∙ h.ring.entries g.fetched r more next) refl (λ a b e. e) refl
+    (record { pushed = h.ring.pushed; entries = h.ring.entries; fetched = omega (arith, h.ring.fetched); replied = h.ring.replied; responses = h.ring.responses; taken = h.ring.taken }) (λ m. record {
+      known = known_moved m h.known;
+      opened = open_moved m refl refl h.opened;
+      issued = issued_moved m refl h.issued;
+      waiting = waiting_moved m (omega arith) h.waiting;
+      pushed = record {
+        copied = λ t. absurd (false≢true t);
+        rest = λ j y le lt at other. other_stays m (other_place g.submitted g.series j g.fetched y r series at next (omega arith)) (h.pushed.rest j y (omega arith) lt at (λ u. omega arith));
+      };
+      works = λ i u e. elim (push_was works t i u e) [
+        | inl was ↦ works_moved works m (omega arith) h.works i u was
+        | inr last ↦
+            stands_too (λ (v : Work). v.id - 1) (λ (v : Work). worked v.stage v.moved) (sym last.1)
+            (stands_too (λ (s : Station). t.id - 1) (λ (s : Station). s) (sym begun) (stands_too (λ (n : ℕ). n - 1) (λ (n : ℕ). Working 0) (sym number) (stands_now m)))
+      ];
+      held = λ j q at kind. elim (cases_eq j (r.number - 1)) [
+        | inl same ↦ (length works, t, get_last works t, (let positive = series.positive g.fetched r next in omega (arith, number, same)))
+        | inr other ↦ (let was = h.held j q (sym (m.others j other) ∙ at) kind in (was.0, was.1, get_append works (t ∷ []) was.0 was.1 was.2, was.3))
+      ];
+      going = going_moved requests m (λ le. omega arith) h.going;
+      replying = replying_moved m (omega arith) h.replying;
+      replied = replied_moved g.replies m (omega arith) h.replied;
+      taking = taking_moved telling m (omega arith) h.taking;
+    }) (reads_fetched g.submitted d.requests _ works pages (r.number - 1) Fetching (Working 0) (is_moved x (moved x.q Fetches) refl refl) t
+    (λ i u at. stands_apart d.requests (u.id - 1) (r.number - 1) (worked u.stage u.moved) Fetching (h.works i u at) x (omega (arith, worked_kind u.stage u.moved)))
+    (omega (arith, number)) refl refl unread h.reads)
   where
-    k : ℕ
-    k = r.number - 1
-
-    x : StandsAt d.requests k Fetching
+    x : StandsAt d.requests (r.number - 1) Fetching
     x = h.pushed.copied refl r next
-
-    new : List Asked
-    new = slice_set d.requests k (moved x.q Fetches)
-
-    m : IsMoved d.requests new k Fetching (Working 0)
-    m = is_moved d.requests k Fetching (Working 0) x.q (moved x.q Fetches) x.at x.there refl refl
-
-    working : AreWorking (works ++ t ∷ []) new
-    working i u e = elim (push_was works t i u e) [
-      | inl was ↦ works_moved works d.requests new k Fetching (Working 0) m (omega arith) h.works i u was
-      | inr last ↦
-          let at : t.id - 1 ≡ k = omega (arith, number) in
-          subst (λ (v : Work). StandsAt new (v.id - 1) (worked v.stage v.moved)) (sym last.1)
-          (subst (λ (s : Station). StandsAt new (t.id - 1) s) (sym begun) (subst (λ (n : ℕ). StandsAt new n (Working 0)) (sym at) (stands_now d.requests new k Fetching (Working 0) m)))
-    ]
-
-    held : HaveJobs (works ++ t ∷ []) new
-    held j q at kind = elim (cases_eq j k) [
-      | inl same ↦ (length works, t, get_last works t, (let positive = series.positive g.fetched r next in omega (arith, number, same)))
-      | inr other ↦
-          let was = h.held j q (sym (m.others j other) ∙ at) kind in
-          (was.0, was.1, get_append works (t ∷ []) was.0 was.1 was.2, was.3)
-    ]
 
 -- a job whose stage is another, of the same station
 pub works_at : (asked : List Asked) (works : List Work) (place : ℕ) (t t' : Work) → slice_get works place ≡ Some t → t'.id ≡ t.id → worked t'.stage t'.moved ≡ worked t.stage t.moved → AreWorking works asked → AreWorking (slice_set works place t') asked
@@ -172,17 +125,19 @@ job_stays config g d connected issuing fetching ending telling replying requests
   options = h.options;
   front = h.front;
   ring = h.ring;
-  known = h.known;
-  opened = h.opened;
-  issued = h.issued;
-  waiting = h.waiting;
-  pushed = h.pushed;
-  works = works_at d.requests works place t t' here number same h.works;
-  going = h.going;
-  held = λ k q at kind. set_has works place (k + 1) t t' here number (h.held k q at kind);
-  replying = h.replying;
-  replied = h.replied;
-  taking = h.taking;
+  stand = record {
+    known = h.known;
+    opened = h.opened;
+    issued = h.issued;
+    waiting = h.waiting;
+    pushed = h.pushed;
+    works = works_at d.requests works place t t' here number same h.works;
+    held = λ k q at kind. set_has works place (k + 1) t t' here number (h.held k q at kind);
+    going = h.going;
+    replying = h.replying;
+    replied = h.replied;
+    taking = h.taking;
+  };
   reads = reads_set g.submitted d.requests works pages place t t' here now h.reads;
 }
 
@@ -211,47 +166,40 @@ job_steps config g d connected issuing fetching ending telling replying requests
   options = h.options;
   front = h.front;
   ring = subst (IsRing g) (sym still) h.ring;
-  known = known_moved g.submitted d.requests new k from to m h.known;
-  opened = open_moved d.requests new k from to requests ending m (worked_open t.stage t.moved) (worked_open t'.stage t'.moved) h.opened;
-  issued = issued_moved g.pushed d.requests new k from to m (worked_issued t'.stage t'.moved) h.issued;
-  waiting = waiting_moved g.pushed issuing d.requests new k from to m (omega (arith, kind)) h.waiting;
-  pushed = pushed_moved g.fetched g.pushed fetching d.requests new k from to m (omega (arith, kind)) (omega (arith, kind)) h.pushed;
-  works = λ i u e. elim (set_was works place i t t' u here e) [
-    | inl it ↦
-        subst (λ (v : Work). StandsAt new (v.id - 1) (worked v.stage v.moved)) (sym it.1)
-        (subst (λ (n : ℕ). StandsAt new (n - 1) to) (sym number) (stands_now d.requests new k from to m))
-    | inr other ↦ other_stays d.requests new (u.id - 1) k (worked u.stage u.moved) from to m (apart i u other.0 other.1) (h.works i u other.1)
-  ];
-  going = going_moved requests d.requests new k from to m (λ le. omega (arith, worked_kind t'.stage t'.moved)) h.going;
-  held = λ j q at at_work. elim (cases_eq j k) [
-    | inl same ↦ (place, t', get_set_here works place t t' here, let first = positive place t here in omega (arith, number, same))
-    | inr other ↦ set_has works place (j + 1) t t' here number (h.held j q (sym (m.others j other) ∙ at) at_work)
-  ];
-  replying = replying_moved replying d.requests new k from to m (omega (arith, kind)) h.replying;
-  replied = replied_moved g.replies d.requests new k from to m (omega (arith, kind)) h.replied;
-  taking = taking_moved ending telling d.requests new k from to m (omega (arith, kind)) h.taking;
-  reads = reads_step g.submitted d.requests new works pages place t t' from to m here number apart now h.reads;
+  stand = record {
+    known = known_moved m h.known;
+    opened = open_moved m (worked_open t.stage t.moved) (worked_open t'.stage t'.moved) h.opened;
+    issued = issued_moved m (worked_issued t'.stage t'.moved) h.issued;
+    waiting = waiting_moved m (omega (arith, kind)) h.waiting;
+    pushed = pushed_moved m (omega (arith, kind)) (omega (arith, kind)) h.pushed;
+    works = λ i u e. elim (set_was works place i t t' u here e) [
+      | inl it ↦
+          subst (λ (v : Work). StandsAt new (v.id - 1) (worked v.stage v.moved)) (sym it.1)
+          (subst (λ (n : ℕ). StandsAt new (n - 1) (worked t'.stage t'.moved)) (sym number) (stands_now m))
+      | inr other ↦ other_stays m (apart i u other.0 other.1) (h.works i u other.1)
+    ];
+    held = λ j q at at_work. elim (cases_eq j (t.id - 1)) [
+      | inl same ↦ (place, t', get_set_here works place t t' here, let first = positive place t here in omega (arith, number, same))
+      | inr other ↦ set_has works place (j + 1) t t' here number (h.held j q (sym (m.others j other) ∙ at) at_work)
+    ];
+    going = going_moved requests m (λ le. omega (arith, worked_kind t'.stage t'.moved)) h.going;
+    replying = replying_moved m (omega (arith, kind)) h.replying;
+    replied = replied_moved g.replies m (omega (arith, kind)) h.replied;
+    taking = taking_moved telling m (omega (arith, kind)) h.taking;
+  };
+  reads = reads_step g.submitted d.requests new works pages place t t' (worked t.stage t.moved) (worked t'.stage t'.moved) m here number apart now h.reads;
 }
   where
-    k : ℕ
-    k = t.id - 1
-
-    from : Station
-    from = worked t.stage t.moved
-
-    to : Station
-    to = worked t'.stage t'.moved
-
-    kind : kind_of from ≡ 4
+    kind : kind_of (worked t.stage t.moved) ≡ 4
     kind = worked_kind t.stage t.moved
 
     new : List Asked
-    new = slice_set d.requests k (moved x.q move)
+    new = slice_set d.requests (t.id - 1) (moved x.q move)
 
-    m : IsMoved d.requests new k from to
-    m = is_moved d.requests k from to x.q (moved x.q move) x.at x.there after refl
+    m : IsMoved d.requests new (t.id - 1) (worked t.stage t.moved) (worked t'.stage t'.moved)
+    m = is_moved x (moved x.q move) after refl
 
-    apart : (i : ℕ) (u : Work) → i ≢ place → slice_get works i ≡ Some u → u.id - 1 ≢ k
+    apart : (i : ℕ) (u : Work) → i ≢ place → slice_get works i ≡ Some u → u.id - 1 ≢ t.id - 1
     apart i u other at = other_number works place i t u ascending positive here other at
 
 -- the result of a job that is done is taken, and its response begun
@@ -263,63 +211,34 @@ pub begins_response : (config : Options) (g : Flow) (d : Pipeline) (connected is
     → ((i : ℕ) (u : Work) → slice_get works i ≡ Some u → 1 ≤ u.id)
     → AreStations config g d connected issuing fetching ending telling None requests works pages
     → Stepped None IsSame d [] (λ p. AreStations config g p connected issuing fetching ending telling (Some rep) requests (remove works place) pages)
-begins_response config g d connected issuing fetching ending telling requests works pages place t rep here done number ascending positive h = record {
-  step = Moves k x.q (BeginsResponse rep.status);
-  allowed = (record { here = x.at; there = x.there }, tt);
-  shows = refl;
-  asks = refl;
-  disk = λ a b e. e;
-  now = record {
-    options = h.options;
-    front = h.front;
-    ring = h.ring;
-    known = known_moved g.submitted d.requests new k from to m h.known;
-    opened = open_moved d.requests new k from to requests ending m refl refl h.opened;
-    issued = issued_moved g.pushed d.requests new k from to m refl h.issued;
-    waiting = waiting_moved g.pushed issuing d.requests new k from to m (omega arith) h.waiting;
-    pushed = pushed_moved g.fetched g.pushed fetching d.requests new k from to m (omega arith) (omega arith) h.pushed;
-    works = λ i u e.
-        let was = removed_was works place i u e in
-        other_stays d.requests new (u.id - 1) k (worked u.stage u.moved) from to m (apart was.0 u was.1 was.2) (h.works was.0 u was.2);
-    going = going_moved requests d.requests new k from to m (λ le. omega arith) h.going;
-    held = λ j q at kind.
-        let was = moved_was d.requests new j k from to q m (omega arith) at kind in
-        let its = h.held j q was.1 kind in
-        let left = removed_has works place its.0 its.1 its.2 (λ same.
-        let one : its.1 ≡ t = same_Some its.1 t (sym its.2 ∙ (ap (slice_get works) same ∙ here)) in
-        let numbered : (let u : Work = its.1 in u.id) ≡ t.id = ap (λ (u : Work). u.id) one in
-        was.0 (omega (arith, numbered, its.3))) in
-        (left.0, its.1, left.1, its.3);
-    replying = λ r same.
-        subst (λ (y : Reply). StandsAt new (y.id - 1) (Replying y.status)) (same_Some rep r same)
-        (subst (λ (n : ℕ). StandsAt new (n - 1) to) (sym number) (stands_now d.requests new k from to m));
-    replied = replied_moved g.replies d.requests new k from to m (omega arith) h.replied;
-    taking = taking_moved ending telling d.requests new k from to m (omega arith) h.taking;
-    reads = reads_fewer g.submitted new works (remove works place) pages (λ i u e. let was = removed_was works place i u e in (was.0, was.2))
-        (reads_moved g.submitted d.requests new works pages k from to m refl (λ t. t) h.reads);
-  };
-}
+begins_response config g d connected issuing fetching ending telling requests works pages place t rep here done number ascending positive h =
+    moves_on x (BeginsResponse rep.status) h refl refl tt refl (λ a b e. e) refl h.ring (λ m. record {
+      known = known_moved m h.known;
+      opened = open_moved m refl refl h.opened;
+      issued = issued_moved m refl h.issued;
+      waiting = waiting_moved m (omega arith) h.waiting;
+      pushed = pushed_moved m (omega arith) (omega arith) h.pushed;
+      works = λ i u e.
+          let was = removed_was works place i u e in
+          other_stays m (other_number works place was.0 t u ascending positive here was.1 was.2) (h.works was.0 u was.2);
+      held = λ j q at kind.
+          let was = other_was (λ (s : Station). kind_of s ≡ 4) j m (λ e. omega arith) at kind in
+          let its = h.held j q was.1 kind in
+          let left = removed_has works place its.0 its.1 its.2 (λ same.
+          let numbered : (let u : Work = its.1 in u.id) ≡ t.id = ap (λ (u : Work). u.id) (same_Some its.1 t (sym its.2 ∙ (ap (slice_get works) same ∙ here))) in
+          was.0 (omega (arith, numbered, its.3))) in
+          (left.0, its.1, left.1, its.3);
+      going = going_moved requests m (λ le. omega arith) h.going;
+      replying = λ r same.
+          stands_too (λ (y : Reply). y.id - 1) (λ (y : Reply). Replying y.status) (same_Some rep r same)
+          (stands_too (λ (n : ℕ). n - 1) (λ (n : ℕ). Replying rep.status) (sym number) (stands_now m));
+      replied = replied_moved g.replies m (omega arith) h.replied;
+      taking = taking_moved telling m (omega arith) h.taking;
+    }) (reads_fewer g.submitted _ works (remove works place) pages (λ i u e. let was = removed_was works place i u e in (was.0, was.2))
+    (reads_moved (is_moved x (moved x.q (BeginsResponse rep.status)) refl refl) refl (λ t. t) h.reads))
   where
-    k : ℕ
-    k = t.id - 1
-
-    from : Station
-    from = Ended rep.status
-
-    to : Station
-    to = Replying rep.status
-
-    x : StandsAt d.requests k from
-    x = subst (λ (s : Station). StandsAt d.requests k s) done (h.works place t here)
-
-    new : List Asked
-    new = slice_set d.requests k (moved x.q (BeginsResponse rep.status))
-
-    m : IsMoved d.requests new k from to
-    m = is_moved d.requests k from to x.q (moved x.q (BeginsResponse rep.status)) x.at x.there refl refl
-
-    apart : (i : ℕ) (u : Work) → i ≢ place → slice_get works i ≡ Some u → u.id - 1 ≢ k
-    apart i u other at = other_number works place i t u ascending positive here other at
+    x : StandsAt d.requests (t.id - 1) (Ended rep.status)
+    x = subst (λ (s : Station). StandsAt d.requests (t.id - 1) s) done (h.works place t here)
 
 -- the response is pushed
 ring_replied : (g : Flow) (ring : Ring) (rep : Reply) → length g.replies + g.taken ≡ g.replied → IsRing g ring → IsRing (record g { replied = g.replied + 1; replies = g.replies ++ rep ∷ [] }) (record ring { replied = ring.replied ++ (rep.id - 1) ∷ [] })
@@ -342,48 +261,23 @@ pub replies : (config : Options) (g : Flow) (d : Pipeline) (connected issuing fe
     → length g.replies + g.taken ≡ g.replied
     → AreStations config g d connected issuing fetching ending telling (Some rep) requests works pages
     → Stepped None IsSame d (lines.Reply rep.id rep.status ∷ []) (λ p. AreStations config (record g { replied = g.replied + 1; replies = g.replies ++ rep ∷ [] }) p connected issuing fetching ending telling None requests works pages)
-replies config g d connected issuing fetching ending telling requests works pages rep positive counted h = record {
-  step = Moves k x.q (Replies rep.status);
-  allowed = (record { here = x.at; there = x.there }, tt);
-  shows = ap (λ (n : ℕ). lines.Reply n rep.status ∷ []) (omega arith);
-  asks = refl;
-  disk = λ a b e. e;
-  now = record {
-    options = h.options;
-    front = h.front;
-    ring = ring_replied g d.ring rep counted h.ring;
-    known = known_moved g.submitted d.requests new k from to m h.known;
-    opened = open_moved d.requests new k from to requests ending m refl refl h.opened;
-    issued = issued_moved g.pushed d.requests new k from to m refl h.issued;
-    waiting = waiting_moved g.pushed issuing d.requests new k from to m (omega arith) h.waiting;
-    pushed = pushed_moved g.fetched g.pushed fetching d.requests new k from to m (omega arith) (omega arith) h.pushed;
-    works = works_moved works d.requests new k from to m (omega arith) h.works;
-    held = held_moved works d.requests new k from to m (omega arith) h.held;
-    going = going_moved requests d.requests new k from to m (λ le. omega arith) h.going;
-    replying = λ r none. absurd (none-some r none);
-    replied = λ i other e. elim (push_was g.replies rep i other e) [
-      | inl was ↦ replied_moved g.replies d.requests new k from to m (omega arith) h.replied i other was
-      | inr last ↦ subst (λ (y : Reply). StandsAt new (y.id - 1) (Replied y.status)) (sym last.1) (stands_now d.requests new k from to m)
-    ];
-    taking = taking_moved ending telling d.requests new k from to m (omega arith) h.taking;
-    reads = reads_moved g.submitted d.requests new works pages k from to m refl (λ t. t) h.reads;
-  };
-}
+replies config g d connected issuing fetching ending telling requests works pages rep positive counted h =
+    moves_on x (Replies rep.status) h refl refl tt (ap (λ (n : ℕ). lines.Reply n rep.status ∷ []) (omega arith)) (λ a b e. e) refl (ring_replied g d.ring rep counted h.ring) (λ m. record {
+      known = known_moved m h.known;
+      opened = open_moved m refl refl h.opened;
+      issued = issued_moved m refl h.issued;
+      waiting = waiting_moved m (omega arith) h.waiting;
+      pushed = pushed_moved m (omega arith) (omega arith) h.pushed;
+      works = works_moved works m (omega arith) h.works;
+      held = held_moved works m (omega arith) h.held;
+      going = going_moved requests m (λ le. omega arith) h.going;
+      replying = λ r none. absurd (none-some r none);
+      replied = λ i other e. elim (push_was g.replies rep i other e) [
+        | inl was ↦ replied_moved g.replies m (omega arith) h.replied i other was
+        | inr last ↦ stands_too (λ (y : Reply). y.id - 1) (λ (y : Reply). Replied y.status) (sym last.1) (stands_now m)
+      ];
+      taking = taking_moved telling m (omega arith) h.taking;
+    }) (reads_moved (is_moved x (moved x.q (Replies rep.status)) refl refl) refl (λ t. t) h.reads)
   where
-    k : ℕ
-    k = rep.id - 1
-
-    from : Station
-    from = Replying rep.status
-
-    to : Station
-    to = Replied rep.status
-
-    x : StandsAt d.requests k from
+    x : StandsAt d.requests (rep.id - 1) (Replying rep.status)
     x = h.replying rep refl
-
-    new : List Asked
-    new = slice_set d.requests k (moved x.q (Replies rep.status))
-
-    m : IsMoved d.requests new k from to
-    m = is_moved d.requests k from to x.q (moved x.q (Replies rep.status)) x.at x.there refl refl

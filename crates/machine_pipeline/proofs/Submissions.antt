@@ -24,7 +24,7 @@ use Rattle.split_model.specs.Happening.{Submits, submit_line, lines_at, happens}
 use Rattle.machine_pipeline.specs.Allowed.{IsServable}
 use Rattle.machine_pipeline.proofs.Flow.{Flow, job_of, ending_at, telling_at, is_issuing, is_fetching, reply_at}
 use Rattle.machine_pipeline.proofs.Holds.{AreOffered, BackAt, IsPooled, AreNumbers, ArePooled, Holds}
-use Rattle.machine_pipeline.proofs.Turns.{Stepped, does_alone, GoesBy}
+use Rattle.machine_pipeline.proofs.Turns.{Stepped, does_alone, GoesBy, goes_by}
 use Rattle.machine_pipeline.proofs.Next.{waiting_few}
 use Rattle.back_jobs.specs.Task.{Work}
 use Rattle.blk_back.specs.declared.stage.Stage.{Stage as BackStage}
@@ -59,10 +59,7 @@ issuing_waits : (config : Options) (w : World) (g : Flow) (d : Pipeline) → Hol
 issuing_waits config w g d h issues = elim (cases_lt g.pushed (length g.series)) [
   | inl lt ↦ lt
   | inr le ↦
-      let i = h.indices in
-      let all = i.all in
-      let rest = idle_now config w g d h (omega arith) in
-      absurd (true≢false (sym issues ∙ rest.unissued))
+      absurd (true≢false (sym issues ∙ (idle_now config w g d h (omega (arith, h.indices.all))).unissued))
 ]
 
 -- and one whose entry is being copied was pushed
@@ -80,24 +77,26 @@ accepted_on : (config : Options) (w : World) (g : Flow) (d d' : Pipeline) (wish 
     → Holds config (accepting w wish taken) (submitted_flow g (request_with w.front wish taken.0)) d' w.front.stage w.back.stage
 accepted_on config w g d d' wish taken h ready unspent free may serves limit on_disk numbers counted frames stations =
     record {
-      started = h.started;
-      shaped = h.shaped;
-      sized = disk_more config w.front.sectors w.front.read_only g.submitted x may serves limit h.sized;
+      settled = record {
+        started = h.started;
+        shaped = h.shaped;
+        sized = disk_more config w.front.sectors w.front.read_only g.submitted x may serves limit h.sized;
+        submitted = submitted_more g.submitted w.front.sectors w.front.last x refl on_disk numbers (record { counted = counted; frames = pooled.2 }) pooled.1
+            h.submitted;
+        info = h.info;
+        unhalted = h.unhalted;
+      };
       indices = indices_more g x w.front.ring w.back.ring w.front.seen w.back.seen w.back.fetched w.front.last w.front.waiting (length w.front.requests) _ _ (longer w.front.requests x) unspent free h.indices;
       queue = queue_more g.submitted g.series g.pushed w.front.sectors w.front.last w.front.requests w.front.waiting x refl (let i = h.indices in i.all) (waiting_few h.indices) h.submitted h.queue;
-      submitted = submitted_more g.submitted w.front.sectors w.front.last x refl on_disk numbers (record { counted = counted; frames = pooled.2 }) pooled.1
-          h.submitted;
       pool = pooled.0;
       stations = stations;
       works = works_more g.submitted g.fetched w.back.jobs.works x h.works;
       counted = h.counted;
-      info = h.info;
       replies = replies_grown g.fetched g.taken g.replied g.replies x h.replies;
       front_at = front_at_more g.shape g.start g.pushed g.taken g.front_seen (g.submitted ++ x ∷ []) g.replies (next_request w.front) (next_request (accepted w.front wish taken)) w.front.entry w.front.ending w.front.stage (λ r e. next_more w.front.requests w.front.waiting x r e)
           (front_at_grown g.shape g.start g.pushed g.taken g.front_seen g.submitted g.replies (next_request w.front) w.front.entry w.front.ending x w.front.stage h.front_at);
       offered = h.offered;
       back_at = back_at_grown g.shape g.start g.fetched g.back_seen g.replied g.series w.back.jobs.works w.back.entry x w.back.stage h.back_at;
-      unhalted = h.unhalted;
       memory = h.memory;
       ring = h.ring;
       slots = slots_more g.shape g.start g.fetched g.pushed g.taken g.replied g.series g.replies w.under.pages w.front.stage w.back.stage x pushed_few idle h.slots;
@@ -147,12 +146,7 @@ either config w d job true y z p q = p refl
 either config w d job false y z p q = q refl
 
 refused : (config : Options) (w : World) (g : Flow) (d : Pipeline) (job : Job) (r : Refusal) → Holds config w g d w.front.stage w.back.stage → SubmitGoes config w d job (Err r, w.front)
-refused config w g d job r h same = record {
-  flow = g;
-  steps = Refuses job (refusal_word r) ∷ [];
-  does = record { asides = []; aside = refl; shows = refl; asks = refl; allowed = (same, tt); disk = λ a b e. (b, e, refl) };
-  holds = h;
-}
+refused config w g d job r h same = goes_by {steps = Refuses job (refusal_word r) ∷ []} (record { asides = []; aside = refl; shows = refl; asks = refl; allowed = (same, tt); disk = λ a b e. (b, e, refl) }) h
 
 -- a request of the front's, where its back serves it (`offered`)
 submit_wish : (config : Options) (w : World) (g : Flow) (d : Pipeline) (wish : Wish) (offered : Bool) → (let job : Job = job_of wish.transfer wish.sector wish.count in
@@ -195,14 +189,10 @@ submit_wish config w g d wish offered asks serves counted numbers h =
     by_frames serves ready unspent may on_disk short free None none = refused config w g d job refusal.Buffers h
     by_frames serves ready unspent may on_disk short free (Some taken) some_taken = λ same.
         let s = stepped taken same in
-        record {
-          flow = submitted_flow g (request_with w.front wish taken.0);
-          steps = s.step ∷ [];
-          does = does_alone s;
-          holds = accepted_on config w g d (next d s.step) wish taken h ready (differs w.front.last unspent)
-              (subst (λ (x : Shape). unfinished w.front < entries_of x.order) h.shaped.known (below (entries_of w.front.shape.order) (unfinished w.front) free))
-              may serves (short_enough w.front.offers wish.transfer wish.count config.indirect short (offered_is (is_ready w.front.stage) config.read_only config.indirect w.front.offers g.pushed ready h.offered).indirect) (above w.front.sectors (wish.sector + named_of wish.transfer wish.count) on_disk) numbers (counted short) some_taken s.now;
-        }
+        goes_by {g = submitted_flow g (request_with w.front wish taken.0)} (does_alone s)
+        (accepted_on config w g d (next d s.step) wish taken h ready (differs w.front.last unspent)
+        (subst (λ (x : Shape). unfinished w.front < entries_of x.order) h.shaped.known (below (entries_of w.front.shape.order) (unfinished w.front) free))
+        may serves (short_enough w.front.offers wish.transfer wish.count config.indirect short (offered_is (is_ready w.front.stage) config.read_only config.indirect w.front.offers g.pushed ready h.offered).indirect) (above w.front.sectors (wish.sector + named_of wish.transfer wish.count) on_disk) numbers (counted short) some_taken s.now)
 
     by_offer : (b : Bool) → (b ≡ true → is_moving wish.transfer ≡ false → config.read_only ≡ false) → is_ready w.front.stage ≡ true → (w.front.last == 4294967295) ≡ false → SubmitGoes config w d job (submit_one w.front (wished b wish))
     by_offer false serves ready unspent = refused config w g d job refusal.Unsupported h

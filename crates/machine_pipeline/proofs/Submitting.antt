@@ -31,33 +31,7 @@ pub indices_more : (g : Flow) (x : Request) (front_ring back_ring : Ring) (front
     → AreIndices g front_ring back_ring front_seen back_seen number last waiting unfinished ending
     → AreIndices (submitted_flow g x) front_ring back_ring front_seen back_seen number (last + 1) (waiting + 1) unfinished' ending
 indices_more g x front_ring back_ring front_seen back_seen number last waiting unfinished unfinished' ending more unspent free h =
-    let all = h.all in
-    let given = h.given in
-    let few = h.few in
-    let held = h.held in
-    let long = longer g.series x in
-    record {
-      front_entries = h.front_entries;
-      pushed = h.pushed;
-      taken = h.taken;
-      replied = h.replied;
-      fetched = h.fetched;
-      front_saw = h.front_saw;
-      back_saw = h.back_saw;
-      count = h.count;
-      taken_replied = h.taken_replied;
-      replied_fetched = h.replied_fetched;
-      fetched_pushed = h.fetched_pushed;
-      front_from = h.front_from;
-      front_to = h.front_to;
-      back_from = h.back_from;
-      back_to = h.back_to;
-      all = omega arith;
-      given = omega arith;
-      few = omega arith;
-      held = omega arith;
-      room = omega arith;
-    }
+    let long = longer g.series x in omega (arith, h, more)
 
 -- the request that is issued next stays that one
 pub next_more : (requests : List Request) (waiting : ℕ) (x r : Request)
@@ -127,9 +101,11 @@ slots_more shape start fetched pushed taken replied series replies pages s b x f
 -- a new request is none of those that were there
 pub absent : (submitted series : List Request) (sectors last : ℕ) (x : Request) → x.number ≡ last + 1 → AreSubmitted submitted sectors last → IsSeries submitted series → (i : ℕ) → slice_get series i ≡ Some x → ⊥
 absent submitted series sectors last x number all h i at =
-    let within = slice_get_within submitted (x.number - 1) x (h.known i x at) in
-    let counted = all.counted in
-    omega arith
+    omega (arith, all.counted, slice_get_within submitted (x.number - 1) x (h.known i x at))
+
+-- what stands in a series of one more, and stood in none before, is the last
+last_of : (series : List Request) (x q : Request) (k : ℕ) → slice_get (series ++ x ∷ []) k ≡ Some q → (slice_get series k ≡ Some q → ⊥) → k ≡ length series
+last_of series x q k e other = elim (push_was series x k q e) [ inl was ↦ absurd (other was) | inr at ↦ at.0 ]
 
 pub frames_more : {series : List Request} (pushed : ℕ) (pages : List ℕ) (s : FrontStage) (requests : List Request) (x : Request)
     → ((i : ℕ) → slice_get series i ≡ Some x → ⊥) → pushed ≤ length series → (pushed ≡ length series → IsIdle s)
@@ -137,14 +113,11 @@ pub frames_more : {series : List Request} (pushed : ℕ) (pages : List ℕ) (s :
     → All (IsFilled (series ++ x ∷ []) pushed pages s) (requests ++ x ∷ [])
 frames_more {series} pushed pages s requests x new few idle h = All-push (IsFilled (series ++ x ∷ []) pushed pages s) requests x (λ k d lt. grown (get_or requests k d) (h k d lt)) (record {
   whole = λ one i l. absurd (none one);
-  begun = λ e n l. absurd (let rest : IsIdle s = idle (last x e (new pushed)) in let none = rest.unfilled (frames_for x.count) in omega arith);
+  begun = λ e n l. absurd (let rest : IsIdle s = idle (last_of series x x pushed e (new pushed)) in let none = rest.unfilled (frames_for x.count) in omega arith);
 })
   where
     none : IsAmong (series ++ x ∷ []) pushed x → ⊥
     none one = let was = among_was pushed x x few one in new was.index was.at
-
-    last : (q : Request) → slice_get (series ++ x ∷ []) pushed ≡ Some q → (slice_get series pushed ≡ Some q → ⊥) → pushed ≡ length series
-    last q e other = elim (push_was series x pushed q e) [ inl was ↦ absurd (other was) | inr at ↦ at.0 ]
 
     grown : (q : Request) → IsFilled series pushed pages s q → IsFilled (series ++ x ∷ []) pushed pages s q
     grown q was = record {
@@ -162,18 +135,15 @@ pub entries_more : {series : List Request} (pushed : ℕ) (pages : List ℕ) (li
 entries_more {series} pushed pages live s ending requests x new few idle h = record {
   each = All-push (IsGranted (series ++ x ∷ []) pushed pages live s) requests x (λ k d lt. grown (get_or requests k d) (h.each k d lt)) (record {
     named = λ one. absurd (none one);
-    named_next = λ e place t. absurd (let rest : IsIdle s = idle (last x e (new pushed)) in let none = rest.unnamed in omega arith);
+    named_next = λ e place t. absurd (let rest : IsIdle s = idle (last_of series x x pushed e (new pushed)) in let none = rest.unnamed in omega arith);
     flags = λ one. absurd (none one);
-    flags_next = λ e place t. absurd (let rest : IsIdle s = idle (last x e (new pushed)) in let none = rest.ungranted in omega arith);
+    flags_next = λ e place t. absurd (let rest : IsIdle s = idle (last_of series x x pushed e (new pushed)) in let none = rest.ungranted in omega arith);
   });
   ending = h.ending;
 }
   where
     none : IsAmong (series ++ x ∷ []) pushed x → ⊥
     none one = let was = among_was pushed x x few one in new was.index was.at
-
-    last : (q : Request) → slice_get (series ++ x ∷ []) pushed ≡ Some q → (slice_get series pushed ≡ Some q → ⊥) → pushed ≡ length series
-    last q e other = elim (push_was series x pushed q e) [ inl was ↦ absurd (other was) | inr at ↦ at.0 ]
 
     grown : (q : Request) → IsGranted series pushed pages live s q → IsGranted (series ++ x ∷ []) pushed pages live s q
     grown q was = record {

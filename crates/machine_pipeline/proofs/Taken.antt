@@ -38,13 +38,13 @@ use Rattle.machine_pipeline.proofs.Holds.{Holds, FrontAt, FrontSends, IsOffered,
 use Rattle.machine_pipeline.proofs.Kept.{as_connected}
 use Rattle.machine_pipeline.proofs.Ending.{pooled_free}
 use Rattle.pipeline_laws.specs.Station.{Replied}
-use Rattle.machine_pipeline.proofs.Turns.{Goes, FrontGoes, Stepped, does_step, does_after}
+use Rattle.machine_pipeline.proofs.Turns.{Goes, FrontGoes, Stepped, does_step, does_after, goes_by}
 use Rattle.machine_pipeline.proofs.Lists.{all_at, all_from, pair_at}
 use Rattle.machine_pipeline.proofs.Removals.{removed_was, taken_has}
 use Rattle.machine_pipeline.proofs.Series.{IsAmong}
 use Rattle.machine_pipeline.proofs.Wrapped.{next_wrapped}
 use Rattle.machine_pipeline.proofs.Frames.{is_submitted, unmapped}
-use Rattle.machine_pipeline.proofs.Resting.{IsResting, at_loop, at_read, at_last, ring_rests, frames_rest, granted_rests, data_rests}
+use Rattle.machine_pipeline.proofs.Resting.{IsResting, at_loop, at_read, at_last, ring_rests, frames_rest, granted_rests, data_rests, back_sleep_rests}
 use Rattle.machine_pipeline.proofs.Resuming.{response_read}
 use Rattle.machine_pipeline.proofs.Finding.{IsFound, finds, read_back, first_two, response_for}
 use Rattle.machine_pipeline.proofs.Taking.{queued_without, pooled_without, replies_without, dropped}
@@ -74,22 +74,17 @@ freed_holds : (config : Options) (w : World) (g : Flow) (d d' : Pipeline) (low h
     → AreRevoked w.under.pages s ending
     → Holds config (freed_at w f.place s ending) (taken_flow g) d' s w.back.stage
 freed_holds config w g d d' low high rep s ending i untold unarmed few h oldest seen f pooled stations at revoked = record {
-  started = h.started;
-  shaped = h.shaped;
-  sized = h.sized;
+  settled = h.settled;
   indices = indices_taken;
   queue = queued_without g.submitted w.front.requests g.pushed w.front.waiting f.place f.r f.here f.early h.queue;
-  submitted = h.submitted;
   pool = pooled;
   stations = stations;
   works = h.works;
   counted = h.counted;
-  info = h.info;
   replies = replies_without g.fetched g.taken g.replied g.replies rep oldest h.replies;
   front_at = at;
   offered = subst (λ (b : Bool). IsOffered b config.read_only config.indirect w.front.offers g.pushed) (sym i.ready) h.offered;
   back_at = h.back_at;
-  unhalted = h.unhalted;
   memory = h.memory;
   ring = ring_rests g.shape.order g.start g.pushed g.replied w.under.pages (front.ResponseLast low high) s (length w.back.pages) (at_last low high) i h.ring;
   slots = (let was = h.slots in record {
@@ -112,7 +107,7 @@ freed_holds config w g d d' low high rep s ending i untold unarmed few h oldest 
   mapped = h.mapped;
   paged = h.paged;
   front_sleep = (let was = h.front_sleep in record { arming = λ t. absurd (true≢false (sym t ∙ unarmed)); armed = λ t. absurd (true≢false (sym t ∙ was.may refl)); may = λ t. was.may refl; woken = λ t. absurd (true≢false (sym t ∙ was.may refl)) });
-  back_sleep = (let was = h.back_sleep in record { arming = was.arming; armed = was.armed; may = was.may; woken = λ t. by_wake (was.woken t) });
+  back_sleep = back_sleep_rests g.start g.fetched g.pushed w.under.pages w.under.pages w.back.asleep w.under.channels.back_pending w.under.channels.back_pending (front.ResponseLast low high) s w.back.stage refl refl (λ sends. sends) h.back_sleep;
   ports = subst (λ (b : Bool). PortsAt g.before b (is_bound_back w.back.stage) w.under.channels.made w.under.channels.ports) (as_connected (front.ResponseLast low high) s refl i.ready) h.ports;
 }
   where
@@ -122,54 +117,19 @@ freed_holds config w g d d' low high rep s ending i untold unarmed few h oldest 
     entered_none : entered s ≡ 0
     entered_none = i.entered_none
 
-    by_wake : (g.pushed ≡ g.fetched) ⊎ (w.under.channels.back_pending ≡ true) ⊎ ⊥ → (g.pushed ≡ g.fetched) ⊎ (w.under.channels.back_pending ≡ true) ⊎ FrontSends s g.pushed g.fetched
-    by_wake (inl same) = inl same
-    by_wake (inr (inl t)) = inr (inl t)
-    by_wake (inr (inr sends)) = absurd sends
-
     indices_taken : (let x : View = freed w.front f.place in AreIndices (taken_flow g) x.ring w.back.ring x.seen w.back.seen w.back.fetched x.last x.waiting (length x.requests) (ending_of s))
-    indices_taken = (let was = h.indices in let less = length-remove w.front.requests f.place within in let room = was.room in let held = was.held in record {
-      front_entries = was.front_entries;
-      pushed = was.pushed;
-      taken = next_wrapped g.start g.taken w.front.ring.cons was.taken;
-      replied = was.replied;
-      fetched = was.fetched;
-      front_saw = was.front_saw;
-      back_saw = was.back_saw;
-      count = was.count;
-      taken_replied = (let to = was.front_to in omega arith);
-      replied_fetched = was.replied_fetched;
-      fetched_pushed = was.fetched_pushed;
-      front_from = omega arith;
-      front_to = was.front_to;
-      back_from = was.back_from;
-      back_to = was.back_to;
-      all = was.all;
-      given = was.given;
-      few = was.few;
-      held = omega arith;
-      room = omega arith;
-    })
+    indices_taken = let less = length-remove w.front.requests f.place within in let taken = next_wrapped g.start g.taken w.front.ring.cons h.indices.taken in omega (arith, h.indices, seen)
 
 -- the request of the response is a submitted one, and no response that is left names it
 ending_taken : (config : Options) (w : World) (g : Flow) (d : Pipeline) (s : FrontStage) (rep : Reply) → Holds config w g d s w.back.stage → slice_get g.replies 0 ≡ Some rep → (f : IsFound w g rep.id)
     → IsEnding g.submitted (drop 1 g.replies) (record { request = f.r; status = rep.status })
 ending_taken config w g d s rep h oldest f = record {
-  known = all_at (λ (x : Request). slice_get g.submitted (x.number - 1) ≡ Some x) w.front.requests f.place f.r queue.known f.here;
-  positive = (let number = f.number in let positive = is.positive in omega arith);
+  known = all_at (λ (x : Request). slice_get g.submitted (x.number - 1) ≡ Some x) w.front.requests f.place f.r h.queue.known f.here;
+  positive = (let number = f.number in let positive = (all_at (IsReply g.series g.fetched) g.replies 0 rep h.replies.each oldest).positive in omega arith);
   alone = all_from (λ (x : Reply). x.id ≢ f.r.number) (drop 1 g.replies) (λ i x at.
-      let apart = pair_at (λ (a b : Reply). a.id ≢ b.id) g.replies 0 (suc i) rep x replies.distinct (omega arith) oldest (sym (dropped g.replies i) ∙ at) in
+      let apart = pair_at (λ (a b : Reply). a.id ≢ b.id) g.replies 0 (suc i) rep x h.replies.distinct (omega arith) oldest (sym (dropped g.replies i) ∙ at) in
       λ same. apart (sym (same ∙ f.number)));
 }
-  where
-    queue : AreQueued g.submitted g.series g.pushed w.front.requests w.front.waiting
-    queue = h.queue
-
-    replies : AreReplies g.series g.fetched g.taken g.replied g.replies
-    replies = h.replies
-
-    is : IsReply g.series g.fetched rep
-    is = all_at (IsReply g.series g.fetched) g.replies 0 rep replies.each oldest
 
 -- and none of its frames is mapped any more
 flags_left : (config : Options) (w : World) (g : Flow) (d : Pipeline) (s : FrontStage) (rep : Reply) → Holds config w g d s w.back.stage → slice_get g.replies 0 ≡ Some rep → (f : IsFound w g rep.id)
@@ -184,8 +144,7 @@ flags_left config w g d s rep h oldest f place lt =
 
     no_job : (i : ℕ) (t : Work) → slice_get w.back.jobs.works i ≡ Some t → t.id ≡ f.r.number → mapping_at t.stage ≡ None
     no_job i t at same =
-        let works = h.works in
-        let work = all_at (IsWork g.submitted g.series g.fetched) w.back.jobs.works i t works.each at in
+        let work = all_at (IsWork g.submitted g.series g.fetched) w.back.jobs.works i t h.works.each at in
         absurd (apart d.requests (t.id - 1) (rep.id - 1) (worked t.stage t.moved) (Replied rep.status) (h.stations.works i t at) (h.stations.replied 0 rep oldest) (omega (arith, worked_kind t.stage t.moved)) (omega (arith, f.number, same, work.positive)))
 
     reached : IsAmong g.series g.pushed f.r
@@ -204,8 +163,6 @@ still_of r shaped bare = by_moving (is_moving r.transfer) refl
 -- and has no data that are told
 dataless : (way : Transfer) (status : Status) → is_moving way ≡ false → has_data way status ≡ false
 dataless transfer.Read status still = absurd (true≢false still)
-dataless (transfer.Write tag) status still = refl
-dataless (transfer.Barrier tag) status still = refl
 dataless way status still = refl
 
 -- the pool has nothing of it
@@ -280,13 +237,9 @@ last_goes config w g d low high told h =
     its = let submitted = h.submitted in submitted.each (found.r.number - 1) found.r ends.known
 
     by_frames : (b : Bool) → (frames_of found.r == 0) ≡ b → Becomes (if b then answered (freed w.front found.place) found.r rep.status else revokes (freed w.front found.place) found.r rep.status)
-    by_frames true t = record {
-      flow = taken_flow g;
-      steps = s.step ∷ tells.step ∷ [];
-      does = does_after shown (lines.Answer found.r.number rep.status ∷ []) refl s tells;
-      holds = freed_holds config w g d (next (next d s.step) tells.step) low high rep front.Loop w.front.ending at_loop refl refl (omega arith) h place.0.oldest place.0.seen found
-          (pooled_bare w.front.pool w.front.requests found.place found.r e found.here refl its.frames bare h.pool) tells.now tt (λ x same. absurd (none-some x same));
-    }
+    by_frames true t = goes_by {g = taken_flow g} (does_after shown (lines.Answer found.r.number rep.status ∷ []) refl s tells)
+        (freed_holds config w g d (next (next d s.step) tells.step) low high rep front.Loop w.front.ending at_loop refl refl (omega arith) h place.0.oldest place.0.seen found
+        (pooled_bare w.front.pool w.front.requests found.place found.r e found.here refl its.frames bare h.pool) tells.now tt (λ x same. absurd (none-some x same)))
       where
         bare : frames_of found.r ≡ 0
         bare = grind (arith, nat_tests)
@@ -294,16 +247,12 @@ last_goes config w g d low high told h =
         tells : Stepped None IsSame (next d s.step) (lines.Answer found.r.number rep.status ∷ []) (λ p. AreStations config (taken_flow g) p true false (is_fetching w.back.stage) None None (reply_at w.back.stage) (remove w.front.requests found.place) w.back.jobs.works w.under.pages)
         tells = answers config (taken_flow g) (next d s.step) true false (is_fetching w.back.stage) (reply_at w.back.stage) (remove w.front.requests found.place) w.back.jobs.works w.under.pages e ends.known ends.positive
             (dataless found.r.transfer rep.status (still_of found.r its.shaped bare)) s.now
-    by_frames false t = record {
-      flow = taken_flow g;
-      steps = s.step ∷ [];
-      does = does_step shown (front_lines w.front.told) (rw told refl) s;
-      holds = freed_holds config w g d (next d s.step) low high rep (front.GrantRead 0) (Some e) (at_read 0) refl refl (omega arith) h place.0.oldest place.0.seen found
-          (pooled_without w.front.pool w.front.requests found.place found.r e found.here refl h.pool) s.now (e, refl, ends, some_frame)
-          (λ x same. subst (λ (y : Ending). (place : ℕ) → 0 ≤ place → place < frames_of y.request
-          → entry_word0 w.under.pages (frame_at y.request place + 6) ≡ flags_at y.request place) (same_Some e x same)
-          (λ at le lt. flags_left config w g d (front.ResponseLast low high) rep h place.0.oldest found at lt));
-    }
+    by_frames false t = goes_by {g = taken_flow g} (does_step shown (front_lines w.front.told) (rw told refl) s)
+        (freed_holds config w g d (next d s.step) low high rep (front.GrantRead 0) (Some e) (at_read 0) refl refl (omega arith) h place.0.oldest place.0.seen found
+        (pooled_without w.front.pool w.front.requests found.place found.r e found.here refl h.pool) s.now (e, refl, ends, some_frame)
+        (λ x same. subst (λ (y : Ending). (place : ℕ) → 0 ≤ place → place < frames_of y.request
+        → entry_word0 w.under.pages (frame_at y.request place + 6) ≡ flags_at y.request place) (same_Some e x same)
+        (λ at le lt. flags_left config w g d (front.ResponseLast low high) rep h place.0.oldest found at lt)))
       where
         some_frame : 0 < frames_of found.r
         some_frame = let other : frames_of found.r ≢ 0 = grind (arith, nat_tests) in omega arith

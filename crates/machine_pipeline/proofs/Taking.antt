@@ -44,15 +44,13 @@ queued_without {series} submitted requests pushed waiting place r here early h =
   issued = all_from (IsAmong series pushed) (take (length (remove requests place) - waiting) (remove requests place)) (λ i x e.
       let first = taken_was (length (remove requests place) - waiting) (remove requests place) i x e in
       let was = removed_was requests place i x first.1 in
-      let within = slice_get_within requests place r here in
-      let less = length-remove requests place within in
+      let less = length-remove requests place (slice_get_within requests place r here) in
       let at = taken_has (length requests - waiting) requests was.0 x was.2 (before i was.0 was.3 (omega (arith, first.0))) in
       all_at (IsAmong series pushed) (take (length requests - waiting) requests) was.0 x h.issued at);
   next = λ j x lt e.
       let within = slice_get_within requests place r here in
-      let less = length-remove requests place within in
-      let behind = removed_behind requests place (length (remove requests place) - waiting + j) (omega arith) in
-      h.next j x lt (ap (slice_get requests) (omega arith) ∙ (sym behind ∙ e));
+      let behind = removed_behind requests place (length (remove requests place) - waiting + j) (omega (arith, length-remove requests place within)) in
+      h.next j x lt (ap (slice_get requests) (omega (arith, length-remove requests place within)) ∙ (sym behind ∙ e));
 }
   where
     before : (i j : ℕ) → ((i < place) × (j ≡ i)) ⊎ ((place ≤ i) × (j ≡ i + 1)) → i + 1 < length requests - waiting → j < length requests - waiting
@@ -62,9 +60,8 @@ queued_without {series} submitted requests pushed waiting place r here early h =
 -- a sum over the elements without one of them
 pub sum_removed : {X : Type 0} (f : X → ℕ) (xs : List X) (place : ℕ) (x : X) → slice_get xs place ≡ Some x → sum_by f (remove xs place) + f x ≡ sum_by f xs
 sum_removed f xs place x here =
-    let less = sum_by-remove f xs place x (slice_get_within xs place x here) in
     let it : ◌≡◌ {A = ℕ} (f (slice_index_or xs place x)) (f x) = ap f (get_or_from_slice_get xs place x x here) in
-    omega (arith, less, it)
+    omega (arith, (sum_by-remove f xs place x (slice_get_within xs place x here)), it)
 
 pub pooled_without : (pool : List Bool) (requests : List Request) (place : ℕ) (r : Request) (e : Ending)
     → slice_get requests place ≡ Some r
@@ -74,15 +71,12 @@ pub pooled_without : (pool : List Bool) (requests : List Request) (place : ℕ) 
 pooled_without pool requests place r e here same h = record {
   size = h.size;
   each = λ f lt.
-      let all = h.each f lt in
-      let less = sum_removed (uses (18 + f)) requests place r here in
       let counted : ◌≡◌ {A = ℕ} (uses (18 + f) e.request) (uses (18 + f) r) = ap (uses (18 + f)) same in
-      omega (arith, all, less, counted);
+      omega (arith, (h.each f lt), (sum_removed (uses (18 + f)) requests place r here), counted);
   used =
       (let used = h.used in
-      let less = sum_removed frames_of requests place r here in
       let counted : ◌≡◌ {A = ℕ} (frames_of e.request) (frames_of r) = ap frames_of same in
-      omega (arith, used, less, counted));
+      omega (arith, used, (sum_removed frames_of requests place r here), counted));
 }
 
 pub opened_without : (asked : List Asked) (requests : List Request) (place : ℕ) (r : Request) (e : Ending)
@@ -104,12 +98,10 @@ opened_without asked requests place r e here number h = record {
         by_test : (i : ℕ) (x : Request) → slice_get requests i ≡ Some x → (x.number == k + 1) ≡ true → (b : Bool) → (i == place) ≡ b → (list_any (λ (y : Request). y.number == k + 1) (remove requests place) ≡ true) ⊎ ((f : Ending) × (Some e ≡ Some f) × (f.request.number ≡ k + 1))
         by_test i x at passes true t =
             let same : i ≡ place = grind (arith, nat_tests) in
-            let it : x ≡ r = same_Some x r (sym at ∙ (ap (slice_get requests) same ∙ here)) in
             let numbered : x.number ≡ k + 1 = grind (arith, nat_tests) in
-            inr (e, refl, number ∙ (sym (ap (λ (y : Request). y.number) it) ∙ numbered))
+            inr (e, refl, number ∙ (sym (ap (λ (y : Request). y.number) (same_Some x r (sym at ∙ (ap (slice_get requests) same ∙ here)))) ∙ numbered))
         by_test i x at passes false t =
-            let apart : i ≢ place = grind (arith, nat_tests) in
-            let left = removed_has requests place i x at apart in
+            let left = removed_has requests place i x at (grind (arith, nat_tests)) in
             let within = slice_get_within (remove requests place) left.0 x left.1 in
             inl (list_any_at (λ (y : Request). y.number == k + 1) (remove requests place) left.0 x within (ap (λ (y : Request). y.number == k + 1) (get_or_from_slice_get (remove requests place) left.0 x x left.1) ∙ passes))
 

@@ -23,7 +23,7 @@ use Rattle.split_model.specs.World.{World}
 use Rattle.split_model.specs.Shown.{front_lines}
 use Rattle.machine_pipeline.proofs.Flow.{Flow, is_fetching, reply_at, data_word}
 use Rattle.machine_pipeline.proofs.Holds.{Holds, IsEnding, IsToldAt, IsSubmitted, AreSubmitted, ArePooled, AreReadTo}
-use Rattle.machine_pipeline.proofs.Turns.{Goes, FrontGoes, said_nothing, does_step}
+use Rattle.machine_pipeline.proofs.Turns.{Goes, FrontGoes, said_nothing, does_step, goes_by}
 use Rattle.machine_pipeline.proofs.Resting.{at_loop, at_data, entries_rest}
 use Rattle.machine_pipeline.proofs.Ending.{pooled_free}
 use Rattle.machine_pipeline.proofs.Ended.{ActGoes, finishing_at, ends_on}
@@ -155,40 +155,26 @@ module _ (config : Options) (w : World) (g : Flow) (d : Pipeline) (n : ℕ) (nex
           let last = is_last n u in
           let s = tells config g d ready false (is_fetching w.back.stage) (reply_at w.back.stage) w.front.requests w.back.jobs.works w.under.pages words e
           (n / 128) is.known is.positive h.at.3.1 (omega arith) sized (whole last) stations in
-          record {
-            flow = g;
-            steps = s.step ∷ [];
-            does = does_step (moves.FrontRead (frame_at e.request (n / 1024)) (n % 1024) word) (lines.Data e.request.number (n / 128) words ∷ []) refl s;
-            holds = goes_on more (next d s.step) further (subst (λ (i : ℕ). At (Some e) (Some i) (next d s.step)) (sym (next_sector n last)) s.now)
-                (λ k lt. absurd (let none = next_word n last in omega arith));
-          }
+          goes_by (does_step (moves.FrontRead (frame_at e.request (n / 1024)) (n % 1024) word) (lines.Data e.request.number (n / 128) words ∷ []) refl s)
+          (goes_on more (next d s.step) further (subst (λ (i : ℕ). At (Some e) (Some i) (next d s.step)) (sym (next_sector n last)) s.now)
+          (λ k lt. absurd (let none = next_word n last in omega arith)))
       by_place true false t u =
           let further : n + 1 < words_in e.request = grind (arith, nat_tests) in
           let on = not_last n u in
-          record {
-            flow = g;
-            steps = [];
-            does = said_nothing d (moves.FrontRead (frame_at e.request (n / 1024)) (n % 1024) word) w.front.told h.untold;
-            holds = goes_on more d further (subst (λ (i : ℕ). At (Some e) (Some i) d) (sym (same_sector n on)) stations)
-                (λ k lt. read k (let one = further_word n on in omega arith)
-                ∙ ap (λ (i : ℕ). data_word w.under.pages e.request (i * 128 + k)) (sym (same_sector n on)));
-          }
+          goes_by (said_nothing d (moves.FrontRead (frame_at e.request (n / 1024)) (n % 1024) word) w.front.told h.untold)
+          (goes_on more d further (subst (λ (i : ℕ). At (Some e) (Some i) d) (sym (same_sector n on)) stations)
+          (λ k lt. read k (let one = further_word n on in omega arith)
+          ∙ ap (λ (i : ℕ). data_word w.under.pages e.request (i * 128 + k)) (sym (same_sector n on))))
       by_place false true t u =
           let end : words_in e.request ≤ n + 1 = grind (arith, nat_tests) in
-          let last = is_last n u in
           let s = tells_last config g d ready false (is_fetching w.back.stage) (reply_at w.back.stage) w.front.requests w.back.jobs.works w.under.pages words e
-          (n / 128) is.known is.positive h.at.3.1 (omega arith) sized (whole last) stations in
-          record {
-            flow = g;
-            steps = s.step ∷ [];
-            does = does_step (moves.FrontRead (frame_at e.request (n / 1024)) (n % 1024) word) (lines.Data e.request.number (n / 128) words ∷ []) refl s;
-            holds = all (next d s.step) (with_all_free w.front.pool e.request.frames.items) words
-                (pooled_free w.front.pool w.front.requests e its.frames (subst (ArePooled w.front.pool w.front.requests) here h.pool)) sized s.now;
-          }
+          (n / 128) is.known is.positive h.at.3.1 (omega arith) sized (whole (is_last n u)) stations in
+          goes_by (does_step (moves.FrontRead (frame_at e.request (n / 1024)) (n % 1024) word) (lines.Data e.request.number (n / 128) words ∷ []) refl s)
+          (all (next d s.step) (with_all_free w.front.pool e.request.frames.items) words
+          (pooled_free w.front.pool w.front.requests e its.frames (subst (ArePooled w.front.pool w.front.requests) here h.pool)) sized s.now)
       by_place false false t u =
           let end : words_in e.request ≤ n + 1 = grind (arith, nat_tests) in
-          let on = not_last n u in
-          absurd (omega arith)
+          absurd (omega (arith, not_last n u))
 
 -- while the ring is served: the next request is looked for after all
 pub told_goes : (config : Options) (w : World) (g : Flow) (d : Pipeline) (n : ℕ)

@@ -65,6 +65,10 @@ pub record GoesBy (asked : Option Job) (call : (before after : List (List ℕ)) 
   pub does : Does asked call said d steps
   pub holds : Holds config w flow (after_steps steps d) w.front.stage w.back.stage
 
+-- so it is by these steps, with what holds then
+pub goes_by : {asked : Option Job} {call : (before after : List (List ℕ)) → Type 0} {config : Options} {said : List Line} {w : World} {d : Pipeline} {steps : List Step} {g : Flow} → Does asked call said d steps → Holds config w g (after_steps steps d) w.front.stage w.back.stage → GoesBy asked call config said w d
+goes_by {steps = steps} {g = g} does holds = record { flow = g; steps = steps; does = does; holds = holds }
+
 -- where no call of the disk is made
 abbrev pub Goes : Options → List Line → World → Pipeline → Type 0
 Goes = GoesBy None IsSame
