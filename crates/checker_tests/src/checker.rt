@@ -1,111 +1,107 @@
-use crate::expected::same;
+// Whole reports by hand, and what the checker finds.
+use crate::given::bytes_of;
 use blk_io::{FailsAt, MemorySource};
 use line_text::LineText;
-use std::alloc::{AllocError, Global};
-use std::test::Fail;
+use std::alloc::Global;
+use std::process::Abort;
 use trace_check::{CheckStop, Finding, Rule, check, write_finding};
 
-fn source_of(alloc: Global, text: &str) -> Result<MemorySource, AllocError> {
-    Ok(MemorySource::new(Vec::from_slice(alloc, text.as_bytes())?))
+// A report, how many bytes may be taken, and what is found.
+struct Case {
+    name: &'static str,
+    report: &'static [u8],
+    limit: u64,
+    found: Result<Finding, CheckStop>,
+}
+
+const CASES: &[Case] = &[
+    Case {
+        name: "a report of no requests is legal",
+        report: b"begin 64 0 0 0 0 rw 8 lines\nready\nquiet\nend\n",
+        limit: 4096,
+        found: Ok(Finding::Legal),
+    },
+    Case {
+        name: "an answer that was not replied breaks a rule",
+        report: b"begin 64 0 0 0 0 rw 8 lines\nready\nsubmit 1 write 0 1 00000007\nanswer 1 ok\n",
+        limit: 4096,
+        found: Ok(Finding::Broken {
+            line: 4,
+            rule: Rule::Answer,
+        }),
+    },
+    Case {
+        name: "an empty report lacks its first line",
+        report: b"",
+        limit: 4096,
+        found: Ok(Finding::Broken {
+            line: 1,
+            rule: Rule::Order,
+        }),
+    },
+    Case {
+        name: "words of no report are a bad line",
+        report: b"hello\n",
+        limit: 4096,
+        found: Err(CheckStop::BadLine(1)),
+    },
+    Case {
+        name: "after a hostile line the back may halt of an overrun",
+        report: b"begin 64 0 0 0 0 rw 8 lines\nready\nquiet\npoke 2 0 33\nhalt overrun 33 0\nclosing\nclosed\nquiet\nend\n",
+        limit: 4096,
+        found: Ok(Finding::Legal),
+    },
+    Case {
+        name: "an input of as many bytes as may be taken is too long",
+        report: b"begin 64 0 0 0 0 rw 8 lines\nend\n",
+        limit: 32,
+        found: Err(CheckStop::TooLong),
+    },
+];
+
+fn find(rt: &impl Abort, alloc: Global, cases: &[Case]) {
+    for case in cases {
+        let mut source = MemorySource::new(bytes_of(rt, alloc, case.report, 1));
+        let found = check(alloc, case.limit, &mut source);
+        assert_eq!(rt; found, case.found, "{}", case.name);
+    }
 }
 
 #[test]
-fn a_report_of_no_requests_is_legal(rt: HostRuntime) -> Result<(), Fail> {
-    let mut source = source_of(
-        rt.alloc(),
-        "begin 64 0 0 0 0 rw 8 lines\nready\nquiet\nend\n",
-    )?;
-    same(
-        &rt,
-        check(rt.alloc(), 4096, &mut source),
-        Ok(Finding::Legal),
-    );
-    Ok(())
+fn the_first_broken_rule_of_a_report_is_found(rt: HostRuntime) {
+    find(&rt, rt.alloc(), CASES);
+}
+
+// The first call of the source fails.
+fn find_failed(rt: &impl Abort, alloc: Global, report: &[u8]) {
+    let inside = MemorySource::new(bytes_of(rt, alloc, report, 1));
+    let listed = vec![in alloc; 1].expect(rt, "memory");
+    let mut source = FailsAt::new(inside, listed);
+    let found = check(alloc, 4096, &mut source);
+    assert_eq!(rt; found, Err(CheckStop::Source));
 }
 
 #[test]
-fn an_answer_that_was_not_replied_breaks_a_rule(rt: HostRuntime) -> Result<(), Fail> {
-    let mut source = source_of(
-        rt.alloc(),
-        "begin 64 0 0 0 0 rw 8 lines\nready\nsubmit 1 write 0 1 00000007\nanswer 1 ok\n",
-    )?;
-    let broken = Finding::Broken {
-        line: 4,
-        rule: Rule::Answer,
-    };
-    same(&rt, check(rt.alloc(), 4096, &mut source), Ok(broken));
-    Ok(())
+fn a_source_that_fails_is_said(rt: HostRuntime) {
+    find_failed(&rt, rt.alloc(), b"begin 64 0 0 0 0 rw 8 lines\nend\n");
 }
 
-#[test]
-fn an_empty_report_lacks_its_first_line(rt: HostRuntime) -> Result<(), Fail> {
-    let mut source = source_of(rt.alloc(), "")?;
-    let broken = Finding::Broken {
-        line: 1,
-        rule: Rule::Order,
-    };
-    same(&rt, check(rt.alloc(), 4096, &mut source), Ok(broken));
-    Ok(())
-}
+const BROKEN: Finding = Finding::Broken {
+    line: 12,
+    rule: Rule::Overrun,
+};
 
-#[test]
-fn words_of_no_report_are_a_bad_line(rt: HostRuntime) -> Result<(), Fail> {
-    let mut source = source_of(rt.alloc(), "hello\n")?;
-    same(
-        &rt,
-        check(rt.alloc(), 4096, &mut source),
-        Err(CheckStop::BadLine(1)),
-    );
-    Ok(())
-}
+const TEXTS: &[(Finding, &str)] = &[(Finding::Legal, "legal\n"), (BROKEN, "broken 12 overrun\n")];
 
-#[test]
-fn after_a_hostile_line_the_back_may_halt_of_an_overrun(rt: HostRuntime) -> Result<(), Fail> {
-    let mut source = source_of(
-        rt.alloc(),
-        "begin 64 0 0 0 0 rw 8 lines\nready\nquiet\npoke 2 0 33\nhalt overrun 33 0\nclosing\nclosed\nquiet\nend\n",
-    )?;
-    same(
-        &rt,
-        check(rt.alloc(), 4096, &mut source),
-        Ok(Finding::Legal),
-    );
-    Ok(())
-}
-
-#[test]
-fn an_input_of_as_many_bytes_as_may_be_taken_is_too_long(rt: HostRuntime) -> Result<(), Fail> {
-    let mut source = source_of(rt.alloc(), "begin 64 0 0 0 0 rw 8 lines\nend\n")?;
-    same(
-        &rt,
-        check(rt.alloc(), 32, &mut source),
-        Err(CheckStop::TooLong),
-    );
-    Ok(())
-}
-
-#[test]
-fn a_source_that_fails_is_said(rt: HostRuntime) -> Result<(), Fail> {
-    let inside = source_of(rt.alloc(), "begin 64 0 0 0 0 rw 8 lines\nend\n")?;
-    let mut source = FailsAt::new(inside, vec![in rt.alloc(); 1]?);
-    same(
-        &rt,
-        check(rt.alloc(), 4096, &mut source),
-        Err(CheckStop::Source),
-    );
-    Ok(())
-}
-
-#[test]
-fn a_finding_is_a_line(rt: HostRuntime) -> Result<(), Fail> {
+fn write(rt: &impl Abort, findings: &[(Finding, &str)]) {
     let mut text = LineText::new();
-    write_finding(Finding::Legal, &mut text);
-    same(&rt, text.as_str(), "legal\n");
-    let broken = Finding::Broken {
-        line: 12,
-        rule: Rule::Overrun,
-    };
-    write_finding(broken, &mut text);
-    same(&rt, text.as_str(), "broken 12 overrun\n");
-    Ok(())
+    for (finding, wanted) in findings {
+        write_finding(*finding, &mut text);
+        assert_eq!(rt; text.as_str(), *wanted);
+    }
+}
+
+#[test]
+fn a_finding_is_a_line(rt: HostRuntime) {
+    write(&rt, TEXTS);
 }

@@ -1,299 +1,602 @@
-mod worked;
-
-use crate::expected::same;
+// Reports of one write and one read of a sector with all moves of the back, by hand, and the rule on
+// jobs that the next line breaks.
+use crate::given::line_of;
+use blk_base::{BackMover, Move};
+use job_check::JobSight;
+use ring_check::RingSight;
+use schedule_text::Line;
 use std::alloc::Global;
-use std::test::Fail;
-use worked::{ASLEEP, FLUSH, KEEPING, REPLIED, Rule, WRITE, connected, reading, writing, written};
+use std::process::Abort;
 
-#[test]
-fn a_whole_report_of_a_write_is_allowed(rt: HostRuntime) -> Result<(), Fail> {
-    let mut reader = written(rt.alloc())?;
-    reader.add(REPLIED)?;
-    reader.add(ASLEEP)?;
-    Ok(())
+// The rules on jobs, in the order in which they are asked.
+#[derive(Clone, Copy, Debug, PartialEq, Eq)]
+enum Rule {
+    Step,
+    Effect,
+    Data,
+    Reply,
 }
 
-#[test]
-fn a_whole_report_of_a_read_is_allowed(rt: HostRuntime) -> Result<(), Fail> {
-    let mut reader = reading(rt.alloc())?;
-    same(&rt, reader.give()?, None);
-    reader.write_words(128)?;
-    reader.add(
-        "m job 1 unmap 2
+// A piece of a report whose lines break no rule.
+#[derive(Clone, Copy)]
+enum Piece {
+    Lines(&'static str),
+    // The back is shown so many requests, and fetches the entry at the last of their places, which
+    // begins with this word: its number is 1, its reference 24.
+    Fetches(u32, u32),
+    // A job reads so many words of frame 18 through a mapping.
+    Reads(u64, u64, u32),
+    // The disk gives job 1 a sector: word `i` is `i`.
+    Gives,
+    // Job 1 writes so many words of a sector into frame 18 through mapping 2: word `i` is `i`.
+    Writes(u32),
+}
+
+// The lines so far; lines that then come, the next one, and the rule that it breaks.
+type Group = (&'static str, &'static [Piece], &'static [Case]);
+
+type Case = (&'static str, &'static str, Option<Rule>);
+
+#[derive(Drop)]
+struct Reader {
+    ring: RingSight,
+    jobs: JobSight,
+}
+
+impl Reader {
+    // The first of the rules that a line breaks.
+    fn broken_by(&self, line: &Line) -> Option<Rule> {
+        if !self.jobs.allows_step(line) {
+            Some(Rule::Step)
+        } else if !self.jobs.allows_effect(line) {
+            Some(Rule::Effect)
+        } else if !self.jobs.allows_data(line) {
+            Some(Rule::Data)
+        } else if !self.jobs.allows_reply(&self.ring, line) {
+            Some(Rule::Reply)
+        } else {
+            None
+        }
+    }
+
+    // Takes in a line that breaks no rule.
+    fn keep(&mut self, rt: &impl Abort, line: &Line) {
+        assert_eq!(rt; self.broken_by(line), None, "{line:?}");
+        self.jobs.see(&self.ring, line).expect(rt, "memory");
+        self.ring.see(line).expect(rt, "memory");
+    }
+
+    fn add(&mut self, rt: &impl Abort, lines: &str) {
+        for text in lines.lines() {
+            self.keep(rt, &line_of(rt, text));
+        }
+    }
+
+    fn fetch(&mut self, rt: &impl Abort, count: u32, first: u32) {
+        self.keep(rt, &read_by(BackMover::Back, 1, 2, 0, count));
+        let begin = count
+            .saturating_sub(1)
+            .saturating_mul(28)
+            .saturating_add(16);
+        for i in 0..28u32 {
+            let word = begin.saturating_add(i);
+            self.keep(
+                rt,
+                &read_by(BackMover::Back, 1, 2, word, entry_word(i, first)),
+            );
+        }
+    }
+
+    fn read(&mut self, rt: &impl Abort, job: u64, mapping: u64, count: u32) {
+        for word in 0..count {
+            self.keep(rt, &read_by(BackMover::Job(job), mapping, 18, word, 7));
+        }
+    }
+
+    fn give(&mut self, rt: &impl Abort) {
+        let mut words = [0u32; 128];
+        for i in 0..128u32 {
+            words[i as usize] = i;
+        }
+        self.keep(
+            rt,
+            &Line::EffectRead {
+                id: 1,
+                index: 0,
+                words,
+            },
+        );
+    }
+
+    fn write(&mut self, rt: &impl Abort, count: u32) {
+        for word in 0..count {
+            self.keep(
+                rt,
+                &Line::Move(Move::Write {
+                    who: BackMover::Job(1),
+                    mapping: 2,
+                    frame: 18,
+                    word,
+                    value: word,
+                }),
+            );
+        }
+    }
+
+    fn take(&mut self, rt: &impl Abort, piece: Piece) {
+        match piece {
+            Piece::Lines(lines) => self.add(rt, lines),
+            Piece::Fetches(count, first) => self.fetch(rt, count, first),
+            Piece::Reads(job, mapping, count) => self.read(rt, job, mapping, count),
+            Piece::Gives => self.give(rt),
+            Piece::Writes(count) => self.write(rt, count),
+        }
+    }
+}
+
+fn read_by(who: BackMover, mapping: u64, frame: u32, word: u32, value: u32) -> Line {
+    Line::Move(Move::Read {
+        who,
+        mapping,
+        frame,
+        word,
+        value,
+    })
+}
+
+// The words of an entry after its first: number 1, sector 0, reference 24.
+fn entry_word(i: u32, first: u32) -> u32 {
+    match i {
+        0 => first,
+        2 => 1,
+        6 => 24,
+        _ => 0,
+    }
+}
+
+fn reader_after(rt: &impl Abort, alloc: Global, pieces: &[Piece], lines: &str) -> Reader {
+    let mut reader = Reader {
+        ring: RingSight::new(alloc),
+        jobs: JobSight::new(alloc),
+    };
+    for piece in pieces {
+        reader.take(rt, *piece);
+    }
+    reader.add(rt, lines);
+    reader
+}
+
+fn follow(rt: &impl Abort, alloc: Global, groups: &[Group]) {
+    for (name, pieces, cases) in groups {
+        for (lines, next, broken) in *cases {
+            let reader = reader_after(rt, alloc, pieces, lines);
+            let found = reader.broken_by(&line_of(rt, next));
+            assert_eq!(rt; found, *broken, "{name}: {next} after {lines}");
+        }
+    }
+}
+
+// The back publishes what it has and maps the ring, frame 2, as mapping 1.
+const CONNECTED: Piece = Piece::Lines(
+    "begin 64 0 0 0 0 rw 8 moves
+m front watch /local/domain/0/backend/vbd/1/51712/state
+m back setkey /local/domain/0/backend/vbd/1/51712/feature-barrier =1
+m back setkey /local/domain/0/backend/vbd/1/51712/feature-flush-cache =1
+m back setkey /local/domain/0/backend/vbd/1/51712/feature-discard =1
+m back setkey /local/domain/0/backend/vbd/1/51712/feature-persistent =0
+m back getkey /local/domain/1/device/vbd/51712/ring-ref =8
+m back getkey /local/domain/1/device/vbd/51712/protocol =x86_64-abi
+m back getkey /local/domain/1/device/vbd/51712/feature-persistent =0
+m back map 8 w ok 1 2
+m back bind 1 ok
+m back read 1 2 0 00000000
+m back write 1 2 1 00000001
+m back fence
+m back read 1 2 0 00000000
+ready",
+);
+
+// Both ends say that grants are persistent.
+const KEEPING: Piece = Piece::Lines(
+    "m back setkey /local/domain/0/backend/vbd/1/51712/feature-persistent =1
+m back getkey /local/domain/1/device/vbd/51712/feature-persistent =1",
+);
+
+const QUIET: Piece = Piece::Lines("quiet");
+
+// The entries of two writes of one sector, of a read, and of a flush.
+const WRITE: Piece = Piece::Fetches(1, 0xca00_0101);
+
+const SECOND: Piece = Piece::Fetches(2, 0xca00_0101);
+
+const READ: Piece = Piece::Fetches(1, 0xca00_0100);
+
+const FLUSH: Piece = Piece::Fetches(1, 0xca00_0003);
+
+// Job 1 maps its frame as mapping 2, for reading and for writing.
+const MAP: Piece = Piece::Lines("m job 1 map 24 r ok 2 18");
+
+const MAP_FOR_WRITING: Piece = Piece::Lines("m job 1 map 24 w ok 2 18");
+
+const SECTOR: Piece = Piece::Reads(1, 2, 128);
+
+const MOVED: Piece = Piece::Lines("m job 1 dwrite 0\neffect 1 0");
+
+const UNMAP: Piece = Piece::Lines("m job 1 unmap 2");
+
+const GET: Piece = Piece::Lines("m job 1 dread 0");
+
+// The words of a reply to the write, and the words and their push.
+const WORDS: Piece = Piece::Lines(
+    "m back write 1 2 16 00000001
+m back write 1 2 17 00000000
+m back write 1 2 18 00000001",
+);
+
+const PUSH: Piece = Piece::Lines("m back write 1 2 2 00000001");
+
+const TOLD: Piece = Piece::Lines("reply 1 ok");
+
+// Job 1 is to write a sector, mapped its frame and read so many words.
+const WRITING_0: &[Piece] = &[CONNECTED, WRITE, MAP];
+
+const WRITING_127: &[Piece] = &[CONNECTED, WRITE, MAP, Piece::Reads(1, 2, 127)];
+
+const WRITING: &[Piece] = &[CONNECTED, WRITE, MAP, SECTOR];
+
+// It wrote its sector and gave up its mapping.
+const WRITTEN: &[Piece] = &[CONNECTED, WRITE, MAP, SECTOR, MOVED, UNMAP];
+
+const PUT: &[Piece] = &[CONNECTED, WRITE, MAP, SECTOR, MOVED, UNMAP, WORDS];
+
+const REPLIED: &[Piece] = &[
+    CONNECTED, WRITE, MAP, SECTOR, MOVED, UNMAP, WORDS, PUSH, TOLD,
+];
+
+// Job 1 is to read a sector, mapped its frame, and moves the disk.
+const READING: &[Piece] = &[CONNECTED, READ, MAP_FOR_WRITING, GET];
+
+const GIVEN: &[Piece] = &[CONNECTED, READ, MAP_FOR_WRITING, GET, Piece::Gives];
+
+const GIVEN_127: &[Piece] = &[
+    CONNECTED,
+    READ,
+    MAP_FOR_WRITING,
+    GET,
+    Piece::Gives,
+    Piece::Writes(127),
+];
+
+const LOADED: &[Piece] = &[
+    CONNECTED,
+    READ,
+    MAP_FOR_WRITING,
+    GET,
+    Piece::Gives,
+    Piece::Writes(128),
+];
+
+const ASLEEP: &str = "m back fence
+m back read 1 2 3 00000001
+m back send
+m back read 1 2 0 00000001
+m back write 1 2 1 00000002
+m back fence
+m back read 1 2 0 00000001
+quiet";
+
+const READ_REPLIED: &str = "m job 1 unmap 2
 m back write 1 2 16 00000001
 m back write 1 2 17 00000000
 m back write 1 2 18 00000000
 m back write 1 2 2 00000001
-reply 1 ok",
-    )?;
-    reader.add(ASLEEP)?;
-    Ok(())
-}
+reply 1 ok
+m back fence
+m back read 1 2 3 00000001
+m back send
+m back read 1 2 0 00000001
+m back write 1 2 1 00000002
+m back fence
+m back read 1 2 0 00000001
+quiet";
+
+const WHOLE: &[Group] = &[
+    ("a write", REPLIED, &[(ASLEEP, "end", None)]),
+    ("a read", LOADED, &[(READ_REPLIED, "end", None)]),
+];
 
 #[test]
-fn no_step_is_skipped(rt: HostRuntime) -> Result<(), Fail> {
-    for (count, next, broken) in [
-        (0, "m job 1 read 2 18 0 00000007", None),
-        (0, "m job 1 read 2 18 1 00000007", Some(Rule::Step)),
-        (0, "m job 1 fence", Some(Rule::Step)),
-        (0, "m job 1 unmap 2", None),
-        (127, "m job 1 dwrite 0", Some(Rule::Step)),
-        (128, "m job 1 dwrite 0", None),
-        (128, "m job 1 dwrite 1", Some(Rule::Step)),
-        (128, "m job 1 dread 0", Some(Rule::Step)),
-        (128, "m job 2 dwrite 0", Some(Rule::Step)),
-    ] {
-        let mut reader = writing(rt.alloc(), count)?;
-        assert_eq!(rt; reader.next(next)?, broken, "{count} words, {next}");
-    }
-    Ok(())
+fn whole_reports_are_allowed(rt: HostRuntime) {
+    follow(&rt, rt.alloc(), WHOLE);
 }
+
+const TWO_WRITES: &[Piece] = &[
+    CONNECTED,
+    WRITE,
+    SECOND,
+    Piece::Lines("m job 2 map 24 r ok 2 18\nm job 1 map 24 r ok 3 18"),
+    Piece::Reads(1, 3, 1),
+];
+
+const KEPT: &[Piece] = &[CONNECTED, KEEPING, WRITE, MAP_FOR_WRITING, SECOND];
+
+const STEPS: &[Group] = &[
+    (
+        "no step is skipped",
+        WRITING_0,
+        &[
+            ("", "m job 1 read 2 18 0 00000007", None),
+            ("", "m job 1 read 2 18 1 00000007", Some(Rule::Step)),
+            ("", "m job 1 fence", Some(Rule::Step)),
+            ("", "m job 1 unmap 2", None),
+        ],
+    ),
+    (
+        "no word of a sector is skipped",
+        WRITING_127,
+        &[("", "m job 1 dwrite 0", Some(Rule::Step))],
+    ),
+    (
+        "no step is skipped after a sector",
+        WRITING,
+        &[
+            ("", "m job 1 dwrite 0", None),
+            ("", "m job 1 dwrite 1", Some(Rule::Step)),
+            ("", "m job 1 dread 0", Some(Rule::Step)),
+            ("", "m job 2 dwrite 0", Some(Rule::Step)),
+        ],
+    ),
+    (
+        "a word is read through the mapping of its task",
+        TWO_WRITES,
+        &[
+            ("", "m job 1 read 3 18 1 00000007", None),
+            ("", "m job 1 read 2 18 1 00000007", Some(Rule::Step)),
+            ("", "m job 2 read 2 18 0 00000007", None),
+            ("", "m job 2 read 3 18 0 00000007", Some(Rule::Step)),
+        ],
+    ),
+    (
+        "a job takes a mapping that is kept until its unmap",
+        KEPT,
+        &[
+            ("quiet", "m job 2 read 2 18 0 00000007", None),
+            ("quiet", "m job 2 read 1 2 0 00000007", Some(Rule::Step)),
+            (
+                "m job 1 unmap 2",
+                "m job 2 read 2 18 0 00000007",
+                Some(Rule::Step),
+            ),
+            ("m job 1 unmap 2", "m job 2 map 24 w ok 3 18", None),
+        ],
+    ),
+    (
+        "a job stops at a fault",
+        READING,
+        &[
+            (
+                "fault 1 0",
+                "m job 1 write 2 18 0 00000000",
+                Some(Rule::Step),
+            ),
+            ("fault 1 0", "m job 1 dread 0", Some(Rule::Step)),
+            ("fault 1 0", "m job 1 unmap 2", None),
+            ("fault 1 0", "m back write 1 2 16 00000001", None),
+        ],
+    ),
+];
 
 #[test]
-fn a_word_is_read_through_the_mapping_of_its_task(rt: HostRuntime) -> Result<(), Fail> {
-    for (next, broken) in [
-        ("m job 1 read 3 18 1 00000007", None),
-        ("m job 1 read 2 18 1 00000007", Some(Rule::Step)),
-        ("m job 2 read 2 18 0 00000007", None),
-        ("m job 2 read 3 18 0 00000007", Some(Rule::Step)),
-    ] {
-        let mut reader = connected(rt.alloc())?;
-        reader.fetch(1, WRITE)?;
-        reader.fetch(2, WRITE)?;
-        reader.add("m job 2 map 24 r ok 2 18\nm job 1 map 24 r ok 3 18")?;
-        reader.read_words(1, 3, 1)?;
-        assert_eq!(rt; reader.next(next)?, broken, "{next}");
-    }
-    Ok(())
+fn a_job_takes_its_steps_in_order(rt: HostRuntime) {
+    follow(&rt, rt.alloc(), STEPS);
 }
+
+const CALLED: &str = "m job 1 dwrite 0";
+
+const DONE: &str = "m job 1 dwrite 0\neffect 1 0";
+
+const OUTCOMES: &[Group] = &[
+    (
+        "a move of the disk has its outcome at once",
+        WRITING,
+        &[
+            (CALLED, "effect 1 0", None),
+            (CALLED, "fault 1 0", None),
+            (CALLED, "effect 1 1", Some(Rule::Effect)),
+            (CALLED, "effect 2 0", Some(Rule::Effect)),
+            (CALLED, "effect 1 0 fill 00000007", Some(Rule::Effect)),
+            (CALLED, "flushed 1", Some(Rule::Effect)),
+            (CALLED, "m front event", Some(Rule::Effect)),
+            ("quiet", "effect 1 0", Some(Rule::Effect)),
+            (DONE, "effect 1 0", Some(Rule::Effect)),
+        ],
+    ),
+    (
+        "a job writes what the disk gave",
+        GIVEN,
+        &[
+            ("", "m job 1 write 2 18 0 00000000", None),
+            ("", "m job 1 write 2 18 0 00000001", Some(Rule::Data)),
+        ],
+    ),
+    (
+        "a job writes what the disk gave to the last word",
+        GIVEN_127,
+        &[
+            ("", "m job 1 write 2 18 127 0000007f", None),
+            ("", "m job 1 write 2 18 127 00000000", Some(Rule::Data)),
+            ("", "m job 1 write 2 18 126 0000007e", Some(Rule::Step)),
+        ],
+    ),
+];
 
 #[test]
-fn a_job_takes_a_mapping_that_is_kept_until_its_unmap(rt: HostRuntime) -> Result<(), Fail> {
-    for (before, next, broken) in [
-        ("quiet", "m job 2 read 2 18 0 00000007", None),
-        ("quiet", "m job 2 read 1 2 0 00000007", Some(Rule::Step)),
-        (
-            "m job 1 unmap 2",
-            "m job 2 read 2 18 0 00000007",
-            Some(Rule::Step),
-        ),
-        ("m job 1 unmap 2", "m job 2 map 24 w ok 3 18", None),
-    ] {
-        let mut reader = connected(rt.alloc())?;
-        reader.add(KEEPING)?;
-        reader.fetch(1, WRITE)?;
-        reader.add("m job 1 map 24 w ok 2 18")?;
-        reader.fetch(2, WRITE)?;
-        reader.add(before)?;
-        assert_eq!(rt; reader.next(next)?, broken, "{before}, {next}");
-    }
-    Ok(())
+fn a_job_and_the_disk_give_what_the_other_gave(rt: HostRuntime) {
+    follow(&rt, rt.alloc(), OUTCOMES);
 }
+
+const UNMAPPED: &[Piece] = &[
+    CONNECTED, QUIET, WRITE, MAP, SECTOR, MOVED, UNMAP, WORDS, PUSH,
+];
+
+const UNMAPPED_ANOTHER: &[Piece] = &[
+    CONNECTED,
+    QUIET,
+    WRITE,
+    MAP,
+    SECTOR,
+    MOVED,
+    Piece::Lines("m job 1 unmap 3"),
+    WORDS,
+    PUSH,
+];
+
+const MAPPED: &[Piece] = &[
+    CONNECTED, QUIET, WRITE, MAP, SECTOR, MOVED, QUIET, WORDS, PUSH,
+];
+
+const MAPPED_AND_KEPT: &[Piece] = &[
+    CONNECTED,
+    KEEPING,
+    WRITE,
+    MAP_FOR_WRITING,
+    SECTOR,
+    MOVED,
+    QUIET,
+    WORDS,
+    PUSH,
+];
+
+const FAULT: &str = "fault 1 0
+m job 1 unmap 2
+m back write 1 2 16 00000001
+m back write 1 2 17 00000000";
+
+const FIRST: &str = "m back write 1 2 16 00000001";
+
+const FAULTED: &str = "m job 1 dwrite 0\nfault 1 0";
+
+const ENDS: &[Group] = &[
+    (
+        "a fault is replied as an error",
+        READING,
+        &[
+            (FAULT, "m back write 1 2 18 ffff0000", None),
+            (FAULT, "m back write 1 2 18 00000000", Some(Rule::Reply)),
+        ],
+    ),
+    (
+        "a reply waits for the end of its job",
+        WRITING,
+        &[
+            ("quiet", FIRST, Some(Rule::Reply)),
+            (DONE, FIRST, None),
+            (FAULTED, FIRST, None),
+        ],
+    ),
+    (
+        "a job gives up what it mapped before its reply",
+        UNMAPPED,
+        &[("", "reply 1 ok", None)],
+    ),
+    (
+        "a job gives up all that it mapped before its reply",
+        UNMAPPED_ANOTHER,
+        &[("", "reply 1 ok", Some(Rule::Reply))],
+    ),
+    (
+        "a job that gave up nothing has no reply",
+        MAPPED,
+        &[("", "reply 1 ok", Some(Rule::Reply))],
+    ),
+    (
+        "a job gives up nothing that is kept",
+        MAPPED_AND_KEPT,
+        &[("", "reply 1 ok", None)],
+    ),
+    (
+        "what is not published is unsupported",
+        &[
+            CONNECTED,
+            Piece::Lines(
+                "m back setkey /local/domain/0/backend/vbd/1/51712/feature-flush-cache =0",
+            ),
+            FLUSH,
+        ],
+        &[("", FIRST, None)],
+    ),
+    (
+        "what is published is done before its reply",
+        &[CONNECTED, QUIET, FLUSH],
+        &[("", FIRST, Some(Rule::Reply))],
+    ),
+];
 
 #[test]
-fn a_job_stops_at_a_fault(rt: HostRuntime) -> Result<(), Fail> {
-    for (next, broken) in [
-        ("m job 1 write 2 18 0 00000000", Some(Rule::Step)),
-        ("m job 1 dread 0", Some(Rule::Step)),
-        ("m job 1 unmap 2", None),
-        ("m back write 1 2 16 00000001", None),
-    ] {
-        let mut reader = reading(rt.alloc())?;
-        reader.add("fault 1 0")?;
-        assert_eq!(rt; reader.next(next)?, broken, "{next}");
-    }
-    Ok(())
+fn a_reply_comes_at_the_end_of_its_job(rt: HostRuntime) {
+    follow(&rt, rt.alloc(), ENDS);
 }
+
+const PUSHED: &str = "m back write 1 2 2 00000001";
+
+const MAPPED_ANEW: &str = "epoch\nm back map 8 w ok 5 2";
+
+const REPLIES: &[Group] = &[
+    (
+        "the words of a reply stand together",
+        WRITTEN,
+        &[
+            ("quiet", FIRST, None),
+            ("quiet", "m back write 1 2 16 00000002", Some(Rule::Reply)),
+            ("quiet", "m back write 1 2 44 00000001", Some(Rule::Reply)),
+            ("quiet", "m back write 1 2 2 00000001", Some(Rule::Reply)),
+            ("quiet", "m back fence", None),
+            (FIRST, "m back write 1 2 17 00000000", None),
+            (FIRST, "m back write 1 2 18 00000001", Some(Rule::Reply)),
+            (FIRST, "m back write 1 2 1 00000002", Some(Rule::Reply)),
+            (FIRST, "m back fence", Some(Rule::Reply)),
+            (FIRST, "m front event", None),
+        ],
+    ),
+    (
+        "a reply is told once and at once",
+        PUT,
+        &[
+            ("quiet", PUSHED, None),
+            ("quiet", "m back write 1 2 2 00000002", Some(Rule::Reply)),
+            ("quiet", "reply 1 ok", Some(Rule::Reply)),
+            (PUSHED, "reply 1 ok", None),
+            (PUSHED, "reply 1 error", Some(Rule::Reply)),
+            (PUSHED, "reply 2 ok", Some(Rule::Reply)),
+            (PUSHED, "m front event", Some(Rule::Reply)),
+        ],
+    ),
+    (
+        "a job has one reply",
+        REPLIED,
+        &[
+            ("", "reply 1 ok", Some(Rule::Reply)),
+            ("", "m back write 1 2 44 00000001", Some(Rule::Reply)),
+            ("", "m job 1 dwrite 0", Some(Rule::Step)),
+            ("", "m back fence", None),
+        ],
+    ),
+    (
+        "an epoch ends the jobs",
+        WRITTEN,
+        &[
+            ("quiet", FIRST, None),
+            (
+                MAPPED_ANEW,
+                "m back write 5 2 16 00000001",
+                Some(Rule::Reply),
+            ),
+            ("epoch", "m job 1 map 24 r ok 6 18", Some(Rule::Step)),
+        ],
+    ),
+];
 
 #[test]
-fn a_fault_is_replied_as_an_error(rt: HostRuntime) -> Result<(), Fail> {
-    for (next, broken) in [
-        ("m back write 1 2 18 ffff0000", None),
-        ("m back write 1 2 18 00000000", Some(Rule::Reply)),
-    ] {
-        let mut reader = reading(rt.alloc())?;
-        reader.add("fault 1 0\nm job 1 unmap 2")?;
-        reader.add("m back write 1 2 16 00000001\nm back write 1 2 17 00000000")?;
-        assert_eq!(rt; reader.next(next)?, broken, "{next}");
-    }
-    Ok(())
-}
-
-#[test]
-fn a_move_of_the_disk_has_its_outcome_at_once(rt: HostRuntime) -> Result<(), Fail> {
-    let moved = "m job 1 dwrite 0";
-    let done = "m job 1 dwrite 0\neffect 1 0";
-    for (before, next, broken) in [
-        (moved, "effect 1 0", None),
-        (moved, "fault 1 0", None),
-        (moved, "effect 1 1", Some(Rule::Effect)),
-        (moved, "effect 2 0", Some(Rule::Effect)),
-        (moved, "effect 1 0 fill 00000007", Some(Rule::Effect)),
-        (moved, "flushed 1", Some(Rule::Effect)),
-        (moved, "m front event", Some(Rule::Effect)),
-        ("quiet", "effect 1 0", Some(Rule::Effect)),
-        (done, "effect 1 0", Some(Rule::Effect)),
-    ] {
-        let mut reader = writing(rt.alloc(), 128)?;
-        reader.add(before)?;
-        assert_eq!(rt; reader.next(next)?, broken, "{before}, {next}");
-    }
-    Ok(())
-}
-
-#[test]
-fn a_job_writes_what_the_disk_gave(rt: HostRuntime) -> Result<(), Fail> {
-    for (count, next, broken) in [
-        (0, "m job 1 write 2 18 0 00000000", None),
-        (0, "m job 1 write 2 18 0 00000001", Some(Rule::Data)),
-        (127, "m job 1 write 2 18 127 0000007f", None),
-        (127, "m job 1 write 2 18 127 00000000", Some(Rule::Data)),
-        (127, "m job 1 write 2 18 126 0000007e", Some(Rule::Step)),
-    ] {
-        let mut reader = reading(rt.alloc())?;
-        same(&rt, reader.give()?, None);
-        reader.write_words(count)?;
-        assert_eq!(rt; reader.next(next)?, broken, "{count} words, {next}");
-    }
-    Ok(())
-}
-
-#[test]
-fn a_reply_waits_for_the_end_of_its_job(rt: HostRuntime) -> Result<(), Fail> {
-    let first = "m back write 1 2 16 00000001";
-    for (before, broken) in [
-        ("quiet", Some(Rule::Reply)),
-        ("m job 1 dwrite 0\neffect 1 0", None),
-        ("m job 1 dwrite 0\nfault 1 0", None),
-    ] {
-        let mut reader = writing(rt.alloc(), 128)?;
-        reader.add(before)?;
-        assert_eq!(rt; reader.next(first)?, broken, "after {before}");
-    }
-    Ok(())
-}
-
-// The rule that the reply breaks, where these lines came before its words.
-fn reply_after(alloc: Global, keeping: &str, map: &str, later: &str) -> Result<Option<Rule>, Fail> {
-    let mut reader = connected(alloc)?;
-    reader.add(keeping)?;
-    reader.fetch(1, WRITE)?;
-    reader.add(map)?;
-    reader.read_words(1, 2, 128)?;
-    reader.add("m job 1 dwrite 0\neffect 1 0")?;
-    reader.add(later)?;
-    reader.add(
-        "m back write 1 2 16 00000001
-m back write 1 2 17 00000000
-m back write 1 2 18 00000001
-m back write 1 2 2 00000001",
-    )?;
-    reader.next("reply 1 ok")
-}
-
-#[test]
-fn a_job_gives_up_what_it_mapped_before_its_reply(rt: HostRuntime) -> Result<(), Fail> {
-    let read = "m job 1 map 24 r ok 2 18";
-    let write = "m job 1 map 24 w ok 2 18";
-    for (keeping, map, later, broken) in [
-        ("quiet", read, "m job 1 unmap 2", None),
-        ("quiet", read, "m job 1 unmap 3", Some(Rule::Reply)),
-        ("quiet", read, "quiet", Some(Rule::Reply)),
-        (KEEPING, write, "quiet", None),
-    ] {
-        let told = reply_after(rt.alloc(), keeping, map, later)?;
-        assert_eq!(rt; told, broken, "{map}, {later}");
-    }
-    Ok(())
-}
-
-#[test]
-fn the_words_of_a_reply_stand_together(rt: HostRuntime) -> Result<(), Fail> {
-    let first = "m back write 1 2 16 00000001";
-    for (before, next, broken) in [
-        ("quiet", first, None),
-        ("quiet", "m back write 1 2 16 00000002", Some(Rule::Reply)),
-        ("quiet", "m back write 1 2 44 00000001", Some(Rule::Reply)),
-        ("quiet", "m back write 1 2 2 00000001", Some(Rule::Reply)),
-        ("quiet", "m back fence", None),
-        (first, "m back write 1 2 17 00000000", None),
-        (first, "m back write 1 2 18 00000001", Some(Rule::Reply)),
-        (first, "m back write 1 2 1 00000002", Some(Rule::Reply)),
-        (first, "m back fence", Some(Rule::Reply)),
-        (first, "m front event", None),
-    ] {
-        let mut reader = written(rt.alloc())?;
-        reader.add(before)?;
-        assert_eq!(rt; reader.next(next)?, broken, "{before}, {next}");
-    }
-    Ok(())
-}
-
-#[test]
-fn a_reply_is_told_once_and_at_once(rt: HostRuntime) -> Result<(), Fail> {
-    let words = "m back write 1 2 16 00000001
-m back write 1 2 17 00000000
-m back write 1 2 18 00000001";
-    let push = "m back write 1 2 2 00000001";
-    for (before, next, broken) in [
-        ("quiet", push, None),
-        ("quiet", "m back write 1 2 2 00000002", Some(Rule::Reply)),
-        ("quiet", "reply 1 ok", Some(Rule::Reply)),
-        (push, "reply 1 ok", None),
-        (push, "reply 1 error", Some(Rule::Reply)),
-        (push, "reply 2 ok", Some(Rule::Reply)),
-        (push, "m front event", Some(Rule::Reply)),
-    ] {
-        let mut reader = written(rt.alloc())?;
-        reader.add(words)?;
-        reader.add(before)?;
-        assert_eq!(rt; reader.next(next)?, broken, "{before}, {next}");
-    }
-    Ok(())
-}
-
-#[test]
-fn a_job_has_one_reply(rt: HostRuntime) -> Result<(), Fail> {
-    for (next, broken) in [
-        ("reply 1 ok", Some(Rule::Reply)),
-        ("m back write 1 2 44 00000001", Some(Rule::Reply)),
-        ("m job 1 dwrite 0", Some(Rule::Step)),
-        ("m back fence", None),
-    ] {
-        let mut reader = written(rt.alloc())?;
-        reader.add(REPLIED)?;
-        assert_eq!(rt; reader.next(next)?, broken, "{next}");
-    }
-    Ok(())
-}
-
-#[test]
-fn what_is_not_published_is_unsupported(rt: HostRuntime) -> Result<(), Fail> {
-    let flush = "m back setkey /local/domain/0/backend/vbd/1/51712/feature-flush-cache =0";
-    for (before, broken) in [(flush, None), ("quiet", Some(Rule::Reply))] {
-        let mut reader = connected(rt.alloc())?;
-        reader.add(before)?;
-        reader.fetch(1, FLUSH)?;
-        let told = reader.next("m back write 1 2 16 00000001")?;
-        assert_eq!(rt; told, broken, "{before}");
-    }
-    Ok(())
-}
-
-#[test]
-fn an_epoch_ends_the_jobs(rt: HostRuntime) -> Result<(), Fail> {
-    for (before, next, broken) in [
-        ("quiet", "m back write 1 2 16 00000001", None),
-        (
-            "epoch\nm back map 8 w ok 5 2",
-            "m back write 5 2 16 00000001",
-            Some(Rule::Reply),
-        ),
-        ("epoch", "m job 1 map 24 r ok 6 18", Some(Rule::Step)),
-    ] {
-        let mut reader = written(rt.alloc())?;
-        reader.add(before)?;
-        assert_eq!(rt; reader.next(next)?, broken, "{before}, {next}");
-    }
-    Ok(())
+fn a_reply_is_written_and_told_once(rt: HostRuntime) {
+    follow(&rt, rt.alloc(), REPLIES);
 }

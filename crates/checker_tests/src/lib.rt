@@ -8,6 +8,8 @@ mod disk;
 #[cfg(test)]
 mod expected;
 #[cfg(test)]
+mod given;
+#[cfg(test)]
 mod inspector;
 #[cfg(test)]
 mod jobs;

@@ -1,105 +1,144 @@
-use crate::expected::holds;
-use blk_io::{FailsAt, MemorySource};
+// Texts by hand, and the lines that come of them.
+use crate::given::{bytes_of, line_of};
+use blk_io::{FailsAt, MemorySource, Source};
 use report_lines::{ReadStop, ReportLines};
 use schedule_text::Line;
-use std::alloc::{AllocError, Global};
-use std::test::Fail;
+use std::alloc::Global;
+use std::process::Abort;
 
-fn source_of(alloc: Global, text: &str) -> Result<MemorySource, AllocError> {
-    Ok(MemorySource::new(Vec::from_slice(alloc, text.as_bytes())?))
+// A text, how often it stands there, and how many bytes may be taken; the lines that come of it each
+// time, and the stop after the last, where it is not the end.
+struct Case {
+    name: &'static str,
+    text: &'static [u8],
+    times: usize,
+    limit: u64,
+    lines: &'static [&'static str],
+    stop: Option<ReadStop>,
 }
 
-fn is_ready(next: &Result<Option<Line>, ReadStop>) -> bool {
-    matches!(*next, Ok(Some(Line::Ready)))
+const CASES: &[Case] = &[
+    Case {
+        name: "two lines come in order, and then the end",
+        text: b"ready\nclosed\n",
+        times: 1,
+        limit: 100,
+        lines: &["ready", "closed"],
+        stop: None,
+    },
+    Case {
+        name: "an empty source has no line",
+        text: b"",
+        times: 1,
+        limit: 100,
+        lines: &[],
+        stop: None,
+    },
+    Case {
+        name: "a last line without its feed is none",
+        text: b"ready\nready",
+        times: 1,
+        limit: 100,
+        lines: &["ready"],
+        stop: Some(ReadStop::BadLine),
+    },
+    Case {
+        name: "words that no line has are none",
+        text: b"hello\nready\n",
+        times: 1,
+        limit: 100,
+        lines: &[],
+        stop: Some(ReadStop::BadLine),
+    },
+    Case {
+        name: "a line that goes on past 1152 bytes is none",
+        text: b"r",
+        times: 1153,
+        limit: 1153,
+        lines: &[],
+        stop: Some(ReadStop::BadLine),
+    },
+    Case {
+        name: "no more is taken than the limit",
+        text: b"ready\nready\n",
+        times: 1,
+        limit: 11,
+        lines: &["ready"],
+        stop: Some(ReadStop::TooLong),
+    },
+    Case {
+        name: "lines run on from one piece to the next",
+        text: b"ready\n",
+        times: 6000,
+        limit: 100000,
+        lines: &["ready"],
+        stop: None,
+    },
+];
+
+const FAILING: &Case = &Case {
+    name: "a source that fails is said",
+    text: b"ready\n",
+    times: 1,
+    limit: 100,
+    lines: &[],
+    stop: Some(ReadStop::Source),
+};
+
+fn is_next<S: Source>(
+    reader: &mut ReportLines,
+    source: &mut S,
+    wanted: &Result<Option<Line>, ReadStop>,
+) -> bool {
+    reader.next(source) == *wanted
 }
 
-fn is_end(next: &Result<Option<Line>, ReadStop>) -> bool {
-    matches!(*next, Ok(None))
+fn line_comes<S: Source>(
+    rt: &impl Abort,
+    reader: &mut ReportLines,
+    source: &mut S,
+    text: &str,
+) -> bool {
+    is_next(reader, source, &Ok(Some(line_of(rt, text))))
 }
 
-fn is_stop(next: &Result<Option<Line>, ReadStop>, stop: ReadStop) -> bool {
-    match next {
-        Err(other) => *other == stop,
-        Ok(_) => false,
+fn end_comes<S: Source>(reader: &mut ReportLines, source: &mut S, stop: Option<ReadStop>) -> bool {
+    match stop {
+        None => is_next(reader, source, &Ok(None)),
+        Some(stop) => is_next(reader, source, &Err(stop)),
+    }
+}
+
+fn comes<S: Source>(rt: &impl Abort, alloc: Global, case: &Case, source: &mut S) {
+    let mut reader = ReportLines::new(alloc, case.limit);
+    for _ in 0..case.times {
+        for text in case.lines {
+            assert!(rt; line_comes(rt, &mut reader, source, text), "{}", case.name);
+        }
+    }
+    assert!(rt; end_comes(&mut reader, source, case.stop), "{}", case.name);
+}
+
+fn all_come(rt: &impl Abort, alloc: Global, cases: &[Case]) {
+    for case in cases {
+        let bytes = bytes_of(rt, alloc, case.text, case.times);
+        comes(rt, alloc, case, &mut MemorySource::new(bytes));
     }
 }
 
 #[test]
-fn two_lines_come_in_order_and_then_the_end(rt: HostRuntime) -> Result<(), Fail> {
-    let mut source = source_of(rt.alloc(), "ready\nclosed\n")?;
-    let mut lines = ReportLines::new(rt.alloc(), 100);
-    holds(&rt, is_ready(&lines.next(&mut source)));
-    holds(
-        &rt,
-        matches!(lines.next(&mut source), Ok(Some(Line::Closed))),
-    );
-    holds(&rt, is_end(&lines.next(&mut source)));
-    Ok(())
+fn the_lines_of_a_source_come_in_order(rt: HostRuntime) {
+    all_come(&rt, rt.alloc(), CASES);
+}
+
+// The first call of the source fails.
+fn comes_failed(rt: &impl Abort, alloc: Global, case: &Case) {
+    let inside = MemorySource::new(bytes_of(rt, alloc, case.text, case.times));
+    let listed = vec![in alloc; 1].expect(rt, "memory");
+    comes(rt, alloc, case, &mut FailsAt::new(inside, listed));
 }
 
 #[test]
-fn an_empty_source_has_no_line(rt: HostRuntime) -> Result<(), Fail> {
-    let mut source = source_of(rt.alloc(), "")?;
-    let mut lines = ReportLines::new(rt.alloc(), 100);
-    holds(&rt, is_end(&lines.next(&mut source)));
-    Ok(())
-}
-
-#[test]
-fn a_last_line_without_its_feed_is_none(rt: HostRuntime) -> Result<(), Fail> {
-    let mut source = source_of(rt.alloc(), "ready\nready")?;
-    let mut lines = ReportLines::new(rt.alloc(), 100);
-    holds(&rt, is_ready(&lines.next(&mut source)));
-    holds(&rt, is_stop(&lines.next(&mut source), ReadStop::BadLine));
-    Ok(())
-}
-
-#[test]
-fn words_that_no_line_has_are_none(rt: HostRuntime) -> Result<(), Fail> {
-    let mut source = source_of(rt.alloc(), "hello\nready\n")?;
-    let mut lines = ReportLines::new(rt.alloc(), 100);
-    holds(&rt, is_stop(&lines.next(&mut source), ReadStop::BadLine));
-    Ok(())
-}
-
-#[test]
-fn a_line_that_goes_on_past_1152_bytes_is_none(rt: HostRuntime) -> Result<(), Fail> {
-    let bytes = vec![in rt.alloc(); b'r'; 1153]?;
-    let mut source = MemorySource::new(bytes);
-    let mut lines = ReportLines::new(rt.alloc(), 1153);
-    holds(&rt, is_stop(&lines.next(&mut source), ReadStop::BadLine));
-    Ok(())
-}
-
-#[test]
-fn no_more_is_taken_than_the_limit(rt: HostRuntime) -> Result<(), Fail> {
-    let mut source = source_of(rt.alloc(), "ready\nready\n")?;
-    let mut lines = ReportLines::new(rt.alloc(), 11);
-    holds(&rt, is_ready(&lines.next(&mut source)));
-    holds(&rt, is_stop(&lines.next(&mut source), ReadStop::TooLong));
-    Ok(())
-}
-
-#[test]
-fn a_source_that_fails_is_said(rt: HostRuntime) -> Result<(), Fail> {
-    let inside = source_of(rt.alloc(), "ready\n")?;
-    let mut source = FailsAt::new(inside, vec![in rt.alloc(); 1]?);
-    let mut lines = ReportLines::new(rt.alloc(), 100);
-    holds(&rt, is_stop(&lines.next(&mut source), ReadStop::Source));
-    Ok(())
-}
-
-#[test]
-fn lines_run_on_from_one_piece_to_the_next(rt: HostRuntime) -> Result<(), Fail> {
-    let mut text = Vec::new(rt.alloc());
-    for _ in 0..6000 {
-        text.extend_from_slice(b"ready\n")?;
-    }
-    let mut source = MemorySource::new(text);
-    let mut lines = ReportLines::new(rt.alloc(), 100000);
-    for _ in 0..6000 {
-        holds(&rt, is_ready(&lines.next(&mut source)));
-    }
-    holds(&rt, is_end(&lines.next(&mut source)));
-    Ok(())
+fn a_source_that_fails_is_said(rt: HostRuntime) {
+    comes_failed(&rt, rt.alloc(), FAILING);
 }

@@ -1,29 +1,39 @@
-use crate::expected::{holds, same};
+// Generated schedules, their events and their summaries.
+use crate::given::line_of;
 use bench_load::{BenchLoad, BenchSchedule, write_summary};
 use blk_io::Source;
 use line_text::LineText;
-use schedule_text::{Event, Line, LineTally, Recorder, Refusal, Verdict, read_event, write_event};
+use schedule_text::{LineTally, Recorder, Tally, Verdict, read_event, write_event};
 use std::alloc::Global;
-use std::test::Fail;
+use std::process::Abort;
 
-// All that a source gives, asked for up to so many bytes at a time.
-fn all_of<S: Source>(alloc: Global, source: &mut S, room: usize) -> Result<Vec<u8>, Fail> {
-    let mut text = Vec::new(alloc);
-    let mut piece = [0; 64];
-    let room = room.min(piece.len());
-    for _ in 0..10_000 {
-        let count = source.read(&mut piece[..room])?.min(room);
-        if count == 0 {
-            break;
-        }
-        text.extend_from_slice(&piece[..count])?;
-    }
-    Ok(text)
+// A seed, a count, how many bytes are asked for at a time, and the whole text.
+type Case = (u64, u64, usize, &'static str);
+
+fn read_into(rt: &impl Abort, source: &mut BenchLoad, piece: &mut [u8]) -> usize {
+    source.read(piece).expect(rt, "a source")
 }
 
-// The text of the schedule of a seed and a count, a line a read.
-fn schedule(alloc: Global, seed: u64, count: u64) -> Result<Vec<u8>, Fail> {
-    all_of(alloc, &mut BenchLoad::new(seed, count), 64)
+// What a source gives where there is room for so many bytes.
+fn piece_of(rt: &impl Abort, alloc: Global, source: &mut BenchLoad, room: usize) -> Vec<u8> {
+    let mut piece = vec![in alloc; 0u8; room].expect(rt, "memory");
+    let count = read_into(rt, source, piece.as_mut_slice());
+    piece.truncate(count);
+    piece
+}
+
+// All that it gives, asked for up to so many bytes at a time.
+fn all_of(rt: &impl Abort, alloc: Global, source: &mut BenchLoad, room: usize) -> Vec<u8> {
+    let mut text = Vec::new(alloc);
+    for _ in 0..10_000 {
+        let piece = piece_of(rt, alloc, source, room);
+        if piece.is_empty() {
+            break;
+        }
+        text.extend_from_slice(piece.as_slice())
+            .expect(rt, "memory");
+    }
+    text
 }
 
 const SEED_7: &str = "settle
@@ -40,163 +50,201 @@ submit write 735 3 a8635e5e
 settle
 ";
 
-#[test]
-fn no_lines_are_two_settles(rt: HostRuntime) -> Result<(), Fail> {
-    same(
-        &rt,
-        schedule(rt.alloc(), 7, 0)?.as_slice(),
-        b"settle\nsettle\n".as_slice(),
-    );
-    Ok(())
+const BEGINNING: &str = "settle
+submit write 2014 1 840d99ca
+settle
+";
+
+const LEAST_SEED: &str = "settle
+turn 93
+submit read 2697 4
+submit write 2972 14 24d8217a
+submit write 2468 14 e981425e
+turn 159
+job 6 157
+settle
+";
+
+const GREATEST_SEED: &str = "settle
+turn 70
+turn 390
+turn 100
+submit write 1974 1 aa9871fa
+settle
+settle
+settle
+";
+
+const CASES: &[Case] = &[
+    // No lines are two settles.
+    (7, 0, 64, "settle\nsettle\n"),
+    (7, 10, 64, SEED_7),
+    (0, 6, 64, LEAST_SEED),
+    (u64::MAX, 6, 64, GREATEST_SEED),
+    // A smaller count is a beginning but for the last line.
+    (7, 1, 64, BEGINNING),
+    // A byte at a time is the same text, and so are five.
+    (7, 10, 1, SEED_7),
+    (7, 10, 5, SEED_7),
+];
+
+fn give(rt: &impl Abort, alloc: Global, cases: &[Case]) {
+    for (seed, count, room, wanted) in cases {
+        let text = all_of(rt, alloc, &mut BenchLoad::new(*seed, *count), *room);
+        assert_eq!(rt; text.as_slice(), wanted.as_bytes(), "{seed} {count} {room}");
+    }
 }
 
 #[test]
-fn ten_lines_of_seed_7(rt: HostRuntime) -> Result<(), Fail> {
-    same(
-        &rt,
-        schedule(rt.alloc(), 7, 10)?.as_slice(),
-        SEED_7.as_bytes(),
-    );
-    Ok(())
+fn a_seed_and_a_count_have_one_schedule(rt: HostRuntime) {
+    give(&rt, rt.alloc(), CASES);
 }
 
-#[test]
-fn six_lines_of_the_least_seed(rt: HostRuntime) -> Result<(), Fail> {
-    let text = "settle\nturn 93\nsubmit read 2697 4\nsubmit write 2972 14 24d8217a\n\
-        submit write 2468 14 e981425e\nturn 159\njob 6 157\nsettle\n";
-    same(&rt, schedule(rt.alloc(), 0, 6)?.as_slice(), text.as_bytes());
-    Ok(())
-}
+// A seed, a count, and what reads with so much room give one after the other.
+type Reads = (u64, u64, &'static [(usize, &'static str)]);
 
-#[test]
-fn six_lines_of_the_greatest_seed(rt: HostRuntime) -> Result<(), Fail> {
-    let text = "settle\nturn 70\nturn 390\nturn 100\nsubmit write 1974 1 aa9871fa\n\
-        settle\nsettle\nsettle\n";
-    same(
-        &rt,
-        schedule(rt.alloc(), u64::MAX, 6)?.as_slice(),
-        text.as_bytes(),
-    );
-    Ok(())
-}
+const READS: &[Reads] = &[
+    // A read without room takes nothing.
+    (7, 10, &[(0, ""), (3, "set"), (0, ""), (3, "tle")]),
+    // Nothing comes after the end.
+    (
+        7,
+        0,
+        &[(64, "settle\n"), (64, "settle\n"), (64, ""), (64, "")],
+    ),
+];
 
-#[test]
-fn a_smaller_count_is_a_beginning_but_for_the_last_line(rt: HostRuntime) -> Result<(), Fail> {
-    let text = "settle\nsubmit write 2014 1 840d99ca\nsettle\n";
-    same(&rt, schedule(rt.alloc(), 7, 1)?.as_slice(), text.as_bytes());
-    Ok(())
-}
-
-#[test]
-fn a_byte_at_a_time_is_the_same_text(rt: HostRuntime) -> Result<(), Fail> {
-    let text = all_of(rt.alloc(), &mut BenchLoad::new(7, 10), 1)?;
-    same(&rt, text.as_slice(), SEED_7.as_bytes());
-    let text = all_of(rt.alloc(), &mut BenchLoad::new(7, 10), 5)?;
-    same(&rt, text.as_slice(), SEED_7.as_bytes());
-    Ok(())
-}
-
-#[test]
-fn a_read_without_room_takes_nothing(rt: HostRuntime) -> Result<(), Fail> {
-    let mut source = BenchLoad::new(7, 10);
-    same(&rt, source.read(&mut [])?, 0);
-    let mut piece = [0; 3];
-    same(&rt, source.read(&mut piece)?, 3);
-    same(&rt, piece, *b"set");
-    same(&rt, source.read(&mut [])?, 0);
-    same(&rt, source.read(&mut piece)?, 3);
-    same(&rt, piece, *b"tle");
-    Ok(())
-}
-
-#[test]
-fn nothing_comes_after_the_end(rt: HostRuntime) -> Result<(), Fail> {
-    let mut source = BenchLoad::new(7, 0);
-    let mut piece = [0; 64];
-    same(&rt, source.read(&mut piece)?, 7);
-    same(&rt, source.read(&mut piece)?, 7);
-    same(&rt, source.read(&mut piece)?, 0);
-    same(&rt, source.read(&mut piece)?, 0);
-    Ok(())
-}
-
-#[test]
-fn the_events_come_in_order(rt: HostRuntime) {
-    let mut events = BenchSchedule::new(0, 2);
-    same(&rt, events.next_event(), Some(Event::Settle));
-    same(&rt, events.next_event(), Some(Event::Turn(93)));
-    holds(&rt, matches!(events.next_event(), Some(Event::Submit(_))));
-    same(&rt, events.next_event(), Some(Event::Settle));
-    same(&rt, events.next_event(), None);
-    same(&rt, events.next_event(), None);
-}
-
-#[test]
-fn each_line_is_read_as_its_event(rt: HostRuntime) {
-    let mut events = BenchSchedule::new(42, 200);
-    for _ in 0..202 {
-        match events.next_event() {
-            Some(event) => {
-                let mut text = LineText::new();
-                write_event(&event, &mut text);
-                same(&rt, read_event(text.as_str().as_bytes()), Ok(Some(event)));
-            }
-            None => holds(&rt, false),
+fn read(rt: &impl Abort, alloc: Global, all: &[Reads]) {
+    for (seed, count, reads) in all {
+        let mut source = BenchLoad::new(*seed, *count);
+        for (room, wanted) in *reads {
+            let piece = piece_of(rt, alloc, &mut source, *room);
+            assert!(rt;
+                piece.as_slice() == wanted.as_bytes(),
+                "{seed} {count} {wanted}"
+            );
         }
     }
-    same(&rt, events.next_event(), None);
 }
 
-// A tally of these lines.
-fn tallied(lines: &[Line]) -> LineTally {
-    let mut recorder = LineTally::new();
-    for line in lines {
-        let _ = recorder.add(line);
+#[test]
+fn a_read_gives_what_has_room_up_to_the_end(rt: HostRuntime) {
+    read(&rt, rt.alloc(), READS);
+}
+
+// A seed, a count, how many events come, and the first of them.
+type Events = (u64, u64, usize, &'static str);
+
+const EVENTS: &[Events] = &[
+    (0, 2, 4, "settle\nturn 93\nsubmit read 2697 4\nsettle"),
+    (42, 200, 202, ""),
+];
+
+// Writes the next event; whether there was one that is read as it is written.
+fn is_spoken(events: &mut BenchSchedule, text: &mut LineText) -> bool {
+    match events.next_event() {
+        None => false,
+        Some(event) => {
+            write_event(&event, text);
+            read_event(text.as_str().as_bytes()) == Ok(Some(event))
+        }
     }
-    recorder
+}
+
+fn is_next(events: &mut BenchSchedule, text: &mut LineText, wanted: Option<&str>) -> bool {
+    let spoken = is_spoken(events, text);
+    match wanted {
+        None => spoken,
+        Some(wanted) => spoken && text.as_str() == wanted,
+    }
+}
+
+fn has_ended(events: &mut BenchSchedule) -> bool {
+    events.next_event().is_none()
+}
+
+fn speak(rt: &impl Abort, cases: &[Events]) {
+    let mut text = LineText::new();
+    for (seed, count, number, first) in cases {
+        let mut events = BenchSchedule::new(*seed, *count);
+        let mut first = first.lines();
+        for _ in 0..*number {
+            assert!(rt;
+                is_next(&mut events, &mut text, first.next()),
+                "{seed} {count}"
+            );
+        }
+        assert!(rt;
+            has_ended(&mut events) && has_ended(&mut events),
+            "{seed} {count}"
+        );
+    }
 }
 
 #[test]
-fn a_refused_request_is_tallied_as_refused_alone(rt: HostRuntime) {
-    let tally = tallied(&[Line::Refuse(Refusal::Full), Line::Ready]).tally;
-    same(&rt, tally.refused, 1);
-    same(&rt, tally.submitted, 0);
-    same(&rt, tally.answered, 0);
-    same(&rt, tally.last, None);
+fn the_events_come_in_order_and_are_read_as_they_are_written(rt: HostRuntime) {
+    speak(&rt, EVENTS);
+}
+
+// Lines, and how many of each kind there are.
+const TALLIES: &[(&str, Tally)] = &[
+    // A refused request is tallied as refused alone.
+    (
+        "refuse full\nready",
+        Tally {
+            submitted: 0,
+            refused: 1,
+            effects: 0,
+            answered: 0,
+            last: None,
+        },
+    ),
+    // Both forms of an effect are tallied, and the last word stands.
+    (
+        "unsettled
+effect 1 0
+effect 2 0 fill 00000000
+data 2 0 fill 00000000
+quiet
+busy
+end",
+        Tally {
+            submitted: 0,
+            refused: 0,
+            effects: 2,
+            answered: 0,
+            last: Some(Verdict::Quiet),
+        },
+    ),
+];
+
+fn tallied(rt: &impl Abort, lines: &str) -> Tally {
+    let mut recorder = LineTally::new();
+    for text in lines.lines() {
+        let _ = recorder.add(&line_of(rt, text));
+    }
+    recorder.tally
+}
+
+fn tally(rt: &impl Abort, cases: &[(&str, Tally)]) {
+    for (lines, wanted) in cases {
+        assert_eq!(rt; tallied(rt, lines), *wanted);
+    }
 }
 
 #[test]
-fn both_forms_of_an_effect_are_tallied_and_the_last_word_stands(rt: HostRuntime) {
-    let words = [0; 128];
-    let tally = tallied(&[
-        Line::Unsettled,
-        Line::Effect { id: 1, index: 0 },
-        Line::EffectRead {
-            id: 2,
-            index: 0,
-            words,
-        },
-        Line::Data {
-            id: 2,
-            index: 0,
-            words,
-        },
-        Line::Quiet,
-        Line::Busy,
-        Line::End,
-    ])
-    .tally;
-    same(&rt, tally.effects, 2);
-    same(&rt, tally.last, Some(Verdict::Quiet));
+fn lines_are_tallied_by_kind(rt: HostRuntime) {
+    tally(&rt, TALLIES);
+}
+
+fn sum_up(rt: &impl Abort, lines: &str, wanted: &str) {
+    let mut text = LineText::new();
+    write_summary(&tallied(rt, lines), &mut text);
+    assert_eq!(rt; text.as_str(), wanted);
 }
 
 #[test]
 fn a_summary_has_a_line_for_each_count_and_the_last_word(rt: HostRuntime) {
-    let mut text = LineText::new();
-    write_summary(
-        &tallied(&[Line::Effect { id: 1, index: 0 }, Line::Unsettled]).tally,
-        &mut text,
-    );
     let wanted = "submitted 0\nrefused 0\neffects 1\nanswered 0\nunsettled\n";
-    same(&rt, text.as_str(), wanted);
+    sum_up(&rt, "effect 1 0\nunsettled", wanted);
 }

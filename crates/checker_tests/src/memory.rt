@@ -1,277 +1,269 @@
-use crate::expected::{holds, same};
-use blk_base::{BackMover, Mode, Move, OutOfMemory};
+// Lines by hand, and what is kept of memory and mappings after them. The entry of reference 8 is words
+// 16 and 17 of frame 0; the frame that it grants is 700.
+use crate::given::line_of;
+use blk_base::Mode;
 use memory_check::Memory;
 use report_rules::Standing;
 use schedule_text::Line;
 use std::alloc::Global;
-use std::test::Fail;
+use std::process::Abort;
 
-// The entry of reference 8 is words 16 and 17 of frame 0; the frame that it grants.
-const FRAME: u32 = 700;
-
-fn front_write(frame: u32, word: u32, value: u32) -> Line {
-    Line::Move(Move::FrontWrite { frame, word, value })
+// What is asked after the lines, and the answer.
+#[derive(Clone, Copy)]
+enum Asked {
+    // Whether a map may be answered so.
+    Answers(&'static str, bool),
+    // Whether a word may be touched so.
+    Touches(&'static str, bool),
+    // What a word of a frame holds.
+    Word(u32, u32, u32),
+    // The mapping of a number.
+    Standing(u64, Option<Standing>),
+    // Whether a mapping had a number.
+    Made(u64, bool),
 }
 
-fn front_read(frame: u32, word: u32, value: u32) -> Line {
-    Line::Move(Move::FrontRead { frame, word, value })
-}
-
-fn exchange(old: u32, new: u32, seen: u32) -> Line {
-    Line::Move(Move::FrontCas {
-        frame: 0,
-        word: 16,
-        old,
-        new,
-        seen,
-    })
-}
-
-fn map(gref: u32, mode: Mode, mapping: u64, frame: u32) -> Line {
-    Line::Move(Move::Map {
-        who: BackMover::Back,
-        gref,
-        mode,
-        mapping,
-        frame,
-    })
-}
-
-fn refused(gref: u32, status: i32) -> Line {
-    Line::Move(Move::MapRefused {
-        who: BackMover::Job(1),
-        gref,
-        mode: Mode::ReadWrite,
-        status,
-    })
-}
-
-fn unmap(mapping: u64) -> Line {
-    Line::Move(Move::Unmap {
-        who: BackMover::Back,
-        mapping,
-    })
-}
-
-fn read(mapping: u64, frame: u32, word: u32, value: u32) -> Line {
-    Line::Move(Move::Read {
-        who: BackMover::Job(1),
-        mapping,
-        frame,
-        word,
-        value,
-    })
-}
-
-fn write(mapping: u64, frame: u32, word: u32, value: u32) -> Line {
-    Line::Move(Move::Write {
-        who: BackMover::Job(1),
-        mapping,
-        frame,
-        word,
-        value,
-    })
-}
-
-fn poke(frame: u32, word: u32, value: u32) -> Line {
-    Line::Poke { frame, word, value }
+// Words that are overwritten, then lines, and how many of both break no rule up to the first that
+// does; what is then asked.
+struct Case {
+    name: &'static str,
+    pokes: &'static [(u32, u32, u32)],
+    lines: &'static str,
+    allowed: usize,
+    asked: &'static [Asked],
 }
 
 fn is_allowed(memory: &Memory, line: &Line) -> bool {
     memory.shows_what_is_there(line) && memory.answers_map(line) && memory.touches_a_mapping(line)
 }
 
-// Sees lines up to the first that breaks a rule, and says how many broke none.
-fn see_all(memory: &mut Memory, report: &[Line]) -> Result<usize, OutOfMemory> {
+// Sees a line that breaks no rule.
+fn keeps(rt: &impl Abort, memory: &mut Memory, line: &Line) -> bool {
+    let allowed = is_allowed(memory, line);
+    if allowed {
+        memory.see(line).expect(rt, "memory");
+    }
+    allowed
+}
+
+fn count_allowed(rt: &impl Abort, memory: &mut Memory, case: &Case) -> usize {
     let mut count = 0usize;
-    for line in report {
-        if !is_allowed(memory, line) {
-            break;
+    for (frame, word, value) in case.pokes {
+        let poke = Line::Poke {
+            frame: *frame,
+            word: *word,
+            value: *value,
+        };
+        if !keeps(rt, memory, &poke) {
+            return count;
         }
-        memory.see(line)?;
         count = count.wrapping_add(1);
     }
-    Ok(count)
+    for text in case.lines.lines() {
+        if !keeps(rt, memory, &line_of(rt, text)) {
+            return count;
+        }
+        count = count.wrapping_add(1);
+    }
+    count
 }
 
-// How many lines at the start of a report break no rule.
-fn count_allowed(alloc: Global, report: &[Line]) -> Result<usize, OutOfMemory> {
-    see_all(&mut Memory::new(alloc), report)
+fn is_answer(rt: &impl Abort, memory: &Memory, asked: Asked) -> bool {
+    match asked {
+        Asked::Answers(text, may) => memory.answers_map(&line_of(rt, text)) == may,
+        Asked::Touches(text, may) => memory.touches_a_mapping(&line_of(rt, text)) == may,
+        Asked::Word(frame, word, value) => memory.word(frame, word) == value,
+        Asked::Standing(number, mapping) => memory.standing(number) == mapping,
+        Asked::Made(number, made) => memory.was_made(number) == made,
+    }
 }
 
-// A memory in which reference 8 grants a frame for writing.
-fn granted(alloc: Global) -> Result<Memory, OutOfMemory> {
+fn memory_after(rt: &impl Abort, alloc: Global, lines: &str) -> Memory {
     let mut memory = Memory::new(alloc);
-    memory.see(&front_write(0, 17, FRAME))?;
-    memory.see(&front_write(0, 16, 1))?;
-    Ok(memory)
+    for text in lines.lines() {
+        memory.see(&line_of(rt, text)).expect(rt, "memory");
+    }
+    memory
 }
 
-#[test]
-fn a_word_reads_as_it_was_last_written(rt: HostRuntime) -> Result<(), Fail> {
-    let report = [
-        front_read(5, 7, 0),
-        front_write(5, 7, 9),
-        front_write(5, 8, 10),
-        front_read(5, 7, 9),
-        poke(5, 7, 11),
-        Line::Word {
-            frame: 5,
-            word: 7,
-            value: 11,
-        },
-        front_read(5, 8, 11),
-    ];
-    same(&rt, count_allowed(rt.alloc(), &report)?, 6);
-    Ok(())
+fn answer(rt: &impl Abort, alloc: Global, begin: &str, cases: &[Case]) {
+    for case in cases {
+        let mut memory = memory_after(rt, alloc, begin);
+        let count = count_allowed(rt, &mut memory, case);
+        assert_eq!(rt; count, case.allowed, "{}", case.name);
+        for (place, asked) in case.asked.iter().enumerate() {
+            assert!(rt; is_answer(rt, &memory, *asked), "{}: {place}", case.name);
+        }
+    }
 }
 
-#[test]
-fn an_exchange_writes_where_it_saw_what_it_asked_for(rt: HostRuntime) -> Result<(), Fail> {
-    let mut memory = granted(rt.alloc())?;
-    let report = [exchange(2, 5, 1), exchange(1, 6, 1), exchange(6, 7, 5)];
-    same(&rt, see_all(&mut memory, &report)?, 2);
-    same(&rt, memory.word(0, 16), 6);
-    Ok(())
-}
+const WORDS: &[Case] = &[
+    Case {
+        name: "a word reads as it was last written",
+        pokes: &[],
+        lines: "m front read 5 7 00000000
+m front write 5 7 00000009
+m front write 5 8 0000000a
+m front read 5 7 00000009
+poke 5 7 11
+word 5 7 0000000b
+m front read 5 8 0000000b",
+        allowed: 6,
+        asked: &[],
+    },
+    Case {
+        name: "words elsewhere are kept too",
+        pokes: &[(5000, 7, 3), (7, 5000, 4)],
+        lines: "m front read 5000 7 00000003
+m front read 7 5000 00000004
+m front read 5000 8 00000000
+m front read 1023 1023 00000000",
+        allowed: 6,
+        asked: &[],
+    },
+];
 
 #[test]
-fn a_map_gives_the_frame_of_its_entry(rt: HostRuntime) -> Result<(), Fail> {
-    let mut memory = granted(rt.alloc())?;
-    let made = map(8, Mode::ReadWrite, 1, FRAME);
-    holds(&rt, memory.answers_map(&made));
-    holds(&rt, !memory.answers_map(&map(8, Mode::ReadWrite, 1, 701)));
-    holds(&rt, !memory.answers_map(&map(9, Mode::ReadWrite, 1, FRAME)));
-    memory.see(&made)?;
-    assert_eq!(rt;
-        memory.word(0, 16),
-        25,
-        "it is read and written through a mapping"
-    );
-    let standing = Standing {
-        number: 1,
-        gref: 8,
-        mode: Mode::ReadWrite,
-        frame: FRAME,
-    };
-    same(&rt, memory.standing(1), Some(standing));
-    same(&rt, memory.standing(2), None);
-    Ok(())
+fn a_word_is_kept(rt: HostRuntime) {
+    answer(&rt, rt.alloc(), "", WORDS);
 }
 
-#[test]
-fn a_refused_map_has_the_status_of_its_refusal(rt: HostRuntime) -> Result<(), Fail> {
-    let memory = granted(rt.alloc())?;
-    holds(&rt, memory.answers_map(&refused(9, -1)));
-    holds(&rt, memory.answers_map(&refused(1024, -3)));
-    holds(&rt, !memory.answers_map(&refused(9, -3)));
-    assert!(rt;
-        !memory.answers_map(&refused(8, -1)),
-        "the entry grants its frame"
-    );
-    Ok(())
-}
+// Reference 8 grants its frame for writing.
+const GRANTED: &str = "m front write 0 17 000002bc
+m front write 0 16 00000001";
+
+const MADE: Standing = Standing {
+    number: 1,
+    gref: 8,
+    mode: Mode::ReadWrite,
+    frame: 700,
+};
+
+const MAPPINGS: &[Case] = &[
+    Case {
+        name: "an exchange writes where it saw what it asked for",
+        pokes: &[],
+        lines: "m front cas 0 16 00000002 00000005 00000001
+m front cas 0 16 00000001 00000006 00000001
+m front cas 0 16 00000006 00000007 00000005",
+        allowed: 2,
+        asked: &[Asked::Word(0, 16, 6)],
+    },
+    Case {
+        name: "a map gives the frame of its entry",
+        pokes: &[],
+        lines: "",
+        allowed: 0,
+        asked: &[
+            Asked::Answers("m back map 8 w ok 1 700", true),
+            Asked::Answers("m back map 8 w ok 1 701", false),
+            Asked::Answers("m back map 9 w ok 1 700", false),
+        ],
+    },
+    Case {
+        name: "an entry is read and written through a mapping",
+        pokes: &[],
+        lines: "m back map 8 w ok 1 700",
+        allowed: 1,
+        asked: &[
+            Asked::Word(0, 16, 25),
+            Asked::Standing(1, Some(MADE)),
+            Asked::Standing(2, None),
+        ],
+    },
+    Case {
+        name: "a refused map has the status of its refusal",
+        pokes: &[],
+        lines: "",
+        allowed: 0,
+        asked: &[
+            Asked::Answers("m job 1 map 9 w refused -1", true),
+            Asked::Answers("m job 1 map 1024 w refused -3", true),
+            Asked::Answers("m job 1 map 9 w refused -3", false),
+            // The entry grants its frame.
+            Asked::Answers("m job 1 map 8 w refused -1", false),
+        ],
+    },
+    Case {
+        name: "a map has a new number",
+        pokes: &[],
+        lines: "m back map 8 r ok 5 700
+m back map 8 r ok 9 700
+m back map 8 r ok 6 700
+m back unmap 5
+m back map 8 r ok 5 700",
+        allowed: 4,
+        asked: &[
+            Asked::Made(5, true),
+            Asked::Made(6, true),
+            Asked::Made(9, true),
+            Asked::Made(0, false),
+            Asked::Made(7, false),
+            Asked::Made(10, false),
+        ],
+    },
+    Case {
+        name: "a touch goes through a mapping that stands",
+        pokes: &[],
+        lines: "m back map 8 w ok 1 700
+m job 1 write 1 700 3 00000004
+m job 1 read 1 700 3 00000004
+m back unmap 1
+m job 1 read 1 700 3 00000004",
+        allowed: 4,
+        asked: &[],
+    },
+    Case {
+        name: "a touch shows the frame of its mapping",
+        pokes: &[],
+        lines: "m back map 8 w ok 1 700",
+        allowed: 1,
+        asked: &[
+            Asked::Touches("m job 1 read 1 700 0 00000000", true),
+            Asked::Touches("m job 1 read 1 701 0 00000000", false),
+            Asked::Touches("m job 1 write 1 701 0 00000000", false),
+        ],
+    },
+    Case {
+        name: "no write goes through a mapping for reading",
+        pokes: &[],
+        lines: "m back map 8 r ok 1 700",
+        allowed: 1,
+        asked: &[
+            Asked::Touches("m job 1 read 1 700 0 00000000", true),
+            Asked::Touches("m job 1 write 1 700 0 00000000", false),
+        ],
+    },
+    Case {
+        name: "the flags of an entry tell which mappings are left",
+        pokes: &[],
+        lines: "m back map 8 w ok 1 700
+m back map 8 r ok 2 700
+m front read 0 16 00000019
+m back unmap 1
+m front read 0 16 00000009
+m back unmap 2
+m back unmap 3
+m front read 0 16 00000001",
+        allowed: 8,
+        asked: &[],
+    },
+    Case {
+        name: "an epoch clears the table and ends all mappings",
+        pokes: &[(1, 5000, 3)],
+        lines: "m back map 8 w ok 1 700
+m job 1 write 1 700 3 00000004
+epoch
+m front read 0 17 00000000
+m front read 1 5000 00000000
+m front read 700 3 00000004
+m job 1 read 1 700 3 00000004",
+        allowed: 7,
+        asked: &[Asked::Made(1, true)],
+    },
+];
 
 #[test]
-fn a_map_has_a_new_number(rt: HostRuntime) -> Result<(), Fail> {
-    let mut memory = granted(rt.alloc())?;
-    let report = [
-        map(8, Mode::ReadOnly, 5, FRAME),
-        map(8, Mode::ReadOnly, 9, FRAME),
-        map(8, Mode::ReadOnly, 6, FRAME),
-        unmap(5),
-        map(8, Mode::ReadOnly, 5, FRAME),
-    ];
-    same(&rt, see_all(&mut memory, &report)?, 4);
-    holds(
-        &rt,
-        memory.was_made(5) && memory.was_made(6) && memory.was_made(9),
-    );
-    holds(
-        &rt,
-        !memory.was_made(0) && !memory.was_made(7) && !memory.was_made(10),
-    );
-    Ok(())
-}
-
-#[test]
-fn a_touch_goes_through_a_mapping_that_stands(rt: HostRuntime) -> Result<(), Fail> {
-    let mut memory = granted(rt.alloc())?;
-    let report = [
-        map(8, Mode::ReadWrite, 1, FRAME),
-        write(1, FRAME, 3, 4),
-        read(1, FRAME, 3, 4),
-        unmap(1),
-        read(1, FRAME, 3, 4),
-    ];
-    same(&rt, see_all(&mut memory, &report)?, 4);
-    Ok(())
-}
-
-#[test]
-fn a_touch_shows_the_frame_of_its_mapping(rt: HostRuntime) -> Result<(), Fail> {
-    let mut memory = granted(rt.alloc())?;
-    memory.see(&map(8, Mode::ReadWrite, 1, FRAME))?;
-    holds(&rt, memory.touches_a_mapping(&read(1, FRAME, 0, 0)));
-    holds(&rt, !memory.touches_a_mapping(&read(1, 701, 0, 0)));
-    holds(&rt, !memory.touches_a_mapping(&write(1, 701, 0, 0)));
-    Ok(())
-}
-
-#[test]
-fn no_write_goes_through_a_mapping_for_reading(rt: HostRuntime) -> Result<(), Fail> {
-    let mut memory = granted(rt.alloc())?;
-    memory.see(&map(8, Mode::ReadOnly, 1, FRAME))?;
-    holds(&rt, memory.touches_a_mapping(&read(1, FRAME, 0, 0)));
-    holds(&rt, !memory.touches_a_mapping(&write(1, FRAME, 0, 0)));
-    Ok(())
-}
-
-#[test]
-fn the_flags_of_an_entry_tell_which_mappings_are_left(rt: HostRuntime) -> Result<(), Fail> {
-    let mut memory = granted(rt.alloc())?;
-    let report = [
-        map(8, Mode::ReadWrite, 1, FRAME),
-        map(8, Mode::ReadOnly, 2, FRAME),
-        front_read(0, 16, 25),
-        unmap(1),
-        front_read(0, 16, 9),
-        unmap(2),
-        unmap(3),
-        front_read(0, 16, 1),
-    ];
-    same(&rt, see_all(&mut memory, &report)?, 8);
-    Ok(())
-}
-
-#[test]
-fn an_epoch_clears_the_table_and_ends_all_mappings(rt: HostRuntime) -> Result<(), Fail> {
-    let mut memory = granted(rt.alloc())?;
-    let report = [
-        poke(1, 5000, 3),
-        map(8, Mode::ReadWrite, 1, FRAME),
-        write(1, FRAME, 3, 4),
-        Line::Epoch,
-        front_read(0, 17, 0),
-        front_read(1, 5000, 0),
-        front_read(FRAME, 3, 4),
-        read(1, FRAME, 3, 4),
-    ];
-    same(&rt, see_all(&mut memory, &report)?, 7);
-    holds(&rt, memory.was_made(1));
-    Ok(())
-}
-
-#[test]
-fn words_elsewhere_are_kept_too(rt: HostRuntime) -> Result<(), Fail> {
-    let report = [
-        poke(5000, 7, 3),
-        poke(7, 5000, 4),
-        front_read(5000, 7, 3),
-        front_read(7, 5000, 4),
-        front_read(5000, 8, 0),
-        front_read(1023, 1023, 0),
-    ];
-    same(&rt, count_allowed(rt.alloc(), &report)?, 6);
-    Ok(())
+fn a_mapping_goes_by_its_entry(rt: HostRuntime) {
+    answer(&rt, rt.alloc(), GRANTED, MAPPINGS);
 }

@@ -7,7 +7,6 @@ use Rattle.blk_front.specs.View.{View}
 use Rattle.blk_front.specs.Ask.{ask_at}
 use Rattle.blk_front.specs.Submit.{is_led, is_wait, is_idle}
 use Rattle.blk_back.specs.declared.stage.Stage.{Stage as BackStage}
-use Rattle.pipeline_laws.specs.Pipeline.{Pipeline}
 use Rattle.split_model.specs.World.{World, is_quiet}
 use Rattle.machine_pipeline.proofs.Flow.{has_ring}
 use Rattle.machine_pipeline.proofs.Over.{IsDrained, IsLeaving, IsKept}

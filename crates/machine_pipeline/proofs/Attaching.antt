@@ -7,7 +7,7 @@ use Rattle.schedule_text.specs.declared.line.Line.TheVariants.{Move}
 use Rattle.pipeline_laws.specs.Pipeline.{Pipeline}
 use Rattle.ring_words.specs.Shape.{Shape, entries_of}
 use Rattle.event_channel.specs.declared.channels.PortState.{PortState}
-use Rattle.blk_front.specs.Submit.{is_connected, ending_of}
+use Rattle.blk_front.specs.Submit.{is_connected}
 use Rattle.blk_back.specs.declared.stage.Stage.TheVariants as back
 use Rattle.blk_back.specs.Step.{attached}
 use Rattle.split_model.specs.World.{World}
@@ -16,8 +16,8 @@ use Rattle.split_model.proofs.Shapes.{attaches_waiting}
 use Rattle.split_model.proofs.Attaching.{attach_cases}
 use Rattle.machine_pipeline.specs.Allowed.{AreTerms}
 use Rattle.machine_pipeline.specs.Step.{IsSame}
-use Rattle.machine_pipeline.proofs.Flow.{Flow, wrapped}
-use Rattle.machine_pipeline.proofs.Holds.{Holds, AreIndices, PortsAt}
+use Rattle.machine_pipeline.proofs.Flow.{Flow}
+use Rattle.machine_pipeline.proofs.Holds.{Holds, PortsAt}
 use Rattle.machine_pipeline.proofs.Turns.{Goes, goes_by}
 use Rattle.machine_pipeline.proofs.Keyed.{asides_do}
 use Rattle.machine_pipeline.proofs.Slots.{some_pages}

@@ -9,7 +9,7 @@ use Rattle.split_model.specs.World.{World}
 use Rattle.split_model.specs.Happening.{BackMoves, happens, lines_at}
 use Rattle.machine_pipeline.specs.Plain.{IsPlain}
 use Rattle.machine_pipeline.proofs.Flow.{Flow}
-use Rattle.machine_pipeline.proofs.Holds.{Holds, Stands}
+use Rattle.machine_pipeline.proofs.Holds.{Stands}
 use Rattle.machine_pipeline.proofs.Turns.{BackGoes, Goes}
 use Rattle.machine_pipeline.proofs.BackStill.{BackStands}
 use Rattle.machine_pipeline.proofs.BackMaps.{goes_init_wait, goes_map_ring, goes_bind}

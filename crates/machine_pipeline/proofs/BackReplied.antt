@@ -22,7 +22,7 @@ use Rattle.blk_back.specs.Step.{fetched}
 use Rattle.split_model.specs.World.{World}
 use Rattle.split_model.specs.Shown.{halt_lines}
 use Rattle.machine_pipeline.proofs.Flow.{Flow, wrapped, ending_at, is_issuing, telling_at}
-use Rattle.machine_pipeline.proofs.Holds.{Holds, AreIndices, IsReplying, IsReply, AreReplies, IsEnding, IsTaken, FrontAt, AreRingWords, AreSlots, slot_of, IsFrontSleep}
+use Rattle.machine_pipeline.proofs.Holds.{Holds, AreIndices, IsReply, AreReplies, IsEnding, IsTaken, FrontAt, AreRingWords, AreSlots, slot_of, IsFrontSleep}
 use Rattle.machine_pipeline.proofs.Turns.{BackGoes, Stepped, does_step, goes_by}
 use Rattle.machine_pipeline.proofs.Kept.{front_sleep_kept, back_sleep_kept}
 use Rattle.machine_pipeline.proofs.ReadsKept.{stations_elsewhere}

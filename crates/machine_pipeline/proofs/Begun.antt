@@ -10,7 +10,7 @@ use Rattle.blk_io.specs.Disk.{DiskSeen, HasLength}
 use Rattle.schedule_text.specs.declared.line.Line.{Line}
 use Rattle.split_model.specs.World.{World, start_of}
 use Rattle.split_model.specs.Happening.{Happening, happens, after, lines_at, lines_of as shown_by, DiskRuns as MachineRuns}
-use Rattle.pipeline_laws.specs.Pipeline.{Pipeline, Step, Submits, Refuses, Moves, Connects, StartsToClose, Closes, Leaves, Resumes, Rests, Shows, next, step_lines, after_steps, lines_of, pipeline_of}
+use Rattle.pipeline_laws.specs.Pipeline.{Pipeline, Step, Moves, next, step_lines, after_steps, lines_of, pipeline_of}
 use Rattle.pipeline_laws.specs.Allowed.{AreAllowed as StepsAllowed}
 use Rattle.pipeline_laws.specs.Disk.{DiskRuns, AreConsistent}
 use Rattle.pipeline_laws.specs.Effects.{IsOfADisk}
@@ -20,7 +20,7 @@ use Rattle.pipeline_laws.proofs.Running.{move_shows}
 use Rattle.machine_pipeline.specs.Plain.{IsPlain}
 use Rattle.machine_pipeline.specs.Allowed.{AreServed}
 use Rattle.machine_pipeline.specs.Submissions.{submitted_at, submitted_of}
-use Rattle.machine_pipeline.specs.Step.{CallAt, Does}
+use Rattle.machine_pipeline.specs.Step.{CallAt}
 use Rattle.machine_pipeline.proofs.Sectors.{SectorsGo, SectorsRun, sectors_run}
 use Rattle.machine_pipeline.proofs.Together.{always_steps}
 use Rattle.machine_pipeline.proofs.Runs.{steps_of, allowed_of, lines_shown, submits_of, disk_of, IsRunFrom, goes_none, called, submitted_first, IsRunUpTo, run_up_to, shown_calls}

@@ -1,5 +1,5 @@
 -- The front reads a grant entry, ends it, and tells the answer: what all that holds becomes.
-use Rattle.std.proofs.Common.{◌≡◌, ◌≢◌, ℕ, ◌+◌, ◌-◌, ◌*◌, ◌<◌, ◌≤◌, ◌==◌, ◌⊎◌, inl, inr, if◌then◌else◌, Bool, true, List, [], ◌∷◌, refl, ap, sym, ◌∙◌, subst, arith, true≢false, length-set, false, length, ◌^◌}
+use Rattle.std.proofs.Common.{◌≡◌, ◌≢◌, ℕ, ◌+◌, ◌-◌, ◌*◌, ◌<◌, ◌≤◌, ◌==◌, inl, inr, if◌then◌else◌, Bool, true, List, [], ◌∷◌, refl, ap, sym, ◌∙◌, subst, arith, true≢false, length-set, false, length, ◌^◌}
 use Rattle.std.proofs.lemmas.Bool.{cases_eq}
 use Rattle.std.specs.Prelude.{Option, Some, None, slice_get, nat_lt}
 use Rattle.std.proofs.lemmas.Option.{none-some, same_Some}
@@ -30,7 +30,7 @@ use Rattle.blk_front.specs.Step.{at as at_stage, broken, is_mapped, end_step, fi
 use Rattle.split_model.specs.World.{World}
 use Rattle.split_model.specs.Shown.{front_lines}
 use Rattle.machine_pipeline.proofs.Flow.{Flow, frames_of, is_fetching, reply_at, ending_at, telling_at, is_issuing, is_bound_back, may_front_sleep, is_front_arming}
-use Rattle.machine_pipeline.proofs.Holds.{Holds, FrontAt, FrontSends, IsOffered, PortsAt, IsPooled, ArePooled, IsSubmitted, IsEnding, IsEndingAt, AreEntries, AreRevoked, AreDataWords}
+use Rattle.machine_pipeline.proofs.Holds.{Holds, FrontAt, IsOffered, PortsAt, IsPooled, ArePooled, IsSubmitted, IsEnding, AreEntries, AreRevoked, AreDataWords}
 use Rattle.machine_pipeline.proofs.Turns.{Goes, FrontGoes, front_says, front_next, said_nothing, does_step, goes_by}
 use Rattle.machine_pipeline.proofs.Lists.{all_from, same_number}
 use Rattle.machine_pipeline.proofs.Data.{SameData, pooled_at}

@@ -9,7 +9,6 @@ use Rattle.blk_base.specs.declared.parts.Mapping.{Mapping}
 use Rattle.grant_table.specs.declared.held.Held.{Held}
 use Rattle.pipeline_laws.specs.Pipeline.{Pipeline}
 use Rattle.blk_front.specs.declared.request.Request.{Request}
-use Rattle.blk_front.specs.declared.request.Transfer.TheVariants as transfer
 use Rattle.blk_front.specs.Request.{frame_at, words_in}
 use Rattle.blk_front.specs.declared.stage.Ending.{Ending}
 use Rattle.blk_front.specs.declared.stage.Stage.{Stage as FrontStage}

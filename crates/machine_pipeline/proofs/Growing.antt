@@ -20,7 +20,7 @@ use Rattle.machine_pipeline.proofs.Flow.{frames_of, uses, ending_frames, ending_
 use Rattle.machine_pipeline.proofs.Series.{IsSeries, among_grown}
 use Rattle.machine_pipeline.proofs.Holds.{IsPooled, AreNumbers, AreQueued, IsSubmitted, AreSubmitted, ArePooled, IsOfTheDisk}
 use Rattle.machine_pipeline.proofs.Stations.{AreKnown, AreOpen}
-use Rattle.machine_pipeline.proofs.Lists.{found_at, get_append, get_last, get_within, count_set, same_number}
+use Rattle.machine_pipeline.proofs.Lists.{found_at, get_append, get_last, count_set, same_number}
 
 pub longer : {X : Type 0} (xs : List X) (y : X) → length (xs ++ y ∷ []) ≡ length xs + 1
 longer xs y = length-append xs (y ∷ [])

@@ -1,5 +1,5 @@
 -- The indices of both ends where little of them changes.
-use Rattle.std.proofs.Common.{◌≡◌, ℕ, ◌+◌, ◌^◌, ◌<◌, ◌≤◌, Bool, List, length, refl, ◌∙◌, arith}
+use Rattle.std.proofs.Common.{◌≡◌, ℕ, ◌+◌, ◌^◌, ◌<◌, ◌≤◌, Bool, List, length, arith}
 use Rattle.blk_base.specs.Options.{Options}
 use Rattle.ring_words.specs.Ring.{Ring}
 use Rattle.ring_words.specs.Shape.{entries_of}

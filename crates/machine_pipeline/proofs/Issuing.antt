@@ -14,7 +14,7 @@ use Rattle.blk_front.specs.declared.stage.Stage.TheVariants as front
 use Rattle.blk_front.specs.Request.{frames_for}
 use Rattle.blk_front.specs.View as front_view
 use Rattle.blk_front.specs.View.{next_request}
-use Rattle.blk_front.specs.Submit.{is_ready, is_connected, ending_of}
+use Rattle.blk_front.specs.Submit.{is_ready, ending_of}
 use Rattle.blk_back.specs.declared.stage.Reply.{Reply}
 use Rattle.blk_back.specs.declared.stage.Stage.{Stage as BackStage}
 use Rattle.split_model.specs.World.{World}

@@ -33,7 +33,7 @@ use Rattle.split_model.specs.World.{World}
 use Rattle.machine_pipeline.proofs.Flow.{Flow, frames_of, ending_at, worked}
 use Rattle.machine_pipeline.proofs.Segments.{data_frames, own_here, few_pages_for, page_here}
 use Rattle.machine_pipeline.proofs.Data.{pooled_at}
-use Rattle.machine_pipeline.proofs.Holds.{Holds, IsPooled, IsMoving, IsHand, IsCopying, is_only_read, AtWork, IsWork, IsGranted, AreEntries, AreMapped, ArePooled, mapped_at, flags_with}
+use Rattle.machine_pipeline.proofs.Holds.{Holds, IsPooled, IsHand, IsCopying, is_only_read, AtWork, IsWork, IsGranted, AreEntries, AreMapped, ArePooled, mapped_at, flags_with}
 use Rattle.machine_pipeline.proofs.ReadBack.{ReadAt}
 use Rattle.machine_pipeline.proofs.Turns.{GoesBy, nothing, goes_by}
 use Rattle.machine_pipeline.proofs.Lists.{all_at, set_was}

@@ -36,7 +36,7 @@ use Rattle.machine_pipeline.proofs.Mapped.{frame_live}
 use Rattle.machine_pipeline.proofs.Kept.{SameFrame, SameGrants, other_frame, same_entry, data_kept, entries_kept}
 use Rattle.machine_pipeline.proofs.BackStill.{ending_submitted, revoking_ends, grants_same}
 use Rattle.machine_pipeline.proofs.Jobs.{StationsWith, stations_stay, job_makes, other_number}
-use Rattle.machine_pipeline.proofs.JobMoves.{IsAt, IsOwn, JobGoesAt, work_of, live_hand, hands_step, sectors_left, next_sector_is, worked_further, at_further, IsDoing, read_now}
+use Rattle.machine_pipeline.proofs.JobMoves.{JobGoesAt, work_of, live_hand, hands_step, sectors_left, next_sector_is, worked_further, at_further, IsDoing, read_now}
 use Rattle.machine_pipeline.specs.Step.{CallOf}
 
 -- the frames of another unfinished request are others

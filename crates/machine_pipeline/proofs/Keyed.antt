@@ -11,7 +11,6 @@ use Rattle.blk_base.specs.declared.moves.Move.TheVariants as moves
 use Rattle.schedule_text.specs.declared.line.Line.{Line}
 use Rattle.schedule_text.specs.declared.line.Line.TheVariants as lines
 use Rattle.key_directory.specs.Directory.{Directory}
-use Rattle.hypervisor.specs.Hypervisor.{Hypervisor}
 use Rattle.hypervisor.specs.Act.{with_keys, watch_taken}
 use Rattle.pipeline_laws.specs.Allowed.{is_aside}
 use Rattle.pipeline_laws.specs.Pipeline.{Pipeline, after_steps}

@@ -1,5 +1,5 @@
 -- The front looks for responses: at the producer, and again before it sleeps.
-use Rattle.std.proofs.Common.{◌≡◌, ◌≢◌, ℕ, ◌+◌, ◌*◌, ◌<◌, ◌≤◌, ◌==◌, inl, if◌then◌else◌, Bool, true, false, List, [], ◌∷◌, length, refl, sym, ◌∙◌, subst, arith, true≢false, length-set}
+use Rattle.std.proofs.Common.{◌≡◌, ◌≢◌, ℕ, ◌+◌, ◌*◌, ◌<◌, ◌≤◌, ◌==◌, inl, if◌then◌else◌, Bool, true, false, List, ◌∷◌, length, refl, sym, ◌∙◌, subst, arith, true≢false, length-set}
 use Rattle.std.specs.Prelude.{None, nat_lt}
 use Rattle.std.proofs.lemmas.Bool.Decides.{nat_tests}
 use Rattle.blk_base.specs.Options.{Options}
@@ -8,7 +8,6 @@ use Rattle.blk_base.specs.declared.moves.Move.{Move}
 use Rattle.blk_base.specs.declared.moves.Move.TheVariants as moves
 use Rattle.blk_base.specs.declared.moves.Mover.TheVariants as mover
 use Rattle.schedule_text.specs.declared.line.Line.TheVariants as lines
-use Rattle.hypervisor.specs.Hypervisor.{Hypervisor}
 use Rattle.pipeline_laws.specs.Pipeline.{Pipeline}
 use Rattle.ring_words.specs.Ring.{next_of}
 use Rattle.xen_pages.specs.Pages.{word_of, with_word}

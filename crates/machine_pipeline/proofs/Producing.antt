@@ -1,5 +1,5 @@
 -- What holds goes on holding when the front writes its producer.
-use Rattle.std.proofs.Common.{◌≡◌, ◌≢◌, ℕ, ◌+◌, ◌-◌, ◌*◌, ◌<◌, ◌==◌, List, length, ap, ◌∙◌, inl, inr, arith, length-set, [], ◌∷◌, true, refl, false}
+use Rattle.std.proofs.Common.{◌≡◌, ◌≢◌, ℕ, ◌+◌, ◌-◌, ◌*◌, ◌<◌, ◌==◌, List, length, ap, ◌∙◌, inl, inr, arith, length-set, [], true, refl, false}
 use Rattle.std.specs.Prelude.{Some, None, slice_get}
 use Rattle.std.proofs.lemmas.Bool.Decides.{nat_tests}
 use Rattle.blk_base.specs.Options.{Options}

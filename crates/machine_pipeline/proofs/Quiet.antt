@@ -37,7 +37,7 @@ use Rattle.hypervisor.specs.Act.{has_to_take}
 use Rattle.split_model.specs.Happening.{Dumps, Looks, Settles, lines_at}
 use Rattle.split_model.proofs.Overwriting.{dump_lines_are}
 use Rattle.machine_pipeline.proofs.Flow.{Flow, ending_at, count_of, reply_at, reply_count}
-use Rattle.machine_pipeline.proofs.Holds.{Holds, Stands, FrontAt, BackAt, FrontSends, BackSends}
+use Rattle.machine_pipeline.proofs.Holds.{Stands, FrontAt, BackAt, FrontSends, BackSends}
 use Rattle.machine_pipeline.specs.Step.{IsSame}
 use Rattle.machine_pipeline.proofs.Over.{IsKept, HasGone, gone_by}
 use Rattle.machine_pipeline.proofs.Keyed.{asides_do}

@@ -38,7 +38,6 @@ use Rattle.machine_pipeline.proofs.Holds.{FrontAt, AreOffered, IsOffered, Holds}
 use Rattle.ring_words.specs.Shape.{Shape}
 use Rattle.std.proofs.lemmas.Bool.{cases_lt}
 use Rattle.machine_pipeline.proofs.Lists.{count_set}
-use Rattle.machine_pipeline.proofs.Stations.{AreKnown}
 use Rattle.std.proofs.lemmas.List.{length-map}
 use Rattle.machine_pipeline.proofs.Holding.{ruled_frames, frames_alike, same_stage}
 

@@ -1,5 +1,5 @@
 -- A step of the front while it issues nothing and ends no grant: it looks at the ring, takes up a response, or goes to sleep.
-use Rattle.std.proofs.Common.{◌≡◌, ◌≢◌, ℕ, ◌+◌, ◌<◌, ◌≤◌, ◌⊎◌, inl, inr, Bool, true, false, List, length, get_or, refl, sym, ◌∙◌, subst, arith, ◌^◌}
+use Rattle.std.proofs.Common.{◌≡◌, ◌≢◌, ℕ, ◌+◌, ◌<◌, ◌≤◌, inl, inr, Bool, true, false, List, length, get_or, refl, sym, ◌∙◌, subst, arith, ◌^◌}
 use Rattle.std.specs.Prelude.{◌/◌, All, Option, Some, None, slice_get, slice_index_or}
 use Rattle.grant_table.specs.declared.held.Held.{Held}
 use Rattle.blk_front.specs.Request.{frame_at, frames_for}

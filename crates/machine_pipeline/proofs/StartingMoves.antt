@@ -21,7 +21,7 @@ use Rattle.split_model.specs.World.{World}
 use Rattle.split_model.specs.Shown.{front_lines}
 use Rattle.machine_pipeline.specs.Plain.{IsPlain}
 use Rattle.machine_pipeline.proofs.Flow.{Flow, wrapped, may_front_sleep, is_bound_back}
-use Rattle.machine_pipeline.proofs.Holds.{Holds, FrontAt, RingBegun, AreRingWords, PortsAt}
+use Rattle.machine_pipeline.proofs.Holds.{Holds, FrontAt, AreRingWords, PortsAt}
 use Rattle.std.proofs.lemmas.Bool.{cases_eq}
 use Rattle.ring_words.specs.Shape.{Shape}
 use Rattle.grant_table.specs.Table.{entry_word0, entry_word1}

@@ -1,5 +1,5 @@
 -- The front takes a response: what all that holds becomes.
-use Rattle.std.proofs.Common.{◌≡◌, ◌≢◌, ℕ, suc, ◌+◌, ◌-◌, ◌*◌, ◌^◌, ◌<◌, ◌≤◌, ◌==◌, ◌⊎◌, inl, inr, if◌then◌else◌, Bool, List, [], ◌∷◌, length, take, drop, refl, ap, sym, ◌∙◌, subst, arith, true≢false, true, false}
+use Rattle.std.proofs.Common.{◌≡◌, ◌≢◌, ℕ, suc, ◌+◌, ◌-◌, ◌*◌, ◌^◌, ◌<◌, ◌≤◌, ◌==◌, inl, inr, if◌then◌else◌, Bool, List, [], ◌∷◌, length, take, drop, refl, ap, sym, ◌∙◌, subst, arith, true≢false, true, false}
 use Rattle.std.specs.Prelude.{All, Option, Some, None, slice_get, remove, Result, Ok}
 use Rattle.std.proofs.lemmas.Option.{none-some, same_Some, slice_get_within}
 use Rattle.std.proofs.lemmas.List.Edits.{length-remove}
@@ -34,7 +34,7 @@ use Rattle.blk_back.specs.Ask.{response_word}
 use Rattle.split_model.specs.World.{World}
 use Rattle.split_model.specs.Shown.{front_lines}
 use Rattle.machine_pipeline.proofs.Flow.{Flow, wrapped, entered, ending_at, telling_at, is_issuing, is_fetching, is_front_arming, is_bound_back, reply_at, worked, frames_of}
-use Rattle.machine_pipeline.proofs.Holds.{Holds, FrontAt, FrontSends, IsOffered, IsPooled, ArePooled, IsSubmitted, IsEnding, IsReply, AreQueued, AreReplies, IsTaken, IsFilled, IsGranted, AreRevoked, PortsAt, IsWork, flags_with, AreIndices, slot_of}
+use Rattle.machine_pipeline.proofs.Holds.{Holds, FrontAt, IsOffered, IsPooled, ArePooled, IsSubmitted, IsEnding, IsReply, IsTaken, IsFilled, IsGranted, AreRevoked, PortsAt, IsWork, flags_with, AreIndices, slot_of}
 use Rattle.machine_pipeline.proofs.Kept.{as_connected}
 use Rattle.machine_pipeline.proofs.Ending.{pooled_free}
 use Rattle.pipeline_laws.specs.Station.{Replied}

@@ -8,7 +8,6 @@ use Rattle.blk_base.specs.Options.{Options}
 use Rattle.blk_base.specs.declared.moves.Move.TheVariants as moves
 use Rattle.schedule_text.specs.declared.line.Line.TheVariants as lines
 use Rattle.pipeline_laws.specs.Pipeline.{Pipeline, next}
-use Rattle.blk_front.specs.declared.request.Transfer.TheVariants as transfer
 use Rattle.blk_front.specs.declared.request.Request.{Request}
 use Rattle.blk_front.specs.declared.stage.Ending.{Ending}
 use Rattle.blk_front.specs.declared.stage.Stage.{Stage as FrontStage}

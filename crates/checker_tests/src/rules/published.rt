@@ -1,8 +1,9 @@
 // What one line tells of what both ends publish (`io/blkif.h`).
+use crate::given::line_of;
 use report_rules::{Keeping, Serving, info_told, keeping_after, serving_after};
-use schedule_text::read_line;
+use schedule_text::Line;
 use segment_list::DiskInfo;
-use std::test::Fail;
+use std::process::Abort;
 
 const DISK: DiskInfo = DiskInfo {
     sectors: 16,
@@ -22,110 +23,105 @@ const READ_ONLY: DiskInfo = DiskInfo {
     max_indirect: 32,
 };
 
-// The disk that the back may publish after the line of a text.
-fn told_after(info: DiskInfo, text: &str) -> Result<DiskInfo, Fail> {
-    let line = read_line(text.as_bytes())
-        .ok()
-        .ok_or("no line of a report")?;
-    Ok(info_told(info, &line))
+// What is published after a line.
+#[derive(Clone, Copy)]
+enum Told {
+    // The disk that the back may publish, where another was told before.
+    Disk(DiskInfo, DiskInfo),
+    // Whether the back serves barriers, flushes, discards and indirect requests, where it served
+    // barriers before.
+    Serves([bool; 4]),
+    // Whether the back offered to keep grants and the front asked for it, where neither did before.
+    Keeps(bool, bool),
 }
 
-#[test]
-fn the_options_say_what_the_back_may_publish(rt: HostRuntime) -> Result<(), Fail> {
-    for (before, text, disk) in [
-        (READ_ONLY, "begin 64 0 0 960 0 rw 16 moves", DISK),
-        (DISK, "begin 64 0 0 32 0 ro 8 moves", READ_ONLY),
-        (DISK, "epoch", DISK),
-    ] {
-        assert_eq!(rt; told_after(before, text)?, disk, "{text}");
-    }
-    Ok(())
-}
-
-// Whether the back serves barriers, flushes, discards and indirect requests, where it served
-// barriers before a line.
-fn served_after(text: &str) -> Result<[bool; 4], Fail> {
-    let line = read_line(text.as_bytes())
-        .ok()
-        .ok_or("no line of a report")?;
+fn served_after(line: &Line) -> [bool; 4] {
     let s = Serving {
         barrier: true,
         flush: false,
         discard: false,
         indirect: false,
     };
-    let s = serving_after(s, &line);
-    Ok([s.barrier, s.flush, s.discard, s.indirect])
+    let s = serving_after(s, line);
+    [s.barrier, s.flush, s.discard, s.indirect]
 }
 
-#[test]
-fn the_back_serves_what_its_keys_offer(rt: HostRuntime) -> Result<(), Fail> {
-    for (text, served) in [
-        (
-            "m back setkey /local/domain/0/backend/vbd/1/51712/feature-barrier =0",
-            [false, false, false, false],
-        ),
-        (
-            "m back setkey /local/domain/0/backend/vbd/1/51712/feature-flush-cache =1",
-            [true, true, false, false],
-        ),
-        (
-            "m back setkey /local/domain/0/backend/vbd/1/51712/feature-discard =1",
-            [true, false, true, false],
-        ),
-        (
-            "m back setkey /local/domain/0/backend/vbd/1/51712/feature-max-indirect-segments =32",
-            [true, false, false, true],
-        ),
-        (
-            "m front setkey /local/domain/0/backend/vbd/1/51712/feature-barrier =0",
-            [true, false, false, false],
-        ),
-    ] {
-        assert_eq!(rt; served_after(text)?, served, "{text}");
-    }
-    Ok(())
-}
-
-// Whether the back offered to keep grants and the front asked for it, where neither did before a
-// line.
-fn kept_after(text: &str) -> Result<(bool, bool), Fail> {
-    let line = read_line(text.as_bytes())
-        .ok()
-        .ok_or("no line of a report")?;
+fn is_kept(line: &Line, offered: bool, asked: bool) -> bool {
     let s = Keeping {
         offered: false,
         asked: false,
     };
-    let s = keeping_after(s, &line);
-    Ok((s.offered, s.asked))
+    let s = keeping_after(s, line);
+    s.offered == offered && s.asked == asked
+}
+
+fn is_told(line: &Line, told: Told) -> bool {
+    match told {
+        Told::Disk(before, after) => info_told(before, line) == after,
+        Told::Serves(served) => served_after(line) == served,
+        Told::Keeps(offered, asked) => is_kept(line, offered, asked),
+    }
+}
+
+const CASES: &[(&str, Told)] = &[
+    // The options say what the back may publish.
+    (
+        "begin 64 0 0 960 0 rw 16 moves",
+        Told::Disk(READ_ONLY, DISK),
+    ),
+    ("begin 64 0 0 32 0 ro 8 moves", Told::Disk(DISK, READ_ONLY)),
+    ("epoch", Told::Disk(DISK, DISK)),
+    // The back serves what its keys offer.
+    (
+        "m back setkey /local/domain/0/backend/vbd/1/51712/feature-barrier =0",
+        Told::Serves([false, false, false, false]),
+    ),
+    (
+        "m back setkey /local/domain/0/backend/vbd/1/51712/feature-flush-cache =1",
+        Told::Serves([true, true, false, false]),
+    ),
+    (
+        "m back setkey /local/domain/0/backend/vbd/1/51712/feature-discard =1",
+        Told::Serves([true, false, true, false]),
+    ),
+    (
+        "m back setkey /local/domain/0/backend/vbd/1/51712/feature-max-indirect-segments =32",
+        Told::Serves([true, false, false, true]),
+    ),
+    (
+        "m front setkey /local/domain/0/backend/vbd/1/51712/feature-barrier =0",
+        Told::Serves([true, false, false, false]),
+    ),
+    // Grants are kept where both ends publish 1.
+    (
+        "m back setkey /local/domain/0/backend/vbd/1/51712/feature-persistent =1",
+        Told::Keeps(true, false),
+    ),
+    (
+        "m back setkey /local/domain/0/backend/vbd/1/51712/feature-persistent =2",
+        Told::Keeps(false, false),
+    ),
+    (
+        "m back getkey /local/domain/1/device/vbd/51712/feature-persistent =01",
+        Told::Keeps(false, true),
+    ),
+    (
+        "m back getkey /local/domain/1/device/vbd/51712/feature-persistent",
+        Told::Keeps(false, false),
+    ),
+    (
+        "m front setkey /local/domain/1/device/vbd/51712/feature-persistent =1",
+        Told::Keeps(false, false),
+    ),
+];
+
+fn tell(rt: &impl Abort, cases: &[(&str, Told)]) {
+    for (text, told) in cases {
+        assert!(rt; is_told(&line_of(rt, text), *told), "{text}");
+    }
 }
 
 #[test]
-fn grants_are_kept_where_both_ends_publish_1(rt: HostRuntime) -> Result<(), Fail> {
-    for (text, kept) in [
-        (
-            "m back setkey /local/domain/0/backend/vbd/1/51712/feature-persistent =1",
-            (true, false),
-        ),
-        (
-            "m back setkey /local/domain/0/backend/vbd/1/51712/feature-persistent =2",
-            (false, false),
-        ),
-        (
-            "m back getkey /local/domain/1/device/vbd/51712/feature-persistent =01",
-            (false, true),
-        ),
-        (
-            "m back getkey /local/domain/1/device/vbd/51712/feature-persistent",
-            (false, false),
-        ),
-        (
-            "m front setkey /local/domain/1/device/vbd/51712/feature-persistent =1",
-            (false, false),
-        ),
-    ] {
-        assert_eq!(rt; kept_after(text)?, kept, "{text}");
-    }
-    Ok(())
+fn both_ends_publish_what_their_keys_say(rt: HostRuntime) {
+    tell(&rt, CASES);
 }

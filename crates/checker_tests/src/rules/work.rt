@@ -6,7 +6,7 @@ use blk_layout::{RawRequest, Response, Segment, read_request};
 use report_rules::{Task, status_by, work_response, work_tasks, work_verdict};
 use segment_list::{DiskInfo, Verdict, Why};
 use std::alloc::Global;
-use std::test::Fail;
+use std::process::Abort;
 
 const DISK: DiskInfo = DiskInfo {
     sectors: 16,
@@ -16,6 +16,18 @@ const DISK: DiskInfo = DiskInfo {
     discard: true,
     max_indirect: 960,
 };
+
+#[derive(Clone, Copy)]
+enum Given {
+    // The request of the entry of the write.
+    Entry,
+    // An operation, how many segments count and the first sector.
+    Direct(u8, u8, u64),
+    // An operation and how many segments its pages have.
+    Indirect(u8, u16),
+    // The first sector and how many.
+    Discard(u64, u64),
+}
 
 // A request in the direct form, with a whole frame and two sectors after it.
 fn direct(op: u8, count: u8, sector: u64) -> RawRequest {
@@ -44,59 +56,46 @@ fn direct(op: u8, count: u8, sector: u64) -> RawRequest {
     }
 }
 
-fn indirect(op: u8, count: u16) -> RawRequest {
-    RawRequest::Indirect {
-        op,
-        count,
-        device: 51712,
-        id: 9,
-        sector: 0,
-        pages: [30, 31, 0, 0, 0, 0, 0, 0],
-    }
-}
-
-// What is done for a request, where grants aren't persistent and these words were read.
-fn tasks_of(alloc: Global, request: &RawRequest, words: &[u32]) -> Result<Vec<Task>, Fail> {
-    Ok(work_tasks(alloc, request, &DISK, false, words)?)
-}
-
-fn status_of(alloc: Global, request: &RawRequest, words: &[u32]) -> Result<Status, Fail> {
-    let verdict = work_verdict(alloc, request, &DISK, words)?;
-    Ok(status_by(&verdict))
-}
-
-// The request of the entry.
-fn written_request() -> RawRequest {
-    let mut words = [0u32; 28];
-    for i in 0..8usize {
-        words[i] = ENTRY[i];
-    }
-    read_request(Abi::X64, &words)
-}
-
-#[test]
-fn an_entry_tells_its_work(rt: HostRuntime) -> Result<(), Fail> {
-    let request = written_request();
-    for (persistent, mode) in [(false, Mode::ReadOnly), (true, Mode::ReadWrite)] {
-        let work = work_tasks(rt.alloc(), &request, &DISK, persistent, &[])?;
-        let store = Task::Store {
-            gref: 24,
-            mode,
+fn request_of(given: Given) -> RawRequest {
+    match given {
+        Given::Entry => read_request(Abi::X64, &ENTRY),
+        Given::Direct(op, count, sector) => direct(op, count, sector),
+        Given::Indirect(op, count) => RawRequest::Indirect {
+            op,
+            count,
+            device: 51712,
+            id: 9,
             sector: 0,
-            first: 0,
-            count: 1,
-        };
-        same(&rt, work.as_slice(), [store].as_slice());
+            pages: [30, 31, 0, 0, 0, 0, 0, 0],
+        },
+        Given::Discard(sector, count) => RawRequest::Discard {
+            flag: 0,
+            device: 51712,
+            id: 9,
+            sector,
+            count,
+        },
     }
-    let response = Response {
-        id: 1,
-        op: 1,
-        status: Status::Okay,
-    };
-    let status = status_of(rt.alloc(), &request, &[])?;
-    same(&rt, work_response(&request, status), response);
-    Ok(())
 }
+
+// A request, whether grants are persistent, the words of its pages that were read, and what is done.
+type Case = (&'static str, Given, bool, &'static [u32], &'static [Task]);
+
+const FOR_READING: Task = Task::Store {
+    gref: 24,
+    mode: Mode::ReadOnly,
+    sector: 0,
+    first: 0,
+    count: 1,
+};
+
+const FOR_WRITING: Task = Task::Store {
+    gref: 24,
+    mode: Mode::ReadWrite,
+    sector: 0,
+    first: 0,
+    count: 1,
+};
 
 const FIRST: Task = Task::Load {
     gref: 24,
@@ -112,47 +111,10 @@ const SECOND: Task = Task::Load {
     count: 2,
 };
 
-#[test]
-fn segments_follow_each_other_on_the_disk(rt: HostRuntime) -> Result<(), Fail> {
-    let tasks = [FIRST, SECOND];
-    for (op, count, sector, done) in [(0, 1, 3, 1), (0, 2, 3, 2), (0, 2, 7, 0), (4, 2, 3, 0)] {
-        let work = tasks_of(rt.alloc(), &direct(op, count, sector), &[])?;
-        assert_eq!(rt; work.as_slice(), &tasks[..done], "{op} {count} {sector}");
-    }
-    Ok(())
-}
-
-#[test]
-fn a_request_that_is_not_served_has_no_work(rt: HostRuntime) -> Result<(), Fail> {
-    same(
-        &rt,
-        status_of(rt.alloc(), &direct(0, 2, 7), &[])?,
-        Status::Error,
-    );
-    let verdict = work_verdict(rt.alloc(), &direct(4, 2, 3), &DISK, &[])?;
-    same(&rt, verdict, Verdict::Error(Why::Op));
-    Ok(())
-}
-
-#[test]
-fn a_flush_and_a_discard_have_one_task(rt: HostRuntime) -> Result<(), Fail> {
-    let flush = tasks_of(rt.alloc(), &direct(3, 0, 3), &[])?;
-    same(&rt, flush.as_slice(), [Task::Flush].as_slice());
-    let discard = RawRequest::Discard {
-        flag: 0,
-        device: 51712,
-        id: 9,
-        sector: 2,
-        count: 14,
-    };
-    let trim = Task::Trim {
-        sector: 2,
-        count: 14,
-    };
-    let work = tasks_of(rt.alloc(), &discard, &[])?;
-    same(&rt, work.as_slice(), [trim].as_slice());
-    Ok(())
-}
+const TRIM: Task = Task::Trim {
+    sector: 2,
+    count: 14,
+};
 
 const PAGE: Task = Task::Page { gref: 30, words: 4 };
 
@@ -172,35 +134,183 @@ const LAST: Task = Task::Store {
     count: 2,
 };
 
-#[test]
-fn an_indirect_request_has_its_pages_read_first(rt: HostRuntime) -> Result<(), Fail> {
-    let request = indirect(1, 2);
-    let tasks = [PAGE, STORE, LAST];
-    for (words, read, done) in [
-        ([24, 0x0700, 25, 0x0302], 0, 1),
-        ([24, 0x0700, 25, 0x0302], 3, 1),
-        ([24, 0x0700, 25, 0x0302], 4, 3),
-        ([24, 0x0800, 25, 0x0302], 4, 1),
-    ] {
-        let work = tasks_of(rt.alloc(), &request, &words[..read])?;
-        assert_eq!(rt; work.as_slice(), &tasks[..done], "{read} words read");
+const WHOLE: Task = Task::Page {
+    gref: 30,
+    words: 1024,
+};
+
+const REST: Task = Task::Page { gref: 31, words: 2 };
+
+const READ_WORDS: &[u32] = &[24, 0x0700, 25, 0x0302];
+
+const WRONG_WORDS: &[u32] = &[24, 0x0800, 25, 0x0302];
+
+const CASES: &[Case] = &[
+    (
+        "an entry tells its work",
+        Given::Entry,
+        false,
+        &[],
+        &[FOR_READING],
+    ),
+    (
+        "an entry tells its work that is kept",
+        Given::Entry,
+        true,
+        &[],
+        &[FOR_WRITING],
+    ),
+    ("one segment", Given::Direct(0, 1, 3), false, &[], &[FIRST]),
+    (
+        "segments follow each other on the disk",
+        Given::Direct(0, 2, 3),
+        false,
+        &[],
+        &[FIRST, SECOND],
+    ),
+    (
+        "a request past the end has no work",
+        Given::Direct(0, 2, 7),
+        false,
+        &[],
+        &[],
+    ),
+    (
+        "a request that is none has no work",
+        Given::Direct(4, 2, 3),
+        false,
+        &[],
+        &[],
+    ),
+    (
+        "a flush has one task",
+        Given::Direct(3, 0, 3),
+        false,
+        &[],
+        &[Task::Flush],
+    ),
+    (
+        "a discard has one task",
+        Given::Discard(2, 14),
+        false,
+        &[],
+        &[TRIM],
+    ),
+    (
+        "pages are read first",
+        Given::Indirect(1, 2),
+        false,
+        &[],
+        &[PAGE],
+    ),
+    (
+        "pages are read whole",
+        Given::Indirect(1, 2),
+        false,
+        &[24, 0x0700, 25],
+        &[PAGE],
+    ),
+    (
+        "pages were read",
+        Given::Indirect(1, 2),
+        false,
+        READ_WORDS,
+        &[PAGE, STORE, LAST],
+    ),
+    (
+        "a page is wrong",
+        Given::Indirect(1, 2),
+        false,
+        WRONG_WORDS,
+        &[PAGE],
+    ),
+    (
+        "a page has 512 segments",
+        Given::Indirect(0, 513),
+        false,
+        &[],
+        &[WHOLE, REST],
+    ),
+    (
+        "an indirect request that is none has no work",
+        Given::Indirect(2, 2),
+        false,
+        &[],
+        &[],
+    ),
+];
+
+fn work(rt: &impl Abort, alloc: Global, cases: &[Case]) {
+    for (name, given, persistent, words, tasks) in cases {
+        let found = work_tasks(alloc, &request_of(*given), &DISK, *persistent, words);
+        let found = found.expect(rt, "memory");
+        assert_eq!(rt; found.as_slice(), *tasks, "{name}");
     }
-    let wrong = status_of(rt.alloc(), &request, &[24, 0x0800, 25, 0x0302])?;
-    same(&rt, wrong, Status::Error);
-    same(&rt, work_response(&request, Status::Error).op, 1);
-    Ok(())
 }
 
 #[test]
-fn a_page_has_512_segments(rt: HostRuntime) -> Result<(), Fail> {
-    let whole = Task::Page {
-        gref: 30,
-        words: 1024,
-    };
-    let rest = Task::Page { gref: 31, words: 2 };
-    let work = tasks_of(rt.alloc(), &indirect(0, 513), &[])?;
-    same(&rt, work.as_slice(), [whole, rest].as_slice());
-    let none = tasks_of(rt.alloc(), &indirect(2, 2), &[])?;
-    same(&rt, none.len(), 0);
-    Ok(())
+fn a_request_tells_its_work(rt: HostRuntime) {
+    work(&rt, rt.alloc(), CASES);
+}
+
+// A request, the words of its pages that were read, and how it ends.
+type Ending = (Given, &'static [u32], Status);
+
+const ENDS: &[Ending] = &[
+    (Given::Entry, &[], Status::Okay),
+    (Given::Direct(0, 2, 7), &[], Status::Error),
+    (Given::Indirect(1, 2), WRONG_WORDS, Status::Error),
+];
+
+fn verdict_of(rt: &impl Abort, alloc: Global, given: Given, words: &[u32]) -> Verdict {
+    work_verdict(alloc, &request_of(given), &DISK, words).expect(rt, "memory")
+}
+
+fn end(rt: &impl Abort, alloc: Global, cases: &[Ending]) {
+    for (given, words, status) in cases {
+        let verdict = verdict_of(rt, alloc, *given, words);
+        assert_eq!(rt; status_by(&verdict), *status);
+    }
+}
+
+#[test]
+fn a_request_that_is_not_served_ends_as_an_error(rt: HostRuntime) {
+    end(&rt, rt.alloc(), ENDS);
+}
+
+#[test]
+fn a_verdict_says_why_a_request_is_not_served(rt: HostRuntime) {
+    let verdict = verdict_of(&rt, rt.alloc(), Given::Direct(4, 2, 3), &[]);
+    same(&rt, verdict, Verdict::Error(Why::Op));
+}
+
+const RESPONSES: &[(Given, Response)] = &[
+    (
+        Given::Entry,
+        Response {
+            id: 1,
+            op: 1,
+            status: Status::Okay,
+        },
+    ),
+    (
+        Given::Indirect(1, 2),
+        Response {
+            id: 9,
+            op: 1,
+            status: Status::Error,
+        },
+    ),
+];
+
+fn respond(rt: &impl Abort, cases: &[(Given, Response)]) {
+    for (given, wanted) in cases {
+        let found = work_response(&request_of(*given), wanted.status);
+        assert_eq!(rt; found, *wanted);
+    }
+}
+
+#[test]
+fn a_response_has_the_number_and_the_operation_of_its_request(rt: HostRuntime) {
+    respond(&rt, RESPONSES);
 }

@@ -1,12 +1,7 @@
 // Requests of several sectors: eight to a frame, and a segment for each frame.
-use super::guest::{
-    Memory, Tested, asks, asleep_over, one_move, quiet_moves, read_of, write, write_of,
-};
-use crate::expected::same;
-use blk_base::{FrontAsk, Status};
-use blk_front::{Refusal, Told};
-use std::process::Abort;
-use std::test::Fail;
+use super::script::{Ask, Data, EIGHT, News, Step, Work, plays};
+use blk_base::{Config, Status};
+use blk_front::Refusal;
 
 // The word of each sector of a write of nine sectors whose tag is the first.
 const WORDS: [u32; 9] = [
@@ -25,185 +20,111 @@ const WORDS: [u32; 9] = [
 // and 25, up to its first two words of zeros.
 const ENTRY: [u32; 10] = [0xca00_0201, 0, 1, 0, 3, 0, 0x18, 0x0700, 0x19, 0];
 
-// A frame's grant: its entry's second word, a fence, its first word.
-fn grants(
-    rt: &impl Abort,
-    front: &mut Tested,
-    memory: &mut Memory,
-    (first, second): (u32, u32),
-    frame: u32,
-) -> Result<(), Fail> {
-    let grant = [
-        FrontAsk::Write {
-            frame: 0,
-            word: second,
-            value: frame,
-        },
-        FrontAsk::Fence,
-        FrontAsk::Write {
-            frame: 0,
-            word: first,
-            value: 5,
-        },
-    ];
-    asks(rt, front, memory, &grant)
-}
-
 #[test]
-fn a_write_of_nine_sectors_fills_two_frames_and_names_two_segments(
-    rt: HostRuntime,
-) -> Result<(), Fail> {
-    let mut memory = Memory::new(rt.alloc())?;
-    let mut front = asleep_over(&rt, rt.alloc(), &mut memory, 12)?;
-    same(&rt, front.submit(write_of(3, 9, WORDS[0])?), Ok(1));
-    for n in 0..1152 {
-        let data = FrontAsk::Write {
-            frame: 18 + n / 1024,
-            word: n % 1024,
-            value: WORDS.get(n as usize / 128).copied().unwrap_or(7),
-        };
-        asks(&rt, &mut front, &mut memory, &[data])?;
-    }
-    grants(&rt, &mut front, &mut memory, (48, 49), 18)?;
-    grants(&rt, &mut front, &mut memory, (50, 51), 19)?;
-    for word in 0..28 {
-        let entry = FrontAsk::Write {
-            frame: 2,
-            word: 16 + word,
-            value: ENTRY.get(word as usize).copied().unwrap_or(0),
-        };
-        asks(&rt, &mut front, &mut memory, &[entry])?;
-    }
-    let producer = FrontAsk::Write {
-        frame: 2,
-        word: 0,
-        value: 1,
-    };
-    asks(&rt, &mut front, &mut memory, &[producer])
-}
-
-// The word that lies at this place of the data when the read is answered.
-fn word_at(n: u32) -> u32 {
-    0x0102_0304 ^ n
-}
-
-// The words of a sector of the read.
-fn sector_at(index: u32) -> [u32; 128] {
-    let mut words = [0; 128];
-    for word in 0..128 {
-        words[word] = word_at(index.wrapping_mul(128).wrapping_add(word as u32));
-    }
-    words
-}
-
-// The moves from the event of a response to the last look at a grant, where two are ended.
-fn response() -> [FrontAsk<'static>; 8] {
-    [
-        FrontAsk::Wait,
-        FrontAsk::Read { frame: 2, word: 2 },
-        FrontAsk::Read { frame: 2, word: 16 },
-        FrontAsk::Read { frame: 2, word: 17 },
-        FrontAsk::Read { frame: 2, word: 18 },
-        FrontAsk::Read { frame: 0, word: 48 },
-        FrontAsk::Cas {
-            frame: 0,
-            word: 48,
-            old: 1,
-            new: 0,
-        },
-        FrontAsk::Read { frame: 0, word: 50 },
-    ]
-}
-
-// The words of a sector are read, and it is told with the last one.
-fn tells_the_sector(
-    rt: &impl Abort,
-    front: &mut Tested,
-    memory: &mut Memory,
-    index: u32,
-) -> Result<(), Fail> {
-    same(rt, front.owed(), (1, 9));
-    quiet_moves(rt, front, memory, 127)?;
-    let sector = Told::Sector {
-        id: 1,
-        index,
-        words: sector_at(index),
-    };
-    same(rt, one_move(rt, front, memory)?.1, Some(sector));
-    Ok(())
-}
-
-#[test]
-fn a_read_of_nine_sectors_is_told_as_nine_sectors_after_its_answer(
-    rt: HostRuntime,
-) -> Result<(), Fail> {
-    let mut memory = Memory::new(rt.alloc())?;
-    let mut front = asleep_over(&rt, rt.alloc(), &mut memory, 12)?;
-    same(&rt, front.submit(read_of(3, 9)?), Ok(1));
-
-    // two grants of 3 moves, 28 words of the entry, and the push
-    quiet_moves(&rt, &mut front, &mut memory, 38)?;
-    for n in 0..1152 {
-        memory.write(18 + n / 1024, n % 1024, word_at(n));
-    }
-    memory.respond(0, [1, 0, 0]);
-    asks(&rt, &mut front, &mut memory, &response())?;
-    let last = FrontAsk::Cas {
-        frame: 0,
-        word: 50,
-        old: 1,
-        new: 0,
-    };
-    let answer = Told::Answer {
-        id: 1,
-        status: Status::Okay,
-    };
-    same(
+fn a_write_of_nine_sectors_fills_two_frames_and_names_two_segments(rt: HostRuntime) {
+    plays(
         &rt,
-        one_move(&rt, &mut front, &mut memory)?,
-        (last, Some(answer)),
+        rt.alloc(),
+        &Config {
+            sectors: 12,
+            ..EIGHT
+        },
+        &[
+            Step::Connects(19),
+            Step::Sleeps,
+            Step::Takes(Work::Write(3, 9, 0xffff_fffa), 1),
+            Step::Fills(18, &WORDS),
+            Step::AsksAll(&[Ask::Write(0, 49, 18), Ask::Fence, Ask::Write(0, 48, 5)]),
+            Step::AsksAll(&[Ask::Write(0, 51, 19), Ask::Fence, Ask::Write(0, 50, 5)]),
+            Step::Writes(2, 16, 28, &ENTRY),
+            Step::Asks(Ask::Write(2, 0, 1)),
+        ],
     );
-    for index in 0..9 {
-        tells_the_sector(&rt, &mut front, &mut memory, index)?;
-    }
-    same(&rt, front.owed(), (0, 0));
-
-    // both frames are free again
-    front.submit(write_of(0, 9, 7)?)?;
-    quiet_moves(&rt, &mut front, &mut memory, 1152)?;
-    same(&rt, (memory.read(18, 0), memory.read(19, 127)), (7, 15));
-    Ok(())
 }
 
 #[test]
-fn a_request_has_88_sectors_at_most(rt: HostRuntime) -> Result<(), Fail> {
-    let mut memory = Memory::new(rt.alloc())?;
-    let mut front = asleep_over(&rt, rt.alloc(), &mut memory, 100)?;
-    for job in [read_of(0, 89)?, write_of(11, 89, 7)?, read_of(0, 100)?] {
-        same(&rt, front.submit(job), Err(Refusal::Long));
-        same(&rt, (front.owed(), front.idle()), ((0, 0), true));
-    }
-    same(&rt, front.submit(read_of(12, 89)?), Err(Refusal::Range));
-    same(&rt, front.submit(read_of(12, 88)?), Ok(1));
-    same(&rt, front.owed(), (1, 88));
-
-    // eleven grants and the entry: eleven segments, the last in the frame of reference 34
-    quiet_moves(&rt, &mut front, &mut memory, 33 + 28)?;
-    same(&rt, memory.read(2, 16), 0xca00_0b00);
-    same(
+fn a_read_of_nine_sectors_is_told_as_nine_sectors_after_its_answer(rt: HostRuntime) {
+    plays(
         &rt,
-        (memory.read(2, 42), memory.read(2, 43)),
-        (0x22, 0x0700),
+        rt.alloc(),
+        &Config {
+            sectors: 12,
+            ..EIGHT
+        },
+        &[
+            Step::Connects(19),
+            Step::Sleeps,
+            Step::Takes(Work::Read(3, 9), 1),
+            // two grants of 3 moves, 28 words of the entry, and the push
+            Step::Moves(38),
+            Step::Lays(Data::Mixed, 18, 1152),
+            Step::Responds(0, [1, 0, 0]),
+            // the event and the response, and the grants, of which the last is ended with the answer
+            Step::AsksAll(&[
+                Ask::Wait,
+                Ask::Read(2, 2),
+                Ask::Read(2, 16),
+                Ask::Read(2, 17),
+            ]),
+            Step::AsksAll(&[Ask::Read(2, 18), Ask::Read(0, 48), Ask::Cas(0, 48, 1, 0)]),
+            Step::Asks(Ask::Read(0, 50)),
+            Step::Tells(Ask::Cas(0, 50, 1, 0), News::Answer(1, Status::Okay)),
+            // the words of a sector are read, and it is told with the last one
+            Step::TellsSectors(9, Data::Mixed, (1, 9)),
+            Step::Owed(0, 0),
+            // both frames are free again
+            Step::Takes(Work::Write(0, 9, 7), 2),
+            Step::Moves(1152),
+            Step::Word(18, 0, 7),
+            Step::Word(19, 127, 15),
+        ],
     );
-    Ok(())
 }
 
 #[test]
-fn the_sectors_of_all_requests_are_owed(rt: HostRuntime) -> Result<(), Fail> {
-    let mut memory = Memory::new(rt.alloc())?;
-    let mut front = asleep_over(&rt, rt.alloc(), &mut memory, 12)?;
-    front.submit(write_of(0, 9, 7)?)?;
-    front.submit(write(11, 7)?)?;
-    same(&rt, front.owed(), (2, 10));
-    Ok(())
+fn a_request_has_88_sectors_at_most(rt: HostRuntime) {
+    plays(
+        &rt,
+        rt.alloc(),
+        &Config {
+            sectors: 100,
+            ..EIGHT
+        },
+        &[
+            Step::Connects(19),
+            Step::Sleeps,
+            Step::RefusesEach(&[
+                (Work::Read(0, 89), Refusal::Long),
+                (Work::Write(11, 89, 7), Refusal::Long),
+                (Work::Read(0, 100), Refusal::Long),
+            ]),
+            Step::Refuses(Work::Read(12, 89), Refusal::Range),
+            Step::Takes(Work::Read(12, 88), 1),
+            Step::Owed(1, 88),
+            // eleven grants and the entry: eleven segments, the last in the frame of reference 34
+            Step::Moves(33 + 28),
+            Step::Word(2, 16, 0xca00_0b00),
+            Step::Word(2, 42, 0x22),
+            Step::Word(2, 43, 0x0700),
+        ],
+    );
+}
+
+#[test]
+fn the_sectors_of_all_requests_are_owed(rt: HostRuntime) {
+    plays(
+        &rt,
+        rt.alloc(),
+        &Config {
+            sectors: 12,
+            ..EIGHT
+        },
+        &[
+            Step::Connects(19),
+            Step::Sleeps,
+            Step::Takes(Work::Write(0, 9, 7), 1),
+            Step::Takes(Work::Write(11, 1, 7), 2),
+            Step::Owed(2, 10),
+        ],
+    );
 }

@@ -1,12 +1,7 @@
 // Rings of several pages, and of 32-bit guests.
-use super::guest::{
-    Memory, Tested, asks, connect, connect_after, front_shaped, quiet_moves, write,
-};
-use crate::expected::{holds, same};
-use blk_base::{Abi, FrontAsk};
+use super::script::{Ask, EIGHT, Step, Work, plays};
+use blk_base::{Abi, Config};
 use blk_front::{FrontState, Refusal};
-use std::process::Abort;
-use std::test::Fail;
 
 // The entry of a write of sector 0 with id 1 under the layout of 32-bit guests, whose data are granted
 // by reference 24, up to its first two words of zeros.
@@ -15,120 +10,114 @@ const ENTRY: [u32; 8] = [0xca00_0101, 1, 0, 0, 0, 0x18, 0, 0];
 // The moves up to a write's entry: 128 words of data, and the 3 of their grant.
 const BEFORE_ENTRY: u32 = 131;
 
-// A word of the ring's page in this frame is written.
-fn writes(
-    rt: &impl Abort,
-    front: &mut Tested,
-    memory: &mut Memory,
-    (frame, word): (u32, u32),
-    value: u32,
-) -> Result<(), Fail> {
-    asks(rt, front, memory, &[FrontAsk::Write { frame, word, value }])
+#[test]
+fn an_entry_of_a_32_bit_guest_has_27_words(rt: HostRuntime) {
+    plays(
+        &rt,
+        rt.alloc(),
+        &Config {
+            abi: Abi::X32,
+            ..EIGHT
+        },
+        &[
+            Step::Connects(19),
+            Step::Takes(Work::Write(0, 1, 7), 1),
+            Step::Moves(BEFORE_ENTRY),
+            Step::Writes(2, 16, 27, &ENTRY),
+            Step::Asks(Ask::Write(2, 0, 1)),
+            // a fence, the event word and the event, and the second write
+            Step::Takes(Work::Write(0, 1, 7), 2),
+            Step::Moves(3 + BEFORE_ENTRY),
+            Step::Asks(Ask::Write(2, 43, 0xca00_0101)),
+        ],
+    );
 }
 
 #[test]
-fn an_entry_of_a_32_bit_guest_has_27_words(rt: HostRuntime) -> Result<(), Fail> {
-    let mut memory = Memory::new(rt.alloc())?;
-    let mut front = front_shaped(rt.alloc(), Abi::X32, 0, 0)?;
-    connect(&rt, &mut front, &mut memory)?;
-    front.submit(write(0, 7)?)?;
-    quiet_moves(&rt, &mut front, &mut memory, BEFORE_ENTRY)?;
-    for word in 0..27 {
-        let value = ENTRY.get(word as usize).copied().unwrap_or(0);
-        writes(&rt, &mut front, &mut memory, (2, 16 + word), value)?;
-    }
-    writes(&rt, &mut front, &mut memory, (2, 0), 1)?;
-
-    // a fence, the event word and the event, and the second write
-    front.submit(write(0, 7)?)?;
-    quiet_moves(&rt, &mut front, &mut memory, 3 + BEFORE_ENTRY)?;
-    writes(&rt, &mut front, &mut memory, (2, 43), 0xca00_0101)
-}
-
-// The frame of a page of the ring is granted by the entry with these two words.
-fn grants(
-    rt: &impl Abort,
-    front: &mut Tested,
-    memory: &mut Memory,
-    (first, second): (u32, u32),
-    frame: u32,
-) -> Result<(), Fail> {
-    writes(rt, front, memory, (0, second), frame)?;
-    asks(rt, front, memory, &[FrontAsk::Fence])?;
-    writes(rt, front, memory, (0, first), 1)
+fn both_pages_of_a_ring_are_granted_in_order(rt: HostRuntime) {
+    plays(
+        &rt,
+        rt.alloc(),
+        &Config { order: 1, ..EIGHT },
+        &[
+            Step::Moves(16),
+            Step::AsksAll(&[Ask::Write(0, 17, 2), Ask::Fence, Ask::Write(0, 16, 1)]),
+            Step::AsksAll(&[Ask::Write(0, 19, 3), Ask::Fence, Ask::Write(0, 18, 1)]),
+            Step::Asks(Ask::NewPort),
+        ],
+    );
 }
 
 #[test]
-fn both_pages_of_a_ring_are_granted_in_order(rt: HostRuntime) -> Result<(), Fail> {
-    let mut memory = Memory::new(rt.alloc())?;
-    let mut front = front_shaped(rt.alloc(), Abi::X64, 1, 0)?;
-    quiet_moves(&rt, &mut front, &mut memory, 16)?;
-    grants(&rt, &mut front, &mut memory, (16, 17), 2)?;
-    grants(&rt, &mut front, &mut memory, (18, 19), 3)?;
-    asks(&rt, &mut front, &mut memory, &[FrontAsk::NewPort])
-}
-
-// So many requests are taken, and no more.
-fn takes(rt: &impl Abort, front: &mut Tested, count: u32) -> Result<(), Fail> {
-    for _ in 0..count {
-        holds(rt, front.submit(write(0, 7)?).is_ok());
-    }
-    same(rt, front.submit(write(0, 7)?), Err(Refusal::Full));
-    Ok(())
+fn a_ring_of_two_pages_has_64_requests(rt: HostRuntime) {
+    plays(
+        &rt,
+        rt.alloc(),
+        &Config { order: 1, ..EIGHT },
+        &[
+            Step::Connects(22),
+            Step::TakesEach(Work::Write(0, 1, 7), 64),
+            Step::Refuses(Work::Write(0, 1, 7), Refusal::Full),
+            Step::Owed(64, 64),
+        ],
+    );
 }
 
 #[test]
-fn a_ring_of_two_pages_has_64_requests(rt: HostRuntime) -> Result<(), Fail> {
-    let mut memory = Memory::new(rt.alloc())?;
-    let mut front = front_shaped(rt.alloc(), Abi::X64, 1, 0)?;
-    connect_after(&rt, &mut front, &mut memory, 22)?;
-    takes(&rt, &mut front, 64)?;
-    same(&rt, front.owed(), (64, 64));
-    Ok(())
+fn entry_36_lies_in_the_second_page(rt: HostRuntime) {
+    plays(
+        &rt,
+        rt.alloc(),
+        &Config {
+            order: 1,
+            start: 36,
+            ..EIGHT
+        },
+        &[
+            Step::Connects(22),
+            Step::Takes(Work::Write(0, 1, 7), 1),
+            Step::Moves(BEFORE_ENTRY),
+            Step::Asks(Ask::Write(3, 0, 0xca00_0101)),
+        ],
+    );
 }
 
 #[test]
-fn entry_36_lies_in_the_second_page(rt: HostRuntime) -> Result<(), Fail> {
-    let mut memory = Memory::new(rt.alloc())?;
-    let mut front = front_shaped(rt.alloc(), Abi::X64, 1, 36)?;
-    connect_after(&rt, &mut front, &mut memory, 22)?;
-    front.submit(write(0, 7)?)?;
-    quiet_moves(&rt, &mut front, &mut memory, BEFORE_ENTRY)?;
-    writes(&rt, &mut front, &mut memory, (3, 0), 0xca00_0101)
-}
-
-// The grant whose entry has this first word is looked at and ended.
-fn ends(rt: &impl Abort, front: &mut Tested, memory: &mut Memory, word: u32) -> Result<(), Fail> {
-    let end = FrontAsk::Cas {
-        frame: 0,
-        word,
-        old: 1,
-        new: 0,
-    };
-    asks(rt, front, memory, &[FrontAsk::Read { frame: 0, word }, end])
+fn both_grants_are_ended_before_the_port_is_closed(rt: HostRuntime) {
+    plays(
+        &rt,
+        rt.alloc(),
+        &Config { order: 1, ..EIGHT },
+        &[
+            Step::Connects(22),
+            Step::Enters(FrontState::Closing, true),
+            Step::Enters(FrontState::Leaving, true),
+            Step::AsksAll(&[Ask::Read(0, 16), Ask::Cas(0, 16, 1, 0)]),
+            Step::AsksAll(&[Ask::Read(0, 18), Ask::Cas(0, 18, 1, 0)]),
+            Step::Asks(Ask::ClosePort),
+        ],
+    );
 }
 
 #[test]
-fn both_grants_are_ended_before_the_port_is_closed(rt: HostRuntime) -> Result<(), Fail> {
-    let mut memory = Memory::new(rt.alloc())?;
-    let mut front = front_shaped(rt.alloc(), Abi::X64, 1, 0)?;
-    connect_after(&rt, &mut front, &mut memory, 22)?;
-    holds(&rt, front.enter(FrontState::Closing));
-    holds(&rt, front.enter(FrontState::Leaving));
-    ends(&rt, &mut front, &mut memory, 16)?;
-    ends(&rt, &mut front, &mut memory, 18)?;
-    asks(&rt, &mut front, &mut memory, &[FrontAsk::ClosePort])
-}
-
-#[test]
-fn a_lower_order_is_agreed_before_the_ring_is_begun(rt: HostRuntime) -> Result<(), Fail> {
-    let mut memory = Memory::new(rt.alloc())?;
-    let mut front = front_shaped(rt.alloc(), Abi::X64, 1, 7)?;
-    holds(&rt, !front.enter(FrontState::Agreed(2)));
-    holds(&rt, front.enter(FrontState::Agreed(0)));
-    holds(&rt, !front.enter(FrontState::Agreed(1)));
-    writes(&rt, &mut front, &mut memory, (2, 0), 7)?;
-    holds(&rt, !front.enter(FrontState::Agreed(0)));
-    connect_after(&rt, &mut front, &mut memory, 18)?;
-    takes(&rt, &mut front, 32)
+fn a_lower_order_is_agreed_before_the_ring_is_begun(rt: HostRuntime) {
+    plays(
+        &rt,
+        rt.alloc(),
+        &Config {
+            order: 1,
+            start: 7,
+            ..EIGHT
+        },
+        &[
+            Step::Enters(FrontState::Agreed(2), false),
+            Step::Enters(FrontState::Agreed(0), true),
+            Step::Enters(FrontState::Agreed(1), false),
+            Step::Asks(Ask::Write(2, 0, 7)),
+            Step::Enters(FrontState::Agreed(0), false),
+            Step::Connects(18),
+            Step::TakesEach(Work::Write(0, 1, 7), 32),
+            Step::Refuses(Work::Write(0, 1, 7), Refusal::Full),
+        ],
+    );
 }
