@@ -134,6 +134,7 @@ pub record IsDoing (config : Options) (w : World) (g : Flow) (d : Pipeline) (p :
   pub work : IsWork g.submitted g.series g.fetched t
   pub own : IsOwn w g t r
 
+-- so it is where the stage says this of it
 pub doing_at : (config : Options) (w : World) (g : Flow) (d : Pipeline) (p : ℕ) (t : Work) (r : Request) (j : JobStage) → Holds config w g d w.front.stage w.back.stage → AreHeld w.under.grants (hands_of w.back) → IsAt w g d p t r → t.stage ≡ j → AtWork r t j → IsDoing config w g d p t r j
 doing_at config w g d p t r j h held is e at =
     let work = work_of w g d d p t t r is refl refl refl (subst (AtWork r t) (sym e) at) in

@@ -160,7 +160,8 @@ abbrev Leaving : Options → World → Pipeline → View → Type 0
 Leaving config w d v = HasGone None IsSame config (halt_lines w.back.halted v.halted) (backed w v) d
 
 leaves : (config : Options) (w : World) (g : Flow) (d : Pipeline) (why : Halt) (v : View) → Holds config w g d w.front.stage w.back.stage → IsFarewell w why → v.halted ≡ Some why → Over config (backed w v) d w.front.stage v.stage → Leaving config w d v
-leaves config w g d why v h farewell halted over = gone_by {steps = Leaves (halt_line why) ∷ []} (record { asides = []; aside = refl; shows = rw (h.unhalted, halted) refl; asks = refl; allowed = ((over.closing, farewell.gone, over.finished), tt); disk = λ a b e. (b, e, refl) })
+leaves config w g d why v h farewell halted over =
+    gone_by {steps = Leaves (halt_line why) ∷ []} (record { asides = []; aside = refl; shows = rw (h.unhalted, halted) refl; asks = refl; allowed = ((over.closing, farewell.gone, over.finished), tt); disk = λ a b e. (b, e, refl) })
     (inr over)
 
 -- a back that isn't bound holds pages that it mapped, or none

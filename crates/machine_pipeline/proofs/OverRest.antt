@@ -47,7 +47,8 @@ use Rattle.machine_pipeline.proofs.Over.{IsGivingUp, AreUnmapped, IsLeaving, Ove
 
 -- what an end does with the keys
 pub keys_end : (config : Options) (w : World) (d : Pipeline) (at : End) (move : KeyMove) → Over config w d w.front.stage w.back.stage → HasGone None IsSame config (lines_at w (Negotiates at move)) (happens w (Negotiates at move)) d
-keys_end config w d at move o = gone_by (asides_do d _ (negotiated_lines_are (λ (line : Line). is_aside line ≡ true) w.back.stage at move w.under.keys (λ path. refl) (λ path text. refl) (λ path. refl) (λ path. refl)))
+keys_end config w d at move o =
+    gone_by (asides_do d _ (negotiated_lines_are (λ (line : Line). is_aside line ≡ true) w.back.stage at move w.under.keys (λ path. refl) (λ path text. refl) (λ path. refl) (λ path. refl)))
     (inr o)
 
 -- a spurious event
@@ -84,7 +85,8 @@ staged w s = record { front = (let v : View = w.front in record v { stage = s })
 -- it is connected, but serves nothing
 connects_late : (config : Options) (w : World) (d : Pipeline) (offers : Offers) → Over config w d front.Initialised w.back.stage
     → HasGone None IsSame config (lines.Ready ∷ []) (record { front = (let v : View = w.front in record v { offers = offers; stage = front.Loop }); back = w.back; under = w.under }) d
-connects_late config w d offers o = gone_by {steps = Connects ∷ []} (record { asides = []; aside = refl; shows = refl; asks = refl; allowed = ((o.front_at.0, o.closed), tt); disk = λ a b e. (b, e, refl) })
+connects_late config w d offers o =
+    gone_by {steps = Connects ∷ []} (record { asides = []; aside = refl; shows = refl; asks = refl; allowed = ((o.front_at.0, o.closed), tt); disk = λ a b e. (b, e, refl) })
     (inr (over_at o (refl, refl, refl) o.closed o.memory o.back_at o.own o.mapped refl o.front_at.2 o.ring))
 
 -- the back has left: the grants of the ring's frames are ended next
@@ -99,7 +101,8 @@ leaves_ring config w d s made halted o = gone_by (no_move IsSame d (λ a b same.
 
 -- it is closed
 is_closed_now : (config : Options) (w : World) (d : Pipeline) (s : FrontStage) → is_bare s ≡ true → Over config w d s w.back.stage → HasGone None IsSame config (lines.Closed ∷ []) (staged w front.Closed) d
-is_closed_now config w d s bare o = gone_by {steps = Closes ∷ []} (record { asides = []; aside = refl; shows = refl; asks = refl; allowed = ((o.closing, o.closed ∙ unclosed is_bare refl s bare, o.finished), tt); disk = λ a b e. (b, e, refl) })
+is_closed_now config w d s bare o =
+    gone_by {steps = Closes ∷ []} (record { asides = []; aside = refl; shows = refl; asks = refl; allowed = ((o.closing, o.closed ∙ unclosed is_bare refl s bare, o.finished), tt); disk = λ a b e. (b, e, refl) })
     (inr (over_at o (refl, refl, refl) refl o.memory o.back_at o.own o.mapped refl tt o.ring))
 
 -- the order that it wished leaves a front as it is that hasn't begun its ring

@@ -225,7 +225,8 @@ quiet_finished config w d safe (inr over) quiet = over.finished
 -- a look tells what was found, and all is quiet where it was found so
 look_goes : (config : Options) (w : World) (d : Pipeline) (quiet : Bool) (otherwise : Line) → is_aside otherwise ≡ true → (quiet ≡ true → is_quiet w ≡ true) → IsSafe w → IsKept config w d
     → HasGone None IsSame config ((if quiet then lines.Quiet else otherwise) ∷ []) w d
-look_goes config w d true otherwise passes found safe kept = gone_by {steps = Rests ∷ []} (record { asides = []; aside = refl; shows = refl; asks = refl; allowed = (quiet_finished config w d safe kept (found refl), tt); disk = λ a b e. (b, e, refl) })
+look_goes config w d true otherwise passes found safe kept =
+    gone_by {steps = Rests ∷ []} (record { asides = []; aside = refl; shows = refl; asks = refl; allowed = (quiet_finished config w d safe kept (found refl), tt); disk = λ a b e. (b, e, refl) })
     kept
 look_goes config w d false otherwise passes found safe kept = record { steps = []; does = asides_do d (otherwise ∷ []) (passes, tt); kept = kept }
 

@@ -146,7 +146,8 @@ either config w d job true y z p q = p refl
 either config w d job false y z p q = q refl
 
 refused : (config : Options) (w : World) (g : Flow) (d : Pipeline) (job : Job) (r : Refusal) → Holds config w g d w.front.stage w.back.stage → SubmitGoes config w d job (Err r, w.front)
-refused config w g d job r h same = goes_by {steps = Refuses job (refusal_word r) ∷ []} (record { asides = []; aside = refl; shows = refl; asks = refl; allowed = (same, tt); disk = λ a b e. (b, e, refl) }) h
+refused config w g d job r h same =
+    goes_by {steps = Refuses job (refusal_word r) ∷ []} (record { asides = []; aside = refl; shows = refl; asks = refl; allowed = (same, tt); disk = λ a b e. (b, e, refl) }) h
 
 -- a request of the front's, where its back serves it (`offered`)
 submit_wish : (config : Options) (w : World) (g : Flow) (d : Pipeline) (wish : Wish) (offered : Bool) → (let job : Job = job_of wish.transfer wish.sector wish.count in
