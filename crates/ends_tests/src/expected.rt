@@ -17,3 +17,8 @@ pub fn holds(rt: &impl Abort, condition: bool)
 {
     assert!(rt; condition);
 }
+
+/// Goes on only where both values are equal; else it stops the test, says both, and of which text they are.
+pub fn same_of<T: PartialEq + Debug + Drop>(rt: &impl Abort, text: &str, found: T, wanted: T) {
+    assert_eq!(rt; found, wanted, "{text}");
+}

@@ -1,0 +1,162 @@
+// Scripts: what a back is told, step by step, and what it is to ask and to tell. A test is one call over
+// their parts; the calls that play them promise nothing, and are proved once.
+use crate::asks::{Answer, Ask, Why, asked, given, halt};
+use crate::expected::{holds, same};
+use blk_back::{Back, BackTold, Halt};
+use blk_base::{Abi, BackAnswer, BackAsk, Config, Endpoint, Mapping, OutOfMemory, Status};
+use std::alloc::Global;
+use std::process::Abort;
+
+#[derive(Clone, Copy)]
+pub enum Step<'a> {
+    /// It is given its front's terms: a layout, an order, references of the ring's pages, and port 1.
+    Attaches(Abi, u32, &'a [u32]),
+    Asks(Ask),
+    Told(Answer),
+    /// It asks this, which is done.
+    Does(Ask),
+    /// It asks for a page of the ring, and maps it.
+    Maps(Mapping),
+    /// It reads a word of a page, which is this.
+    Reads(Mapping, u32, u32),
+    /// It reads words of a page, from the first on to the one before the last, which are 0.
+    ReadsZeros(Mapping, u32, u32),
+    /// What it asks is done, and it tells a reply to this id.
+    Replies(u64, Status),
+    Waits(bool),
+    Idle(bool),
+    Halted(Option<Why>),
+    /// Its negotiation has it halt.
+    Halts(Why),
+    /// The lowest number of a job above this one.
+    NextJob(u64, Option<u64>),
+    JobAsks(u64, Ask),
+}
+
+// A back on a disk of eight sectors, whose ring starts at this index.
+fn back_from(alloc: Global, start: u32) -> Result<Back, OutOfMemory> {
+    let config = Config {
+        abi: Abi::X64,
+        order: 0,
+        persistent: 0,
+        indirect: 0,
+        start,
+        read_only: false,
+        sectors: 8,
+    };
+    Back::new(alloc, &config)
+}
+
+// Tells the back an answer, which is of the kind that it asks for, and takes what it tells.
+fn tell(rt: &impl Abort, back: &mut Back, given: BackAnswer) -> Option<BackTold> {
+    let _ = back.take_told();
+    let allowed = match (back.ask(), &given) {
+        (BackAsk::Wait, BackAnswer::Event) => true,
+        (BackAsk::Fence, BackAnswer::Done) => true,
+        (BackAsk::Read { .. }, BackAnswer::Word(_)) => true,
+        (BackAsk::Write { .. }, BackAnswer::Done) => true,
+        (BackAsk::Map { gref, mode }, BackAnswer::Mapped(m)) => m.gref == gref && m.mode == mode,
+        (BackAsk::Map { .. }, BackAnswer::MapRefused(_)) => true,
+        (BackAsk::Unmap(_), BackAnswer::Done) => true,
+        (BackAsk::Bind(_), BackAnswer::Done) => true,
+        (BackAsk::Bind(_), BackAnswer::BindRefused) => true,
+        (BackAsk::Send, BackAnswer::Done) => true,
+        (BackAsk::ClosePort, BackAnswer::Done) => true,
+        _ => false,
+    };
+    holds(rt, allowed);
+    back.tell(&given).expect(rt, "memory");
+    back.take_told()
+}
+
+fn ask(back: &Back) -> BackAsk<'_> {
+    back.ask()
+}
+
+fn job_ask(back: &Back, number: u64) -> BackAsk<'_> {
+    back.job_ask(number)
+}
+
+fn next_job(back: &Back, after: u64) -> Option<u64> {
+    back.next_job(after)
+}
+
+fn waits(back: &Back) -> bool {
+    back.waits()
+}
+
+fn idle(back: &Back) -> bool {
+    back.idle()
+}
+
+fn halted(back: &Back) -> Option<Halt> {
+    back.halted()
+}
+
+fn attach(back: &mut Back, abi: Abi, order: u32, grefs: &[u32]) {
+    back.attach(abi, order, grefs, 1);
+}
+
+fn halts(back: &mut Back, why: Why) {
+    back.halt(halt(why));
+}
+
+// It asks this, and is told this.
+fn does(rt: &impl Abort, back: &mut Back, asks: Ask, answer: Answer) {
+    same(rt, ask(back), asked(asks));
+    let _ = tell(rt, back, given(answer));
+}
+
+fn reads_zeros(rt: &impl Abort, back: &mut Back, mapping: Mapping, (first, end): (u32, u32)) {
+    for word in first..end {
+        does(rt, back, Ask::Read(mapping, word), Answer::Word(0));
+    }
+}
+
+fn replies(rt: &impl Abort, back: &mut Back, id: u64, status: Status) {
+    let told = tell(rt, back, BackAnswer::Done);
+    same(rt, told, Some(BackTold::Reply { id, status }));
+}
+
+fn takes(rt: &impl Abort, back: &mut Back, step: &Step) {
+    match *step {
+        Step::Attaches(abi, order, grefs) => attach(back, abi, order, grefs),
+        Step::Asks(wanted) => same(rt, ask(back), asked(wanted)),
+        Step::Told(answer) => {
+            let _ = tell(rt, back, given(answer));
+        }
+        Step::Does(asks) => does(rt, back, asks, Answer::Done),
+        Step::Maps(page) => does(
+            rt,
+            back,
+            Ask::Map(page.gref, page.mode),
+            Answer::Mapped(page),
+        ),
+        Step::Reads(page, word, value) => {
+            does(rt, back, Ask::Read(page, word), Answer::Word(value))
+        }
+        Step::ReadsZeros(page, first, end) => reads_zeros(rt, back, page, (first, end)),
+        Step::Replies(id, status) => replies(rt, back, id, status),
+        Step::Waits(wanted) => same(rt, waits(back), wanted),
+        Step::Idle(wanted) => same(rt, idle(back), wanted),
+        Step::Halted(why) => same(rt, halted(back), why.map(halt)),
+        Step::Halts(why) => halts(back, why),
+        Step::NextJob(after, wanted) => same(rt, next_job(back, after), wanted),
+        Step::JobAsks(number, wanted) => same(rt, job_ask(back, number), asked(wanted)),
+    }
+}
+
+fn takes_all(rt: &impl Abort, back: &mut Back, steps: &[Step]) {
+    for step in steps {
+        takes(rt, back, step);
+    }
+}
+
+/// Plays these parts of a script from a new back on, on a disk of eight sectors, whose ring starts at this
+/// index.
+pub fn plays(rt: &impl Abort, alloc: Global, start: u32, parts: &[&[Step]]) {
+    let mut back = back_from(alloc, start).expect(rt, "memory");
+    for part in parts {
+        takes_all(rt, &mut back, part);
+    }
+}
