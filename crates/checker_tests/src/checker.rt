@@ -10,7 +10,7 @@ use trace_check::{CheckStop, Finding, Rule, check, write_finding};
 struct Case {
     name: &'static str,
     report: &'static [u8],
-    limit: u64,
+    limit: u32,
     found: Result<Finding, CheckStop>,
 }
 
@@ -62,7 +62,7 @@ const CASES: &[Case] = &[
 fn find(rt: &impl Abort, alloc: Global, cases: &[Case]) {
     for case in cases {
         let mut source = MemorySource::new(bytes_of(rt, alloc, case.report, 1));
-        let found = check(alloc, case.limit, &mut source);
+        let found = check(alloc, u64::from(case.limit), &mut source);
         assert_eq!(rt; found, case.found, "{}", case.name);
     }
 }
