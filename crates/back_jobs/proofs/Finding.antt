@@ -93,15 +93,15 @@ guessed works n place all here = (
 until_place : (a b n : ℕ) → a ≤ b → b ≡ n → a < n + 1
 until_place a b n h same = omega (arith, same)
 
-behind_place : (a b n : ℕ) → a < b → a ≡ n → n + 1 ≤ b
-behind_place a b n h same = omega (arith, same)
+after_place : (a b n : ℕ) → a < b → a ≡ n → n + 1 ≤ b
+after_place a b n h same = omega (arith, same)
 
 -- the next place is that of the first number above
 pub guessed_above : (works : List Work) (n place : ℕ) → AreAscending works → IsNumberAt n works place → IsFirstFrom (n + 1) works (place + 1)
 guessed_above works n place all here = (
   omega (arith, here.0),
   λ k d low high. until_place (slice_index_or works k d).number (slice_index_or works place d).number n (rises works k place d all (omega (arith, high)) here.0) (here.1 d),
-  λ k d low high. behind_place (slice_index_or works place d).number (slice_index_or works k d).number n (ascends works place k d all (omega (arith, low)) high) (here.1 d),
+  λ k d low high. after_place (slice_index_or works place d).number (slice_index_or works k d).number n (ascends works place k d all (omega (arith, low)) high) (here.1 d),
 )
 
 -- the number that was found at a place
@@ -168,17 +168,17 @@ either_side k place false h = inr (grind (arith, nat_tests))
 apart : (a n : ℕ) → a < n → n ≤ a → ⊥
 apart a n less more = omega (arith, less, more)
 
-not_behind : (works : List Work) (n p q : ℕ) → IsFirstFrom n works p → IsFirstFrom n works q → p ≤ q
-not_behind works n p q here there = elim (either_side q p (nat_lt q p) refl) as (λ x. p ≤ q) [
+not_after : (works : List Work) (n p q : ℕ) → IsFirstFrom n works p → IsFirstFrom n works q → p ≤ q
+not_after works n p q here there = elim (either_side q p (nat_lt q p) refl) as (λ x. p ≤ q) [
   | inl before ↦ absurd (apart (slice_index_or works q blank).number n (here.1 q blank (omega arith) before) (there.2 q blank (omega arith) (omega (arith, before, here.0))))
-  | inr behind ↦ behind
+  | inr after ↦ after
 ]
 
 -- only one place is that of the first number from this one on
 pub first_place : (works : List Work) (n p q : ℕ) → IsFirstFrom n works p → IsFirstFrom n works q → p ≡ q
 first_place works n p q here there =
-    let up = not_behind works n p q here there in
-    let down = not_behind works n q p there here in
+    let up = not_after works n p q here there in
+    let down = not_after works n q p there here in
     omega (arith, up, down)
 
 higher_differs : (a b m n : ℕ) → b ≤ a → b ≡ m → n ≤ m → (m ≡ n → ⊥) → a ≡ n → ⊥
@@ -190,7 +190,7 @@ placed_between works n m place all first here other =
     let low : n ≤ m = subst (λ k. n ≤ k) (here.1 blank) (first.2 place blank (omega arith) here.0) in
     unplaced works n (λ k below. elim (either_side k place (nat_lt k place) refl) as (λ x. (slice_index_or works k blank).number ≡ n → ⊥) [
       | inl before ↦ lower_differs (slice_index_or works k blank).number n (first.1 k blank (omega arith) before)
-      | inr behind ↦ higher_differs (slice_index_or works k blank).number (slice_index_or works place blank).number m n (rises works place k blank all behind below) (here.1 blank) low other
+      | inr after ↦ higher_differs (slice_index_or works k blank).number (slice_index_or works place blank).number m n (rises works place k blank all after below) (here.1 blank) low other
     ])
 
 -- the first number above

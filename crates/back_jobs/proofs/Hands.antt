@@ -23,7 +23,7 @@ use Rattle.segment_list.specs.Verdict.{verdict_of}
 use Rattle.back_jobs.specs.declared.stage.Stage.{Stage}
 use Rattle.back_jobs.specs.declared.stage.Stage.TheVariants as stage
 use Rattle.back_jobs.specs.Task.{Work, ask_of, ask_at, map_ask, page_ask, is_copied_out, passes, judged, page_done, paging, step_of, step_at, sector_stage, next_sector, next_segment, counted, first_of, rest_of, last_of, begun, served, moving, ended, frameless, IsAnswer}
-use Rattle.back_jobs.specs.Jobs.{Held, mapping_at, asked, work_at, told_at, removed_at, is_done, is_done_at, first_mapping, behind_mapping, start_job, without_done}
+use Rattle.back_jobs.specs.Jobs.{Held, mapping_at, asked, work_at, told_at, removed_at, is_done, is_done_at, first_mapping, after_mapping, start_job, without_done}
 use Rattle.back_jobs.specs.Hands.{hand_of, hands_in, Names, HasOneMore, HandsAfter}
 
 -- what is held beside these mappings stays
@@ -111,7 +111,7 @@ hand_step_at (stage.DiskRead m) t (answer.Sector words) h = refl
 hand_step_at (stage.DiskRead m) t answer.DiskFailed h = refl
 hand_step_at (stage.WriteWord m k) t answer.Done h = either_hand_of (k == 127) (next_sector t m) (record t { stage = stage.WriteWord m (k + 1) }) (m ∷ []) (hand_next t m) refl
 hand_step_at (stage.Unmap m) t answer.Done h = rw (hand_of_segment t (rest_of t.rest)) (alone m)
-hand_step_at (stage.GiveUp m) t answer.Done h = alone m
+hand_step_at (stage.Abort m) t answer.Done h = alone m
 hand_step_at stage.Flush t answer.Done h = refl
 hand_step_at stage.Flush t answer.DiskFailed h = refl
 hand_step_at (stage.Trim count) t answer.Done h = refl
@@ -208,14 +208,14 @@ started_hands h number request =
     ∙ ap (λ (l : List Mapping). hands_in h.works ++ (l ++ [])) (begun_hand number request h.info.sectors (verdict_of request h.info))
     ∙ append-nil (hands_in h.works)
 
-behind_at : (m : Option Mapping) (works : List Work) → option_to_list (first_mapping works) ++ hands_in (behind_mapping works) ≡ hands_in works → option_to_list (cond (is_some m) m (first_mapping works)) ++ hands_in (cond (is_some m) works (behind_mapping works)) ≡ option_to_list m ++ hands_in works
-behind_at None works h = h
-behind_at (Some m) works h = refl
+after_at : (m : Option Mapping) (works : List Work) → option_to_list (first_mapping works) ++ hands_in (after_mapping works) ≡ hands_in works → option_to_list (cond (is_some m) m (first_mapping works)) ++ hands_in (cond (is_some m) works (after_mapping works)) ≡ option_to_list m ++ hands_in works
+after_at None works h = h
+after_at (Some m) works h = refl
 
 -- the first mapping and those after it are all
-pub behind_hands : (works : List Work) → option_to_list (first_mapping works) ++ hands_in (behind_mapping works) ≡ hands_in works
-behind_hands [] = refl
-behind_hands (t ∷ works) = behind_at (mapping_at t.stage) works (behind_hands works)
+pub after_hands : (works : List Work) → option_to_list (first_mapping works) ++ hands_in (after_mapping works) ≡ hands_in works
+after_hands [] = refl
+after_hands (t ∷ works) = after_at (mapping_at t.stage) works (after_hands works)
 
 -- a job has at most one mapping in its hand
 few_in_hand : (m : Option Mapping) → length (option_to_list m) ≤ 1
@@ -228,11 +228,11 @@ few_in_hands (t ∷ works) =
     let one = few_in_hand (mapping_at t.stage) in let more = few_in_hands works in
     rw (length-append (hand_of t) (hands_in works)) (omega arith)
 
-few_behind_at : (b : Bool) (works : List Work) → length (behind_mapping works) ≤ length works → length (cond b works (behind_mapping works)) ≤ suc (length works)
-few_behind_at true works h = omega arith
-few_behind_at false works h = omega arith
+few_after_at : (b : Bool) (works : List Work) → length (after_mapping works) ≤ length works → length (cond b works (after_mapping works)) ≤ suc (length works)
+few_after_at true works h = omega arith
+few_after_at false works h = omega arith
 
 -- no more jobs stand after a mapping than in all
-pub few_behind : (works : List Work) → length (behind_mapping works) ≤ length works
-few_behind [] = omega arith
-few_behind (t ∷ works) = few_behind_at (is_some (mapping_at t.stage)) works (few_behind works)
+pub few_after : (works : List Work) → length (after_mapping works) ≤ length works
+few_after [] = omega arith
+few_after (t ∷ works) = few_after_at (is_some (mapping_at t.stage)) works (few_after works)

@@ -26,13 +26,13 @@ below_test a b h = grind (arith, nat_tests)
 above_test : (a b : ℕ) → b ≤ a → nat_lt a b ≡ false
 above_test a b h = grind (arith, nat_tests)
 
-put_behind_at : (b : Bool) (n m : ℕ) (ms : List ℕ) → nat_lt m n ≡ b → m < n → (if b then m ∷ put n ms else n ∷ m ∷ ms) ≡ m ∷ put n ms
-put_behind_at true n m ms test less = refl
-put_behind_at false n m ms test less = absurd (false≢true (sym test ∙ below_test m n less))
+put_after_at : (b : Bool) (n m : ℕ) (ms : List ℕ) → nat_lt m n ≡ b → m < n → (if b then m ∷ put n ms else n ∷ m ∷ ms) ≡ m ∷ put n ms
+put_after_at true n m ms test less = refl
+put_after_at false n m ms test less = absurd (false≢true (sym test ∙ below_test m n less))
 
 -- a number goes after a lower one
-put_behind : (n m : ℕ) (ms : List ℕ) → m < n → put n (m ∷ ms) ≡ m ∷ put n ms
-put_behind n m ms less = put_behind_at (nat_lt m n) n m ms refl less
+put_after : (n m : ℕ) (ms : List ℕ) → m < n → put n (m ∷ ms) ≡ m ∷ put n ms
+put_after n m ms less = put_after_at (nat_lt m n) n m ms refl less
 
 put_before_at : (b : Bool) (n m : ℕ) (ms : List ℕ) → nat_lt m n ≡ b → n ≤ m → (if b then m ∷ put n ms else n ∷ m ∷ ms) ≡ n ∷ m ∷ ms
 put_before_at true n m ms test more = absurd (false≢true (sym (above_test m n more) ∙ test))
@@ -49,7 +49,7 @@ put_between [] n (suc k) within low high = absurd (omega arith)
 put_between (m ∷ ms) n zero within low high = sym (put_before n m ms (high 0 m (omega arith) (omega arith)))
 put_between (m ∷ ms) n (suc k) within low high =
     let later = put_between ms n k (omega arith) (λ j d from below. low (suc j) d (omega arith) (omega (arith, below))) (λ j d from below. high (suc j) d (omega (arith, from)) (omega (arith, below))) in
-    ap (λ rest. m ∷ rest) later ∙ sym (put_behind n m ms (low 0 m (omega arith) (omega arith)))
+    ap (λ rest. m ∷ rest) later ∙ sym (put_after n m ms (low 0 m (omega arith) (omega arith)))
 
 put_first_at : (b : Bool) (n : ℕ) (t : Work) (ended : List Work) → n < t.number → put n (numbers_of ended) ≡ n ∷ numbers_of ended → put n (numbers_of (cond b (t ∷ ended) ended)) ≡ n ∷ numbers_of (cond b (t ∷ ended) ended)
 put_first_at true n t ended above rest = put_before n t.number (numbers_of ended) (omega arith)
@@ -71,7 +71,7 @@ noted_first false false u t ended h first = refl
 
 noted_later : (b c : Bool) (n : ℕ) (t : Work) (before after : List Work) → t.number < n → numbers_of after ≡ noted b n (numbers_of before) → numbers_of (cond c (t ∷ after) after) ≡ noted b n (numbers_of (cond c (t ∷ before) before))
 noted_later b false n t before after less rest = rest
-noted_later true true n t before after less rest = ap (λ ms. t.number ∷ ms) rest ∙ sym (put_behind n t.number (numbers_of before) less)
+noted_later true true n t before after less rest = ap (λ ms. t.number ∷ ms) rest ∙ sym (put_after n t.number (numbers_of before) less)
 noted_later false true n t before after less rest = ap (λ ms. t.number ∷ ms) rest
 
 -- one that isn't done becomes what it is now, and keeps its number

@@ -5,7 +5,7 @@ use Rattle.std.specs.List.{AllByRecursion}
 use Rattle.std.proofs.lemmas.Bool.Decides.{nat_tests}
 use Rattle.std.proofs.lemmas.Bool.{false≢true}
 use Rattle.back_jobs.specs.Task.{Work}
-use Rattle.back_jobs.specs.Jobs.{mapping_at, behind_mapping}
+use Rattle.back_jobs.specs.Jobs.{mapping_at, after_mapping}
 use Rattle.back_jobs.specs.Sound.{AreAscending}
 use Rattle.back_jobs.specs.Order.{is_above, is_above_last}
 
@@ -93,14 +93,14 @@ set_ascending [] i t d same all = tt
 set_ascending (u ∷ works) zero t d same all = (subst (λ m. Above m works) (sym same) all.0, all.1)
 set_ascending (u ∷ works) (suc i) t d same all = (above_set u.number works i t d same all.0, set_ascending works i t d same all.1)
 
-behind_ascending_at : (b : Bool) (works : List Work) → AreAscending works → AreAscending (behind_mapping works) → AreAscending (cond b works (behind_mapping works))
-behind_ascending_at true works all less = all
-behind_ascending_at false works all less = less
+after_ascending_at : (b : Bool) (works : List Work) → AreAscending works → AreAscending (after_mapping works) → AreAscending (cond b works (after_mapping works))
+after_ascending_at true works all less = all
+after_ascending_at false works all less = less
 
 -- the first ones are dropped
-pub behind_ascending : (works : List Work) → AreAscending works → AreAscending (behind_mapping works)
-behind_ascending [] all = tt
-behind_ascending (t ∷ works) all = behind_ascending_at (is_some (mapping_at t.stage)) works all.1 (behind_ascending works all.1)
+pub after_ascending : (works : List Work) → AreAscending works → AreAscending (after_mapping works)
+after_ascending [] all = tt
+after_ascending (t ∷ works) all = after_ascending_at (is_some (mapping_at t.stage)) works all.1 (after_ascending works all.1)
 
 -- no number is above that of a later place
 pub rises : (works : List Work) (i j : ℕ) (d : Work) → AreAscending works → i ≤ j → j < length works → (slice_index_or works i d).number ≤ (slice_index_or works j d).number

@@ -47,7 +47,7 @@ step_named_at (stage.DiskRead m) t (answer.Sector words) = refl
 step_named_at (stage.DiskRead m) t answer.DiskFailed = refl
 step_named_at (stage.WriteWord m k) t answer.Done = either_named (k == 127) (next_sector t m) (record t { stage = stage.WriteWord m (k + 1) }) t.named (next_sector_named t m) refl
 step_named_at (stage.Unmap m) t answer.Done = next_segment_named t (rest_of t.rest)
-step_named_at (stage.GiveUp m) t answer.Done = refl
+step_named_at (stage.Abort m) t answer.Done = refl
 step_named_at stage.Flush t answer.Done = refl
 step_named_at stage.Flush t answer.DiskFailed = refl
 step_named_at (stage.Trim count) t answer.Done = refl

@@ -15,7 +15,7 @@ use Rattle.segment_list.specs.declared.verdict.Verdict.TheVariants as verdict
 use Rattle.back_jobs.specs.declared.stage.Stage.{Stage}
 use Rattle.back_jobs.specs.declared.stage.Stage.TheVariants as stage
 use Rattle.back_jobs.specs.Task.{Work, ask_of, ask_at, map_ask, page_ask, passes, judged, page_done, paging, mode_of, step_of, step_at, sector_stage, next_sector, next_segment, counted, first_of, rest_of, last_of, begun, served, moving, ended, frameless}
-use Rattle.back_jobs.specs.Jobs.{mapping_at, work_at, told_at, behind_mapping}
+use Rattle.back_jobs.specs.Jobs.{mapping_at, work_at, told_at, after_mapping}
 use Rattle.back_jobs.specs.Sound.{AreSized, IsPlaced, StaysInPageAndDisk}
 use Rattle.back_jobs.specs.Hands.{hand_of, Names}
 use Rattle.back_jobs.proofs.Hands.{hand_at}
@@ -57,7 +57,7 @@ step_op_at (stage.DiskRead m) t (answer.Sector words) = refl
 step_op_at (stage.DiskRead m) t answer.DiskFailed = refl
 step_op_at (stage.WriteWord m k) t answer.Done = either_op (k == 127) (next_sector t m) (record t { stage = stage.WriteWord m (k + 1) }) t.op (next_sector_op t m) refl
 step_op_at (stage.Unmap m) t answer.Done = next_segment_op t (rest_of t.rest)
-step_op_at (stage.GiveUp m) t answer.Done = refl
+step_op_at (stage.Abort m) t answer.Done = refl
 step_op_at stage.Flush t answer.Done = refl
 step_op_at stage.Flush t answer.DiskFailed = refl
 step_op_at (stage.Trim count) t answer.Done = refl
@@ -99,7 +99,7 @@ step_has (stage.DiskRead m) t (answer.Sector words) = (refl, refl)
 step_has (stage.DiskRead m) t answer.DiskFailed = (refl, refl)
 step_has (stage.WriteWord m k) t answer.Done = either_has (k == 127) (next_sector t m) (record t { stage = stage.WriteWord m (k + 1) }) t.number t.size (next_sector_has t m) (refl, refl)
 step_has (stage.Unmap m) t answer.Done = next_segment_has t (rest_of t.rest)
-step_has (stage.GiveUp m) t answer.Done = (refl, refl)
+step_has (stage.Abort m) t answer.Done = (refl, refl)
 step_has stage.Flush t answer.Done = (refl, refl)
 step_has stage.Flush t answer.DiskFailed = (refl, refl)
 step_has (stage.Trim count) t answer.Done = (refl, refl)
@@ -157,16 +157,16 @@ told_sized size works (Some place) (Some t) given h all =
 pub removed_sized : (size : ℕ) (works : List Work) (place : ℕ) → AreSized size works → AreSized size (remove works place)
 removed_sized size works place all = All-append (Sized size) _ _ (All-take (Sized size) place works all) (All-drop (Sized size) (suc place) works all)
 
-behind_sized_at : (size : ℕ) (b : Bool) (works : List Work) → AreSized size works → AreSized size (behind_mapping works) → AreSized size (cond b works (behind_mapping works))
-behind_sized_at size true works all less = all
-behind_sized_at size false works all less = less
+after_sized_at : (size : ℕ) (b : Bool) (works : List Work) → AreSized size works → AreSized size (after_mapping works) → AreSized size (cond b works (after_mapping works))
+after_sized_at size true works all less = all
+after_sized_at size false works all less = less
 
 -- and those after a mapping
-pub behind_sized : (size : ℕ) (works : List Work) → AreSized size works → AreSized size (behind_mapping works)
-behind_sized size [] all = all
-behind_sized size (t ∷ works) all =
+pub after_sized : (size : ℕ) (works : List Work) → AreSized size works → AreSized size (after_mapping works)
+after_sized size [] all = all
+after_sized size (t ∷ works) all =
     let rest = All-tail (Sized size) t works all in
-    behind_sized_at size (is_some (mapping_at t.stage)) works rest (behind_sized size works rest)
+    after_sized_at size (is_some (mapping_at t.stage)) works rest (after_sized size works rest)
 
 -- a single mapping
 pub only : (m : Mapping) → Contains (m ∷ []) m
@@ -191,7 +191,7 @@ names_at size (stage.DiskWrite m) t placed within = tt
 names_at size (stage.DiskRead m) t placed within = tt
 names_at size (stage.WriteWord m k) t placed within = (only m, placed.2 ∙ ap mode_of placed.3, within)
 names_at size (stage.Unmap m) t placed within = only m
-names_at size (stage.GiveUp m) t placed within = only m
+names_at size (stage.Abort m) t placed within = only m
 names_at size stage.Flush t placed within = tt
 names_at size (stage.Trim count) t placed within = tt
 names_at size (stage.Done status) t placed within = tt

@@ -31,7 +31,7 @@ pub record HasOneMore (m : Mapping) (fewer more : List Mapping) : Type 0 where
   pub without : fewer ≡ front ++ rest
   pub with_it : more ≡ front ++ m ∷ rest
 
--- the mappings held before an ask was answered, and after: a mapping that was made came, one that was given up went, and no other did
+-- the mappings held before an ask was answered, and after: a mapping that was made came, one that was unmapped went, and no other did
 abbrev pub HandsAfter : BackAsk → BackAnswer → List Mapping → List Mapping → Type 0
 HandsAfter (Map gref mode) (Mapped m) before after = HasOneMore m before after
 HandsAfter (Unmap m) Done before after = HasOneMore m after before

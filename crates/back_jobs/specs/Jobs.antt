@@ -98,8 +98,8 @@ told_at works None t a = works
 told_at works (Some place) None a = works
 told_at works (Some place) (Some t) a = slice_set works place (step_of t a)
 
-abbrev pub tell_job : Held → ℕ → BackAnswer → Held
-tell_job h number a = record h { works = told_at h.works (place_of h.works number) (work_of h.works number) a }
+abbrev pub complete_job : Held → ℕ → BackAnswer → Held
+complete_job h number a = record h { works = told_at h.works (place_of h.works number) (work_of h.works number) a }
 
 -- a request is begun under a number above all that are held
 abbrev pub start_job : Held → ℕ → RawRequest → Held
@@ -142,13 +142,13 @@ mapping_at (stage.DiskWrite m) = Some m
 mapping_at (stage.DiskRead m) = Some m
 mapping_at (stage.WriteWord m k) = Some m
 mapping_at (stage.Unmap m) = Some m
-mapping_at (stage.GiveUp m) = Some m
+mapping_at (stage.Abort m) = Some m
 mapping_at s = None
 
 -- the jobs after the lowest with a mapping in its hand; those before it are over
-abbrev pub behind_mapping : List Work → List Work
-behind_mapping [] = []
-behind_mapping (t ∷ works) = cond (is_some (mapping_at t.stage)) works (behind_mapping works)
+abbrev pub after_mapping : List Work → List Work
+after_mapping [] = []
+after_mapping (t ∷ works) = cond (is_some (mapping_at t.stage)) works (after_mapping works)
 
 -- the mapping in the hand of the lowest job that has one
 abbrev pub first_mapping : List Work → Option Mapping

@@ -24,7 +24,7 @@ pub record AreShared (spare capacity jobs indirect : ℕ) (works : List Work) : 
   pub has_space : rooms_for indirect jobs ≤ capacity
   pub shared : spare + count_by is_paged works ≡ rooms_for indirect jobs
 
--- an indirect page is given up now
+-- an indirect page is unmapped now
 abbrev pub IsUnmapPage : Stage → Type 0
 IsUnmapPage (stage.UnmapPage m) = Unit {0}
 IsUnmapPage s = ⊥

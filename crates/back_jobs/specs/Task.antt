@@ -68,7 +68,7 @@ ask_at (stage.DiskWrite m) t = ask.DiskWrite t.disk t.words
 ask_at (stage.DiskRead m) t = ask.DiskRead t.disk
 ask_at (stage.WriteWord m k) t = ask.Write m (word_at t k) (slice_index t.words k)
 ask_at (stage.Unmap m) t = ask.Unmap m
-ask_at (stage.GiveUp m) t = ask.Unmap m
+ask_at (stage.Abort m) t = ask.Unmap m
 ask_at stage.Flush t = ask.Flush
 ask_at (stage.Trim count) t = ask.Trim t.disk count
 ask_at (stage.Done status) t = ask.Wait
@@ -105,7 +105,7 @@ abbrev pub next_segment : Work → List Segment → Work
 next_segment t [] = record t { rest = []; stage = stage.Done Okay }
 next_segment t (s ∷ rest) = record t { rest = s ∷ rest; within = s.first; stage = stage.Map }
 
--- a segment was copied whole: the next one is, from the same page; the page is given up after the last one of all, and after its own last one
+-- a segment was copied whole: the next one is, from the same page; the page is unmapped after the last one of all, and after its own last one
 abbrev pub is_copied_out : Work → List Segment → Bool
 is_copied_out t segments = (length segments == t.named) || (length segments % 512 == 0)
 
@@ -119,7 +119,7 @@ passes t = not (list_any fails_test t.rest || nat_lt t.size (t.disk + sectors_of
 abbrev pub judged : Work → Work
 judged t = if passes t then record t { within = first_of t.rest; stage = stage.Map } else record t { stage = stage.Done Error }
 
--- a page was given up: the next one is mapped, or all segments are copied
+-- a page was unmapped: the next one is mapped, or all segments are copied
 abbrev pub page_done : Work → Work
 page_done t = if length t.rest == t.named then judged t else record t { pages = drop 1 t.pages; stage = stage.MapPage }
 
@@ -143,12 +143,12 @@ step_at stage.Map t (Mapped m) = record t { stage = sector_stage t.writes m }
 step_at stage.Map t (MapRefused status) = record t { stage = stage.Done Error }
 step_at (stage.ReadWord m k) t (Word word) = record t { words = slice_set t.words k word; stage = if k == 127 then stage.DiskWrite m else stage.ReadWord m (k + 1) }
 step_at (stage.DiskWrite m) t Done = next_sector (counted t) m
-step_at (stage.DiskWrite m) t DiskFailed = record t { stage = stage.GiveUp m }
+step_at (stage.DiskWrite m) t DiskFailed = record t { stage = stage.Abort m }
 step_at (stage.DiskRead m) t (Sector words) = record (counted t) { words = words; stage = stage.WriteWord m 0 }
-step_at (stage.DiskRead m) t DiskFailed = record t { stage = stage.GiveUp m }
+step_at (stage.DiskRead m) t DiskFailed = record t { stage = stage.Abort m }
 step_at (stage.WriteWord m k) t Done = if k == 127 then next_sector t m else record t { stage = stage.WriteWord m (k + 1) }
 step_at (stage.Unmap m) t Done = next_segment t (rest_of t.rest)
-step_at (stage.GiveUp m) t Done = record t { stage = stage.Done Error }
+step_at (stage.Abort m) t Done = record t { stage = stage.Done Error }
 step_at stage.Flush t Done = record t { stage = stage.Done Okay }
 step_at stage.Flush t DiskFailed = record t { stage = stage.Done Error }
 step_at (stage.Trim count) t Done = record t { stage = stage.Done Okay }
@@ -159,7 +159,7 @@ step_at s t answer = t
 abbrev pub step_of : Work → BackAnswer → Work
 step_of t answer = step_at t.stage t answer
 
--- a segment is done, and its frame is given up now
+-- a segment is done, and its frame is unmapped now
 abbrev pub IsUnmap : Stage → Type 0
 IsUnmap (stage.Unmap m) = Unit {0}
 IsUnmap s = ⊥

@@ -6,7 +6,7 @@ ghost use Rattle.back_jobs.specs.Task.{IsAnswer, Work};
 ghost use Rattle.back_jobs.specs.Sound.{StaysInPageAndDisk};
 ghost use Rattle.back_jobs.specs.Hands.{hands_in, Names};
 ghost use Rattle.back_jobs.specs.Segments.{is_paged};
-ghost use Rattle.back_jobs.specs.Jobs.{none_held, place_of, work_of, waits_at, is_held, is_held_by, ask_job, tell_job, start_job, without_done, first_mapping, behind_mapping, effect_of, done_of, response_of, next_after};
+ghost use Rattle.back_jobs.specs.Jobs.{none_held, place_of, work_of, waits_at, is_held, is_held_by, ask_job, complete_job, start_job, without_done, first_mapping, after_mapping, effect_of, done_of, response_of, next_after};
 ghost use Rattle.ring_words.specs.Shape.{entries_of};
 
 mod finding;
@@ -177,18 +177,18 @@ impl Jobs {
         is_held(task, ordered, barrier)
     }
 
-    /// Tells the job of a number the answer to what it asks, and gives what that does to its request;
+    /// Completes what the job of a number asks by this answer, and gives what that does to its request;
     /// `None` also where none has that number.
     #[inline(always)]
-    pub fn tell(&mut self, number: u64, answer: &BackAnswer) -> Option<Effect>
+    pub fn complete(&mut self, number: u64, answer: &BackAnswer) -> Option<Effect>
         requires { IsAnswer (ask_job self.old number) answer.now }
-        ensures told { self.new ≡ tell_job self.old number answer.now }
+        ensures completed { self.new ≡ complete_job self.old number answer.now }
         ensures effect { result ≡ effect_of (work_of self.old.works number) answer.now }
     {
         let place = self.place(number)?;
         let task = &mut self.tasks[place];
         let effect = task.effect(answer);
-        task.tell(answer);
+        task.complete(answer);
         if task.is_done() {
             self.done = self.done.min(place);
             note(&mut self.finished, task.number(), self.ascending);
@@ -269,14 +269,14 @@ impl Jobs {
         self.tasks.len()
     }
 
-    /// Gives up the jobs up to the lowest that has a mapping in its hand, and gives that mapping;
+    /// Aborts the jobs up to the lowest that has a mapping in its hand, and gives that mapping;
     /// `None` exactly where no job is left that has one. No job goes on after that.
-    pub fn give_up(&mut self) -> Option<Mapping>
+    pub fn abort(&mut self) -> Option<Mapping>
         ensures mapping { result ≡ first_mapping self.old.works }
-        ensures rest { self.new ≡ record self.old { works = behind_mapping self.old.works } }
+        ensures rest { self.new ≡ record self.old { works = after_mapping self.old.works } }
         ensures no_more { length self.new.works ≤ length self.old.works }
     {
-        let mapping = give_up_first(&mut self.tasks, &mut self.rooms);
+        let mapping = abort_first(&mut self.tasks, &mut self.rooms);
         let tasks = self.tasks.as_slice();
         // Those that are left no more go on, and are found by a walk.
         self.ascending = tasks.is_empty();
@@ -297,10 +297,10 @@ fn is_held(task: &Task, ordered: bool, barrier: bool) -> bool
 
 // Drops the jobs up to the lowest that has a mapping in its hand, and gives that mapping; their rooms
 // are spare again.
-fn give_up_first(tasks: &mut Vec<Task>, rooms: &mut Vec<Room>) -> Option<Mapping>
+fn abort_first(tasks: &mut Vec<Task>, rooms: &mut Vec<Room>) -> Option<Mapping>
     requires { length rooms.old.items + count_by is_paged tasks.old.items ≤ vec_capacity rooms.old }
     ensures mapping { result ≡ first_mapping tasks.old.items }
-    ensures rest { tasks.new.items ≡ behind_mapping tasks.old.items }
+    ensures rest { tasks.new.items ≡ after_mapping tasks.old.items }
     ensures capacity { vec_capacity tasks.new ≡ vec_capacity tasks.old }
     ensures rooms { length rooms.new.items + count_by is_paged tasks.new.items ≡ length rooms.old.items + count_by is_paged tasks.old.items }
     ensures kept { vec_capacity rooms.new ≡ vec_capacity rooms.old }

@@ -9,7 +9,7 @@ pub enum Stage {
     /// Copies a segment of the page: reads its first word, the reference, and then its second one.
     PageReference(Mapping),
     PageSectors(Mapping, u32),
-    /// Gives the page up after the last segment that was to be copied from it.
+    /// Unmaps the page after the last segment that was to be copied from it.
     UnmapPage(Mapping),
     /// Maps the frame of its next segment.
     Map,
@@ -21,10 +21,10 @@ pub enum Stage {
     /// this number next.
     DiskRead(Mapping),
     WriteWord(Mapping, u32),
-    /// Gives the mapping up after its segment's last sector.
+    /// Unmaps the frame after its segment's last sector.
     Unmap(Mapping),
-    /// Gives the mapping up after the disk failed.
-    GiveUp(Mapping),
+    /// Unmaps the frame after the disk failed: the work is aborted.
+    Abort(Mapping),
     /// Has the disk make stable what was written and trimmed so far.
     Flush,
     /// Has the disk discard so many sectors.

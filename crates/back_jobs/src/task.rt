@@ -207,7 +207,7 @@ impl Task {
             Stage::DiskRead(mapping) => Some(mapping),
             Stage::WriteWord(mapping, _) => Some(mapping),
             Stage::Unmap(mapping) => Some(mapping),
-            Stage::GiveUp(mapping) => Some(mapping),
+            Stage::Abort(mapping) => Some(mapping),
             Stage::MapPage | Stage::Map | Stage::Flush | Stage::Trim(_) | Stage::Done(_) => None,
         }
     }
@@ -237,7 +237,7 @@ impl Task {
                 value: self.words[k as usize],
             },
             Stage::Unmap(mapping) => BackAsk::Unmap(mapping),
-            Stage::GiveUp(mapping) => BackAsk::Unmap(mapping),
+            Stage::Abort(mapping) => BackAsk::Unmap(mapping),
             Stage::Flush => BackAsk::Flush,
             Stage::Trim(count) => BackAsk::Trim(self.disk, count),
             Stage::Done(_) => BackAsk::Wait,
@@ -293,9 +293,9 @@ impl Task {
         }
     }
 
-    /// Tells the job the answer to what it asks.
+    /// Completes what the job asks by this answer.
     #[inline(always)]
-    pub fn tell(&mut self, answer: &BackAnswer)
+    pub fn complete(&mut self, answer: &BackAnswer)
         requires { IsAnswer (ask_of self.old) answer.now }
         ensures { self.new ≡ step_of self.old answer.now }
     {
@@ -318,19 +318,19 @@ impl Task {
                 mapping, k, *word,
             ),
             (Stage::DiskWrite(mapping), BackAnswer::Done) => self.wrote_sector(mapping),
-            (Stage::DiskWrite(mapping), BackAnswer::DiskFailed) => self.stage = Stage::GiveUp(
+            (Stage::DiskWrite(mapping), BackAnswer::DiskFailed) => self.stage = Stage::Abort(
                 mapping,
             ),
             (Stage::DiskRead(mapping), BackAnswer::Sector(words)) => self.got_sector(
                 mapping,
                 words.get(),
             ),
-            (Stage::DiskRead(mapping), BackAnswer::DiskFailed) => self.stage = Stage::GiveUp(
+            (Stage::DiskRead(mapping), BackAnswer::DiskFailed) => self.stage = Stage::Abort(
                 mapping,
             ),
             (Stage::WriteWord(mapping, k), BackAnswer::Done) => self.wrote_word(mapping, k),
             (Stage::Unmap(_), BackAnswer::Done) => self.next_segment(),
-            (Stage::GiveUp(_), BackAnswer::Done) => self.stage = Stage::Done(Status::Error),
+            (Stage::Abort(_), BackAnswer::Done) => self.stage = Stage::Done(Status::Error),
             (Stage::Flush | Stage::Trim(_), BackAnswer::Done) => {
                 self.stage = Stage::Done(Status::Okay);
             }

@@ -15,9 +15,9 @@ use Rattle.blk_layout.specs.Entry.{request_of}
 use Rattle.ring_words.specs.Shape.{Shape, entry_words_of, slot_word_of}
 use Rattle.ring_words.specs.Ring.{requests_of, overruns, notifies}
 use Rattle.back_jobs.specs.Task.{IsAnswer as IsJobAnswer}
-use Rattle.back_jobs.specs.Jobs.{place_of, work_of, waits, ask_job, first_mapping, behind_mapping, next_after}
+use Rattle.back_jobs.specs.Jobs.{place_of, work_of, waits, ask_job, first_mapping, after_mapping, next_after}
 use Rattle.back_jobs.specs.Hands.{hands_in, Names, HasOneMore, HandsAfter}
-use Rattle.back_jobs.proofs.Hands.{framed, named_among, told_hands, done_hands, started_hands, behind_hands, few_in_hands}
+use Rattle.back_jobs.proofs.Hands.{framed, named_among, told_hands, done_hands, started_hands, after_hands, few_in_hands}
 use Rattle.back_jobs.proofs.Order.{next_above}
 use Rattle.segment_list.specs.declared.verdict.DiskInfo.{DiskInfo}
 use Rattle.blk_back.specs.declared.told.Halt.{Halt}
@@ -27,12 +27,12 @@ use Rattle.blk_back.specs.declared.stage.Stage.{Stage}
 use Rattle.blk_back.specs.declared.stage.Stage.TheVariants as stage
 use Rattle.blk_back.specs.View.{View, no_page, page_of, slot_page}
 use Rattle.blk_back.specs.Ask.{ask_at, ask_of, loop_ask, reply_ask, entry_ask, index_ask, unmap_ask, next_reply, IsAnswer, StaysInPage}
-use Rattle.blk_back.specs.Step.{giving_up, give_up, unbound, bound, other_pages, mapped, attaches, may_attach, attached, halts_at, may_halt, halts, overrun, looked, loop_word, loop_step, fetched, fetch_step, next_number, step_at, step_of, job_ask_of, job_step, next_job_of}
+use Rattle.blk_back.specs.Step.{unmapping_next, abort, unbound, bound, other_pages, mapped, attaches, may_attach, attached, halts_at, may_halt, halts, overrun, looked, loop_word, loop_step, fetched, fetch_step, next_number, step_at, step_of, job_ask_of, job_step, next_job_of}
 use Rattle.blk_back.specs.Sound.{IsMapped, IsPlaced, AreWritable, IsSound}
-use Rattle.blk_back.specs.Hands.{given_up, hands_at, hands_of}
+use Rattle.blk_back.specs.Hands.{aborted, hands_at, hands_of}
 use Rattle.blk_back.proofs.Slots.{slot_within, response_fits}
 
--- what is held while nothing is being given up
+-- what is held while nothing is being unmapped
 abbrev connected : View → List Mapping
 connected v = hands_in v.jobs.works ++ v.pages
 
@@ -44,29 +44,29 @@ either_stage : (b : Bool) (x y : Stage) (v : View) (l : List Mapping) → hands_
 either_stage true x y v l p q = p
 either_stage false x y v l p q = q
 
-given_apart : (m : Option Mapping) (rest pages : List Mapping) → given_up (giving_up m) ++ (rest ++ pages) ≡ (option_to_list m ++ rest) ++ pages
+given_apart : (m : Option Mapping) (rest pages : List Mapping) → aborted (unmapping_next m) ++ (rest ++ pages) ≡ (option_to_list m ++ rest) ++ pages
 given_apart None rest pages = refl
 given_apart (Some m) rest pages = refl
 
--- a back that gives up its pages gives up no other mapping
-none_given : (pages : List Mapping) → given_up (unbound pages) ≡ []
+-- a back that unmaps its pages unmaps no other mapping
+none_given : (pages : List Mapping) → aborted (unbound pages) ≡ []
 none_given [] = refl
 none_given (page ∷ pages) = refl
 
-none_given_bound : (pages : List Mapping) → given_up (bound pages) ≡ []
+none_given_bound : (pages : List Mapping) → aborted (bound pages) ≡ []
 none_given_bound [] = refl
 none_given_bound (page ∷ pages) = refl
 
--- to begin to give up the jobs gives up none of what they hold
-give_up_hands : (v : View) → hands_of (give_up v) ≡ connected v
-give_up_hands v =
-    given_apart (first_mapping v.jobs.works) (hands_in (behind_mapping v.jobs.works)) v.pages
-    ∙ ap (λ (l : List Mapping). l ++ v.pages) (behind_hands v.jobs.works)
+-- to begin to abort the jobs unmaps none of what they hold
+abort_hands : (v : View) → hands_of (abort v) ≡ connected v
+abort_hands v =
+    given_apart (first_mapping v.jobs.works) (hands_in (after_mapping v.jobs.works)) v.pages
+    ∙ ap (λ (l : List Mapping). l ++ v.pages) (after_hands v.jobs.works)
 
 looked_hands : (v : View) (word : ℕ) (otherwise : View) → hands_of otherwise ≡ connected v → hands_of (looked v word otherwise) ≡ connected v
 looked_hands v word otherwise h =
     either (overruns v.ring word) (overrun v word) (if word == v.ring.cons then otherwise else record v { seen = word; stage = stage.Loop }) (connected v)
-    (give_up_hands (record v { halted = Some (halt.Overrun word v.ring.prod) }))
+    (abort_hands (record v { halted = Some (halt.Overrun word v.ring.prod) }))
     (either (word == v.ring.cons) otherwise (record v { seen = word; stage = stage.Loop }) (connected v) h refl)
 
 loop_word_hands : (v : View) (word : ℕ) → hands_of (loop_word v word) ≡ connected v
@@ -84,7 +84,7 @@ either_after : (b : Bool) (x y : BackAsk) (given : BackAnswer) (before after : L
 either_after true x y given before after p q = p
 either_after false x y given before after p q = q
 
--- in the loop nothing is mapped or given up
+-- in the loop nothing is mapped or unmapped
 loop_after : (v : View) (r : Option Reply) (given : BackAnswer) (before after : List Mapping) → after ≡ before → HandsAfter (loop_ask v r) given before after
 loop_after v (Some r) given before after h = h
 loop_after v None given before after h =
@@ -101,7 +101,7 @@ fetched_hands v k word =
 page_more : (m : Mapping) (works pages : List Mapping) → HasOneMore m (works ++ pages) (works ++ (pages ++ m ∷ []))
 page_more m works pages = record { front = works ++ pages; rest = []; without = sym (append-nil (works ++ pages)); with_it = sym (append_assoc works pages (m ∷ [])) }
 
--- the first of them is given up first
+-- the first of them is unmapped first
 unmapped_after : (given : BackAnswer) (works pages over : List Mapping) → over ≡ [] → IsAnswer (unmap_ask pages) given → HandsAfter (unmap_ask pages) given (works ++ pages) (over ++ (works ++ other_pages pages))
 unmapped_after given works [] over none h = ap (λ (l : List Mapping). l ++ (works ++ [])) none
 unmapped_after answer.Done works (page ∷ pages) over none h = record { front = works; rest = pages; without = ap (λ (l : List Mapping). l ++ (works ++ pages)) none; with_it = refl }
@@ -131,10 +131,10 @@ hands_after_at stage.Send v given here h = refl
 hands_after_at stage.StoreEvent v given here h = refl
 hands_after_at stage.EventFence v given here h = refl
 hands_after_at stage.LookAgain v (answer.Word word) here h = looked_hands v word (record v { seen = word; stage = stage.Loop; asleep = true }) refl
-hands_after_at (stage.GiveUp m) v answer.Done here h = record { front = []; rest = connected v; without = give_up_hands v; with_it = refl }
-hands_after_at stage.UnmapRing v given here h = unmapped_after given (hands_in v.jobs.works) v.pages (given_up (bound (other_pages v.pages))) (none_given_bound (other_pages v.pages)) h
+hands_after_at (stage.Abort m) v answer.Done here h = record { front = []; rest = connected v; without = abort_hands v; with_it = refl }
+hands_after_at stage.UnmapRing v given here h = unmapped_after given (hands_in v.jobs.works) v.pages (aborted (bound (other_pages v.pages))) (none_given_bound (other_pages v.pages)) h
 hands_after_at stage.ClosePort v given here h = refl
-hands_after_at stage.UnmapUnbound v given here h = unmapped_after given (hands_in v.jobs.works) v.pages (given_up (unbound (other_pages v.pages))) (none_given (other_pages v.pages)) h
+hands_after_at stage.UnmapUnbound v given here h = unmapped_after given (hands_in v.jobs.works) v.pages (aborted (unbound (other_pages v.pages))) (none_given (other_pages v.pages)) h
 hands_after_at stage.Halted v given here h = ap (λ (s : Stage). hands_at s v) here
 hands_after_at s v given here h = absurd h
 
@@ -142,14 +142,14 @@ hands_after_at s v given here h = absurd h
 pub hands_after : (v : View) (given : BackAnswer) → IsAnswer (ask_of v) given → HandsAfter (ask_of v) given (hands_of v) (hands_of (step_of v given))
 hands_after v given h = hands_after_at v.stage v given refl h
 
--- a halt gives up none of it at once
+-- a halt unmaps none of it at once
 pub halted_hands : (why : Halt) (v : View) → hands_of (halts why v) ≡ hands_of v
 halted_hands why v = either (may_halt why) (halts_at v.stage why v) v (hands_of v) (by_stage v.stage refl) refl
   where
     by_stage : (s : Stage) → v.stage ≡ s → hands_of (halts_at s why v) ≡ hands_of v
     by_stage stage.InitWait here = ap (λ (l : List Mapping). l ++ connected v) (none_given v.pages) ∙ ap (λ (s : Stage). hands_at s v) (sym here)
     by_stage stage.MapRing here = ap (λ (l : List Mapping). l ++ connected v) (none_given v.pages) ∙ ap (λ (s : Stage). hands_at s v) (sym here)
-    by_stage stage.Loop here = give_up_hands (record v { halted = Some why }) ∙ ap (λ (s : Stage). hands_at s v) (sym here)
+    by_stage stage.Loop here = abort_hands (record v { halted = Some why }) ∙ ap (λ (s : Stage). hands_at s v) (sym here)
     by_stage s here = refl
 
 -- to take the terms of the front maps nothing
@@ -167,7 +167,7 @@ attached_hands shape grefs port v = by_stage v.stage refl
 -- the jobs' hands among all
 framed_job : (a : BackAsk) (v : View) (given : BackAnswer) (number : ℕ) → a ≡ ask_job v.jobs number → IsJobAnswer a given → HandsAfter a given (hands_of v) (hands_of (job_step v number given))
 framed_job a v given number same h =
-    rw same (framed (ask_job v.jobs number) given (given_up v.stage) v.pages (hands_in v.jobs.works) (hands_in (job_step v number given).jobs.works)
+    rw same (framed (ask_job v.jobs number) given (aborted v.stage) v.pages (hands_in v.jobs.works) (hands_in (job_step v number given).jobs.works)
     (told_hands v.jobs.works (place_of v.jobs.works number) (waits v.jobs.works number) (work_of v.jobs.works number) given refl (rw same at h)))
 
 job_hands_after_at : (halted : Bool) (v : View) (number : ℕ) (given : BackAnswer) → IsJobAnswer (if halted then ask.Wait else ask_job v.jobs number) given → HandsAfter (if halted then ask.Wait else ask_job v.jobs number) given (hands_of v) (hands_of (job_step v number given))
@@ -234,7 +234,7 @@ names_at (stage.Producer r) v kept writable fetched within = (index_names v (han
 names_at (stage.ResponseEvent old) v kept writable fetched within = (index_names v (hands_in v.jobs.works) (record { pages = kept; writable = writable }), within)
 names_at stage.StoreEvent v kept writable fetched within = (index_names v (hands_in v.jobs.works) (record { pages = kept; writable = writable }), index_mode v (record { pages = kept; writable = writable }), within)
 names_at stage.LookAgain v kept writable fetched within = (index_names v (hands_in v.jobs.works) (record { pages = kept; writable = writable }), within)
-names_at (stage.GiveUp m) v kept writable fetched within = (0, omega arith, refl)
+names_at (stage.Abort m) v kept writable fetched within = (0, omega arith, refl)
 names_at stage.UnmapRing v kept writable fetched within = first_in (hands_in v.jobs.works) v.pages
 names_at stage.UnmapUnbound v kept writable fetched within = first_in (hands_in v.jobs.works) v.pages
 names_at s v kept writable fetched within = tt
@@ -249,17 +249,17 @@ names_of v sound within = names_at v.stage v sound.mapped sound.writable (fetche
 
 -- so does a job
 pub job_names : (v : View) (a : BackAsk) → Names (hands_in v.jobs.works) a → Names (hands_of v) a
-job_names v a names = named_among a (given_up v.stage) v.pages (hands_in v.jobs.works) names
+job_names v a names = named_among a (aborted v.stage) v.pages (hands_in v.jobs.works) names
 
-few_given_up : (s : Stage) → length (given_up s) ≤ 1
-few_given_up (stage.GiveUp m) = omega arith
-few_given_up s = omega arith
+few_aborted : (s : Stage) → length (aborted s) ≤ 1
+few_aborted (stage.Abort m) = omega arith
+few_aborted s = omega arith
 
--- one in each job's hand, the pages, and one that is being given up
+-- one in each job's hand, the pages, and one that is being unmapped
 pub few_hands : (v : View) → IsSound v → length (hands_of v) ≤ 529
 few_hands v sound =
-    let given = few_given_up v.stage in let pages = sound.few_pages in let few = sound.few in let hands = few_in_hands v.jobs.works in
-    rw (length-append (given_up v.stage) (hands_in v.jobs.works ++ v.pages), length-append (hands_in v.jobs.works) v.pages) (omega arith)
+    let given = few_aborted v.stage in let pages = sound.few_pages in let few = sound.few in let hands = few_in_hands v.jobs.works in
+    rw (length-append (aborted v.stage) (hands_in v.jobs.works ++ v.pages), length-append (hands_in v.jobs.works) v.pages) (omega arith)
 
 either_info : (b : Bool) (x y : View) (info : DiskInfo) → x.jobs.info ≡ info → y.jobs.info ≡ info → (if b then x else y).jobs.info ≡ info
 either_info true x y info p q = p
@@ -295,7 +295,7 @@ step_info_at stage.Send v given = refl
 step_info_at stage.StoreEvent v given = refl
 step_info_at stage.EventFence v given = refl
 step_info_at stage.LookAgain v (answer.Word word) = looked_info v word (record v { seen = word; stage = stage.Loop; asleep = true }) refl
-step_info_at (stage.GiveUp m) v given = refl
+step_info_at (stage.Abort m) v given = refl
 step_info_at stage.UnmapRing v given = refl
 step_info_at stage.ClosePort v given = refl
 step_info_at stage.UnmapUnbound v given = refl

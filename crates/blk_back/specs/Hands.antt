@@ -6,14 +6,14 @@ use Rattle.blk_back.specs.declared.stage.Stage.{Stage}
 use Rattle.blk_back.specs.declared.stage.Stage.TheVariants as stage
 use Rattle.blk_back.specs.View.{View}
 
--- after a halt: the mapping that is being given up
-abbrev pub given_up : Stage → List Mapping
-given_up (stage.GiveUp m) = m ∷ []
-given_up s = []
+-- after a halt: the mapping that is being unmapped
+abbrev pub aborted : Stage → List Mapping
+aborted (stage.Abort m) = m ∷ []
+aborted s = []
 
 abbrev pub hands_at : Stage → View → List Mapping
-hands_at s v = given_up s ++ (hands_in v.jobs.works ++ v.pages)
+hands_at s v = aborted s ++ (hands_in v.jobs.works ++ v.pages)
 
--- the one being given up, then those in the jobs' hands, then the ring's pages
+-- the one being unmapped, then those in the jobs' hands, then the ring's pages
 abbrev pub hands_of : View → List Mapping
 hands_of v = hands_at v.stage v

@@ -19,14 +19,14 @@ IsCounted stage.InitWait works waiting = works ≡ 0
 IsCounted (stage.ReplyHigh r) works waiting = works + 1 ≡ waiting
 IsCounted (stage.ReplyLast r) works waiting = works + 1 ≡ waiting
 IsCounted (stage.Producer r) works waiting = works + 1 ≡ waiting
-IsCounted (stage.GiveUp m) works waiting = Unit {0}
+IsCounted (stage.Abort m) works waiting = Unit {0}
 IsCounted stage.UnmapRing works waiting = Unit {0}
 IsCounted stage.ClosePort works waiting = Unit {0}
 IsCounted stage.UnmapUnbound works waiting = Unit {0}
 IsCounted stage.Halted works waiting = Unit {0}
 IsCounted s works waiting = works ≡ waiting
 
--- the pages that are mapped: none before the terms are known and after all were given up, all while the port is bound
+-- the pages that are mapped: none before the terms are known and after all were unmapped, all while the port is bound
 abbrev pub IsMapped : Stage → ℕ → List ℕ → List Mapping → Type 0
 IsMapped stage.InitWait order grefs pages = length pages ≡ 0
 IsMapped stage.MapRing order grefs pages = (length grefs ≡ 2 ^ order) × (length pages < 2 ^ order)

@@ -10,7 +10,7 @@ use Rattle.ring_words.specs.Ring.{next_of, requests_of, overruns, notifies}
 use Rattle.blk_layout.specs.Entry.{request_of}
 use Rattle.back_jobs.specs.declared.effect.Effect.{Effect}
 use Rattle.back_jobs.specs.declared.effect.Effect.TheVariants as effect
-use Rattle.back_jobs.specs.Jobs.{start_job, tell_job, without_done, first_mapping, behind_mapping, work_of, effect_of, ask_job, next_after}
+use Rattle.back_jobs.specs.Jobs.{start_job, complete_job, without_done, first_mapping, after_mapping, work_of, effect_of, ask_job, next_after}
 use Rattle.blk_back.specs.declared.stage.Reply.{Reply}
 use Rattle.blk_back.specs.declared.stage.Stage.{Stage}
 use Rattle.blk_back.specs.declared.stage.Stage.TheVariants as stage
@@ -24,16 +24,16 @@ use Rattle.blk_back.specs.Ask.{is_led, next_reply, next_gref}
 abbrev pub at : Stage → View → View
 at s v = record v { stage = s }
 
--- after a mapping of the jobs, or none: what is given up next
-abbrev pub giving_up : Option Mapping → Stage
-giving_up None = stage.UnmapRing
-giving_up (Some m) = stage.GiveUp m
+-- after a mapping of the jobs, or none: what is unmapped next
+abbrev pub unmapping_next : Option Mapping → Stage
+unmapping_next None = stage.UnmapRing
+unmapping_next (Some m) = stage.Abort m
 
--- the jobs are given up as far as the next mapping in a job's hand
-abbrev pub give_up : View → View
-give_up v = record v { stage = giving_up (first_mapping v.jobs.works); jobs = record v.jobs { works = behind_mapping v.jobs.works } }
+-- the jobs are aborted as far as the next mapping in a job's hand
+abbrev pub abort : View → View
+abort v = record v { stage = unmapping_next (first_mapping v.jobs.works); jobs = record v.jobs { works = after_mapping v.jobs.works } }
 
--- a back whose port isn't bound gives up the pages that it has mapped
+-- a back whose port isn't bound unmaps the pages that it has mapped
 abbrev pub unbound : List Mapping → Stage
 unbound [] = stage.Halted
 unbound (page ∷ pages) = stage.UnmapUnbound
@@ -42,7 +42,7 @@ unbound (page ∷ pages) = stage.UnmapUnbound
 abbrev pub halts_at : Stage → Halt → View → View
 halts_at stage.InitWait why v = record v { halted = Some why; stage = unbound v.pages }
 halts_at stage.MapRing why v = record v { halted = Some why; stage = unbound v.pages }
-halts_at stage.Loop why v = give_up (record v { halted = Some why })
+halts_at stage.Loop why v = abort (record v { halted = Some why })
 halts_at s why v = v
 
 -- for anything but an overrun, which the back finds itself
@@ -71,7 +71,7 @@ attaches shape grefs port v = if may_attach shape grefs v then attached shape gr
 
 -- the back halts: it serves nothing more
 abbrev pub overrun : View → ℕ → View
-overrun v word = give_up (record v { halted = Some (halt.Overrun word v.ring.prod) })
+overrun v word = abort (record v { halted = Some (halt.Overrun word v.ring.prod) })
 
 -- the requests' producer was read: one that overran halts the back; where nothing is new, `otherwise`
 abbrev pub looked : View → ℕ → View → View
@@ -154,7 +154,7 @@ step_at stage.Send v answer = at stage.Loop v
 step_at stage.StoreEvent v answer = at stage.EventFence v
 step_at stage.EventFence v answer = at stage.LookAgain v
 step_at stage.LookAgain v (Word word) = looked v word (record v { seen = word; stage = stage.Loop; asleep = true })
-step_at (stage.GiveUp m) v answer = give_up v
+step_at (stage.Abort m) v answer = abort v
 step_at stage.UnmapRing v answer = unmapped_bound v
 step_at stage.ClosePort v answer = at stage.Halted v
 step_at stage.UnmapUnbound v answer = unmapped_unbound v
@@ -181,4 +181,4 @@ told_effect (Some (effect.Failed id index)) = Some (told.Fault id index)
 
 -- what an answer to the job of a number makes of the back
 abbrev pub job_step : View → ℕ → BackAnswer → View
-job_step v number answer = record v { jobs = tell_job v.jobs number answer; told = told_effect (effect_of (work_of v.jobs.works number) answer) }
+job_step v number answer = record v { jobs = complete_job v.jobs number answer; told = told_effect (effect_of (work_of v.jobs.works number) answer) }

@@ -253,7 +253,7 @@ impl<'a> Endpoint<'a> for Back {
 
     ghost asked = { ask_of };
 
-    ghost MayBeTold = { λ back answer. IsAnswer (ask_of back) answer × (back.told ≡ None) };
+    ghost MayComplete = { λ back answer. IsAnswer (ask_of back) answer × (back.told ≡ None) };
 
     #[inline(always)]
     fn ask(&'a self) -> BackAsk<'a>
@@ -267,9 +267,9 @@ impl<'a> Endpoint<'a> for Back {
         self.next_ask()
     }
 
-    fn tell(&mut self, answer: &BackAnswer<'a>) -> Result<(), OutOfMemory>
+    fn complete(&mut self, answer: &BackAnswer<'a>) -> Result<(), OutOfMemory>
         requires { IsAnswer (ask_of self.old) answer.now × (self.old.told ≡ None) }
-        ensures told { self.new ≡ step_of self.old answer.now }
+        ensures completed { self.new ≡ step_of self.old answer.now }
         ensures hands { HandsAfter (ask_of self.old) answer.now (hands_of self.old) (hands_of self.new) }
         ensures takes_no_memory { IsOk result }
         ensures unchanged { OnErr result (self.new ≡ self.old) }
@@ -301,7 +301,7 @@ impl Back {
             Stage::StoreEvent => self.write_index(REQ_EVENT, self.ring.cons().wrapping_add(1)),
             Stage::EventFence => BackAsk::Fence,
             Stage::LookAgain => self.read_index(REQ_PROD),
-            Stage::GiveUp(mapping) => BackAsk::Unmap(mapping),
+            Stage::Abort(mapping) => BackAsk::Unmap(mapping),
             Stage::UnmapRing => self.unmap_ring(),
             Stage::ClosePort => BackAsk::ClosePort,
             Stage::UnmapUnbound => self.unmap_ring(),
@@ -330,7 +330,7 @@ impl Back {
             (Stage::StoreEvent, _) => self.stage = Stage::EventFence,
             (Stage::EventFence, _) => self.stage = Stage::LookAgain,
             (Stage::LookAgain, BackAnswer::Word(word)) => self.look_again(*word),
-            (Stage::GiveUp(_), _) => self.give_up(),
+            (Stage::Abort(_), _) => self.abort(),
             (Stage::UnmapRing, _) => self.unmapped(),
             (Stage::ClosePort, _) => self.stage = Stage::Halted,
             (Stage::UnmapUnbound, _) => self.unmapped_unbound(),

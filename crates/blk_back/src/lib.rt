@@ -1,5 +1,5 @@
 //! The back end of a block ring: what the host's disk driver does, one shared word at a time
-//! (`io/ring.h`, `io/blkif.h`), as a machine that asks for one thing and is told the answer. It
+//! (`io/ring.h`, `io/blkif.h`), as a machine whose asks are completed one by one. It
 //! copies each entry's words once, hands each request to a job, replies to what is done, and halts
 //! where the front's producer overran the ring. The machine of both domains stands on it.
 #![tactic(auto)]

@@ -39,12 +39,12 @@ pub enum Stage {
     StoreEvent,
     EventFence,
     LookAgain,
-    /// Has halted: gives up this mapping, which a job had in its hand; then the ring's
+    /// Has halted: unmaps this mapping, which an aborted job had in its hand; then the ring's
     /// pages, the first that is still mapped; then closes its port; then does nothing more.
-    GiveUp(Mapping),
+    Abort(Mapping),
     UnmapRing,
     ClosePort,
-    /// Has halted before the port was bound: gives up the ring's pages.
+    /// Has halted before the port was bound: unmaps the ring's pages.
     UnmapUnbound,
     Halted,
 }

@@ -21,7 +21,7 @@ is_made stage.Initialised = true
 is_made stage.Loop = true
 is_made s = false
 
--- it has given up its ring and its port, or made none
+-- it has ended the ring's grants and closed its port, or made none
 abbrev pub is_bare : Stage → Bool
 is_bare (stage.RingWord k) = true
 is_bare stage.Left = true

@@ -1,6 +1,6 @@
 -- What a suspend makes of the front: the ring, the port, the grants and what the back offered are gone, and the frames and the unfinished requests stay.
 use Rattle.std.specs.Prelude.{Bool, true, false, List, length, Option, Some, None, if◌then◌else◌}
-use Rattle.resume_shadow.specs.Unfinished.{by_number as placed}
+use Rattle.resume_shadow.specs.Unfinished.{by_number as by_number_of}
 use Rattle.ring_words.specs.Shape.{entries_of}
 use Rattle.blk_front.specs.declared.request.Request.{Request}
 use Rattle.blk_front.specs.declared.stage.Ending.{Ending}
@@ -11,7 +11,7 @@ use Rattle.blk_front.specs.View.{View, no_offers}
 
 -- a request among others that are in order of number
 abbrev pub by_number : Request → List Request → List Request
-by_number r requests = placed (λ (s : Request). s.number) r requests
+by_number r requests = by_number_of (λ (s : Request). s.number) r requests
 
 -- one whose grants were being ended wasn't answered: it is one of the others again
 abbrev pub with_ending : Option Ending → List Request → List Request

@@ -420,7 +420,7 @@ impl<'a> Endpoint<'a> for Front {
 
     ghost asked = { ask_of };
 
-    ghost MayBeTold = { λ front answer. IsAnswer (ask_of front) answer × (front.told ≡ None) };
+    ghost MayComplete = { λ front answer. IsAnswer (ask_of front) answer × (front.told ≡ None) };
 
     #[inline(always)]
     #[tactic(auto, using(crate::proofs::Shapes::few_pages))]
@@ -470,9 +470,9 @@ impl<'a> Endpoint<'a> for Front {
     }
 
     #[inline(always)]
-    fn tell(&mut self, answer: &FrontAnswer<'a>) -> Result<(), OutOfMemory>
+    fn complete(&mut self, answer: &FrontAnswer<'a>) -> Result<(), OutOfMemory>
         requires { IsAnswer (ask_of self.old) answer.now × (self.old.told ≡ None) }
-        ensures told { self.new ≡ step_of self.old answer.now }
+        ensures completed { self.new ≡ step_of self.old answer.now }
         ensures takes_no_memory { IsOk result }
         ensures unchanged { OnErr result (self.new ≡ self.old) }
     {

@@ -1,6 +1,6 @@
 //! The front end of a block ring: what the guest's disk driver does, one shared word at a time
-//! (`io/ring.h`, `io/blkif.h`, `grant_table.h`), as a machine that asks for one thing and is told
-//! the answer. The machine of both domains stands on it.
+//! (`io/ring.h`, `io/blkif.h`, `grant_table.h`), as a machine whose asks are
+//! completed one by one. The machine of both domains stands on it.
 #![tactic(auto)]
 
 mod frames;

@@ -69,7 +69,7 @@ pub enum Stage {
     RingRead(u32),
     RingEnd(u32, u32),
     ClosePort,
-    /// Has given up its ring and its port.
+    /// Has ended the ring's grants and closed its port.
     Left,
     /// Is closed (XenbusStateClosed of `io/xenbus.h`), and does nothing more.
     Closed,

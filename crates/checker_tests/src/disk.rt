@@ -122,7 +122,7 @@ quiet",
         sectors: &[],
     },
     Case {
-        name: "a barrier orders what is before and behind it",
+        name: "a barrier orders what is before and after it",
         zeros: 0,
         report: "submit 1 write 0 1 00000001
 submit 2 barrier 1 1 00000002
@@ -169,7 +169,7 @@ fn the_lines_of_a_report_stand_where_the_disk_takes_their_steps(rt: HostRuntime)
 // Lines that were seen, how often a request was submitted, and how it is then refused.
 type Submission = (&'static str, u64, &'static str, Option<Refusal>);
 
-fn job_of(rt: &impl Abort, text: &str) -> Job {
+fn read_job(rt: &impl Abort, text: &str) -> Job {
     match line_of(rt, text) {
         Line::Submit { job, .. } => job,
         _ => panic!(rt; "no submission: {text}"),
@@ -199,7 +199,7 @@ fn submitted(rt: &impl Abort, alloc: Global, count: u64, job: &Job) -> PlainDisk
 
 fn refuse(rt: &impl Abort, alloc: Global, cases: &[Submission]) {
     for (lines, count, text, wanted) in cases {
-        let job = job_of(rt, text);
+        let job = read_job(rt, text);
         let disk = submitted(rt, alloc, *count, &job);
         let found = seen(rt, lines).refusal(disk.requests(), &job);
         assert_eq!(rt; found, *wanted, "{text} after {lines} and {count}");

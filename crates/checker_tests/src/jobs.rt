@@ -244,7 +244,7 @@ const WRITING_127: &[Piece] = &[CONNECTED, WRITE, MAP, Piece::Reads(1, 2, 127)];
 
 const WRITING: &[Piece] = &[CONNECTED, WRITE, MAP, SECTOR];
 
-// It wrote its sector and gave up its mapping.
+// It wrote its sector and unmapped its mapping.
 const WRITTEN: &[Piece] = &[CONNECTED, WRITE, MAP, SECTOR, MOVED, UNMAP];
 
 const PUT: &[Piece] = &[CONNECTED, WRITE, MAP, SECTOR, MOVED, UNMAP, WORDS];
@@ -495,22 +495,22 @@ const ENDS: &[Group] = &[
         ],
     ),
     (
-        "a job gives up what it mapped before its reply",
+        "a job unmaps what it mapped before its reply",
         UNMAPPED,
         &[("", "reply 1 ok", None)],
     ),
     (
-        "a job gives up all that it mapped before its reply",
+        "a job unmaps all that it mapped before its reply",
         UNMAPPED_ANOTHER,
         &[("", "reply 1 ok", Some(Rule::Reply))],
     ),
     (
-        "a job that gave up nothing has no reply",
+        "a job that unmapped nothing has no reply",
         MAPPED,
         &[("", "reply 1 ok", Some(Rule::Reply))],
     ),
     (
-        "a job gives up nothing that is kept",
+        "a job unmaps nothing that is kept",
         MAPPED_AND_KEPT,
         &[("", "reply 1 ok", None)],
     ),

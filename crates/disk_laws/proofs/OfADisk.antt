@@ -24,10 +24,10 @@ pub of_a_disk_told : (sectors : ℕ) (detail : Detail) (before : Option (List (L
 of_a_disk_told sectors detail (Some content) ls of = tt
 of_a_disk_told sectors detail None ls of = record { content = of.content; sized = of.sized; later = of.later; effects = kept_effects detail [] ls of.content of.later of.effects }
 
-of_a_disk_behind : (sectors : ℕ) (before : Option (List (List ℕ))) (config : Options) (detail : Detail) (ls : List Line) → IsOfADisk sectors before (lines.Begin config detail ∷ ls) → IsOfADisk sectors before ls
-of_a_disk_behind sectors (Some content) config detail ls of = tt
-of_a_disk_behind sectors None config detail ls of = record { content = of.content; sized = of.sized; later = of.later; effects = without_first config detail ls of.content of.later of.effects }
+of_a_disk_after : (sectors : ℕ) (before : Option (List (List ℕ))) (config : Options) (detail : Detail) (ls : List Line) → IsOfADisk sectors before (lines.Begin config detail ∷ ls) → IsOfADisk sectors before ls
+of_a_disk_after sectors (Some content) config detail ls of = tt
+of_a_disk_after sectors None config detail ls of = record { content = of.content; sized = of.sized; later = of.later; effects = without_first config detail ls of.content of.later of.effects }
 
 -- after the first line of a report that it keeps
 pub of_a_disk_kept : (config : Options) (detail : Detail) (before : Option (List (List ℕ))) (ls : List Line) → IsOfADisk config.sectors before (kept_of detail (lines.Begin config detail ∷ ls)) → IsOfADisk config.sectors before ls
-of_a_disk_kept config detail before ls of = of_a_disk_behind config.sectors before config detail ls (of_a_disk_told config.sectors detail before (lines.Begin config detail ∷ ls) of)
+of_a_disk_kept config detail before ls of = of_a_disk_after config.sectors before config detail ls (of_a_disk_told config.sectors detail before (lines.Begin config detail ∷ ls) of)

@@ -33,7 +33,7 @@ ghost use Rattle.pipeline_laws.specs.Unbroken.{IsUnbroken};
 ghost use Rattle.pipeline_laws.specs.States.{AreStates};
 
 /// What a recorder keeps of the report of a history is a run of the plain disk, from what the disk
-/// held to what it holds; where the disk doesn't tell, from sectors that nobody knows. So too with
+/// held to what it holds; where the disk doesn't expose it, from sectors that nobody knows. So too with
 /// the report's last line.
 pub fn every_report_is_a_run_of_the_plain_disk()
     ensures report { (config : Options) (detail : Detail) (history : List Happening) (before now : DiskSeen)

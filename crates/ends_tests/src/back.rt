@@ -90,7 +90,7 @@ fn it_sleeps_after_a_second_look_and_an_event_wakes_it(rt: HostRuntime) {
     );
 }
 
-// It gives up the ring, closes its port, and does nothing more.
+// It unmaps the ring, closes its port, and does nothing more.
 const GIVES_UP: &[Step<'static>] = &[
     Step::Does(Ask::Unmap(RING)),
     Step::Does(Ask::ClosePort),
@@ -150,7 +150,7 @@ fn a_ring_that_cant_be_mapped_or_bound_halts_it(rt: HostRuntime) {
 
 #[test]
 fn its_negotiation_halts_it_where_no_step_is_begun(rt: HostRuntime) {
-    // where it waits for its terms it has nothing to give up
+    // where it waits for its terms it has nothing to unmap
     plays(
         &rt,
         rt.alloc(),
@@ -163,7 +163,7 @@ fn its_negotiation_halts_it_where_no_step_is_begun(rt: HostRuntime) {
             Step::Asks(Ask::Wait),
         ]],
     );
-    // where it is connected it gives up its page and its port; an overrun it finds itself
+    // where it is connected it unmaps its page and closes its port; an overrun it finds itself
     plays(
         &rt,
         rt.alloc(),

@@ -140,7 +140,7 @@ fn a_ring_that_cant_be_mapped_halts_it(rt: HostRuntime) {
     );
 }
 
-// It gives up its ring and its port.
+// It unmaps its ring and closes its port.
 const GIVES_UP: &[Step<'static>] = &[Step::Does(Ask::Unmap(RING)), Step::Does(Ask::ClosePort)];
 
 #[test]

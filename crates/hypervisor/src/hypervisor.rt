@@ -55,7 +55,7 @@ impl Hypervisor {
     }
 
     /// A hostile hand overwrites a word of domain 1, whose memory is frames 0 to 1023 of 1024 words
-    /// each; frames 0 and 1 hold its grant table. Nobody is told.
+    /// each; frames 0 and 1 hold its grant table. It notifies nobody.
     pub fn overwrite(&mut self, frame: u32, word: u32, value: u32)
         requires frame_in { frame < 1024 }
         requires word_in { word < 1024 }

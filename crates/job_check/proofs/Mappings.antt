@@ -24,7 +24,7 @@ use Rattle.report_rules.proofs.Back.{left_more_by}
 use Rattle.memory_check.proofs.Counts.{numbered_more, numbered_filter}
 use Rattle.memory_check.proofs.Sees.{made_more}
 use Rattle.job_check.specs.declared.kept.Made.{Made}
-use Rattle.job_check.specs.Kept.{Kept, made_at, after_map, after_unmap, is_writer_of, is_writer_at, is_kept_of, is_kept_for, may_stay, gave_up}
+use Rattle.job_check.specs.Kept.{Kept, made_at, after_map, after_unmap, is_writer_of, is_writer_at, is_kept_of, is_kept_for, may_stay, has_unmapped}
 use Rattle.job_check.specs.State.{made_of}
 use Rattle.job_check.proofs.Keyed.{AreRising, rising_inserted, found_inserted, any_inserted, rising_removed, found_removed, any_removed}
 use Rattle.job_check.proofs.Telling.{neither, longer, anew}
@@ -271,9 +271,9 @@ not_stay true true = refl
 not_stay true false = refl
 not_stay false may = refl
 
--- what a job has to give up
-pub gave_up_is : (before : List Line) (kept : Kept) (persistent : Bool) (k : ℕ) → IsKeptTo before kept → gave_up kept persistent k ≡ list_all (may_stand persistent) (held_by k before)
-gave_up_is before kept persistent k is =
+-- what a job has to unmap
+pub has_unmapped_is : (before : List Line) (kept : Kept) (persistent : Bool) (k : ℕ) → IsKeptTo before kept → has_unmapped kept persistent k ≡ list_all (may_stand persistent) (held_by k before)
+has_unmapped_is before kept persistent k is =
     all_any (may_stay persistent k) (values_of kept)
     ∙ (ap not (any_map (λ (e : ℕ × Made). e.1) (λ (m : Made). not (may_stay persistent k m)) kept
     ∙ (any_same (λ (e : ℕ × Made). not (may_stay persistent k e.1)) (λ (e : ℕ × Made). (e.1.job == k) && not (persistent && e.1.writes)) kept (λ e. not_stay (e.1.job == k) (persistent && e.1.writes))

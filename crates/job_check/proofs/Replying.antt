@@ -6,14 +6,14 @@ use Rattle.schedule_text.specs.declared.line.Line.{Line}
 use Rattle.report_rules.specs.declared.job.Fetched.{Fetched}
 use Rattle.report_rules.specs.Published.{is_persistent as persistent_by}
 use Rattle.report_rules.specs.Job.{fetched_of}
-use Rattle.report_rules.specs.Made.{gave_up as gave_up_by}
+use Rattle.report_rules.specs.Made.{has_unmapped as has_unmapped_by}
 use Rattle.report_rules.specs.Reply.{is_like, is_one_of, may_answer as may_answer_by, lines_before, response_due, words_due, most_jobs, job_for, job_replied, answered_in}
-use Rattle.job_check.specs.Kept.{gave_up}
+use Rattle.job_check.specs.Kept.{has_unmapped}
 use Rattle.job_check.specs.Open.{Open, due, is_early, may_answer}
 use Rattle.job_check.specs.Published.{Published, is_persistent}
 use Rattle.job_check.specs.Replies.{Replies, answers, answered_by}
 use Rattle.job_check.specs.State.{JobState, job_at, job_answered}
-use Rattle.job_check.proofs.Mappings.{IsKeptTo, gave_up_is}
+use Rattle.job_check.proofs.Mappings.{IsKeptTo, has_unmapped_is}
 use Rattle.job_check.proofs.Publishing.{IsPublished}
 use Rattle.job_check.proofs.Jobs.{IsJob}
 use Rattle.job_check.proofs.Changes.{IsJobOf, AreJobs}
@@ -80,17 +80,17 @@ may_range before early s rows last k row o starts here may =
 persistent_is : (before : List Line) (p : Published) → IsPublished before p → is_persistent p ≡ persistent_by before
 persistent_is before p is = rw is.keeping refl
 
-gave_same : (before : List Line) (s : JobState) (k : ℕ) → IsKeptTo before s.kept → IsPublished before s.published → gave_up s.kept (is_persistent s.published) k ≡ gave_up_by before k
-gave_same before s k kept is = ap (λ (b : Bool). gave_up s.kept b k) (persistent_is before s.published is) ∙ gave_up_is before s.kept (persistent_by before) k kept
+gave_same : (before : List Line) (s : JobState) (k : ℕ) → IsKeptTo before s.kept → IsPublished before s.published → has_unmapped s.kept (is_persistent s.published) k ≡ has_unmapped_by before k
+gave_same before s k kept is = ap (λ (b : Bool). has_unmapped s.kept b k) (persistent_is before s.published is) ∙ has_unmapped_is before s.kept (persistent_by before) k kept
 
 answers_same : (before early : List Line) (s : JobState) (rows k : ℕ) (row : List ℕ) → Sees before s → IsReplying before s → Starts before early rows s.jobs
-    → (may_answer_by early (answered_in before) 2 row k && gave_up_by before k) ≡ passes_at (answers s.kept (is_persistent s.published) rows row) (job_at s.jobs k)
+    → (may_answer_by early (answered_in before) 2 row k && has_unmapped_by before k) ≡ passes_at (answers s.kept (is_persistent s.published) rows row) (job_at s.jobs k)
 answers_same before early s rows k row sees is starts =
-    ap (λ (b : Bool). b && gave_up_by before k) (may_same before early s rows 2 k row is starts) ∙ by_job (job_at s.jobs k) (sees.seen.jobs.each k)
+    ap (λ (b : Bool). b && has_unmapped_by before k) (may_same before early s rows 2 k row is starts) ∙ by_job (job_at s.jobs k) (sees.seen.jobs.each k)
   where
-    by_job : (o : Option Open) → IsJobOf before k o → (passes_at (may_answer rows 2 row) o && gave_up_by before k) ≡ passes_at (answers s.kept (is_persistent s.published) rows row) o
+    by_job : (o : Option Open) → IsJobOf before k o → (passes_at (may_answer rows 2 row) o && has_unmapped_by before k) ≡ passes_at (answers s.kept (is_persistent s.published) rows row) o
     by_job None gone = refl
-    by_job (Some o) j = ap (λ (b : Bool). may_answer rows 2 row o && b) (sym (gave_same before s k sees.seen.mappings sees.published) ∙ ap (gave_up s.kept (is_persistent s.published)) (sym j.number))
+    by_job (Some o) j = ap (λ (b : Bool). may_answer rows 2 row o && b) (sym (gave_same before s k sees.seen.mappings sees.published) ∙ ap (has_unmapped s.kept (is_persistent s.published)) (sym j.number))
 
 pub numbers : (before : List Line) (s : JobState) (k : ℕ) (o : Open) → AreJobs before s.jobs → job_at s.jobs k ≡ Some o → o.number ≡ k
 numbers before s k o are here = let j : IsJob before k o = subst (IsJobOf before k) here (are.each k) in j.number
@@ -107,7 +107,7 @@ replied_is before s sees is =
         let b : Begun before s.replies s.jobs = is.begun (is.written.some some) in
         let starts : Starts before b.early s.replies.rows s.jobs = starts_of before s.replies s.jobs b in
         ap (λ (early : List Line). job_for before early (answered_in before) (Some row)) (lines_are before s.replies s.jobs 4 b (b.pushed some))
-        ∙ lowest_is (λ (k : ℕ). may_answer_by b.early (answered_in before) 2 row k && gave_up_by before k) (answers s.kept (is_persistent s.published) s.replies.rows row) (λ (o : Open). o.number) s.jobs (most_jobs b.early) sees.seen.jobs.rising
+        ∙ lowest_is (λ (k : ℕ). may_answer_by b.early (answered_in before) 2 row k && has_unmapped_by before k) (answers s.kept (is_persistent s.published) s.replies.rows row) (λ (o : Open). o.number) s.jobs (most_jobs b.early) sees.seen.jobs.rising
         (λ k. answers_same before b.early s s.replies.rows k row sees is starts)
-        (λ k o here may. may_range before b.early s s.replies.rows 2 k row o starts here (both_of (may_answer s.replies.rows 2 row o) (gave_up s.kept (is_persistent s.published) o.number) may).0)
+        (λ k o here may. may_range before b.early s s.replies.rows 2 k row o starts here (both_of (may_answer s.replies.rows 2 row o) (has_unmapped s.kept (is_persistent s.published) o.number) may).0)
         (λ k o here. numbers before s k o sees.seen.jobs here)

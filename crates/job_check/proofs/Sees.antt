@@ -26,7 +26,7 @@ use Rattle.ring_check.specs.Kept.{IsKept}
 use Rattle.ring_check.proofs.Following.{kept_all}
 use Rattle.ring_check.proofs.Telling.{IsNew}
 use Rattle.ring_check.proofs.Untouched.{AreMade, none_made, made_next, new_page}
-use Rattle.job_check.specs.Kept.{gave_up}
+use Rattle.job_check.specs.Kept.{has_unmapped}
 use Rattle.job_check.specs.Laws.{jobs_after, IsLayoutAt, AreFollowed}
 use Rattle.job_check.specs.Open.{Open, due, is_early, moved_by, failed_by, with_fault, with_sector}
 use Rattle.job_check.specs.Published.{is_persistent, published_after}
@@ -107,7 +107,7 @@ answered_found before s k are e = by_row s.replies.pushed e
         record {
           job = o;
           is = subst (λ (n : ℕ). job_at s.jobs n ≡ Some o) same held.is;
-          ended = like_some (is_early s.replies.rows o.ended) (gave_up s.kept (is_persistent s.published) o.number) row (due o) held.passes;
+          ended = like_some (is_early s.replies.rows o.ended) (has_unmapped s.kept (is_persistent s.published) o.number) row (due o) held.passes;
         }
 
     by_found : (row : List ℕ) (o : Option Open) → find (answers s.kept (is_persistent s.published) s.replies.rows row) (values_of s.jobs) ≡ o → option_map (λ (x : Open). x.number) o ≡ Some k → IsAnswered s.jobs k

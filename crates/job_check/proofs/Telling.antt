@@ -18,7 +18,7 @@ use Rattle.report_rules.specs.Effect.{disk_move_of, disk_move_shown}
 use Rattle.report_rules.specs.Step.{stepper, job_step, value_read, values_read}
 use Rattle.report_rules.specs.Walk.{spot, walked, walk_of}
 use Rattle.report_rules.specs.Steps.{is_fault, begins_with_fault, failed_in}
-use Rattle.report_rules.specs.Data.{words_in, words_behind, words_from}
+use Rattle.report_rules.specs.Data.{words_in, words_after, words_from}
 use Rattle.report_rules.proofs.Back.{epoch_more}
 use Rattle.memory_check.proofs.Counts.{count_more}
 use Rattle.job_check.specs.State.{job_moved}
@@ -93,7 +93,7 @@ failed_more k xs line = failed_go None k xs line
 
 -- ---- the words that the disk gave
 words_at : Option ℕ → Option (List ℕ) → ℕ → List Line → Option (List ℕ)
-words_at last known k xs = words_from (if is_job k last then words_behind xs else known) k xs
+words_at last known k xs = words_from (if is_job k last then words_after xs else known) k xs
 
 words_go : (last : Option ℕ) (known : Option (List ℕ)) (k : ℕ) (xs : List Line) (line : Line)
     → words_at last known k (xs ++ line ∷ []) ≡ (if is_job k (disk_mover line) then None else (if is_job k (mover_from last xs) then words_in line else words_at last known k xs))

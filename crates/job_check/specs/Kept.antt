@@ -1,4 +1,4 @@
--- The mappings that jobs made and that stand (`grant_table.h`), by their numbers: what a job has to give up before its reply, and what a later job may take under persistent grants (`io/blkif.h`, feature-persistent).
+-- The mappings that jobs made and that stand (`grant_table.h`), by their numbers: what a job has to unmap before its reply, and what a later job may take under persistent grants (`io/blkif.h`, feature-persistent).
 use Rattle.std.specs.Prelude.{ℕ, Bool, false, not, ◌&&◌, ◌||◌, ◌==◌, List, Option, Some, None}
 use Rattle.std.specs.List.{list_all, list_any}
 use Rattle.std.specs.Map.{lookup, remove_entry, values_of}
@@ -40,5 +40,5 @@ abbrev pub may_stay : Bool → ℕ → Made → Bool
 may_stay persistent job made = not (made.job == job) || (persistent && made.writes)
 
 -- no mapping that the job made stands, but those that may
-abbrev pub gave_up : Kept → Bool → ℕ → Bool
-gave_up kept persistent job = list_all (may_stay persistent job) (values_of kept)
+abbrev pub has_unmapped : Kept → Bool → ℕ → Bool
+has_unmapped kept persistent job = list_all (may_stay persistent job) (values_of kept)

@@ -3,7 +3,7 @@ use Rattle.std.specs.Prelude.{ℕ, ◌+◌, ◌%◌, ◌^◌, Bool, false, ◌&&
 use Rattle.std.specs.List.{list_any}
 use Rattle.ring_words.specs.Shape.{Shape, ring_word_of}
 use Rattle.report_rules.specs.Reply.{row_of}
-use Rattle.job_check.specs.Kept.{Kept, gave_up}
+use Rattle.job_check.specs.Kept.{Kept, has_unmapped}
 use Rattle.job_check.specs.Open.{Open, may_answer}
 
 -- how many rows had begun in this epoch; the words so far of the one under way; and the row that the last line pushed
@@ -49,9 +49,9 @@ after_value r value =
 abbrev pub after_other : Replies → Replies
 after_other r = record r { pushed = None }
 
--- a row answers a job that gave up what it mapped
+-- a row answers a job that unmapped what it mapped
 abbrev pub answers : Kept → Bool → ℕ → List ℕ → Open → Bool
-answers kept persistent rows row o = may_answer rows 2 row o && gave_up kept persistent o.number
+answers kept persistent rows row o = may_answer rows 2 row o && has_unmapped kept persistent o.number
 
 -- the first of these jobs that a row that was pushed answers
 abbrev pub answered_by : Kept → Bool → ℕ → List Open → Option (List ℕ) → Option ℕ

@@ -1,7 +1,7 @@
 // The mappings that jobs made and that stand.
 ghost use Rattle.std.specs.Prelude.{◌≡◌, []};
 ghost use Rattle.blk_base.specs.Becomes.{Becomes};
-ghost use Rattle.job_check.specs.Kept.{is_writer_of, is_kept_of, is_kept_for, may_stay, gave_up, after_map, after_unmap};
+ghost use Rattle.job_check.specs.Kept.{is_writer_of, is_kept_of, is_kept_for, may_stay, has_unmapped, after_map, after_unmap};
 
 use blk_base::OutOfMemory;
 use std::alloc::Global;
@@ -93,9 +93,9 @@ impl KeptMappings {
         self.made.values().any(|made| is_writer_of(gref, made))
     }
 
-    /// Whether a job gave up what it mapped, but for what may be kept.
-    pub fn gave_up(&self, persistent: bool, job: u64) -> bool
-        ensures { result ≡ gave_up self.now persistent job }
+    /// Whether a job unmapped what it mapped, but for what may be kept.
+    pub fn has_unmapped(&self, persistent: bool, job: u64) -> bool
+        ensures { result ≡ has_unmapped self.now persistent job }
     {
         self.made
             .values()

@@ -78,10 +78,10 @@ pub(crate) fn value_written(ring: &RingSight, line: &Line) -> Option<u32>
 fn answers(kept: &KeptMappings, persistent: bool, rows: u128, row: &[u32; 3], job: &OpenJob) -> bool
     ensures { result ≡ answers kept.now persistent rows row.now job.now }
 {
-    job.may_answer(rows, 2, row) && kept.gave_up(persistent, job.number())
+    job.may_answer(rows, 2, row) && kept.has_unmapped(persistent, job.number())
 }
 
-// The first of these jobs that a row answers and that gave up what it mapped.
+// The first of these jobs that a row answers and that unmapped what it mapped.
 fn first_answer<'a>(
     kept: &KeptMappings,
     persistent: bool,
@@ -125,7 +125,7 @@ impl JobSight {
     }
 
     /// The job that the reply that the last line pushed answers: the lowest that came to its end
-    /// before the reply began, whose response it is, and that gave up what it mapped.
+    /// before the reply began, whose response it is, and that unmapped what it mapped.
     pub fn answered(&self) -> Option<u64>
         ensures { result ≡ job_answered self.now }
     {

@@ -24,7 +24,7 @@ use Rattle.pipeline_laws.specs.States.{sight_after, IsServed, AreStates}
 use Rattle.pipeline_laws.specs.States.{IsStateAt as IsStateOfRun}
 use Rattle.pipeline_laws.proofs.Lists.{all_at}
 use Rattle.pipeline_laws.proofs.PlainRuns.{after_append, run_before}
-use Rattle.pipeline_laws.proofs.AnsweredRuns.{StandsBehind, stands_behind}
+use Rattle.pipeline_laws.proofs.AnsweredRuns.{StandsAfter, stands_after}
 use Rattle.request_check.specs.Rules.{disk_after, is_gone, are_finished, IsStateAt, IsSubmitAt, IsRefuseAt, CanBeAsked, KeepsRequests}
 use Rattle.request_check.proofs.Runs.{run_is_kept}
 use Rattle.legal_laws.specs.Kept.{is_unsettled, IsSettled}
@@ -73,7 +73,7 @@ state_kept before line unbroken state settled = refl
 
 -- ---- submissions
 
-submit_kept : (jobs : List Job) (before : List Line) (line : Line) → StandsBehind before line [] → IsAnswerAt jobs before line → IsSubmitAt before line
+submit_kept : (jobs : List Job) (before : List Line) (line : Line) → StandsAfter before line [] → IsAnswerAt jobs before line → IsSubmitAt before line
 submit_kept jobs before (lines.Submit id job) stands answer =
     let test = (cond_some (id == length stands.disk.requests + 1) _ stands.next stands.taken).0 in
     let next : id ≡ length stands.disk.requests + 1 = grind (arith, nat_tests) in
@@ -97,7 +97,7 @@ so_far_kept jobs first d report run answers states asked settled =
     let unknown = known_is_unknown report first d run in
     run_is_kept report (forgetting d, unknown)
     (λ before rest line is. state_kept before line (unbroken_before report before rest line states is) (states before rest line is) (all_there (λ (x : Line). is_unsettled x ≡ false) before rest line (subst IsSettled is settled)))
-    (λ before rest line is. submit_kept jobs before line (stands_behind report before rest line [] (forgetting d) unknown is) (answers before rest line is))
+    (λ before rest line is. submit_kept jobs before line (stands_after report before rest line [] (forgetting d) unknown is) (answers before rest line is))
     (λ before rest line is. refuse_kept jobs before line asked (answers before rest line is))
 
 pub run_kept : (jobs : List Job) (sectors : ℕ) (before now : Option (List (List ℕ))) (report : List Line) → IsRun sectors before now report → AreAnswered jobs report → AreStates report → All CanBeAsked jobs → IsSettled report

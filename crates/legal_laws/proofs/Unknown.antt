@@ -13,7 +13,7 @@ use Rattle.plain_disk.specs.Request.{is_read, is_write, is_flush, is_discard, is
 use Rattle.plain_disk.specs.Disk.{Disk, disk_of, covers, request_of, noted_at}
 use Rattle.plain_disk.specs.Step.{step, after, may_hold, place_words, effect_of, read_of, flushed_of, trimmed_of, fault_of, replied_of, answered_of, data_of, epoch_of, is_in_order, may_reply, is_status, is_next, are_noted}
 use Rattle.pipeline_laws.specs.Run.{IsRun}
-use Rattle.request_check.specs.Laws.{IsRun as IsRunUnknown}
+use Rattle.request_check.specs.Laws.{IsRunFromUnknown}
 use Rattle.legal_laws.specs.Unknown.{forgetting}
 
 -- ---- what sectors hold
@@ -111,5 +111,5 @@ after_forgets (line ∷ report) d e is = option_and_then_some (after report) (st
 pub known_is_unknown : (report : List Line) (first : List (List ℕ)) (d : Disk) → after report (disk_of first) ≡ Some d → after report (disk_of []) ≡ Some (forgetting d)
 known_is_unknown report first d run = after_forgets report (disk_of first) d run
 
-pub run_is_unknown : (sectors : ℕ) (before now : Option (List (List ℕ))) (report : List Line) → IsRun sectors before now report → IsRunUnknown report
+pub run_is_unknown : (sectors : ℕ) (before now : Option (List (List ℕ))) (report : List Line) → IsRun sectors before now report → IsRunFromUnknown report
 run_is_unknown sectors before now report r = (forgetting r.disk, known_is_unknown report r.first r.disk r.run)

@@ -4,7 +4,7 @@ use Rattle.schedule_text.specs.declared.line.Line.{Line}
 use Rattle.plain_disk.specs.Disk.{Disk, disk_of}
 use Rattle.plain_disk.specs.Step.{after}
 use Rattle.pipeline_laws.specs.Run.{IsRun}
-use Rattle.request_check.specs.Laws.{IsRun as IsRunUnknown}
+use Rattle.request_check.specs.Laws.{IsRunFromUnknown}
 
 -- the disk, but nothing is known of what its sectors held at first
 abbrev pub forgetting : Disk → Disk
@@ -15,4 +15,4 @@ KnownIsUnknown = (report : List Line) (first : List (List ℕ)) (d : Disk)
     → after report (disk_of first) ≡ Some d → after report (disk_of []) ≡ Some (forgetting d)
 
 abbrev pub RunIsUnknown : Type 0
-RunIsUnknown = (sectors : ℕ) (before now : Option (List (List ℕ))) (report : List Line) → IsRun sectors before now report → IsRunUnknown report
+RunIsUnknown = (sectors : ℕ) (before now : Option (List (List ℕ))) (report : List Line) → IsRun sectors before now report → IsRunFromUnknown report

@@ -9,7 +9,7 @@ ghost use Rattle.legal_laws.specs.Promised.{JobsCanBeAsked, PromisedSoFarIsLegal
 
 /// A run of the plain disk, whatever its sectors hold at first, is one from sectors of which nothing
 /// is known (`disk`): its requests, places, notes and writes are the same. So is a report that a run
-/// promises, whether the disk tells what it holds or not (`run`).
+/// promises, whether the disk exposes what it holds or not (`run`).
 pub fn a_run_from_a_disk_is_a_run_from_an_unknown_one()
     ensures disk { KnownIsUnknown }
     ensures run { RunIsUnknown }

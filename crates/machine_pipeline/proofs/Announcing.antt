@@ -31,7 +31,7 @@ turned_on : (config : Options) (w : World) (g : Flow) (d : Pipeline) (s s' : Fro
     → Holds config (with_front w s' w.front.entry w.under.pages) g d s' w.back.stage
 turned_on config w g d s s' i i' same h at full full' few few' unnamed ungranted sends =
     issue_kept config w g d s s' w.front.entry w.under.pages i i' same h at h.memory (λ f low high x lt. refl) (λ x lt. refl) (λ page lt. record { flags = refl; frame = refl })
-    (slots_turned g.shape g.start g.fetched g.pushed g.taken g.replied g.series g.replies w.under.pages w.under.pages s s' w.back.stage h.shaped.narrow (λ f x from to in_it behind. refl) few' h.slots)
+    (slots_turned g.shape g.start g.fetched g.pushed g.taken g.replied g.series g.replies w.under.pages w.under.pages s s' w.back.stage h.shaped.narrow (λ f x from to in_it after. refl) few' h.slots)
     (frames_turned g.pushed w.under.pages w.under.pages s s' w.front.requests (λ frames. let none = full' frames in omega arith) (λ n x lt i l. refl) h.frames)
     (entries_turned g.pushed w.under.pages w.under.pages w.under.grants.live s s' w.front.ending w.front.requests i' (omega arith) (omega arith) (λ n x lt a in_it. record { flags = refl; frame = refl }) h.entries)
     sends
@@ -88,7 +88,7 @@ send_goes config w g d safe h =
       back_at = h.back_at;
       memory = h.memory;
       ring = ring_turned g.shape.order g.start g.pushed g.replied w.under.pages w.under.pages front.Send front.Loop (length w.back.pages) h.shaped.narrow refl refl (λ x lt. refl) (λ page lt. record { flags = refl; frame = refl }) h.ring;
-      slots = slots_turned g.shape g.start g.fetched g.pushed g.taken g.replied g.series g.replies w.under.pages w.under.pages front.Send front.Loop w.back.stage h.shaped.narrow (λ f x from to in_it behind. refl) refl h.slots;
+      slots = slots_turned g.shape g.start g.fetched g.pushed g.taken g.replied g.series g.replies w.under.pages w.under.pages front.Send front.Loop w.back.stage h.shaped.narrow (λ f x from to in_it after. refl) refl h.slots;
       frames = frames_turned g.pushed w.under.pages w.under.pages front.Send front.Loop w.front.requests (omega arith) (λ n x lt i l. refl) h.frames;
       telling = record { size = h.telling.size; so_far = tt };
       entries = entries_turned g.pushed w.under.pages w.under.pages w.under.grants.live front.Send front.Loop w.front.ending w.front.requests refl (omega arith) (omega arith) (λ n x lt a in_it. record { flags = refl; frame = refl }) h.entries;

@@ -20,7 +20,7 @@ use Rattle.blk_back.specs.declared.stage.Stage.{Stage as BackStage}
 use Rattle.blk_back.specs.declared.stage.Stage.TheVariants as stage
 use Rattle.blk_back.specs.View.{View, page_of}
 use Rattle.blk_back.specs.declared.told.Halt.TheVariants as halt
-use Rattle.blk_back.specs.Step.{give_up, looked}
+use Rattle.blk_back.specs.Step.{abort, looked}
 use Rattle.split_model.specs.World.{World}
 use Rattle.split_model.specs.Shown.{back_lines, halt_lines}
 use Rattle.machine_pipeline.proofs.Slots.{few_entries}
@@ -41,7 +41,7 @@ no_overrun start replied pushed word entries ring few size prod here from to =
 
 -- the view once the producer was read, by the tests of what was read
 abbrev looked_by : (over same : Bool) → View → ℕ → View → View
-looked_by over same v word otherwise = if over then give_up (record v { halted = Some (halt.Overrun word v.ring.prod) }) else (if same then otherwise else record v { seen = word; stage = stage.Loop })
+looked_by over same v word otherwise = if over then abort (record v { halted = Some (halt.Overrun word v.ring.prod) }) else (if same then otherwise else record v { seen = word; stage = stage.Loop })
 
 abbrev pub LooksAs : Options → World → Pipeline → Shown → BackAnswer → View → Type 0
 LooksAs config w d shown given v = Goes config (Move shown ∷ back_lines v.told given ++ halt_lines w.back.halted v.halted) (record { front = w.front; back = record v { told = None }; under = w.under }) d

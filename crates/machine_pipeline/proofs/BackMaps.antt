@@ -40,7 +40,7 @@ use Rattle.blk_back.specs.declared.stage.Stage.TheVariants as stage
 use Rattle.blk_back.specs.View.{no_page}
 use Rattle.blk_back.specs.Ask.{next_gref}
 use Rattle.blk_back.specs.Step.{step_at}
-use Rattle.blk_back.specs.Hands.{given_up}
+use Rattle.blk_back.specs.Hands.{aborted}
 use Rattle.split_model.specs.World.{World}
 use Rattle.split_model.specs.Shown.{back_lines, halt_lines}
 use Rattle.machine_pipeline.proofs.Flow.{Flow, frames_of, has_terms, is_back_arming, is_bound_back, is_fetching, reply_at, is_issuing, ending_at, telling_at}
@@ -101,9 +101,9 @@ pub record IsSetting (b : BackStage) : Type 0 where
   pub replying : reply_at b ≡ None
   pub unarmed : is_back_arming b ≡ false
   pub unbound : is_bound_back b ≡ false
-  pub given : given_up b ≡ []
+  pub given : aborted b ≡ []
 
-setting : (b : BackStage) → has_terms b ≡ true → is_fetching b ≡ false → reply_at b ≡ None → is_back_arming b ≡ false → is_bound_back b ≡ false → given_up b ≡ [] → IsSetting b
+setting : (b : BackStage) → has_terms b ≡ true → is_fetching b ≡ false → reply_at b ≡ None → is_back_arming b ≡ false → is_bound_back b ≡ false → aborted b ≡ [] → IsSetting b
 setting b terms fetching replying unarmed unbound given = record { terms = terms; fetching = fetching; replying = replying; unarmed = unarmed; unbound = unbound; given = given }
 
 back_at_setting : (b : BackStage) (shape : Shape) (start fetched back_seen replied : ℕ) (series : List Request) (works : List Work) (entry : List ℕ) → IsSetting b → fetched ≡ 0 → BackAt shape start fetched back_seen replied series works entry b
@@ -163,7 +163,7 @@ maps config w g d verdict b' p e named stepped i mapped = subst (λ (x : Result 
         named = λ page lt from. (let x = beside page (let all = named_to w.front.stage (2 ^ g.shape.order) p.connected in omega arith) (let long = more in omega arith) in x.frame) ∙ p.holds.ring.named page lt (let long = more in omega arith);
         granted = λ page lt from. (let x = beside page (let all = granted_to w.front.stage (2 ^ g.shape.order) p.connected in omega arith) (let long = more in omega arith) in x.flags) ∙ p.holds.ring.granted page lt (let long = more in omega arith);
       };
-      slots = slots_at g.shape g.start g.fetched g.pushed g.taken g.replied g.series g.replies new w.front.stage stage.MapRing b' (λ rep t k lt. absurd (none-some rep (sym i.replying ∙ t))) (slots_kept g.shape g.start g.fetched g.pushed g.taken g.replied g.series g.replies w.under.pages new w.front.stage stage.MapRing p.holds.shaped.narrow (λ f v from to within behind. others f (omega arith) v within) p.holds.slots);
+      slots = slots_at g.shape g.start g.fetched g.pushed g.taken g.replied g.series g.replies new w.front.stage stage.MapRing b' (λ rep t k lt. absurd (none-some rep (sym i.replying ∙ t))) (slots_kept g.shape g.start g.fetched g.pushed g.taken g.replied g.series g.replies w.under.pages new w.front.stage stage.MapRing p.holds.shaped.narrow (λ f v from to within after. others f (omega arith) v within) p.holds.slots);
       frames = frames_elsewhere config w g d w.front.stage stage.MapRing new p.holds (λ f low high. others f (omega arith));
       telling = told_elsewhere config w g d w.front.stage stage.MapRing new p.holds (λ f low high. others f (omega arith));
       entries = record {
@@ -177,7 +177,7 @@ maps config w g d verdict b' p e named stepped i mapped = subst (λ (x : Result 
             let is = ending_submitted config w g d w.front.stage stage.MapRing e p.holds (revoking_ends w.front.stage w.front.ending e at) in
             (entry_beside w.under.pages gref value e.request low is.frames place lt).flags ∙ p.holds.entries.ending e at place from lt;
       };
-      mapped = mapped_more w.under.grants.live (hands_in w.back.jobs.works ++ w.back.pages) (given_up b' ++ (hands_in w.back.jobs.works ++ (w.back.pages ++ mapping ∷ []))) mapping (2 + length w.back.pages) (omega (arith, named)) (record { front = hands_in w.back.jobs.works ++ w.back.pages; rest = []; without = sym (append-nil (hands_in w.back.jobs.works ++ w.back.pages)); with_it = ap (λ (l : List Mapping). l ++ (hands_in w.back.jobs.works ++ (w.back.pages ++ mapping ∷ []))) i.given ∙ sym (append_assoc (hands_in w.back.jobs.works) w.back.pages (mapping ∷ [])) }) p.holds.mapped;
+      mapped = mapped_more w.under.grants.live (hands_in w.back.jobs.works ++ w.back.pages) (aborted b' ++ (hands_in w.back.jobs.works ++ (w.back.pages ++ mapping ∷ []))) mapping (2 + length w.back.pages) (omega (arith, named)) (record { front = hands_in w.back.jobs.works ++ w.back.pages; rest = []; without = sym (append-nil (hands_in w.back.jobs.works ++ w.back.pages)); with_it = ap (λ (l : List Mapping). l ++ (hands_in w.back.jobs.works ++ (w.back.pages ++ mapping ∷ []))) i.given ∙ sym (append_assoc (hands_in w.back.jobs.works) w.back.pages (mapping ∷ [])) }) p.holds.mapped;
       paged = record {
         shaped = λ t. p.holds.paged.shaped refl;
         entries_are = λ t. p.holds.paged.entries_are refl;

@@ -116,12 +116,12 @@ goes_word config w g d steps b b' rep i jobs frame shown given does p a placed u
       unhalted = h.unhalted;
       memory = r.memory;
       others = r.others;
-      ring = ring_beside g.shape.order g.start g.pushed g.replied (length w.back.pages) (slot_frame g.shape index i) (slot_word g.shape index i) (response_word rep i) w.under.pages new w.front.stage r (omega (arith, behind)) (omega (arith, behind)) p.connected (all_mapped b g.shape.order (length w.back.pages) a.bound h.paged.mapped) h.ring;
+      ring = ring_beside g.shape.order g.start g.pushed g.replied (length w.back.pages) (slot_frame g.shape index i) (slot_word g.shape index i) (response_word rep i) w.under.pages new w.front.stage r (omega (arith, after)) (omega (arith, after)) p.connected (all_mapped b g.shape.order (length w.back.pages) a.bound h.paged.mapped) h.ring;
       slots = slots_written g.shape g.start g.fetched g.pushed g.taken g.replied (length g.series) i rep g.series g.replies w.under.pages new w.front.stage b b' r h.shaped.narrow a.few a.here a.upto before (omega arith) x.fetched_pushed (omega (arith, x.all)) (omega (arith, x.held, x.room)) refl h.replies.counted h.slots;
       hands = hands;
       paged = paged_at g.shape w.back.shape w.back.ring.entries w.back.grefs w.back.port (g.before + 1) w.back.pages b b' a.bound a.bound_still h.paged;
-      front_sleep = front_sleep_at g.start g.taken g.replied new w.front.asleep w.under.channels.front_pending w.front.stage b b' (λ t s. absurd (unsent s)) (front_sleep_kept g.start g.taken g.replied w.under.pages new w.front.asleep w.under.channels.front_pending w.front.stage b (r.words 2 3 (omega (arith, behind))) h.front_sleep);
-      back_sleep = back_sleep_at g.start g.fetched g.pushed new w.back.asleep w.under.channels.back_pending w.front.stage b b' (λ t. absurd (false≢true (sym a.unarmed ∙ t))) (λ t. absurd (false≢true (sym t ∙ a.sleeps))) (back_sleep_kept g.start g.fetched g.pushed w.under.pages new w.back.asleep w.under.channels.back_pending w.front.stage b (r.words 2 1 (omega (arith, behind))) h.back_sleep);
+      front_sleep = front_sleep_at g.start g.taken g.replied new w.front.asleep w.under.channels.front_pending w.front.stage b b' (λ t s. absurd (unsent s)) (front_sleep_kept g.start g.taken g.replied w.under.pages new w.front.asleep w.under.channels.front_pending w.front.stage b (r.words 2 3 (omega (arith, after))) h.front_sleep);
+      back_sleep = back_sleep_at g.start g.fetched g.pushed new w.back.asleep w.under.channels.back_pending w.front.stage b b' (λ t. absurd (false≢true (sym a.unarmed ∙ t))) (λ t. absurd (false≢true (sym t ∙ a.sleeps))) (back_sleep_kept g.start g.fetched g.pushed w.under.pages new w.back.asleep w.under.channels.back_pending w.front.stage b (r.words 2 1 (omega (arith, after))) h.back_sleep);
       ports = subst (λ (bound : Bool). PortsAt g.before (is_connected w.front.stage) bound w.under.channels.made w.under.channels.ports) (a.bound ∙ sym a.bound_still) h.ports;
     })
   where
@@ -137,8 +137,8 @@ goes_word config w g d steps b b' rep i jobs frame shown given does p a placed u
     three : i < entry_words_of g.shape.abi
     three = response_fits g.shape.abi i a.few
 
-    behind : 2064 ≤ slot_frame g.shape index i * 1024 + slot_word g.shape index i
-    behind = slot_from g.shape index i
+    after : 2064 ≤ slot_frame g.shape index i * 1024 + slot_word g.shape index i
+    after = slot_from g.shape index i
 
     new : List ℕ
     new = with_word w.under.pages frame (slot_word w.back.shape w.back.ring.prod i) (response_word rep i)

@@ -44,14 +44,14 @@ use Rattle.machine_pipeline.proofs.BackReplies.{goes_word}
 all_remove : {X : Type 0} → (P : X → Type 0) (xs : List X) (n : ℕ) → n < length xs → All P xs → All P (remove xs n)
 all_remove P xs n within all k x lt = elim (cases_lt k n) [
   | inl before ↦ rw (get_or-remove_below xs n x k before within) (all k x (omega arith))
-  | inr behind ↦ rw (get_or-remove_above xs n x k behind within) (all (k + 1) x (let one = length-remove xs n within in omega arith))
+  | inr after ↦ rw (get_or-remove_above xs n x k after within) (all (k + 1) x (let one = length-remove xs n within in omega arith))
 ]
 
 -- in an ascending list each other number is another one
 others_apart : (works : List Work) (n : ℕ) (t : Work) → slice_get works n ≡ Some t → AllPairs (λ (a b : Work). a.id < b.id) works → All (λ (u : Work). u.id ≢ t.id) (remove works n)
 others_apart works n t at up k x lt = elim (cases_lt k n) [
   | inl before ↦ rw (get_or-remove_below works n x k before within) (λ same. let below = apart k n x before within in let e = here x in omega arith)
-  | inr behind ↦ rw (get_or-remove_above works n x k behind within) (λ same. let below = apart n (k + 1) x (omega arith) (let one = length-remove works n within in omega arith) in let e = here x in omega arith)
+  | inr after ↦ rw (get_or-remove_above works n x k after within) (λ same. let below = apart n (k + 1) x (omega arith) (let one = length-remove works n within in omega arith) in let e = here x in omega arith)
 ]
   where
     within : n < length works

@@ -96,7 +96,7 @@ pub slots_beside : (shape : Shape) (start fetched pushed taken replied word valu
     → AreSlots shape start fetched pushed taken replied series replies old s b
     → AreSlots shape start fetched pushed taken replied series replies new s b
 slots_beside shape start fetched pushed taken replied word value series replies old new s b r low narrow h =
-    slots_kept shape start fetched pushed taken replied series replies old new s b narrow (λ f w from to within behind. r.words f w (λ same. omega arith)) h
+    slots_kept shape start fetched pushed taken replied series replies old new s b narrow (λ f w from to within after. r.words f w (λ same. omega arith)) h
 
 -- a page of the ring is in its frame
 pub page_at : (config : Options) (w : World) (g : Flow) (d : Pipeline) (b : BackStage) (page : ℕ) → BackStands config w g d b → IsBetween b w.back → page < 2 ^ g.shape.order → frame_of w.under.grants (page_of w.back page) ≡ 2 + page

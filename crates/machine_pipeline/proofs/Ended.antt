@@ -87,7 +87,7 @@ ends_on config w g d d' s s' ending pool words pages i i' restless unarmed fewer
     named = λ page lt unmapped. let kept = entry page (among page (let all = i'.named (2 ^ g.shape.order) in omega arith)) in kept.frame ∙ was.named page (subst (λ (n : ℕ). page < n) (i'.named (2 ^ g.shape.order) ∙ sym (i.named (2 ^ g.shape.order))) lt) unmapped;
     granted = λ page lt unmapped. let kept = entry page (among page (let all = i'.granted (2 ^ g.shape.order) in omega arith)) in kept.flags ∙ was.granted page (subst (λ (n : ℕ). page < n) (i'.granted (2 ^ g.shape.order) ∙ sym (i.granted (2 ^ g.shape.order))) lt) unmapped;
   });
-  slots = slots_rest g.shape g.start g.fetched g.pushed g.taken g.replied g.series g.replies pages s s' w.back.stage i' (slots_kept g.shape g.start g.fetched g.pushed g.taken g.replied g.series g.replies w.under.pages pages s w.back.stage h.shaped.narrow (λ f x from to within behind. frames f from x within) h.slots);
+  slots = slots_rest g.shape g.start g.fetched g.pushed g.taken g.replied g.series g.replies pages s s' w.back.stage i' (slots_kept g.shape g.start g.fetched g.pushed g.taken g.replied g.series g.replies w.under.pages pages s w.back.stage h.shaped.narrow (λ f x from to within after. frames f from x within) h.slots);
   frames = frames_rest g.pushed pages s s' w.front.requests i' (frames_kept g.pushed w.under.pages pages s w.front.requests
       (all_from (SameData w.under.pages pages) w.front.requests
       (λ j r e. let is = is_submitted config w g d s w.back.stage h j r e in data_same w.under.pages pages r is.frames

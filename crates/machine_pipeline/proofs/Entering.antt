@@ -36,11 +36,11 @@ slots_entered : (shape : Shape) (start fetched pushed taken replied : ℕ) (seri
     → ((rep : Reply) → reply_at b ≡ Some rep → replied < pushed)
     → AreSlots shape start fetched pushed taken replied series replies old s b
     → AreSlots shape start fetched pushed taken replied series replies (with_slot old shape (wrapped start pushed) k (slice_index (entry_of shape.abi r) k)) s' b
-slots_entered shape start fetched pushed taken replied series replies old k s s' b r narrow so_far sized within more known few room counted order behind h = record {
+slots_entered shape start fetched pushed taken replied series replies old k s s' b r narrow so_far sized within more known few room counted order past h = record {
   entries = λ m q from to e i lt. earlier m i to (omega arith) lt ∙ h.entries m q from to e i lt;
   entry = λ q e i lt in_it. by_place i lt (more i lt in_it) (same_Some r q (sym known ∙ e)) (λ less. h.entry q e i lt (omega (arith, so_far, less)));
   responses = λ m rep e i lt. let in_replies = slice_get_within replies m rep e in earlier (taken + m) i (omega arith) (omega arith) (response_fits shape.abi i lt) ∙ h.responses m rep e i lt;
-  response = λ rep e i lt. let three = responded_few b in let before = behind rep e in earlier replied i before (omega arith) (response_fits shape.abi i (omega arith)) ∙ h.response rep e i lt;
+  response = λ rep e i lt. let three = responded_few b in let before = past rep e in earlier replied i before (omega arith) (response_fits shape.abi i (omega arith)) ∙ h.response rep e i lt;
 }
   where
     value : ℕ
@@ -86,7 +86,7 @@ word_entered config w g d d' k s s' r entry i i' so_far h stations e within more
     (slots_entered g.shape g.start g.fetched g.pushed g.taken g.replied g.series g.replies w.under.pages k s s' w.back.stage r h.shaped.narrow so_far h.memory within more next.at
     (order x.taken_replied x.replied_fetched) (room (entries_of g.shape.order) g.pushed w.front.waiting (length w.front.requests) g.taken (length g.series) x.all x.held few next.waits)
     (counted h.replies.counted x.replied_fetched x.fetched_pushed) x.taken_replied
-    (λ rep at_reply. behind _ (ap reply_count at_reply) h.counted x.fetched_pushed) h.slots)
+    (λ rep at_reply. past _ (ap reply_count at_reply) h.counted x.fetched_pushed) h.slots)
     (filled_so new (frames_elsewhere config w g d s w.back.stage h new (λ f from. elsewhere f (inr from))))
     (granted_so new (entries_elsewhere config w g d s w.back.stage h new entries))
     (λ t sends. absurd (unsent sends))
@@ -100,8 +100,8 @@ word_entered config w g d d' k s s' r entry i i' so_far h stations e within more
     counted : {n replied fetched pushed : ℕ} → n ≡ replied → replied ≤ fetched → fetched ≤ pushed → n ≤ pushed
     counted e p q = omega arith
 
-    behind : (works : ℕ) {count replied fetched pushed : ℕ} → count ≡ 1 → works + count + replied ≡ fetched → fetched ≤ pushed → replied < pushed
-    behind works one e p = omega arith
+    past : (works : ℕ) {count replied fetched pushed : ℕ} → count ≡ 1 → works + count + replied ≡ fetched → fetched ≤ pushed → replied < pushed
+    past works one e p = omega arith
 
 -- where another word of it was written before
 entered_on : (config : Options) (w : World) (g : Flow) (d : Pipeline) (k : ℕ) (s' : FrontStage) (r : Request)

@@ -94,7 +94,7 @@ filled_on config w g d d' s s' r n i i' h stations e begun within more unentered
     (length-set w.under.pages (frame * 1024 + word) value ∙ h.memory)
     (λ x lt. elsewhere 2 (omega arith) x (omega arith))
     (λ page lt. same_entry w.under.pages _ (8 + page) (omega arith) (elsewhere 0 (omega arith)) (elsewhere 1 (omega arith)))
-    (slots_turned g.shape g.start g.fetched g.pushed g.taken g.replied g.series g.replies w.under.pages _ s s' w.back.stage h.shaped.narrow (λ f x from to in_it behind. elsewhere f (omega arith) x in_it) unentered h.slots)
+    (slots_turned g.shape g.start g.fetched g.pushed g.taken g.replied g.series g.replies w.under.pages _ s s' w.back.stage h.shaped.narrow (λ f x from to in_it after. elsewhere f (omega arith) x in_it) unentered h.slots)
     (frames_filled g.submitted w.front.requests g.pushed w.front.waiting w.under.pages s s' r n next h.memory within more h.frames)
     (entries_turned g.pushed w.under.pages _ w.under.grants.live s s' w.front.ending w.front.requests i' (omega arith) (omega arith)
     (entries_elsewhere config w g d s w.back.stage h _ (λ gref lt. same_entry w.under.pages _ gref lt (elsewhere 0 (omega arith)) (elsewhere 1 (omega arith)))) h.entries)

@@ -224,7 +224,7 @@ is_fetching s = false
 
 -- the station of a job's request, by the job's stage and how many sectors it moved
 abbrev pub worked : JobStage → ℕ → Station
-worked (job.GiveUp m) moved = Failed
+worked (job.Abort m) moved = Failed
 worked (job.Done status) moved = Ended status
 worked s moved = Working moved
 
@@ -240,12 +240,12 @@ is_bound_back back.Bind = false
 is_bound_back s = true
 
 -- a request as the pipeline has it
-abbrev pub job_of : Transfer → (sector count : ℕ) → Job
-job_of transfer.Read sector count = jobs.Read sector count
-job_of (transfer.Write tag) sector count = jobs.Write sector count tag
-job_of (transfer.Barrier tag) sector count = jobs.Barrier sector count tag
-job_of transfer.Flush sector count = jobs.Flush
-job_of (transfer.Discard sectors) sector count = jobs.Discard sector sectors
+abbrev pub submitted_job : Transfer → (sector count : ℕ) → Job
+submitted_job transfer.Read sector count = jobs.Read sector count
+submitted_job (transfer.Write tag) sector count = jobs.Write sector count tag
+submitted_job (transfer.Barrier tag) sector count = jobs.Barrier sector count tag
+submitted_job transfer.Flush sector count = jobs.Flush
+submitted_job (transfer.Discard sectors) sector count = jobs.Discard sector sectors
 
 -- its own segments
 abbrev pub own_segments : Request → List Segment

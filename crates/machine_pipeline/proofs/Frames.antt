@@ -20,14 +20,14 @@ use Rattle.blk_back.specs.declared.stage.Reply.{Reply}
 use Rattle.blk_back.specs.declared.stage.Stage.{Stage as BackStage}
 use Rattle.blk_back.specs.declared.stage.Stage.TheVariants as back
 use Rattle.blk_back.specs.View.{no_page}
-use Rattle.blk_back.specs.Hands.{given_up, hands_at}
+use Rattle.blk_back.specs.Hands.{aborted, hands_at}
 use Rattle.split_model.specs.World.{World}
 use Rattle.machine_pipeline.proofs.Flow.{Flow, ending_at, word_at, telling_at, reply_at, named_pages, worked, frames_of}
 use Rattle.machine_pipeline.proofs.Stations.{worked_kind}
 use Rattle.machine_pipeline.proofs.Holds.{Holds, FrontAt, IsToldAt, BackAt, IsReplying, IsEnding, IsSubmitted, IsWork}
 use Rattle.machine_pipeline.proofs.Data.{pooled_at}
 use Rattle.machine_pipeline.proofs.Lists.{all_at}
-use Rattle.machine_pipeline.proofs.Hands.{IsQueued, queued, frames_apart, work_hand, hands_none, pages_none, mapped_few, nothing_given_up}
+use Rattle.machine_pipeline.proofs.Hands.{IsQueued, queued, frames_apart, work_hand, hands_none, pages_none, mapped_few, nothing_aborted}
 use Rattle.machine_pipeline.proofs.Slots.{few_pages}
 
 -- the request whose grant is being ended
@@ -89,7 +89,7 @@ pub none_in_hands : (config : Options) (w : World) (g : Flow) (d : Pipeline) (s 
     → (test : Mapping → Bool) → ((m : Mapping) → m.gref ≢ frame_at r a + 6 → test m ≡ false)
     → count_by test (hands_at b (record w.back { jobs = record w.back.jobs { works = works } })) ≡ 0
 none_in_hands config w g d s b h j r here a in_r works others test apart =
-    let given : given_up b ≡ [] = nothing_given_up g.shape b g.start g.fetched g.back_seen g.replied g.series w.back.jobs.works w.back.entry h.back_at in
+    let given : aborted b ≡ [] = nothing_aborted g.shape b g.start g.fetched g.back_seen g.replied g.series w.back.jobs.works w.back.entry h.back_at in
     let jobs : count_by test (hands_in works) ≡ 0 = hands_none test works one in
     let pages : count_by test w.back.pages ≡ 0 = pages_none test w.back.pages (λ page lt. apart (slice_index_or w.back.pages page no_page) (
     let gref = h.paged.gref page lt in

@@ -118,7 +118,7 @@ entry_moved config w g d d' s s' r place entry word value i i' h stations next i
     (length-set w.under.pages (gref / 512 * 1024 + word) value ∙ h.memory)
     (λ x lt. elsewhere 2 (omega arith) x (omega arith))
     (λ page lt. others (8 + page) (omega arith) (omega arith))
-    (slots_turned g.shape g.start g.fetched g.pushed g.taken g.replied g.series g.replies w.under.pages _ s s' w.back.stage h.shaped.narrow (λ f x from to in_it behind. elsewhere f (omega arith) x in_it) none h.slots)
+    (slots_turned g.shape g.start g.fetched g.pushed g.taken g.replied g.series g.replies w.under.pages _ s s' w.back.stage h.shaped.narrow (λ f x from to in_it after. elsewhere f (omega arith) x in_it) none h.slots)
     (filled_so _ (frames_elsewhere config w g d s w.back.stage h _ (λ f from. elsewhere f (omega arith))))
     (entries_with g.submitted w.front.requests g.pushed w.front.waiting w.under.pages _ w.under.grants.live s s' w.front.ending r place i' next in_it others
     named granted h.entries)
@@ -236,7 +236,7 @@ frame_goes config w g d place safe h = subst (λ (q : Option Request). NameGoes 
 pub fence_goes : (config : Options) (w : World) (g : Flow) (d : Pipeline) (place : ℕ) → IsSafe w → Holds config w g d (front.GrantFence place) w.back.stage → FrontGoes config w d (front.GrantFence place)
 fence_goes config w g d place safe h = goes_by (said_nothing d _ w.front.told safe.front_told)
     (issue_kept config w g d (front.GrantFence place) (front.GrantFlags place) w.front.entry w.under.pages refl refl refl h h.front_at h.memory (λ f low high x lt. refl) (λ x lt. refl) (λ page lt. record { flags = refl; frame = refl })
-    (slots_turned g.shape g.start g.fetched g.pushed g.taken g.replied g.series g.replies w.under.pages w.under.pages (front.GrantFence place) (front.GrantFlags place) w.back.stage h.shaped.narrow (λ f x from to in_it behind. refl) refl h.slots)
+    (slots_turned g.shape g.start g.fetched g.pushed g.taken g.replied g.series g.replies w.under.pages w.under.pages (front.GrantFence place) (front.GrantFlags place) w.back.stage h.shaped.narrow (λ f x from to in_it after. refl) refl h.slots)
     (frames_turned g.pushed w.under.pages w.under.pages (front.GrantFence place) (front.GrantFlags place) w.front.requests (λ frames. omega arith) (λ n x lt i l. refl) h.frames)
     (entries_turned g.pushed w.under.pages w.under.pages w.under.grants.live (front.GrantFence place) (front.GrantFlags place) w.front.ending w.front.requests refl (omega arith) (omega arith) (λ n x lt a in_it. record { flags = refl; frame = refl }) h.entries)
     (λ t sends. sends))

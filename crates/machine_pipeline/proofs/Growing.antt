@@ -16,7 +16,7 @@ use Rattle.blk_front.specs.declared.request.Request.{Request}
 use Rattle.blk_front.specs.Request.{is_write, is_moving, is_indirect, frames_for, named_of, IsShaped}
 use Rattle.blk_front.specs.declared.stage.Ending.{Ending}
 use Rattle.blk_front.specs.Pool.{with_taken, taking}
-use Rattle.machine_pipeline.proofs.Flow.{frames_of, uses, ending_frames, ending_uses, job_of}
+use Rattle.machine_pipeline.proofs.Flow.{frames_of, uses, ending_frames, ending_uses, submitted_job}
 use Rattle.machine_pipeline.proofs.Series.{IsSeries, among_grown}
 use Rattle.machine_pipeline.proofs.Holds.{IsPooled, AreNumbers, AreQueued, IsSubmitted, AreSubmitted, ArePooled, IsOfTheDisk}
 use Rattle.machine_pipeline.proofs.Stations.{AreKnown, AreOpen}
@@ -212,7 +212,7 @@ pooled_more pool taken requests ending n x e h =
       omega arith,
     )
 
-pub known_more : (submitted : List Request) (asked : List Asked) (x : Request) (q : Asked) → q.job ≡ job_of x.transfer x.sector x.count → AreKnown submitted asked → AreKnown (submitted ++ x ∷ []) (asked ++ q ∷ [])
+pub known_more : (submitted : List Request) (asked : List Asked) (x : Request) (q : Asked) → q.job ≡ submitted_job x.transfer x.sector x.count → AreKnown submitted asked → AreKnown (submitted ++ x ∷ []) (asked ++ q ∷ [])
 known_more submitted asked x q job h =
     let as_many = h.as_many in
     record {

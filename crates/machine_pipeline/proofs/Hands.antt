@@ -18,7 +18,7 @@ use Rattle.blk_back.specs.declared.stage.Stage.{Stage as BackStage}
 use Rattle.blk_back.specs.declared.stage.Stage.TheVariants as back
 use Rattle.ring_words.specs.Shape.{Shape}
 use Rattle.blk_back.specs.View.{no_page}
-use Rattle.blk_back.specs.Hands.{given_up}
+use Rattle.blk_back.specs.Hands.{aborted}
 use Rattle.blk_front.specs.Request.{frames_for, frame_at, IsShaped}
 use Rattle.machine_pipeline.proofs.Flow.{frames_of, uses, ending_uses}
 use Rattle.machine_pipeline.proofs.Holds.{AreQueued, IsPooled, ArePooled, IsHand, IsCopying, AtWork, IsWork, BackAt, PagesAt}
@@ -136,7 +136,7 @@ hand_at r t (job.DiskWrite n) m shaped h e = data_of n m r h.0.place (same_Some 
 hand_at r t (job.DiskRead n) m shaped h e = data_of n m r h.0.place (same_Some n m e) h.0.here h.1 shaped
 hand_at r t (job.WriteWord n j) m shaped h e = data_of n m r h.0.place (same_Some n m e) h.0.here h.1 shaped
 hand_at r t (job.Unmap n) m shaped h e = data_of n m r h.0.place (same_Some n m e) h.0.here h.1 shaped
-hand_at r t (job.GiveUp n) m shaped h e = data_of n m r h.0 (same_Some n m e) h.1 h.2 shaped
+hand_at r t (job.Abort n) m shaped h e = data_of n m r h.0 (same_Some n m e) h.1 h.2 shaped
 hand_at r t s m shaped h e = absurd (none-some m e)
 
 pub work_hand : {series : List Request} (submitted : List Request) (fetched : ℕ) (t : Work) (m : Mapping) → (h : IsWork submitted series fetched t) → IsShaped h.r → mapping_at t.stage ≡ Some m → IsHandOf m h.r
@@ -156,9 +156,9 @@ hands_none test (t ∷ works) none = by_hand (mapping_at t.stage) refl (hands_no
         one m t zero x e = rw (sym (same_Some m x e)) t
         one m t (suc i) x e = absurd (none-some x e)
 
-pub nothing_given_up : (shape : Shape) (b : BackStage) (start fetched back_seen replied : ℕ) (series : List Request) (works : List Work) (entry : List ℕ) → BackAt shape start fetched back_seen replied series works entry b → given_up b ≡ []
-nothing_given_up shape (back.GiveUp m) start fetched back_seen replied series works entry h = absurd h
-nothing_given_up shape b start fetched back_seen replied series works entry h = refl
+pub nothing_aborted : (shape : Shape) (b : BackStage) (start fetched back_seen replied : ℕ) (series : List Request) (works : List Work) (entry : List ℕ) → BackAt shape start fetched back_seen replied series works entry b → aborted b ≡ []
+nothing_aborted shape (back.Abort m) start fetched back_seen replied series works entry h = absurd h
+nothing_aborted shape b start fetched back_seen replied series works entry h = refl
 
 -- no more pages are mapped than the ring has
 pub mapped_few : (b : BackStage) (order count : ℕ) → PagesAt b order count → count ≤ 2 ^ order

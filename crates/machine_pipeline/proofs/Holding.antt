@@ -19,7 +19,7 @@ use Rattle.blk_front.specs.Request.{frames_for, pages_for, IsCounted}
 use Rattle.blk_front.specs.declared.stage.Ending.{Ending}
 use Rattle.blk_front.specs.View.{next_request}
 use Rattle.split_model.specs.World.{World}
-use Rattle.machine_pipeline.proofs.Flow.{Flow, frames_of, ending_at, ending_frames, count_of, job_of}
+use Rattle.machine_pipeline.proofs.Flow.{Flow, frames_of, ending_at, ending_frames, count_of, submitted_job}
 use Rattle.machine_pipeline.proofs.Holds.{AreSubmitted, IsSubmitted, Holds}
 use Rattle.machine_pipeline.proofs.Frames.{ending_is}
 use Rattle.machine_pipeline.proofs.Lists.{count_none, count_set, sum_set, set_was, same_number}
@@ -185,7 +185,7 @@ ruled_frames count = by_size (nat_lt 11 ((count + 7) / 8))
     by_size false = omega arith
 
 -- a request needs a frame for each eight of the sectors that it moves, and its indirect pages
-pub all_frames : (way : Transfer) (sector count : ℕ) → IsCounted way count → job_frames (job_of way sector count) ≡ frames_for count + pages_for count
+pub all_frames : (way : Transfer) (sector count : ℕ) → IsCounted way count → job_frames (submitted_job way sector count) ≡ frames_for count + pages_for count
 all_frames transfer.Flush sector count counted = let none = counted.none refl in rw none refl
 all_frames (transfer.Discard sectors) sector count counted = let none = counted.none refl in rw none refl
 all_frames transfer.Read sector count counted = ruled_frames count

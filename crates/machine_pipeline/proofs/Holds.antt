@@ -163,7 +163,7 @@ pub record IsInPage (t : Work) (r : Request) (m : Mapping) : Type 0 where
   pub to : length t.rest < 512 * (page + 1)
   pub left : length t.rest < frames_for r.count
 
--- the page is given up: its last segment was copied, or that of all
+-- the page is unmapped: its last segment was copied, or that of all
 pub record IsThroughPage (t : Work) (r : Request) (m : Mapping) : Type 0 where
   pub page : ℕ
   pub copies : IsCopying t r page
@@ -186,7 +186,7 @@ AtWork r t (job.DiskWrite m) = (x : IsMoving t r) × IsHand m r x.place × (is_w
 AtWork r t (job.DiskRead m) = (x : IsMoving t r) × IsHand m r x.place × (is_write r.transfer ≡ false)
 AtWork r t (job.WriteWord m j) = (x : IsReturning t r) × IsHand m r x.place × (j < 128) × (is_write r.transfer ≡ false)
 AtWork r t (job.Unmap m) = (x : IsReturning t r) × IsHand m r x.place × (t.within ≡ last_in r x.place)
-AtWork r t (job.GiveUp m) = (place : ℕ) × (place < frames_for r.count) × IsHand m r place
+AtWork r t (job.Abort m) = (place : ℕ) × (place < frames_for r.count) × IsHand m r place
 AtWork r t job.Flush = (r.transfer ≡ transfer.Flush) × (t.moved ≡ 0)
 AtWork r t (job.Trim count) = (r.transfer ≡ transfer.Discard count) × (t.moved ≡ 0) × (t.disk ≡ r.sector)
 AtWork r t (job.Done status) = Unit {0}
@@ -303,7 +303,7 @@ BackAt shape start fetched back_seen replied series works entry (back.ReplyLast 
 BackAt shape start fetched back_seen replied series works entry (back.Producer rep) = IsReplying series fetched works rep
 BackAt shape start fetched back_seen replied series works entry (back.ProducerFence old) = (1 ≤ replied) × (old ≡ wrapped start (replied - 1))
 BackAt shape start fetched back_seen replied series works entry (back.ResponseEvent old) = (1 ≤ replied) × (old ≡ wrapped start (replied - 1))
-BackAt shape start fetched back_seen replied series works entry (back.GiveUp m) = ⊥
+BackAt shape start fetched back_seen replied series works entry (back.Abort m) = ⊥
 BackAt shape start fetched back_seen replied series works entry back.UnmapRing = ⊥
 BackAt shape start fetched back_seen replied series works entry back.ClosePort = ⊥
 BackAt shape start fetched back_seen replied series works entry back.UnmapUnbound = ⊥

@@ -32,7 +32,7 @@ use Rattle.pipeline_laws.specs.Pipeline.{Pipeline, next}
 use Rattle.pipeline_laws.specs.Allowed.{May}
 use Rattle.pipeline_laws.specs.Disk.{DiskDoes}
 use Rattle.machine_pipeline.specs.Step.{IsSame, CallOf}
-use Rattle.machine_pipeline.proofs.Flow.{Flow, worked, job_of}
+use Rattle.machine_pipeline.proofs.Flow.{Flow, worked, submitted_job}
 use Rattle.machine_pipeline.proofs.ReadBack.{IsReadBack, ReadAt}
 use Rattle.machine_pipeline.proofs.Holds.{Holds}
 use Rattle.machine_pipeline.proofs.Lists.{get_set_here, set_again, set_was}
@@ -42,7 +42,7 @@ use Rattle.machine_pipeline.proofs.JobMoves.{IsAt, JobGoesAt, stays, work_of, ha
 use Rattle.machine_pipeline.proofs.JobSteps.{AreOrdered, jobs_ordered, job_moves, job_stepped, clear, lines_of}
 
 -- a flush or a discard has one place
-one_place : (way : Transfer) (sector count : ℕ) → is_moving way ≡ false → places_of (job_of way sector count) ≡ 1
+one_place : (way : Transfer) (sector count : ℕ) → is_moving way ≡ false → places_of (submitted_job way sector count) ≡ 1
 one_place transfer.Flush sector count bare = refl
 one_place (transfer.Discard sectors) sector count bare = refl
 one_place way sector count bare = absurd (false≢true (sym bare))
@@ -65,7 +65,7 @@ ends : (config : Options) (w : World) (g : Flow) (d d' : Pipeline) (p : ℕ) (t 
     → IsAt w g d p t r
     → mid.id ≡ t.id
     → StationsWith config w g d' (slice_set w.back.jobs.works p mid) w.under.pages
-    → ((q : Asked) → q.job ≡ job_of r.transfer r.sector r.count → (station_before q.job (Ends status) ≡ worked mid.stage mid.moved) × May d' (mid.id - 1) q (Ends status))
+    → ((q : Asked) → q.job ≡ submitted_job r.transfer r.sector r.count → (station_before q.job (Ends status) ≡ worked mid.stage mid.moved) × May d' (mid.id - 1) q (Ends status))
     → (is_okay status ≡ true → (q : Asked) → slice_get d'.requests (mid.id - 1) ≡ Some q → is_write r.transfer ≡ false → IsReadBack w.under.pages r r.count q.words)
     → Stepped None IsSame d' [] (λ x. StationsWith config w g x (slice_set w.back.jobs.works p (record t { stage = job.Done status })) w.under.pages)
 ends config w g d d' p t mid r status h is number stations before back =
@@ -116,7 +116,7 @@ does_well call config w g d p t r j shown line h is bare works unread hands s =
     none : r.count ≡ 0
     none = let its = h.submitted.each (t.id - 1) r is.known in its.shaped.counted.none bare
 
--- the disk failed: between both steps the job is as one that gives a frame up
+-- the disk failed: between both steps the job is as one that unmaps a frame
 fails_so : (call : (before after : List (List ℕ)) → Type 0) (config : Options) (w : World) (g : Flow) (d : Pipeline) (p : ℕ) (t : Work) (r : Request) (shown : Shown)
     → Holds config w g d w.front.stage w.back.stage
     → IsAt w g d p t r
@@ -124,14 +124,14 @@ fails_so : (call : (before after : List (List ℕ)) → Type 0) (config : Option
     → t.moved ≡ 0
     → worked t.stage t.moved ≡ Working t.moved
     → (let then : Work = record t { stage = job.Done Error } in hands_at w.back.stage (record w.back { jobs = record w.back.jobs { works = slice_set w.back.jobs.works p then } }) ≡ hands_of w.back)
-    → ((q : Asked) → q.job ≡ job_of r.transfer r.sector r.count → (a b : List (List ℕ)) → call a b → DiskDoes q.job (Fails t.moved) a b)
+    → ((q : Asked) → q.job ≡ submitted_job r.transfer r.sector r.count → (a b : List (List ℕ)) → call a b → DiskDoes q.job (Fails t.moved) a b)
     → GoesBy None call config (lines.Move shown ∷ lines.Fault t.id t.moved ∷ []) (record { front = w.front; back = record w.back { jobs = record w.back.jobs { works = slice_set w.back.jobs.works p (record t { stage = job.Done Error }) }; told = None }; under = w.under }) d
 fails_so call config w g d p t r shown h is bare unmoved works hands disk =
     called call config w g d p t mid r Error shown (lines.Fault t.id t.moved) h is hands s
     (ends config w g d (next d s.step) p t mid r Error h is refl s.now (λ q asked. (refl, tt)) (λ ok. absurd (false≢true ok)))
   where
     mid : Work
-    mid = record t { stage = job.GiveUp no_page }
+    mid = record t { stage = job.Abort no_page }
 
     s : Stepped None call d (lines.Fault t.id t.moved ∷ []) (λ x. StationsWith config w g x (slice_set w.back.jobs.works p mid) w.under.pages)
     s = job_stepped call config w g d p t mid r (Fails t.moved) (lines.Fault t.id t.moved ∷ []) h is refl refl (lines_of w g d p t r lines.Fault is) (λ q was reads. (tt, λ t. absurd (false≢true t))) (λ q asked.
@@ -150,8 +150,8 @@ flush_goes config w g d number p t r o doing = by_outcome o
     bare : is_moving r.transfer ≡ false
     bare = ap is_moving doing.at.0
 
-    job_is : (q : Asked) → q.job ≡ job_of r.transfer r.sector r.count → q.job ≡ Flush
-    job_is q asked = asked ∙ ap (λ (way : Transfer). job_of way r.sector r.count) doing.at.0
+    job_is : (q : Asked) → q.job ≡ submitted_job r.transfer r.sector r.count → q.job ≡ Flush
+    job_is q asked = asked ∙ ap (λ (way : Transfer). submitted_job way r.sector r.count) doing.at.0
 
     s : Stepped None (CallOf (ask_at job.Flush t) Took) d (lines.Flushed t.id ∷ []) (λ x. StationsWith config w g x (slice_set w.back.jobs.works p (record t { moved = 1; stage = job.Flush })) w.under.pages)
     s = job_stepped (CallOf (ask_at job.Flush t) Took) config w g d p t (record t { moved = 1; stage = job.Flush }) r Flushes (lines.Flushed t.id ∷ []) doing.holds doing.is refl refl (lines_of w g d p t r (λ n i. lines.Flushed n) doing.is)
@@ -172,8 +172,8 @@ trim_goes config w g d number p t r count o doing = by_outcome o
     bare : is_moving r.transfer ≡ false
     bare = ap is_moving doing.at.0
 
-    job_is : (q : Asked) → q.job ≡ job_of r.transfer r.sector r.count → q.job ≡ Discard r.sector count
-    job_is q asked = asked ∙ ap (λ (way : Transfer). job_of way r.sector r.count) doing.at.0
+    job_is : (q : Asked) → q.job ≡ submitted_job r.transfer r.sector r.count → q.job ≡ Discard r.sector count
+    job_is q asked = asked ∙ ap (λ (way : Transfer). submitted_job way r.sector r.count) doing.at.0
 
     s : Stepped None (CallOf (ask_at (job.Trim count) t) Took) d (lines.Trimmed t.id ∷ []) (λ x. StationsWith config w g x (slice_set w.back.jobs.works p (record t { moved = 1; stage = job.Trim count })) w.under.pages)
     s = job_stepped (CallOf (ask_at (job.Trim count) t) Took) config w g d p t (record t { moved = 1; stage = job.Trim count }) r Trims (lines.Trimmed t.id ∷ []) doing.holds doing.is refl refl (lines_of w g d p t r (λ n i. lines.Trimmed n) doing.is)

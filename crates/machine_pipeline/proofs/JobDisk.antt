@@ -66,7 +66,7 @@ failed_goes config w g d number p t r m doing = goes_by (does_step (moves.DiskWr
     (hands_step w p t (job.DiskWrite m) answer.DiskFailed doing.is.place doing.stage tt))
   where
     then : Work
-    then = record t { stage = job.GiveUp m }
+    then = record t { stage = job.Abort m }
 
     s : Stepped None (CallOf (ask_at (job.DiskWrite m) t) Failed) d (lines.Fault t.id t.moved ∷ []) (λ x. StationsWith config w g x (slice_set w.back.jobs.works p then) w.under.pages)
     s = fails config w g d p t then r m doing refl refl
@@ -110,7 +110,7 @@ gave_nothing config w g d number p t r m doing = goes_by (does_step (moves.DiskR
     (hands_step w p t (job.DiskRead m) answer.DiskFailed doing.is.place doing.stage tt))
   where
     then : Work
-    then = record t { stage = job.GiveUp m }
+    then = record t { stage = job.Abort m }
 
     s : Stepped None (CallOf (ask_at (job.DiskRead m) t) Failed) d (lines.Fault t.id t.moved ∷ []) (λ x. StationsWith config w g x (slice_set w.back.jobs.works p then) w.under.pages)
     s = fails_to_give config w g d p t r m doing

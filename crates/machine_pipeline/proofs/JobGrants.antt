@@ -1,4 +1,4 @@
--- A job maps a frame of its request, and gives the mapping up.
+-- A job maps a frame of its request, and unmaps it.
 use Rattle.std.proofs.Common.{◌≡◌, ◌≢◌, ℕ, ◌+◌, ◌*◌, ◌/◌, ◌%◌, ◌<◌, ◌≤◌, ◌==◌, Bool, true, false, List, length, if◌then◌else◌, refl, ap, sym, ◌∙◌, subst, arith}
 use Rattle.std.specs.Prelude.{Option, Some, slice_get, nat_lt, Ok}
 use Rattle.std.proofs.lemmas.Option.{same_Some}

@@ -1,4 +1,4 @@
--- A job maps a frame of its request, and gives the mapping up: what that makes of all that holds.
+-- A job maps a frame of its request, and unmaps it: what that makes of all that holds.
 use Rattle.std.proofs.Common.{◌≡◌, ◌≢◌, ℕ, ◌+◌, ◌*◌, ◌/◌, ◌%◌, ◌<◌, ◌≤◌, ◌==◌, ◌&&◌, ◌⊎◌, inl, inr, Bool, true, false, cond, List, [], ◌∷◌, ◌++◌, length, refl, ap, sym, ◌∙◌, subst, arith, length-set}
 use Rattle.std.specs.Prelude.{Option, Some, None, slice_get, slice_set, count_by, nat_lt, Result, Ok}
 use Rattle.std.proofs.lemmas.Option.{none-some, same_Some, slice_get-get_or}
@@ -320,7 +320,7 @@ map_page_goes config w g d number p t r o doing = subst (λ (x : Option BackAct)
       left = doing.at.3;
     }
 
--- how many mappings of a frame of the request there are while the job has its one in hand, and when it gave it up
+-- how many mappings of a frame of the request there are while the job has its one in hand, and when it unmapped it
 hand_counted : (config : Options) (w : World) (g : Flow) (d : Pipeline) (p : ℕ) (t t' : Work) (r : Request)
     → Holds config w g d w.front.stage w.back.stage
     → IsAt w g d p t r
@@ -337,7 +337,7 @@ hand_counted config w g d p t t' r h is own a in_r none test apart =
     by_place i u m f (inr other) =
         (i, other.1, λ same. (other_number w.back.jobs.works p i t u h.works.ascending other.0 is.place other.1) (same ∙ own.number))
 
--- the job gives its mapping up, and is at its next stage
+-- the job unmaps what it mapped, and is at its next stage
 pub unmap_holds : (config : Options) (w : World) (g : Flow) (d d' : Pipeline) (p : ℕ) (t t' : Work) (r : Request) (m : Mapping) (j : JobStage)
     → IsDoing config w g d p t r j
     → mapping_at j ≡ Some m

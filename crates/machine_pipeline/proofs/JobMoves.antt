@@ -28,7 +28,7 @@ use Rattle.back_jobs.specs.Jobs.{effect_at, mapping_at}
 use Rattle.back_jobs.specs.Hands.{hand_of, hands_in, Names, HandsAfter}
 use Rattle.back_jobs.proofs.Hands.{named_in, told_hands, framed as between}
 use Rattle.blk_back.proofs.Hands.{job_names}
-use Rattle.blk_back.specs.Hands.{hands_of, hands_at, given_up}
+use Rattle.blk_back.specs.Hands.{hands_of, hands_at, aborted}
 use Rattle.blk_back.specs.Step.{told_effect}
 use Rattle.split_model.specs.World.{World}
 use Rattle.split_model.specs.Shown.{back_lines}
@@ -99,7 +99,7 @@ live_hand w p t m place e held =
 pub hands_step : (w : World) (p : ℕ) (t : Work) (j : JobStage) (x : BackAnswer) → slice_get w.back.jobs.works p ≡ Some t → t.stage ≡ j → IsAnswer (ask_at j t) x → HandsAfter (ask_at j t) x (hands_of w.back) (hands_at w.back.stage (record w.back { jobs = record w.back.jobs { works = slice_set w.back.jobs.works p (step_at j t x) } }))
 hands_step w p t j x place e =
     subst (λ (s : JobStage). IsAnswer (ask_at s t) x → HandsAfter (ask_at s t) x (hands_of w.back) (hands_at w.back.stage (record w.back { jobs = record w.back.jobs { works = slice_set w.back.jobs.works p (step_at s t x) } }))) e
-    (λ own. between (ask_at t.stage t) x (given_up w.back.stage) w.back.pages (hands_in w.back.jobs.works) (hands_in (slice_set w.back.jobs.works p (step_at t.stage t x))) (told_hands w.back.jobs.works (Some p) false (Some t) x place own))
+    (λ own. between (ask_at t.stage t) x (aborted w.back.stage) w.back.pages (hands_in w.back.jobs.works) (hands_in (slice_set w.back.jobs.works p (step_at t.stage t x))) (told_hands w.back.jobs.works (Some p) false (Some t) x place own))
 
 -- the job's request among the front's
 pub record IsOwn (w : World) (g : Flow) (t : Work) (r : Request) : Type 0 where
@@ -177,7 +177,7 @@ abbrev pub copied_on : {writing : Bool} {count : ℕ} {copied : List Segment} {r
     → AreCopied writing count copied' references' done sector size read r page'
 copied_on copied' references' page' x here rest few pages = record { here = here; large = x.large; writes = x.writes; named = x.named; rest = rest; few = few; pages = pages; moved = x.moved; disk = x.disk; fits = x.fits; words = x.words }
 
--- a sector was moved: the job is at the next one of its segment, or gives the frame up where that was the last one
+-- a sector was moved: the job is at the next one of its segment, or unmaps the frame where that was the last one
 abbrev pub further : Work → Request → Mapping → Bool → Work
 further t r m last = record t { within = if last then t.within else t.within + 1; stage = if last then job.Unmap m else sector_stage (is_write r.transfer) m }
 

@@ -205,7 +205,7 @@ sectors_goes config w g d number p t r m gref o doing = goes_by (nothing (CallOf
     back true noted was = was
     back false noted was = was
 
--- the page is given up: the next one is mapped, or the first segment's frame where all are copied
+-- the page is unmapped: the next one is mapped, or the first segment's frame where all are copied
 pub unmap_page_goes : (config : Options) (w : World) (g : Flow) (d : Pipeline) (number p : ℕ) (t : Work) (r : Request) (m : Mapping) (o : Outcome)
     → IsDoing config w g d p t r (job.UnmapPage m)
     → JobGoesAt config w d number p t (job.UnmapPage m) o

@@ -30,7 +30,7 @@ use Rattle.pipeline_laws.specs.Ring.{Ring, ring_after}
 use Rattle.pipeline_laws.specs.Pipeline.{Pipeline, Moves}
 use Rattle.pipeline_laws.specs.Allowed.{May, IsClear, is_working, is_in_way}
 use Rattle.pipeline_laws.specs.Disk.{DiskDoes}
-use Rattle.machine_pipeline.proofs.Flow.{Flow, worked, ending_at, reply_at, is_issuing, is_fetching, telling_at, job_of}
+use Rattle.machine_pipeline.proofs.Flow.{Flow, worked, ending_at, reply_at, is_issuing, is_fetching, telling_at, submitted_job}
 use Rattle.machine_pipeline.proofs.ReadBack.{IsReadBack, ReadAt, has_data_at}
 use Rattle.machine_pipeline.proofs.Holds.{Holds, IsWork, IsMoving}
 use Rattle.machine_pipeline.proofs.Segments.{moves_sectors}
@@ -50,28 +50,28 @@ record IsFilling (x : Job) (sector count tag : ℕ) : Type 0 where
   pub first : sector_of x ≡ sector
   pub words : (i : ℕ) → filling x i ≡ replicate 128 ((tag + i) % 2 ^ 32)
 
-filling_job : (way : Transfer) (sector count : ℕ) → is_write way ≡ true → IsFilling (job_of way sector count) sector count (tag_of way)
+filling_job : (way : Transfer) (sector count : ℕ) → is_write way ≡ true → IsFilling (submitted_job way sector count) sector count (tag_of way)
 filling_job (transfer.Write tag) sector count writes = record { writes = refl; places = refl; first = refl; words = λ i. refl }
 filling_job (transfer.Barrier tag) sector count writes = record { writes = refl; places = refl; first = refl; words = λ i. refl }
 filling_job way sector count writes = absurd (false≢true writes)
 
-filled_job : (x : Job) (r : Request) → x ≡ job_of r.transfer r.sector r.count → is_write r.transfer ≡ true → IsFilling x r.sector r.count (tag_of r.transfer)
+filled_job : (x : Job) (r : Request) → x ≡ submitted_job r.transfer r.sector r.count → is_write r.transfer ≡ true → IsFilling x r.sector r.count (tag_of r.transfer)
 filled_job x r asked writes = subst (λ (y : Job). IsFilling y r.sector r.count (tag_of r.transfer)) (sym asked) (filling_job r.transfer r.sector r.count writes)
 
-read_job : (way : Transfer) (sector count : ℕ) → is_moving way ≡ true → is_write way ≡ false → job_of way sector count ≡ Read sector count
+read_job : (way : Transfer) (sector count : ℕ) → is_moving way ≡ true → is_write way ≡ false → submitted_job way sector count ≡ Read sector count
 read_job transfer.Read sector count moves reads = refl
 read_job (transfer.Write tag) sector count moves reads = absurd (true≢false reads)
 read_job (transfer.Barrier tag) sector count moves reads = absurd (true≢false reads)
 read_job way sector count moves reads = absurd (false≢true moves)
 
-all_places : (way : Transfer) (sector count : ℕ) → is_moving way ≡ true → places_of (job_of way sector count) ≡ count
+all_places : (way : Transfer) (sector count : ℕ) → is_moving way ≡ true → places_of (submitted_job way sector count) ≡ count
 all_places transfer.Read sector count moves = refl
 all_places (transfer.Write tag) sector count moves = refl
 all_places (transfer.Barrier tag) sector count moves = refl
 all_places way sector count moves = absurd (false≢true moves)
 
 -- what a barrier orders is what the operation of the job says
-same_order : (op : ℕ) (x : Job) (way : Transfer) (sector count : ℕ) → op ≡ operation_of way → x ≡ job_of way sector count → ((op == 1 || op == 2 || op == 5) ≡ is_ordered x) × ((op == 2) ≡ is_barrier x)
+same_order : (op : ℕ) (x : Job) (way : Transfer) (sector count : ℕ) → op ≡ operation_of way → x ≡ submitted_job way sector count → ((op == 1 || op == 2 || op == 5) ≡ is_ordered x) × ((op == 2) ≡ is_barrier x)
 same_order op x transfer.Read sector count this that = rw (this, that) (refl, refl)
 same_order op x way sector count this that = rw (this, that) (refl, refl)
 
@@ -137,7 +137,7 @@ pub job_moves : (call : (before after : List (List ℕ)) → Type 0) (config : O
     → ring_after d.ring (t.id - 1) move ≡ d.ring
     → move_lines (t.id - 1) move ≡ said
     → HasRead w d t t' r move
-    → ((q : Asked) → q.job ≡ job_of r.transfer r.sector r.count → IsJobMove call d (t.id - 1) q (worked t.stage t.moved) (worked t'.stage t'.moved) move)
+    → ((q : Asked) → q.job ≡ submitted_job r.transfer r.sector r.count → IsJobMove call d (t.id - 1) q (worked t.stage t.moved) (worked t'.stage t'.moved) move)
     → Stepped None call d said (λ x. StationsWith config w g x (slice_set works p t') w.under.pages)
 job_moves call config w g d works p t t' r move said stations are number still shows now makes = record {
   step = Moves (t.id - 1) x.q move;
@@ -167,7 +167,7 @@ pub job_stepped : (call : (before after : List (List ℕ)) → Type 0) (config :
     → ring_after d.ring (t.id - 1) move ≡ d.ring
     → move_lines (t.id - 1) move ≡ said
     → HasRead w d t t' r move
-    → ((q : Asked) → q.job ≡ job_of r.transfer r.sector r.count → IsJobMove call d (t.id - 1) q (worked t.stage t.moved) (worked t'.stage t'.moved) move)
+    → ((q : Asked) → q.job ≡ submitted_job r.transfer r.sector r.count → IsJobMove call d (t.id - 1) q (worked t.stage t.moved) (worked t'.stage t'.moved) move)
     → Stepped None call d said (λ x. StationsWith config w g x (slice_set w.back.jobs.works p t') w.under.pages)
 job_stepped call config w g d p t t' r move said h is number still shows now makes =
     job_moves call config w g d w.back.jobs.works p t t' r move said h.stations (jobs_ordered config w g d p t r h is) number still shows now makes
@@ -176,7 +176,7 @@ job_stepped call config w g d p t t' r move said h is number still shows now mak
 stands_before : (works : List Work) (p i : ℕ) (t u : Work) → AllPairs (λ (x y : Work). x.id < y.id) works → slice_get works p ≡ Some t → slice_get works i ≡ Some u → u.id < t.id → i < p
 stands_before works p i t u up here at lower = elim (cases_lt i p) [
   | inl before ↦ before
-  | inr behind ↦ elim (cases_eq i p) [
+  | inr past ↦ elim (cases_eq i p) [
     | inl same ↦
         absurd (omega (arith, (ap (λ (x : Work). x.id) (same_Some u t (sym at ∙ (ap (slice_get works) same ∙ here)))), lower))
     | inr apart ↦ (let above = pair_at (λ (x y : Work). x.id < y.id) works p i t u up (omega arith) here at in absurd (omega (arith, above, lower)))
@@ -187,7 +187,7 @@ stands_before works p i t u up here at lower = elim (cases_lt i p) [
 clears : (config : Options) (w : World) (g : Flow) (d : Pipeline) (p : ℕ) (t : Work) (r : Request) (q : Asked)
     → Holds config w g d w.front.stage w.back.stage
     → IsAt w g d p t r
-    → q.job ≡ job_of r.transfer r.sector r.count
+    → q.job ≡ submitted_job r.transfer r.sector r.count
     → is_ordered q.job ≡ true
     → (j : ℕ) (y : Asked) → j < t.id - 1 → slice_get d.requests j ≡ Some y → is_in_way (is_barrier q.job) y ≡ false
 clears config w g d p t r q h is asked ordered i y before here = by_working (is_working y.job y.station) refl
@@ -215,7 +215,7 @@ clears config w g d p t r q h is asked ordered i y before here = by_working (is_
 pub clear : (config : Options) (w : World) (g : Flow) (d : Pipeline) (p : ℕ) (t : Work) (r : Request) (q : Asked)
     → Holds config w g d w.front.stage w.back.stage
     → IsAt w g d p t r
-    → q.job ≡ job_of r.transfer r.sector r.count
+    → q.job ≡ submitted_job r.transfer r.sector r.count
     → is_ordered q.job ≡ true
     → IsClear d (t.id - 1) q
 clear config w g d p t r q h is asked ordered = record {
@@ -335,9 +335,9 @@ gives config w g d p t r m words doing sized =
 -- or fails at it
 pub fails_to_give : (config : Options) (w : World) (g : Flow) (d : Pipeline) (p : ℕ) (t : Work) (r : Request) (m : Mapping)
     → IsDoing config w g d p t r (job.DiskRead m)
-    → Stepped None (CallOf (ask_at (job.DiskRead m) t) DiskFailed) d (lines.Fault t.id t.moved ∷ []) (λ x. StationsWith config w g x (slice_set w.back.jobs.works p (record t { stage = job.GiveUp m })) w.under.pages)
+    → Stepped None (CallOf (ask_at (job.DiskRead m) t) DiskFailed) d (lines.Fault t.id t.moved ∷ []) (λ x. StationsWith config w g x (slice_set w.back.jobs.works p (record t { stage = job.Abort m })) w.under.pages)
 fails_to_give config w g d p t r m doing =
-    job_stepped (CallOf (ask_at (job.DiskRead m) t) DiskFailed) config w g d p t (record t { stage = job.GiveUp m }) r (Fails t.moved) (lines.Fault t.id t.moved ∷ []) doing.holds doing.is refl refl (lines_of w g d p t r lines.Fault doing.is) (λ q was reads. (tt, λ t. absurd (false≢true t))) (λ q asked.
+    job_stepped (CallOf (ask_at (job.DiskRead m) t) DiskFailed) config w g d p t (record t { stage = job.Abort m }) r (Fails t.moved) (lines.Fault t.id t.moved ∷ []) doing.holds doing.is refl refl (lines_of w g d p t r lines.Fault doing.is) (λ q was reads. (tt, λ t. absurd (false≢true t))) (λ q asked.
     let so : q.job ≡ Read r.sector r.count = asked ∙ read_job r.transfer r.sector r.count (moves_at config w g d p t r doing.holds doing.is doing.at.0) doing.at.2 in
     record {
       before = rw doing.stage refl;
@@ -346,7 +346,7 @@ fails_to_give config w g d p t r m doing =
       disk = λ a b call. rw so (subst (λ (x : List (List ℕ)). SameBut r.sector 0 (Some a) (Some x)) (sym (same_Some b a call.1)) (refl, λ i out. refl));
     })
 
--- its last mapping is given up: the job ends, as it went
+-- its last mapping is unmapped: the job ends, as it went
 pub ends_well : (o : Outcome) (config : Options) (w : World) (g : Flow) (d : Pipeline) (p : ℕ) (t : Work) (r : Request) (m : Mapping) (rest : List Segment)
     → IsDoing config w g d p t r (job.Unmap m)
     → is_moving r.transfer ≡ true
@@ -364,10 +364,10 @@ ends_well o config w g d p t r m rest doing moves all =
     })
 
 pub ends_badly : (o : Outcome) (config : Options) (w : World) (g : Flow) (d : Pipeline) (p : ℕ) (t : Work) (r : Request) (m : Mapping)
-    → IsDoing config w g d p t r (job.GiveUp m)
-    → Stepped None (CallOf (ask_at (job.GiveUp m) t) o) d [] (λ x. StationsWith config w g x (slice_set w.back.jobs.works p (record t { stage = job.Done Error })) w.under.pages)
+    → IsDoing config w g d p t r (job.Abort m)
+    → Stepped None (CallOf (ask_at (job.Abort m) t) o) d [] (λ x. StationsWith config w g x (slice_set w.back.jobs.works p (record t { stage = job.Done Error })) w.under.pages)
 ends_badly o config w g d p t r m doing =
-    job_stepped (CallOf (ask_at (job.GiveUp m) t) o) config w g d p t (record t { stage = job.Done Error }) r (Ends Error) [] doing.holds doing.is refl refl refl (λ q was reads. (tt, λ t. absurd (false≢true t))) (λ q asked. record {
+    job_stepped (CallOf (ask_at (job.Abort m) t) o) config w g d p t (record t { stage = job.Done Error }) r (Ends Error) [] doing.holds doing.is refl refl refl (λ q was reads. (tt, λ t. absurd (false≢true t))) (λ q asked. record {
       before = rw doing.stage refl;
       after = refl;
       may = tt;

@@ -114,18 +114,18 @@ unmap_goes config w g d number p t r m o doing = by_rest (nat_lt (doing.at.0.pla
     by_rest true more = unmap_next config w g d number p t r m o doing (grind (arith, nat_tests))
     by_rest false over = unmap_ends config w g d number p t r m o doing (let here = doing.at.0.here in grind (arith, nat_tests))
 
-give_up_goes : (config : Options) (w : World) (g : Flow) (d : Pipeline) (number p : ℕ) (t : Work) (r : Request) (m : Mapping) (o : Outcome)
-    → IsDoing config w g d p t r (job.GiveUp m)
-    → JobGoesAt config w d number p t (job.GiveUp m) o
-give_up_goes config w g d number p t r m o doing = goes_by (does_step _ [] refl s)
-    (unmap_holds config w g d (next d s.step) p t later r m (job.GiveUp m) doing refl doing.at.0 (data_frames r doing.at.0 doing.own.shaped doing.at.1) doing.at.2 refl refl s.now
+abort_goes : (config : Options) (w : World) (g : Flow) (d : Pipeline) (number p : ℕ) (t : Work) (r : Request) (m : Mapping) (o : Outcome)
+    → IsDoing config w g d p t r (job.Abort m)
+    → JobGoesAt config w d number p t (job.Abort m) o
+abort_goes config w g d number p t r m o doing = goes_by (does_step _ [] refl s)
+    (unmap_holds config w g d (next d s.step) p t later r m (job.Abort m) doing refl doing.at.0 (data_frames r doing.at.0 doing.own.shaped doing.at.1) doing.at.2 refl refl s.now
     (work_of w g d (next d s.step) p t later r doing.is refl refl refl tt)
-    (hands_step w p t (job.GiveUp m) answer.Done doing.is.place doing.stage tt))
+    (hands_step w p t (job.Abort m) answer.Done doing.is.place doing.stage tt))
   where
     later : Work
     later = record t { stage = job.Done Error }
 
-    s : Stepped None (CallOf (ask_at (job.GiveUp m) t) o) d [] (λ x. StationsWith config w g x (slice_set w.back.jobs.works p later) w.under.pages)
+    s : Stepped None (CallOf (ask_at (job.Abort m) t) o) d [] (λ x. StationsWith config w g x (slice_set w.back.jobs.works p later) w.under.pages)
     s = ends_badly o config w g d p t r m doing
 
 by_stage : (config : Options) (w : World) (g : Flow) (d : Pipeline) (number p : ℕ) (t : Work) (r : Request) (o : Outcome) (j : JobStage)
@@ -143,7 +143,7 @@ by_stage config w g d number p t r o (job.DiskWrite m) h doing given = disk_goes
 by_stage config w g d number p t r o (job.DiskRead m) h doing given = disk_gives config w g d number p t r m o (doing refl) given
 by_stage config w g d number p t r o (job.WriteWord m k) h doing given = write_goes config w g d number p t r m k o (doing refl)
 by_stage config w g d number p t r o (job.Unmap m) h doing given = unmap_goes config w g d number p t r m o (doing refl)
-by_stage config w g d number p t r o (job.GiveUp m) h doing given = give_up_goes config w g d number p t r m o (doing refl)
+by_stage config w g d number p t r o (job.Abort m) h doing given = abort_goes config w g d number p t r m o (doing refl)
 by_stage config w g d number p t r o (job.Done status) h doing given = stays (CallOf (ask_at (job.Done status) t) o) config w g d (λ a b call. same_Some b a call.1) h
 by_stage config w g d number p t r o job.Flush h doing given = flush_goes config w g d number p t r o (doing refl)
 by_stage config w g d number p t r o (job.Trim count) h doing given = trim_goes config w g d number p t r count o (doing refl)

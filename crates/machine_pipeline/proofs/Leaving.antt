@@ -15,14 +15,14 @@ use Rattle.blk_front.specs.declared.stage.Stage.{Stage as FrontStage}
 use Rattle.blk_front.specs.declared.stage.Stage.TheVariants as front
 use Rattle.blk_front.specs.Step.{is_mapped}
 use Rattle.back_jobs.specs.Hands.{hands_in}
-use Rattle.back_jobs.specs.Jobs.{first_mapping, behind_mapping}
+use Rattle.back_jobs.specs.Jobs.{first_mapping, after_mapping}
 use Rattle.back_jobs.specs.Task.{Work}
 use Rattle.blk_back.specs.declared.stage.Stage.{Stage as BackStage}
 use Rattle.blk_back.specs.declared.stage.Stage.TheVariants as back
 use Rattle.blk_back.specs.declared.told.Halt.{Halt}
 use Rattle.blk_back.specs.View.{View, no_page}
-use Rattle.blk_back.specs.Hands.{given_up}
-use Rattle.blk_back.specs.Step.{unbound, giving_up}
+use Rattle.blk_back.specs.Hands.{aborted}
+use Rattle.blk_back.specs.Step.{unbound, unmapping_next}
 use Rattle.split_model.specs.World.{World}
 use Rattle.split_model.specs.Shown.{halt_line, halt_lines}
 use Rattle.split_model.specs.Happening.{BackHalts, happens, lines_at}
@@ -33,9 +33,9 @@ use Rattle.machine_pipeline.proofs.Flow.{Flow, granted_pages, is_bound_back, end
 use Rattle.machine_pipeline.proofs.Holds.{AreMapped, ArePooled, Holds, PortsAt}
 use Rattle.machine_pipeline.proofs.Lists.{all_from, pairs_from}
 use Rattle.machine_pipeline.proofs.Slots.{few_pages, some_pages}
-use Rattle.machine_pipeline.proofs.Hands.{mapped_few, nothing_given_up}
+use Rattle.machine_pipeline.proofs.Hands.{mapped_few, nothing_aborted}
 use Rattle.machine_pipeline.proofs.Turns.{no_move}
-use Rattle.machine_pipeline.proofs.Over.{may_begin, IsDrained, IsGivingUp, AreOwn, AreUnmapped, IsLeaving, Over, HasGone, unclosed, gone_by}
+use Rattle.machine_pipeline.proofs.Over.{may_begin, IsDrained, IsAborting, AreOwn, AreUnmapped, IsLeaving, Over, HasGone, unclosed, gone_by}
 use Rattle.line_text.proofs.Both.{both_true}
 use Rattle.machine_pipeline.proofs.Drained.{no_element, drained_at, no_job_left, finished_at}
 
@@ -88,7 +88,7 @@ own_pages config w g d s b h = record {
 -- they alone are mapped
 left_mapped : (config : Options) (w : World) (g : Flow) (d : Pipeline) (s : FrontStage) (b : BackStage) → Holds config w g d s b → w.back.jobs.works ≡ [] → AreMapped w.under.grants.live w.back.pages
 left_mapped config w g d s b h no_job =
-    let given : given_up b ≡ [] = nothing_given_up g.shape b g.start g.fetched g.back_seen g.replied g.series w.back.jobs.works w.back.entry h.back_at in
+    let given : aborted b ≡ [] = nothing_aborted g.shape b g.start g.fetched g.back_seen g.replied g.series w.back.jobs.works w.back.entry h.back_at in
     subst (λ (works : List Work). AreMapped w.under.grants.live (hands_in works ++ w.back.pages)) no_job
     (subst (λ (ms : List Mapping). AreMapped w.under.grants.live (ms ++ (hands_in w.back.jobs.works ++ w.back.pages))) given h.mapped)
 
@@ -118,7 +118,7 @@ unpooled (r ∷ requests) none ending ended h = absurd (omega arith)
 over_begins : (config : Options) (w : World) (g : Flow) (d : Pipeline) (why : Halt) (v : View)
     → Holds config w g d w.front.stage w.back.stage → IsFarewell w why
     → v.halted ≡ Some why → v.jobs.works ≡ [] → v.jobs.info ≡ w.back.jobs.info → v.ring.cons ≡ w.back.ring.cons → v.pages ≡ w.back.pages
-    → IsGivingUp w.back.pages v.stage
+    → IsAborting w.back.pages v.stage
     → Over config (backed w v) d w.front.stage v.stage
 over_begins config w g d why v h farewell halted no_job info cons same_pages held =
     let through = through_is w.front.closing (length w.front.requests) farewell.through in
@@ -147,7 +147,7 @@ over_begins config w g d why v h farewell halted no_job info cons same_pages hel
       halted = ap is_some halted;
       no_job = no_job;
       memory = h.memory;
-      back_at = subst (λ (ms : List Mapping). IsGivingUp ms v.stage) (sym same_pages) held;
+      back_at = subst (λ (ms : List Mapping). IsAborting ms v.stage) (sym same_pages) held;
       own = subst AreOwn (sym same_pages) (own_pages config w g d w.front.stage w.back.stage h);
       mapped = subst (AreMapped w.under.grants.live) (sym same_pages) (left_mapped config w g d w.front.stage w.back.stage h none);
       front_at = subst (λ (ms : List Mapping). IsLeaving d.front.connected (length w.under.channels.ports) w.front.shape.order w.under.pages ms v.stage w.front.stage) (sym same_pages)
@@ -165,7 +165,7 @@ leaves config w g d why v h farewell halted over =
     (inr over)
 
 -- a back that isn't bound holds pages that it mapped, or none
-pub giving_unbound : (held : List Mapping) → IsGivingUp held (unbound held)
+pub giving_unbound : (held : List Mapping) → IsAborting held (unbound held)
 giving_unbound [] = refl
 giving_unbound (m ∷ held) = λ none. cc
 
@@ -177,8 +177,8 @@ some_held (m ∷ held) some = λ none. cc
 pub halts_goes : (config : Options) (w : World) (g : Flow) (d : Pipeline) (why : Halt) → Holds config w g d w.front.stage w.back.stage → IsFarewell w why → HasGone None IsSame config (lines_at w (BackHalts why)) (happens w (BackHalts why)) d
 halts_goes config w g d why h farewell = halts_cases (Leaving config w d) why w.back
     (λ e. leaves config w g d why unmapped h farewell refl (over_begins config w g d why unmapped h farewell refl no_job refl refl refl (giving_unbound w.back.pages)))
-    (λ e. subst (λ (works : List Work). Leaving config w d (given_up_jobs works)) (sym no_job)
-    (leaves config w g d why (given_up_jobs []) h farewell refl (over_begins config w g d why (given_up_jobs []) h farewell refl refl refl refl refl
+    (λ e. subst (λ (works : List Work). Leaving config w d (aborted_jobs works)) (sym no_job)
+    (leaves config w g d why (aborted_jobs []) h farewell refl (over_begins config w g d why (aborted_jobs []) h farewell refl refl refl refl refl
     (some_held w.back.pages (let looping : Holds config w g d w.front.stage back.Loop = at e in let all : length w.back.pages ≡ 2 ^ g.shape.order = looping.paged.mapped in let some = some_pages g.shape.order in omega arith)))))
     (record { steps = []; does = rw h.unhalted (no_move IsSame d (λ a b same. same)); kept = inl (g, h) })
   where
@@ -192,5 +192,5 @@ halts_goes config w g d why h farewell = halts_cases (Leaving config w d) why w.
     unmapped = let v : View = w.back in record v { halted = Some why; stage = unbound v.pages }
 
     -- with these jobs before
-    given_up_jobs : List Work → View
-    given_up_jobs works = let v : View = w.back in record v { halted = Some why; stage = giving_up (first_mapping works); jobs = record v.jobs { works = behind_mapping works } }
+    aborted_jobs : List Work → View
+    aborted_jobs works = let v : View = w.back in record v { halted = Some why; stage = unmapping_next (first_mapping works); jobs = record v.jobs { works = after_mapping works } }

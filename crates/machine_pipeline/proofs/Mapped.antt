@@ -17,10 +17,10 @@ use Rattle.machine_pipeline.proofs.Holds.{AreMapped}
 use Rattle.machine_pipeline.proofs.Lists.{all_at}
 
 -- one more is counted where it passes
-count_more : {X : Type 0} (test : X → Bool) (m : X) (before behind : List X) → count_by test (before ++ m ∷ behind) ≡ count_by test (before ++ behind) + cond (test m) 1 0
-count_more {X} test m before behind =
-    let all = sum_by-append (λ (x : X). cond (test x) 1 0) before (m ∷ behind) in
-    omega (arith, sum_by-cons (λ (x : X). cond (test x) 1 0) m behind, sum_by-append (λ (x : X). cond (test x) 1 0) before behind)
+count_more : {X : Type 0} (test : X → Bool) (m : X) (before after : List X) → count_by test (before ++ m ∷ after) ≡ count_by test (before ++ after) + cond (test m) 1 0
+count_more {X} test m before after =
+    let all = sum_by-append (λ (x : X). cond (test x) 1 0) before (m ∷ after) in
+    omega (arith, sum_by-cons (λ (x : X). cond (test x) 1 0) m after, sum_by-append (λ (x : X). cond (test x) 1 0) before after)
 
 pub hands_more : (test : Mapping → Bool) (m : Mapping) (fewer more : List Mapping) → HasOneMore m fewer more → count_by test more ≡ count_by test fewer + cond (test m) 1 0
 hands_more test m fewer more is = rw (is.without, is.with_it) (count_more test m is.front is.rest)

@@ -1,4 +1,4 @@
--- What holds once the back has halted, since its front closes and has no request left: the back gives up the ring's pages and its port, and then the front ends the grants of the ring's frames, closes its port, and is closed.
+-- What holds once the back has halted, since its front closes and has no request left: the back unmaps the ring's pages and closes its port, and then the front ends the grants of the ring's frames, closes its port, and is closed.
 use Rattle.std.proofs.Common.{subst, ◌≡◌, ◌≢◌, ℕ, ◌+◌, ◌^◌, ◌<◌, ◌≤◌, ◌⊎◌, inl, Bool, true, false, List, [], length, refl, ap, sym, ◌∙◌, true≢false}
 use Rattle.std.specs.Prelude.{All, AllPairs, Option, None, is_some}
 use Rattle.xen_pages.specs.Pages.{word_of}
@@ -36,12 +36,12 @@ pub record IsDrained (pages : List ℕ) (front_cons back_cons : ℕ) : Type 0 wh
   pub read : front_cons ≡ word_of pages 2 2
 
 -- what the back holds after its halt: pages of the ring, until each is unmapped
-abbrev pub IsGivingUp : List Mapping → BackStage → Type 0
-IsGivingUp held back.UnmapRing = held ≢ []
-IsGivingUp held back.UnmapUnbound = held ≢ []
-IsGivingUp held back.ClosePort = held ≡ []
-IsGivingUp held back.Halted = held ≡ []
-IsGivingUp held b = ⊥
+abbrev pub IsAborting : List Mapping → BackStage → Type 0
+IsAborting held back.UnmapRing = held ≢ []
+IsAborting held back.UnmapUnbound = held ≢ []
+IsAborting held back.ClosePort = held ≡ []
+IsAborting held back.Halted = held ≡ []
+IsAborting held b = ⊥
 
 -- they are of references of their own, of the 16 from 8 on
 pub record AreOwn (held : List Mapping) : Type 0 where
@@ -122,7 +122,7 @@ pub record IsOver (config : Options) (d : Pipeline) (x : Lasting) (front_closes 
   pub halted : is_some halt ≡ true
   pub no_job : works ≡ []
   pub memory : length pages ≡ 1114112
-  pub back_at : IsGivingUp held b
+  pub back_at : IsAborting held b
   pub own : AreOwn held
   pub mapped : AreMapped live held
   pub front_at : IsLeaving d.front.connected made x.shape.order pages held b s
@@ -139,7 +139,7 @@ IsAlike d d' = (d'.options ≡ d.options) × (d'.requests ≡ d.requests) × (d'
 -- what stands where the pipeline, memory, mappings and both stages change
 pub over_at : {config : Options} {d d' : Pipeline} {x : Lasting} {front_closes : Bool} {requests : List Request} {front_cons front_cons' : ℕ} {halt : Option Halt} {works : List Work} {held held' : List Mapping} {back_cons made made' : ℕ} {live live' : List Held} {pages pages' : List ℕ} {s s' : FrontStage} {b b' : BackStage}
     → IsOver config d x front_closes requests front_cons halt works held back_cons made live pages s b
-    → IsAlike d d' → d'.front.closed ≡ is_closed s' → length pages' ≡ 1114112 → IsGivingUp held' b' → AreOwn held' → AreMapped live' held'
+    → IsAlike d d' → d'.front.closed ≡ is_closed s' → length pages' ≡ 1114112 → IsAborting held' b' → AreOwn held' → AreMapped live' held'
     → made' ≡ made → IsLeaving d'.front.connected made x.shape.order pages' held' b' s' → (made ≢ 0 → IsDrained pages' front_cons' back_cons)
     → IsOver config d' x front_closes requests front_cons' halt works held' back_cons made' live' pages' s' b'
 over_at {config = config} {d' = d'} {x = x} {held' = held'} {pages' = pages'} {s' = s'} {b' = b'} o alike closed memory back_at own mapped same front_at ring = record {

@@ -1,4 +1,4 @@
--- A move of either end once the back has halted: the back gives up the ring's pages and its port, and after it the front ends the grants of the ring's frames and closes its own.
+-- A move of either end once the back has halted: the back unmaps the ring's pages and closes its port, and after it the front ends the grants of the ring's frames and closes its own.
 use Rattle.std.proofs.Common.{◌≡◌, ◌≢◌, ℕ, suc, ◌+◌, ◌-◌, ◌*◌, ◌/◌, ◌%◌, ◌^◌, ◌<◌, ◌≤◌, ◌==◌, ◌&&◌, ◌||◌, inl, inr, if◌then◌else◌, Bool, true, false, List, [], ◌∷◌, ◌++◌, length, refl, ap, sym, ◌∙◌, subst, arith, length-set, true≢false}
 use Rattle.std.specs.Prelude.{All, Option, Some, None, count_by, slice_get, nat_lt}
 use Rattle.std.proofs.lemmas.Bool.{cases_eq}
@@ -61,7 +61,7 @@ use Rattle.machine_pipeline.proofs.Lists.{pair_at, pairs_from, count_none}
 use Rattle.machine_pipeline.proofs.Slots.{few_pages}
 use Rattle.machine_pipeline.proofs.Kept.{written, other_frame, other_entry}
 use Rattle.machine_pipeline.proofs.Mapped.{mapped_less}
-use Rattle.machine_pipeline.proofs.Over.{IsDrained, IsGivingUp, AreOwn, AreUnmapped, IsLeaving, Over, HasGone, over_at, gone_by}
+use Rattle.machine_pipeline.proofs.Over.{IsDrained, IsAborting, AreOwn, AreUnmapped, IsLeaving, Over, HasGone, over_at, gone_by}
 use Rattle.machine_pipeline.proofs.Leaving.{giving_unbound}
 
 -- the machine with that front, and its lines
@@ -131,7 +131,7 @@ ring_flags pages page = ap (λ (gref : ℕ). entry_word0 pages gref) (let same :
 
 -- a back that has halted holds nothing
 none_held : (config : Options) (w : World) (d : Pipeline) (s : FrontStage) → w.back.stage ≡ back.Halted → Over config w d s w.back.stage → (page : ℕ) → All (λ (m : Mapping). m.gref ≢ 8 + page) w.back.pages
-none_held config w d s halted o page = subst (All (λ (m : Mapping). m.gref ≢ 8 + page)) (sym (subst (IsGivingUp w.back.pages) halted o.back_at)) (λ k x lt. absurd (omega arith))
+none_held config w d s halted o page = subst (All (λ (m : Mapping). m.gref ≢ 8 + page)) (sym (subst (IsAborting w.back.pages) halted o.back_at)) (λ k x lt. absurd (omega arith))
 
 -- they are read
 reads_grant : (config : Options) (w : World) (d : Pipeline) (page : ℕ) → w.front.told ≡ None → Over config w d (front.RingRead page) w.back.stage
@@ -251,17 +251,17 @@ unread n = by_writing (is_writing n) refl
     by_writing true t = let odd : n / 16 % 2 ≡ 1 = grind (arith, nat_tests) in by_reading (n - 16) (omega arith) (is_reading (n - 16)) refl
     by_writing false t = let even : n / 16 % 2 ≢ 1 = grind (arith, nat_tests) in by_reading n (omega arith) (is_reading n) refl
 
--- how far the front came stays, as the back gives up a page
-gave_up : (connected : Bool) (made order : ℕ) (old new : List ℕ) (held held' : List Mapping) (b b' : BackStage) (s : FrontStage) → (b ≡ back.Halted → ⊥) → (AreUnmapped order old held → AreUnmapped order new held') → IsLeaving connected made order old held b s → IsLeaving connected made order new held' b' s
-gave_up connected made order old new held held' b b' (front.RingWord k) serves still p = p
-gave_up connected made order old new held held' b b' front.Initialised serves still p = (p.0, p.1, still p.2)
-gave_up connected made order old new held held' b b' front.Loop serves still p = still p
-gave_up connected made order old new held held' b b' (front.RingRead page) serves still p = absurd (serves p.0)
-gave_up connected made order old new held held' b b' (front.RingEnd page seen) serves still p = absurd (serves p.0)
-gave_up connected made order old new held held' b b' front.ClosePort serves still p = tt
-gave_up connected made order old new held held' b b' front.Left serves still p = tt
-gave_up connected made order old new held held' b b' front.Closed serves still p = tt
-gave_up connected made order old new held held' b b' s serves still p = absurd p
+-- how far the front came stays, as the back unmaps a page
+has_unmapped : (connected : Bool) (made order : ℕ) (old new : List ℕ) (held held' : List Mapping) (b b' : BackStage) (s : FrontStage) → (b ≡ back.Halted → ⊥) → (AreUnmapped order old held → AreUnmapped order new held') → IsLeaving connected made order old held b s → IsLeaving connected made order new held' b' s
+has_unmapped connected made order old new held held' b b' (front.RingWord k) serves still p = p
+has_unmapped connected made order old new held held' b b' front.Initialised serves still p = (p.0, p.1, still p.2)
+has_unmapped connected made order old new held held' b b' front.Loop serves still p = still p
+has_unmapped connected made order old new held held' b b' (front.RingRead page) serves still p = absurd (serves p.0)
+has_unmapped connected made order old new held held' b b' (front.RingEnd page seen) serves still p = absurd (serves p.0)
+has_unmapped connected made order old new held held' b b' front.ClosePort serves still p = tt
+has_unmapped connected made order old new held held' b b' front.Left serves still p = tt
+has_unmapped connected made order old new held held' b b' front.Closed serves still p = tt
+has_unmapped connected made order old new held held' b b' s serves still p = absurd p
 
 -- the machine and its lines once the back's first page was unmapped
 abbrev unmap_says : World → Option BackAct → List Line
@@ -273,27 +273,27 @@ unmap_next w v None = w
 unmap_next w v (Some a) = record { front = w.front; back = record v { told = None }; under = a.under }
 
 -- one of the rest stands one further among all
-get_behind : (m : Mapping) (rest : List Mapping) (i : ℕ) (x : Mapping) → slice_get rest i ≡ Some x → slice_get (m ∷ rest) (i + 1) ≡ Some x
-get_behind m rest i x e = (let next : i + 1 ≡ suc i = omega arith in ap (slice_get (m ∷ rest)) next) ∙ e
+get_after : (m : Mapping) (rest : List Mapping) (i : ℕ) (x : Mapping) → slice_get rest i ≡ Some x → slice_get (m ∷ rest) (i + 1) ≡ Some x
+get_after m rest i x e = (let next : i + 1 ≡ suc i = omega arith in ap (slice_get (m ∷ rest)) next) ∙ e
 
 -- the references of those that are left are others
 none_left : (m : Mapping) (rest : List Mapping) (test : Mapping → Bool) → AreOwn (m ∷ rest) → ((x : Mapping) → x.gref ≢ m.gref → test x ≡ false) → count_by test rest ≡ 0
-none_left m rest test own passes = count_none test rest (λ i x e. passes x (λ same. pair_at (λ (a b : Mapping). a.gref ≢ b.gref) (m ∷ rest) 0 (i + 1) m x own.distinct (omega arith) refl (get_behind m rest i x e) (sym same)))
+none_left m rest test own passes = count_none test rest (λ i x e. passes x (λ same. pair_at (λ (a b : Mapping). a.gref ≢ b.gref) (m ∷ rest) 0 (i + 1) m x own.distinct (omega arith) refl (get_after m rest i x e) (sym same)))
 
 -- the back's first page is unmapped
 unmaps_first : (config : Options) (w : World) (d : Pipeline) (b : BackStage) (next : List Mapping → BackStage) (m : Mapping) (rest : List Mapping)
     → w.back.pages ≡ m ∷ rest
     → (b ≡ back.Halted → ⊥)
-    → ((held : List Mapping) → IsGivingUp held (next held))
+    → ((held : List Mapping) → IsAborting held (next held))
     → AreHeld w.under.grants (m ∷ rest)
     → Over config w d w.front.stage b
     → Over config (record { front = w.front; back = record w.back { pages = rest; stage = next rest; told = None }; under = (let h = w.under in record h { grants = unmap_table h.grants m; pages = unmap_pages h.grants h.pages m }) }) d w.front.stage (next rest)
 unmaps_first config w d b next m rest e serves gives held o =
     subst (λ (ms : List ℕ). Over config (record { front = w.front; back = record w.back { pages = rest; stage = next rest; told = None }; under = (let h = w.under in record h { grants = unmap_table h.grants m; pages = ms }) }) d w.front.stage (next rest)) (sym written_so)
     (over_at o (refl, refl, refl) o.closed (length-set w.under.pages (m.gref / 512 * 1024 + 2 * (m.gref % 512)) flags ∙ o.memory) (gives rest)
-    (record { grefs = All-tail (λ (x : Mapping). (8 ≤ x.gref) × (x.gref < 24)) m rest own.grefs; distinct = pairs_from (λ (x y : Mapping). x.gref ≢ y.gref) rest (λ i j x y lt first second. pair_at (λ (a b : Mapping). a.gref ≢ b.gref) (m ∷ rest) (i + 1) (j + 1) x y own.distinct (omega arith) (get_behind m rest i x first) (get_behind m rest j y second)) })
+    (record { grefs = All-tail (λ (x : Mapping). (8 ≤ x.gref) × (x.gref < 24)) m rest own.grefs; distinct = pairs_from (λ (x y : Mapping). x.gref ≢ y.gref) rest (λ i j x y lt first second. pair_at (λ (a b : Mapping). a.gref ≢ b.gref) (m ∷ rest) (i + 1) (j + 1) x y own.distinct (omega arith) (get_after m rest i x first) (get_after m rest j y second)) })
     mapped refl
-    (gave_up d.front.connected (length w.under.channels.ports) w.front.shape.order w.under.pages pages w.back.pages rest b (next rest) w.front.stage serves still o.front_at)
+    (has_unmapped d.front.connected (length w.under.channels.ports) w.front.shape.order w.under.pages pages w.back.pages rest b (next rest) w.front.stage serves still o.front_at)
     (λ made. still_drained w.under.pages pages w.front.ring.cons w.back.ring.cons (other_frame w.under.pages (m.gref / 512) (2 * (m.gref % 512)) flags 2 (omega (arith, among.1)) (omega (arith, among.1))) (o.ring made)))
   where
     own : AreOwn (m ∷ rest)
@@ -342,7 +342,7 @@ unmaps : (config : Options) (w : World) (d : Pipeline) (b : BackStage) (next : L
     → w.back.told ≡ None
     → ms ≢ []
     → (b ≡ back.Halted → ⊥)
-    → ((held : List Mapping) → IsGivingUp held (next held))
+    → ((held : List Mapping) → IsAborting held (next held))
     → AreHeld w.under.grants ms
     → Over config w d w.front.stage b
     → (let act : Option BackAct = back_act w.under back_mover.Back (unmap_ask ms) Took in HasGone None IsSame config (unmap_says w act) (unmap_next w (record w.back { pages = other_pages ms; stage = next (other_pages ms) }) act) d)
@@ -350,7 +350,7 @@ unmaps config w d b next [] e told some serves gives held o = absurd (some refl)
 unmaps config w d b next (m ∷ rest) e told some serves gives held o = gone_by (said_back d (moves.Unmap back_mover.Back m.number) w.back.told w.back.halted back_answer.Done told)
     (inr (unmaps_first config w d b next m rest e serves gives held o))
 
-gives_bound : (held : List Mapping) → IsGivingUp held (bound held)
+gives_bound : (held : List Mapping) → IsAborting held (bound held)
 gives_bound [] = refl
 gives_bound (m ∷ held) = λ none. cc
 

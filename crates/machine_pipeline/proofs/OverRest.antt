@@ -43,7 +43,7 @@ use Rattle.machine_pipeline.proofs.Connecting.{initialised_is, yet_open}
 use Rattle.line_text.proofs.Both.{both_true}
 use Rattle.machine_pipeline.proofs.OverMoves.{no_halt}
 use Rattle.machine_pipeline.proofs.Slots.{some_pages}
-use Rattle.machine_pipeline.proofs.Over.{IsGivingUp, AreUnmapped, IsLeaving, Over, HasGone, over_at, unclosed, gone_by}
+use Rattle.machine_pipeline.proofs.Over.{IsAborting, AreUnmapped, IsLeaving, Over, HasGone, over_at, unclosed, gone_by}
 
 -- what an end does with the keys
 pub keys_end : (config : Options) (w : World) (d : Pipeline) (at : End) (move : KeyMove) → Over config w d w.front.stage w.back.stage → HasGone None IsSame config (lines_at w (Negotiates at move)) (happens w (Negotiates at move)) d
@@ -130,7 +130,7 @@ enters_ends config w d state may o = enters_cases (λ v shown. HasGone None IsSa
     entered states.Closed may can = is_closed_now config w d w.front.stage (both_true (is_through w.front) (is_bare w.front.stage) can).1 o
     entered (states.Broken word) may can = absurd may
 
-not_unbound : (held : List Mapping) (b : BackStage) → is_unbound b ≡ true → IsGivingUp held b → ⊥
+not_unbound : (held : List Mapping) (b : BackStage) → is_unbound b ≡ true → IsAborting held b → ⊥
 not_unbound held back.InitWait t p = p
 not_unbound held back.MapRing t p = p
 not_unbound held b t p = true≢false (sym t)
@@ -138,12 +138,12 @@ not_unbound held b t p = true≢false (sym t)
 -- nor does it take terms
 pub attaches_late : (config : Options) (w : World) (d : Pipeline) (shape : Shape) (grefs : List ℕ) (port : ℕ) → Over config w d w.front.stage w.back.stage → HasGone None IsSame config (lines_at w (BackAttaches shape grefs port)) (happens w (BackAttaches shape grefs port)) d
 attaches_late config w d shape grefs port o = attach_cases (λ v shown. HasGone None IsSame config shown (record { front = w.front; back = v; under = w.under }) d) w shape grefs port
-    (λ may layout says. absurd (subst (IsGivingUp w.back.pages) (attaches_waiting shape grefs w.back may) o.back_at))
+    (λ may layout says. absurd (subst (IsAborting w.back.pages) (attaches_waiting shape grefs w.back may) o.back_at))
     (record { steps = []; does = no_move IsSame d (λ a b same. same); kept = inr o })
 
 -- a back that has halted halts no more
 pub halts_no_more : (config : Options) (w : World) (d : Pipeline) (why : Halt) → Over config w d w.front.stage w.back.stage → HasGone None IsSame config (lines_at w (BackHalts why)) (happens w (BackHalts why)) d
 halts_no_more config w d why o = halts_cases (λ v. HasGone None IsSame config (halt_lines w.back.halted v.halted) (record { front = w.front; back = v; under = w.under }) d) why w.back
     (λ e. absurd (not_unbound w.back.pages w.back.stage e o.back_at))
-    (λ e. absurd (subst (IsGivingUp w.back.pages) e o.back_at))
+    (λ e. absurd (subst (IsAborting w.back.pages) e o.back_at))
     (record { steps = []; does = rw (no_halt w.back.halted) (no_move IsSame d (λ a b same. same)); kept = inr o })

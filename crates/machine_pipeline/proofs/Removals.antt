@@ -36,11 +36,11 @@ removed_has (x ∷ xs) (suc p) (suc j) y e apart =
     let rest = removed_has xs p j y e (λ same. apart (ap suc same)) in
     (suc rest.0, rest.1)
 
-pub removed_behind : {X : Type 0} (xs : List X) (p i : ℕ) → p ≤ i → slice_get (remove xs p) i ≡ slice_get xs (suc i)
-removed_behind {X} [] p i le = ap (λ (xs : List X). slice_get xs i) (nothing_left p)
-removed_behind (x ∷ xs) zero i le = refl
-removed_behind (x ∷ xs) (suc p) zero le = absurd (omega arith)
-removed_behind (x ∷ xs) (suc p) (suc i) le = removed_behind xs p i (omega arith)
+pub removed_after : {X : Type 0} (xs : List X) (p i : ℕ) → p ≤ i → slice_get (remove xs p) i ≡ slice_get xs (suc i)
+removed_after {X} [] p i le = ap (λ (xs : List X). slice_get xs i) (nothing_left p)
+removed_after (x ∷ xs) zero i le = refl
+removed_after (x ∷ xs) (suc p) zero le = absurd (omega arith)
+removed_after (x ∷ xs) (suc p) (suc i) le = removed_after xs p i (omega arith)
 
 pub count_removed : {X : Type 0} (test : X → Bool) (xs : List X) (p : ℕ) (x : X) → slice_get xs p ≡ Some x → count_by test xs ≡ count_by test (remove xs p) + cond (test x) 1 0
 count_removed test [] p x e = absurd (none-some x e)

@@ -106,25 +106,25 @@ SameSlots old new = (f w : ℕ) → 2 ≤ f → f < 18 → w < 1024 → 2064 ≤
 
 -- where other frames are as they were, and the ring's first one after the words before its entries
 pub slots_beside : (old new : List ℕ) → ((f : ℕ) → f ≢ 2 → (w : ℕ) → w < 1024 → word_of new f w ≡ word_of old f w) → ((w : ℕ) → 16 ≤ w → w < 1024 → word_of new 2 w ≡ word_of old 2 w) → SameSlots old new
-slots_beside old new others first f w from to within behind = elim (cases_eq f 2) [
+slots_beside old new others first f w from to within past = elim (cases_eq f 2) [
   | inl is ↦ subst (λ (n : ℕ). word_of new n w ≡ word_of old n w) (sym is) (first w (omega arith) within)
   | inr apart ↦ others f apart w within
 ]
 
 pub same_slots : (old new : List ℕ) → ((f w : ℕ) → 2 ≤ f → f < 18 → w < 1024 → word_of new f w ≡ word_of old f w) → SameSlots old new
-same_slots old new same f w from to within behind = same f w from to within
+same_slots old new same f w from to within past = same f w from to within
 
 pub slot_kept : (s : Shape) (k i : ℕ) (old new : List ℕ) → s.order ≤ 4 → i < entry_words_of s.abi → SameSlots old new → slot_of new s k i ≡ slot_of old s k i
 slot_kept s k i old new narrow within same = same (slot_frame s k i) (slot_word s k i) (slot_frame_from s k i) (slot_frame_to s k i narrow within) (slot_to s k i) (slot_from s k i)
 
 -- a word of the ring's first frame before its entries is written
 pub index_written : (pages : List ℕ) (word value : ℕ) → word < 16 → SameSlots pages (with_word pages 2 word value)
-index_written pages word value few f w from to within behind = get_or-set_other pages (2 * 1024 + word) (f * 1024 + w) value 0 (omega arith)
+index_written pages word value few f w from to within past = get_or-set_other pages (2 * 1024 + word) (f * 1024 + w) value 0 (omega arith)
 
 -- a word of another frame is
 pub beside_written : (pages : List ℕ) (frame word value : ℕ) → word < 1024 → (frame < 2) ⊎ (18 ≤ frame) → SameSlots pages (with_word pages frame word value)
-beside_written pages frame word value within (inl before) f w from to inside behind = get_or-set_other pages (frame * 1024 + word) (f * 1024 + w) value 0 (omega arith)
-beside_written pages frame word value within (inr behind) f w from to inside here = get_or-set_other pages (frame * 1024 + word) (f * 1024 + w) value 0 (omega arith)
+beside_written pages frame word value within (inl before) f w from to inside past = get_or-set_other pages (frame * 1024 + word) (f * 1024 + w) value 0 (omega arith)
+beside_written pages frame word value within (inr past) f w from to inside here = get_or-set_other pages (frame * 1024 + word) (f * 1024 + w) value 0 (omega arith)
 
 -- the memory once word i of the entry of index k is written
 abbrev pub with_slot : List ℕ → Shape → (k i value : ℕ) → List ℕ
@@ -149,6 +149,6 @@ indices_beside pages s k i value w few =
 pub frames_beside : (pages : List ℕ) (s : Shape) (k i value f : ℕ) → s.order ≤ 4 → i < entry_words_of s.abi → (f < 2) ⊎ (18 ≤ f) → (w : ℕ) → w < 1024 → word_of (with_slot pages s k i value) f w ≡ word_of pages f w
 frames_beside pages s k i value f narrow within (inl before) w few =
     get_or-set_other pages (slot_frame s k i * 1024 + slot_word s k i) (f * 1024 + w) value 0 (λ same. omega (arith, slot_from s k i))
-frames_beside pages s k i value f narrow within (inr behind) w few =
+frames_beside pages s k i value f narrow within (inr past) w few =
     let to = ring_word_to s k i narrow within in
     get_or-set_other pages (slot_frame s k i * 1024 + slot_word s k i) (f * 1024 + w) value 0 (λ same. omega (arith, slot_at s k i))

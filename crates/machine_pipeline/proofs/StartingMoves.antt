@@ -145,7 +145,7 @@ fence_goes : (config : Options) (w : World) (g : Flow) (d : Pipeline) (page : �
     → Holds config w g d (front.RingFence page) w.back.stage
     → FrontGoes config w d (front.RingFence page)
 fence_goes config w g d page told h =
-    makes config w g d (front.RingFence page) (front.RingFlags page) (moves.Fence mover.Front) w.under.pages told refl refl refl (bare_fence page) (bare_flags page) h h.front_at h.memory (λ f x from to within behind. refl) (λ f low high x lt. refl)
+    makes config w g d (front.RingFence page) (front.RingFlags page) (moves.Fence mover.Front) w.under.pages told refl refl refl (bare_fence page) (bare_flags page) h h.front_at h.memory (λ f x from to within past. refl) (λ f low high x lt. refl)
     h.ring
 
 flags_goes : (config : Options) (w : World) (g : Flow) (d : Pipeline) (page : ℕ)
@@ -224,7 +224,7 @@ port_goes : (config : Options) (w : World) (g : Flow) (d : Pipeline)
 port_goes config w g d told h =
     let none = unbound_of g.before false (is_bound_back w.back.stage) w.under.channels.made w.under.channels.ports refl h.ports in
     goes_by (said_nothing d (moves.FrontPort (w.under.channels.made + 1)) w.front.told told)
-    (starts_on config w g d front.NewPort front.Initialised w.under.pages (with_port w.under.channels) refl refl bare_port bare_initialised h tt h.memory (λ f x from to within behind. refl) (λ f low high x lt. refl)
+    (starts_on config w g d front.NewPort front.Initialised w.under.pages (with_port w.under.channels) refl refl bare_port bare_initialised h tt h.memory (λ f x from to within past. refl) (λ f low high x lt. refl)
     h.ring
     (first_port g.before (is_bound_back w.back.stage) w.under.channels.made w.under.channels.ports none.0 none.1 none.2))
 

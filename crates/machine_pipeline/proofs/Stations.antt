@@ -16,7 +16,7 @@ use Rattle.pipeline_laws.specs.Station.{Station, Waiting, Issuing, Pushed, Fetch
 use Rattle.pipeline_laws.specs.Ring.{Ring}
 use Rattle.pipeline_laws.specs.Pipeline.{Pipeline, Front}
 use Rattle.pipeline_laws.specs.Allowed.{is_unissued}
-use Rattle.machine_pipeline.proofs.Flow.{Flow, count_of, worked, job_of}
+use Rattle.machine_pipeline.proofs.Flow.{Flow, count_of, worked, submitted_job}
 use Rattle.machine_pipeline.proofs.Series.{IsLeft}
 use Rattle.machine_pipeline.proofs.ReadBack.{AreReadBack}
 use Rattle.machine_pipeline.proofs.Lists.{get_set_here, get_set_other, count_set}
@@ -30,7 +30,7 @@ pub record StandsAt (asked : List Asked) (k : ℕ) (station : Station) : Type 0 
 -- the pipeline has each submitted request, as it was asked
 pub record AreKnown (submitted : List Request) (asked : List Asked) : Type 0 where
   pub as_many : length asked ≡ length submitted
-  pub each : (k : ℕ) (r : Request) (q : Asked) → slice_get submitted k ≡ Some r → slice_get asked k ≡ Some q → q.job ≡ job_of r.transfer r.sector r.count
+  pub each : (k : ℕ) (r : Request) (q : Asked) → slice_get submitted k ≡ Some r → slice_get asked k ≡ Some q → q.job ≡ submitted_job r.transfer r.sector r.count
 
 -- it has as many unfinished requests as the front, and each of those is one of the front's
 pub record AreOpen (asked : List Asked) (requests : List Request) (ending : Option Ending) : Type 0 where
@@ -139,7 +139,7 @@ pub record AreStations (config : Options) (g : Flow) (d : Pipeline) (connected i
 
 -- a job's request
 pub worked_kind : (s : JobStage) (moved : ℕ) → kind_of (worked s moved) ≡ 4
-worked_kind (job.GiveUp m) moved = refl
+worked_kind (job.Abort m) moved = refl
 worked_kind (job.Done status) moved = refl
 worked_kind s moved = refl
 
@@ -267,12 +267,12 @@ taking_moved telling m other h e same = kind_stays m (omega (arith, finishing_ki
 
 -- a job's request is unfinished, and was pushed
 pub worked_open : (s : JobStage) (moved : ℕ) → is_finished (worked s moved) ≡ false
-worked_open (job.GiveUp m) moved = refl
+worked_open (job.Abort m) moved = refl
 worked_open (job.Done status) moved = refl
 worked_open s moved = refl
 
 pub worked_issued : (s : JobStage) (moved : ℕ) → is_unissued (worked s moved) ≡ false
-worked_issued (job.GiveUp m) moved = refl
+worked_issued (job.Abort m) moved = refl
 worked_issued (job.Done status) moved = refl
 worked_issued s moved = refl
 

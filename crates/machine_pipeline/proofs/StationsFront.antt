@@ -25,7 +25,7 @@ use Rattle.pipeline_laws.specs.Pipeline.{Pipeline, Submits, Moves, Connects, Sta
 use Rattle.pipeline_laws.specs.Disk.{DiskGoes}
 use Rattle.pipeline_laws.specs.Allowed.{is_unissued, refusal_now, May}
 use Rattle.machine_pipeline.specs.Step.{IsSame}
-use Rattle.machine_pipeline.proofs.Flow.{Flow, worked, job_of, data_word}
+use Rattle.machine_pipeline.proofs.Flow.{Flow, worked, submitted_job, data_word}
 use Rattle.machine_pipeline.proofs.ReadBack.{IsReadBack, AreReadBack, has_data_at}
 use Rattle.machine_pipeline.proofs.ReadsKept.{reads_moved, reads_more}
 use Rattle.machine_pipeline.proofs.Lists.{same_words, all_at, pair_at, get_append, get_last, get_within}
@@ -300,7 +300,7 @@ taken_on {g = g} {requests = requests} {works = works} x move h after before may
     }) reads
 
 -- its answer is told, with which it is finished, but for a read that went well
-unread : (way : Transfer) (sector count : ℕ) (status : Status) → has_data way status ≡ false → station_after (job_of way sector count) (Answers status) ≡ Finished status
+unread : (way : Transfer) (sector count : ℕ) (status : Status) → has_data way status ≡ false → station_after (submitted_job way sector count) (Answers status) ≡ Finished status
 unread transfer.Read sector count Okay none = absurd (true≢false none)
 unread transfer.Read sector count status none = refl
 unread way sector count status none = refl
@@ -356,13 +356,13 @@ noted_at pages words r i noted back lt size same =
     there.1 ∙ ap Some these
 
 -- the station once a sector was told: the next one is, or that was the last
-further_told : (job : Job) (sector count i : ℕ) (words : List ℕ) → job ≡ job_of transfer.Read sector count → i + 1 < count
+further_told : (job : Job) (sector count i : ℕ) (words : List ℕ) → job ≡ submitted_job transfer.Read sector count → i + 1 < count
     → station_after job (Tells i words) ≡ Telling (i + 1)
 further_told job sector count i words same lt =
     let more : nat_lt (i + 1) count ≡ true = grind (arith, nat_tests) in
     rw (same, more) refl
 
-last_told : (job : Job) (sector count i : ℕ) (words : List ℕ) → job ≡ job_of transfer.Read sector count → count ≤ i + 1
+last_told : (job : Job) (sector count i : ℕ) (words : List ℕ) → job ≡ submitted_job transfer.Read sector count → count ≤ i + 1
     → station_after job (Tells i words) ≡ Finished Okay
 last_told job sector count i words same le =
     let none : nat_lt (i + 1) count ≡ false = grind (arith, nat_tests) in
@@ -387,8 +387,8 @@ tells config g d connected issuing fetching replying requests works pages words 
     x : StandsAt d.requests (e.request.number - 1) (Telling i)
     x = h.taking e refl
 
-    job : (let q : Asked = x.q in q.job) ≡ job_of transfer.Read e.request.sector e.request.count
-    job = h.known.each (e.request.number - 1) e.request x.q asked x.at ∙ ap (λ (t : Transfer). job_of t e.request.sector e.request.count) way
+    job : (let q : Asked = x.q in q.job) ≡ submitted_job transfer.Read e.request.sector e.request.count
+    job = h.known.each (e.request.number - 1) e.request x.q asked x.at ∙ ap (λ (t : Transfer). submitted_job t e.request.sector e.request.count) way
 
     back : (let q : Asked = x.q in IsReadBack pages e.request e.request.count q.words)
     back = h.reads.after (e.request.number - 1) e.request x.q asked x.at (ap is_write way) (ap has_data_at x.there)
@@ -414,8 +414,8 @@ tells_last config g d connected issuing fetching replying requests works pages w
     x : StandsAt d.requests (e.request.number - 1) (Telling i)
     x = h.taking e refl
 
-    job : (let q : Asked = x.q in q.job) ≡ job_of transfer.Read e.request.sector e.request.count
-    job = h.known.each (e.request.number - 1) e.request x.q asked x.at ∙ ap (λ (t : Transfer). job_of t e.request.sector e.request.count) way
+    job : (let q : Asked = x.q in q.job) ≡ submitted_job transfer.Read e.request.sector e.request.count
+    job = h.known.each (e.request.number - 1) e.request x.q asked x.at ∙ ap (λ (t : Transfer). submitted_job t e.request.sector e.request.count) way
 
     back : (let q : Asked = x.q in IsReadBack pages e.request e.request.count q.words)
     back = h.reads.after (e.request.number - 1) e.request x.q asked x.at (ap is_write way) (ap has_data_at x.there)
@@ -433,9 +433,9 @@ pub submits : (config : Options) (g : Flow) (d : Pipeline) (connected issuing fe
     → g.fetched ≤ g.pushed
     → (issuing ≡ true → g.pushed < length g.series)
     → (fetching ≡ true → g.fetched < g.pushed)
-    → refusal_now d (job_of x.transfer x.sector x.count) ≡ None
+    → refusal_now d (submitted_job x.transfer x.sector x.count) ≡ None
     → AreStations config g d connected issuing fetching ending telling replying requests works pages
-    → Stepped (Some (job_of x.transfer x.sector x.count)) IsSame d (lines.Submit x.number (job_of x.transfer x.sector x.count) ∷ []) (λ p. AreStations config (record g { submitted = g.submitted ++ x ∷ []; series = g.series ++ x ∷ [] }) p connected issuing fetching ending telling replying (requests ++ x ∷ []) works pages)
+    → Stepped (Some (submitted_job x.transfer x.sector x.count)) IsSame d (lines.Submit x.number (submitted_job x.transfer x.sector x.count) ∷ []) (λ p. AreStations config (record g { submitted = g.submitted ++ x ∷ []; series = g.series ++ x ∷ [] }) p connected issuing fetching ending telling replying (requests ++ x ∷ []) works pages)
 submits config g d connected issuing fetching ending telling replying requests works pages x number few order some_issued some_fetched accepted h = record {
   step = Submits job;
   allowed = accepted;
@@ -479,7 +479,7 @@ submits config g d connected issuing fetching ending telling replying requests w
 }
   where
     job : Job
-    job = job_of x.transfer x.sector x.count
+    job = submitted_job x.transfer x.sector x.count
 
     stands_last : StandsAt (d.requests ++ submitted job ∷ []) (x.number - 1) Waiting
     stands_last =

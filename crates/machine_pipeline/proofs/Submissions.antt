@@ -22,7 +22,7 @@ use Rattle.blk_front.specs.Submit.{is_ready, unfinished, most_segments, frames_t
 use Rattle.split_model.specs.World.{World}
 use Rattle.split_model.specs.Happening.{Submits, submit_line, lines_at, happens}
 use Rattle.machine_pipeline.specs.Allowed.{IsServable}
-use Rattle.machine_pipeline.proofs.Flow.{Flow, job_of, ending_at, telling_at, is_issuing, is_fetching, reply_at}
+use Rattle.machine_pipeline.proofs.Flow.{Flow, submitted_job, ending_at, telling_at, is_issuing, is_fetching, reply_at}
 use Rattle.machine_pipeline.proofs.Holds.{AreOffered, BackAt, IsPooled, AreNumbers, ArePooled, Holds}
 use Rattle.machine_pipeline.proofs.Turns.{Stepped, does_alone, GoesBy, goes_by}
 use Rattle.machine_pipeline.proofs.Next.{waiting_few}
@@ -150,7 +150,7 @@ refused config w g d job r h same =
     goes_by {steps = Refuses job (refusal_word r) ∷ []} (record { asides = []; aside = refl; shows = refl; asks = refl; allowed = (same, tt); disk = λ a b e. (b, e, refl) }) h
 
 -- a request of the front's, where its back serves it (`offered`)
-submit_wish : (config : Options) (w : World) (g : Flow) (d : Pipeline) (wish : Wish) (offered : Bool) → (let job : Job = job_of wish.transfer wish.sector wish.count in
+submit_wish : (config : Options) (w : World) (g : Flow) (d : Pipeline) (wish : Wish) (offered : Bool) → (let job : Job = submitted_job wish.transfer wish.sector wish.count in
     wish_of w.front.offers job ≡ wished offered wish
     → (is_ready w.front.stage ≡ true → offered ≡ true → is_moving wish.transfer ≡ false → config.read_only ≡ false)
     → (nat_lt (most_segments w.front.offers wish.transfer) (frames_for wish.count) ≡ false → IsCounted wish.transfer wish.count)
@@ -163,7 +163,7 @@ submit_wish config w g d wish offered asks serves counted numbers h =
     by_offer offered (serves (is_true (is_ready w.front.stage) unready)) (is_true (is_ready w.front.stage) unready) unspent))))
   where
     job : Job
-    job = job_of wish.transfer wish.sector wish.count
+    job = submitted_job wish.transfer wish.sector wish.count
 
     stepped : (taken : List ℕ × List Bool) → refusal_now d job ≡ None → Stepped (Some job) IsSame d (lines.Submit (w.front.last + 1) job ∷ []) (λ p. AreStations config (submitted_flow g (request_with w.front wish taken.0)) p (is_ready w.front.stage) (is_issuing w.front.stage) (is_fetching w.back.stage) (ending_at w.front.stage w.front.ending) (telling_at w.front.stage) (reply_at w.back.stage) (w.front.requests ++ request_with w.front wish taken.0 ∷ []) w.back.jobs.works w.under.pages)
     stepped taken same =

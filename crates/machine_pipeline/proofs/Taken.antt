@@ -215,7 +215,7 @@ last_goes config w g d low high told h =
         let its = is_submitted config w g d (front.ResponseLast low high) w.back.stage h i y at in
         elim (cases_lt i found.place) [
           | inl before ↦ (let up = pair_at (λ (a b : Request). a.number < b.number) w.front.requests i found.place y found.r queue.ascending before at found.here in omega (arith, up, found.number, its.number, is.positive))
-          | inr behind ↦ (let up = pair_at (λ (a b : Request). a.number < b.number) w.front.requests found.place i found.r y queue.ascending (omega arith) found.here at in omega (arith, up, found.number, its.number, is.positive))
+          | inr after ↦ (let up = pair_at (λ (a b : Request). a.number < b.number) w.front.requests found.place i found.r y queue.ascending (omega arith) found.here at in omega (arith, up, found.number, its.number, is.positive))
         ]
 
     s : Stepped None IsSame d [] (λ p. AreStations config (taken_flow g) p true false (is_fetching w.back.stage) (Some e) None (reply_at w.back.stage) (remove w.front.requests found.place) w.back.jobs.works w.under.pages)

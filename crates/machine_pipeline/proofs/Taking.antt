@@ -18,7 +18,7 @@ use Rattle.machine_pipeline.proofs.Series.{IsAmong}
 use Rattle.machine_pipeline.proofs.Holds.{AreQueued, ArePooled, AreReplies, IsReply}
 use Rattle.machine_pipeline.proofs.Stations.{AreOpen}
 use Rattle.machine_pipeline.proofs.Lists.{all_at, all_from, pair_at, pairs_from, place_of_any}
-use Rattle.machine_pipeline.proofs.Removals.{removed_was, removed_has, removed_behind, taken_was, taken_has}
+use Rattle.machine_pipeline.proofs.Removals.{removed_was, removed_has, removed_after, taken_was, taken_has}
 
 -- the responses after the oldest
 pub dropped : {X : Type 0} (xs : List X) (k : ℕ) → slice_get (drop 1 xs) k ≡ slice_get xs (suc k)
@@ -49,8 +49,8 @@ queued_without {series} submitted requests pushed waiting place r here early h =
       all_at (IsAmong series pushed) (take (length requests - waiting) requests) was.0 x h.issued at);
   next = λ j x lt e.
       let within = slice_get_within requests place r here in
-      let behind = removed_behind requests place (length (remove requests place) - waiting + j) (omega (arith, length-remove requests place within)) in
-      h.next j x lt (ap (slice_get requests) (omega (arith, length-remove requests place within)) ∙ (sym behind ∙ e));
+      let past = removed_after requests place (length (remove requests place) - waiting + j) (omega (arith, length-remove requests place within)) in
+      h.next j x lt (ap (slice_get requests) (omega (arith, length-remove requests place within)) ∙ (sym past ∙ e));
 }
   where
     before : (i j : ℕ) → ((i < place) × (j ≡ i)) ⊎ ((place ≤ i) × (j ≡ i + 1)) → i + 1 < length requests - waiting → j < length requests - waiting

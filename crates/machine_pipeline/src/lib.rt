@@ -35,7 +35,7 @@ pub fn each_happening_is_steps_of_the_pipeline()
 {}
 
 /// So every history is a run of the pipeline, with the same lines and submissions, over the same disk;
-/// where the disk doesn't tell what it holds, if the lines show the calls of some disk, as those of a
+/// where the disk doesn't expose what it holds, if the lines show the calls of some disk, as those of a
 /// real one do, over the sectors of that disk.
 pub fn every_history_is_a_run_of_the_pipeline()
     ensures { (config : Options) (history : List Happening) (before now : DiskSeen) → IsPlain config → AreServed history (start_of config)

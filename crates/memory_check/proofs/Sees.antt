@@ -13,7 +13,7 @@ use Rattle.schedule_text.specs.declared.line.Line.{Line}
 use Rattle.schedule_text.specs.declared.line.Line.TheVariants as lines
 use Rattle.report_rules.specs.declared.standing.Standing.{Standing}
 use Rattle.report_rules.specs.Mapped.{was_made}
-use Rattle.report_rules.specs.Standing.{is_epoch, is_unmap_of, mapping_made, has_number, standing_behind, numbered}
+use Rattle.report_rules.specs.Standing.{is_epoch, is_unmap_of, mapping_made, has_number, standing_after, numbered}
 use Rattle.report_rules.specs.Value.{value_before, value_after, is_flags_of}
 use Rattle.report_rules.proofs.Back.{value_more, standing_more}
 use Rattle.memory_check.specs.Words.{no_words, is_dense, word_in}
@@ -28,10 +28,10 @@ use Rattle.memory_check.proofs.Numbered.{number_more}
 pub record Sees (before : List Line) (state : State) : Type 0 where
   pub values : (frame word : ℕ) → word_at state frame word ≡ value_before before frame word
   pub apart : AreApart state.standing
-  pub mapped : (number : ℕ) → standing_at state.standing number ≡ numbered number (standing_behind before)
-  pub counted : (p : Standing → Bool) → count_by p (values_of state.standing) ≡ count_by p (standing_behind before)
+  pub mapped : (number : ℕ) → standing_at state.standing number ≡ numbered number (standing_after before)
+  pub counted : (p : Standing → Bool) → count_by p (values_of state.standing) ≡ count_by p (standing_after before)
   pub made : (number : ℕ) → has state.numbers number ≡ was_made before number
-  pub fresh : (number : ℕ) → was_made before number ≡ false → numbered number (standing_behind before) ≡ None
+  pub fresh : (number : ℕ) → was_made before number ≡ false → numbered number (standing_after before) ≡ None
 
 word_of_none : (frame word : ℕ) → word_in no_words frame word ≡ 0
 word_of_none frame word = by_test (is_dense frame word) refl
@@ -83,16 +83,16 @@ append_none [] = refl
 append_none (x ∷ xs) = ap (λ (zs : List Standing). x ∷ zs) (append_none xs)
 
 -- a line that ends no mapping
-standing_with : (before : List Line) (line : Line) → is_epoch line ≡ false → ((number : ℕ) → is_unmap_of number line ≡ false) → standing_behind (before ++ line ∷ []) ≡ standing_behind before ++ option_to_list (mapping_made line)
+standing_with : (before : List Line) (line : Line) → is_epoch line ≡ false → ((number : ℕ) → is_unmap_of number line ≡ false) → standing_after (before ++ line ∷ []) ≡ standing_after before ++ option_to_list (mapping_made line)
 standing_with before line same none =
-    standing_more before line ∙ rw same (whole (λ (s : Standing). not (is_unmap_of s.number line)) (λ s. ap not (none s.number)) (standing_behind before) (option_to_list (mapping_made line)))
+    standing_more before line ∙ rw same (whole (λ (s : Standing). not (is_unmap_of s.number line)) (λ s. ap not (none s.number)) (standing_after before) (option_to_list (mapping_made line)))
 
 -- ---- a line that makes and ends no mapping
 pub sees_still : (before : List Line) (line : Line) (state state' : State) → Sees before state → is_epoch line ≡ false → ((number : ℕ) → is_unmap_of number line ≡ false) → mapping_made line ≡ None → state'.standing ≡ state.standing → state'.numbers ≡ state.numbers
     → ((frame word : ℕ) → word_at state' frame word ≡ value_after (record { frame = frame; word = word }) (word_at state frame word) before line)
     → Sees (before ++ line ∷ []) state'
 sees_still before line state state' sees same ends makes mappings numbers words =
-    let standing : standing_behind (before ++ line ∷ []) ≡ standing_behind before = standing_with before line same ends ∙ rw makes (append_none (standing_behind before)) in
+    let standing : standing_after (before ++ line ∷ []) ≡ standing_after before = standing_with before line same ends ∙ rw makes (append_none (standing_after before)) in
     let given : (number : ℕ) → was_made (before ++ line ∷ []) number ≡ was_made before number = λ number. made_more before line number ∙ rw makes (or_false (was_made before number)) in
     record {
       values = λ frame word.
@@ -123,7 +123,7 @@ epoch_word state frame word = by_test (nat_lt frame 2) refl
 
 pub sees_epoch : (before : List Line) (state : State) → Sees before state → Sees (before ++ lines.Epoch ∷ []) (after_epoch state)
 sees_epoch before state sees =
-    let standing : standing_behind (before ++ lines.Epoch ∷ []) ≡ [] = standing_more before lines.Epoch in
+    let standing : standing_after (before ++ lines.Epoch ∷ []) ≡ [] = standing_more before lines.Epoch in
     let given : (number : ℕ) → was_made (before ++ lines.Epoch ∷ []) number ≡ was_made before number = λ number. made_more before lines.Epoch number ∙ or_false (was_made before number) in
     record {
       values = λ frame word.
@@ -150,12 +150,12 @@ pub sees_map : (before : List Line) (line : Line) (state : State) (made : Standi
     → ((frame word v : ℕ) → value_after (record { frame = frame; word = word }) v before line ≡ (if is_flags_of (record { frame = frame; word = word }) made.gref then mapped_entry v made.mode else v))
     → Sees (before ++ line ∷ []) (after_map state made)
 sees_map before line state made sees new same ends makes flags =
-    let absent : numbered made.number (standing_behind before) ≡ None = sees.fresh made.number new in
+    let absent : numbered made.number (standing_after before) ≡ None = sees.fresh made.number new in
     let none : standing_at state.standing made.number ≡ None = sees.mapped made.number ∙ absent in
     let inside : (after_map state made).standing ≡ insert_entry nat_cmp state.standing made.number made = mapping_in state made none in
-    let standing : standing_behind (before ++ line ∷ []) ≡ standing_behind before ++ made ∷ [] = standing_with before line same ends ∙ rw makes refl in
+    let standing : standing_after (before ++ line ∷ []) ≡ standing_after before ++ made ∷ [] = standing_with before line same ends ∙ rw makes refl in
     let given : (number : ℕ) → was_made (before ++ line ∷ []) number ≡ (was_made before number || (made.number == number)) = λ number. made_more before line number ∙ rw makes refl in
-    let found : (number : ℕ) → numbered number (standing_behind (before ++ line ∷ [])) ≡ cond (made.number == number) (Some made) (numbered number (standing_behind before)) = λ number. ap (numbered number) standing ∙ numbered_more number made (standing_behind before) absent in
+    let found : (number : ℕ) → numbered number (standing_after (before ++ line ∷ [])) ≡ cond (made.number == number) (Some made) (numbered number (standing_after before)) = λ number. ap (numbered number) standing ∙ numbered_more number made (standing_after before) absent in
     record {
       values = λ frame word.
           flags_written (record state { standing = with_standing state.standing made }) made.gref frame word (λ v. mapped_entry v made.mode)
@@ -172,7 +172,7 @@ sees_map before line state made sees new same ends makes flags =
           ap (λ (es : List (ℕ × Standing)). count_by p (values_of es)) inside
           ∙ (count_inserted p made.number made state.standing none
           ∙ (ap (λ (n : ℕ). n + cond (p made) 1 0) (sees.counted p)
-          ∙ (sym (count_more p (standing_behind before) made)
+          ∙ (sym (count_more p (standing_after before) made)
           ∙ ap (λ (ss : List Standing). count_by p ss) (sym standing))));
       made = λ number.
           ap (λ ns. has (with_number ns made.number) number) refl

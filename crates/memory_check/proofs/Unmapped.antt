@@ -9,7 +9,7 @@ use Rattle.schedule_text.specs.declared.line.Line.{Line}
 use Rattle.schedule_text.specs.declared.line.Line.TheVariants as lines
 use Rattle.report_rules.specs.declared.standing.Standing.{Standing}
 use Rattle.report_rules.specs.Mapped.{was_made}
-use Rattle.report_rules.specs.Standing.{standing_behind, numbered, others_of, other_writers_of}
+use Rattle.report_rules.specs.Standing.{standing_after, numbered, others_of, other_writers_of}
 use Rattle.report_rules.specs.Value.{value_before, is_flags_of, after_unmap as value_after_unmap}
 use Rattle.report_rules.proofs.Back.{value_more, standing_more}
 use Rattle.memory_check.specs.Numbers.{has}
@@ -22,9 +22,9 @@ cond_none : {X : Type 0} (b : Bool) → ◌≡◌ {A = Option X} (cond b None No
 cond_none true = refl
 cond_none false = refl
 
-left_by_unmap : (before : List Line) (who : BackMover) (number : ℕ) → standing_behind (before ++ lines.Move (moves.Unmap who number) ∷ []) ≡ filter (λ (s : Standing). not (number == s.number)) (standing_behind before)
+left_by_unmap : (before : List Line) (who : BackMover) (number : ℕ) → standing_after (before ++ lines.Move (moves.Unmap who number) ∷ []) ≡ filter (λ (s : Standing). not (number == s.number)) (standing_after before)
 left_by_unmap before who number =
-    standing_more before (lines.Move (moves.Unmap who number)) ∙ append_none (filter (λ (s : Standing). not (number == s.number)) (standing_behind before))
+    standing_more before (lines.Move (moves.Unmap who number)) ∙ append_none (filter (λ (s : Standing). not (number == s.number)) (standing_after before))
 
 given_after : (before : List Line) (who : BackMover) (number n : ℕ) → was_made (before ++ lines.Move (moves.Unmap who number) ∷ []) n ≡ was_made before n
 given_after before who number n = made_more before (lines.Move (moves.Unmap who number)) n ∙ or_false (was_made before n)
@@ -32,12 +32,12 @@ given_after before who number n = made_more before (lines.Move (moves.Unmap who 
 -- a number that doesn't stand
 unmapped_none : (before : List Line) (who : BackMover) (number : ℕ) (state : State) → Sees before state → standing_at state.standing number ≡ None → Sees (before ++ lines.Move (moves.Unmap who number) ∷ []) state
 unmapped_none before who number state sees none =
-    let absent : numbered number (standing_behind before) ≡ None = sym (sees.mapped number) ∙ none in
-    let standing : standing_behind (before ++ lines.Move (moves.Unmap who number) ∷ []) ≡ standing_behind before = left_by_unmap before who number ∙ filter_absent number (standing_behind before) absent in
+    let absent : numbered number (standing_after before) ≡ None = sym (sees.mapped number) ∙ none in
+    let standing : standing_after (before ++ lines.Move (moves.Unmap who number) ∷ []) ≡ standing_after before = left_by_unmap before who number ∙ filter_absent number (standing_after before) absent in
     record {
       values = λ frame word.
           sees.values frame word
-          ∙ (sym (ap (λ (o : Option Standing). value_after_unmap (record { frame = frame; word = word }) (value_before before frame word) (standing_behind before) o) absent)
+          ∙ (sym (ap (λ (o : Option Standing). value_after_unmap (record { frame = frame; word = word }) (value_before before frame word) (standing_after before) o) absent)
           ∙ sym (value_more before (lines.Move (moves.Unmap who number)) frame word));
       apart = sees.apart;
       mapped = λ n. sees.mapped n ∙ ap (numbered n) (sym standing);
@@ -48,28 +48,28 @@ unmapped_none before who number state sees none =
 
 -- the flags of the entry after a mapping ended
 flags_after : (before : List Line) (state : State) (s : Standing) → Sees before state → (frame word : ℕ) → word_at (after_unmap state (Some s)) frame word
-    ≡ value_after_unmap (record { frame = frame; word = word }) (value_before before frame word) (standing_behind before) (Some s)
+    ≡ value_after_unmap (record { frame = frame; word = word }) (value_before before frame word) (standing_after before) (Some s)
 flags_after before state s sees frame word =
     let others = sees.counted (λ (x : Standing). (x.gref == s.gref) && not (x.number == s.number)) in
     let writers = sees.counted (λ (x : Standing). (x.gref == s.gref) && is_for_writing x.mode && not (x.number == s.number)) in
     flags_written state s.gref frame word (λ v. unmapped_entry v (others_of s.gref s.number (values_of state.standing)) (other_writers_of s.gref s.number (values_of state.standing)))
     ∙ (ap (λ (v : ℕ). if is_flags_of (record { frame = frame; word = word }) s.gref then unmapped_entry v (others_of s.gref s.number (values_of state.standing)) (other_writers_of s.gref s.number (values_of state.standing)) else v) (sees.values frame word)
     ∙ (ap (λ (n : ℕ). if is_flags_of (record { frame = frame; word = word }) s.gref then unmapped_entry (value_before before frame word) n (other_writers_of s.gref s.number (values_of state.standing)) else value_before before frame word) others
-    ∙ ap (λ (n : ℕ). if is_flags_of (record { frame = frame; word = word }) s.gref then unmapped_entry (value_before before frame word) (others_of s.gref s.number (standing_behind before)) n else value_before before frame word) writers))
+    ∙ ap (λ (n : ℕ). if is_flags_of (record { frame = frame; word = word }) s.gref then unmapped_entry (value_before before frame word) (others_of s.gref s.number (standing_after before)) n else value_before before frame word) writers))
 
 -- a number that stands
 unmapped_some : (before : List Line) (who : BackMover) (number : ℕ) (state : State) (s : Standing) → Sees before state → standing_at state.standing number ≡ Some s → Sees (before ++ lines.Move (moves.Unmap who number) ∷ []) (after_unmap state (Some s))
 unmapped_some before who number state s sees is =
-    let found : numbered number (standing_behind before) ≡ Some s = sym (sees.mapped number) ∙ is in
-    let same : s.number ≡ number = number_of_found number (standing_behind before) s found in
-    let standing : standing_behind (before ++ lines.Move (moves.Unmap who number) ∷ []) ≡ filter (λ (x : Standing). not (s.number == x.number)) (standing_behind before) =
-    left_by_unmap before who number ∙ ap (λ (k : ℕ). filter (λ (x : Standing). not (k == x.number)) (standing_behind before)) (sym same) in
-    let left : (n : ℕ) → numbered n (standing_behind (before ++ lines.Move (moves.Unmap who number) ∷ [])) ≡ cond (s.number == n) None (numbered n (standing_behind before)) =
-    λ n. ap (numbered n) standing ∙ numbered_filter s.number n (standing_behind before) in
+    let found : numbered number (standing_after before) ≡ Some s = sym (sees.mapped number) ∙ is in
+    let same : s.number ≡ number = number_of_found number (standing_after before) s found in
+    let standing : standing_after (before ++ lines.Move (moves.Unmap who number) ∷ []) ≡ filter (λ (x : Standing). not (s.number == x.number)) (standing_after before) =
+    left_by_unmap before who number ∙ ap (λ (k : ℕ). filter (λ (x : Standing). not (k == x.number)) (standing_after before)) (sym same) in
+    let left : (n : ℕ) → numbered n (standing_after (before ++ lines.Move (moves.Unmap who number) ∷ [])) ≡ cond (s.number == n) None (numbered n (standing_after before)) =
+    λ n. ap (numbered n) standing ∙ numbered_filter s.number n (standing_after before) in
     record {
       values = λ frame word.
           flags_after before state s sees frame word
-          ∙ (sym (ap (λ (o : Option Standing). value_after_unmap (record { frame = frame; word = word }) (value_before before frame word) (standing_behind before) o) found)
+          ∙ (sym (ap (λ (o : Option Standing). value_after_unmap (record { frame = frame; word = word }) (value_before before frame word) (standing_after before) o) found)
           ∙ sym (value_more before (lines.Move (moves.Unmap who number)) frame word));
       apart = apart_removed s.number state.standing sees.apart;
       mapped = λ n.
@@ -79,7 +79,7 @@ unmapped_some before who number state s sees is =
       counted = λ p.
           count_removed p s.number state.standing sees.apart
           ∙ (sees.counted (λ (x : Standing). p x && not (s.number == x.number))
-          ∙ (count_filter p (λ (x : Standing). not (s.number == x.number)) (standing_behind before)
+          ∙ (count_filter p (λ (x : Standing). not (s.number == x.number)) (standing_after before)
           ∙ ap (λ (ss : List Standing). count_by p ss) (sym standing)));
       made = λ n. ap (λ ns. has ns n) (keeps_numbers state _ _ _) ∙ (sees.made n ∙ sym (given_after before who number n));
       fresh = λ n new.

@@ -5,7 +5,7 @@ ghost use Rattle.std.specs.Prelude.{◌≡◌, ℕ, List};
 ghost use Rattle.std.specs.Bool.{Decides};
 ghost use Rattle.std.specs.Map.{values_of};
 ghost use Rattle.schedule_text.specs.declared.line.Line.{Line};
-ghost use Rattle.report_rules.specs.Standing.{standing_behind, numbered, others_of, other_writers_of};
+ghost use Rattle.report_rules.specs.Standing.{standing_after, numbered, others_of, other_writers_of};
 ghost use Rattle.report_rules.specs.Value.{value_before};
 ghost use Rattle.report_rules.specs.Coherent.{IsCoherentAt};
 ghost use Rattle.report_rules.specs.Mapped.{IsMapAnswerAt, AreMapAnswers, was_made};
@@ -23,11 +23,11 @@ pub fn the_value_is_told()
 /// The state has the mapping of each number, and how many stand of each reference, but for one.
 pub fn the_mappings_are_told()
     ensures found { (before : List Line) → AreMapAnswers before → (number : ℕ)
-        → standing_at (state_after before).standing number ≡ numbered number (standing_behind before) }
+        → standing_at (state_after before).standing number ≡ numbered number (standing_after before) }
     ensures others { (before : List Line) → AreMapAnswers before → (gref number : ℕ)
-        → others_of gref number (values_of (state_after before).standing) ≡ others_of gref number (standing_behind before) }
+        → others_of gref number (values_of (state_after before).standing) ≡ others_of gref number (standing_after before) }
     ensures writers { (before : List Line) → AreMapAnswers before → (gref number : ℕ)
-        → other_writers_of gref number (values_of (state_after before).standing) ≡ other_writers_of gref number (standing_behind before) }
+        → other_writers_of gref number (values_of (state_after before).standing) ≡ other_writers_of gref number (standing_after before) }
 {}
 
 /// The state has the numbers that mappings ever had, whatever the lines are.

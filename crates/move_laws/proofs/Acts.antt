@@ -30,7 +30,7 @@ use Rattle.hypervisor.specs.Act.{FrontAct, BackAct, Outcome, Gave, Took, Failed,
 use Rattle.schedule_text.specs.declared.line.Line.{Line}
 use Rattle.schedule_text.specs.declared.line.Line.TheVariants as lines
 use Rattle.report_rules.specs.declared.standing.Standing.{Standing}
-use Rattle.report_rules.specs.Standing.{is_epoch, is_unmap_of, mapping_made, standing_behind, numbered}
+use Rattle.report_rules.specs.Standing.{is_epoch, is_unmap_of, mapping_made, standing_after, numbered}
 use Rattle.report_rules.specs.Value.{value_after, after_write}
 use Rattle.blk_front.specs.Ask.{StaysInMemory}
 use Rattle.back_jobs.specs.Hands.{Names}
@@ -116,7 +116,7 @@ front_kept before h (front_ask.SetKey path text) a tells within e = front_keys (
 front_kept before h (front_ask.Watch path) a tells within e = front_keys (FrontKeeps before) h (front_ask.Watch path) a tt (front_key_kept before h tells) e
 
 -- the mapping that an ask names stands, with its frame and mode
-standing_found : (before : List Line) (pages : List ℕ) (table : GrantTable) (m : Mapping) (f : Found table m) → Tells before pages table → numbered m.number (standing_behind before) ≡ Some (standing_of f.held)
+standing_found : (before : List Line) (pages : List ℕ) (table : GrantTable) (m : Mapping) (f : Found table m) → Tells before pages table → numbered m.number (standing_after before) ≡ Some (standing_of f.held)
 standing_found before pages table m f tells = rw (tells.standing, numbered_live m.number table.live, f.is) refl
 
 read_allowed : (before : List Line) (pages : List ℕ) (table : GrantTable) (who : BackMover) (m : Mapping) (word : ℕ) → Found table m → word < 1024 → Tells before pages table → IsAllowed before (lines.Move (moves.Read who m.number (frame_of table m) word (word_of pages (frame_of table m) word)))
@@ -170,7 +170,7 @@ unmap_held before pages table who held is fits tells = record {
   tells = tells_more before (lines.Move (moves.Unmap who held.mapping.number)) pages (unmap_pages table pages held.mapping) table (unmap_table table held.mapping) tells refl
       (length_written pages (held.mapping.gref / 512) (2 * (held.mapping.gref % 512)) _ tells.sized)
       (λ f w f_in w_in.
-      let stands : numbered held.mapping.number (standing_behind before) ≡ Some (standing_of held) = rw (tells.standing, numbered_live held.mapping.number table.live, is) refl in
+      let stands : numbered held.mapping.number (standing_after before) ≡ Some (standing_of held) = rw (tells.standing, numbered_live held.mapping.number table.live, is) refl in
       rw (stands, tells.standing, others_live held.mapping.gref held.mapping.number table.live, writers_live held.mapping.gref held.mapping.number table.live)
       (sym (flags_written pages held.mapping.gref f w (λ (v : ℕ). unmapped_entry v (mappings_of held.mapping.gref (without held.mapping.number table.live)) (writers_of held.mapping.gref (without held.mapping.number table.live))) tells.sized fits.reference w_in)))
       (append-nil _ ∙ without_live held.mapping.number table.live)

@@ -24,14 +24,14 @@ use Rattle.blk_back.specs.declared.stage.Stage.{Stage}
 use Rattle.blk_back.specs.declared.stage.Stage.TheVariants as stage
 use Rattle.blk_back.specs.View.{View, no_page, page_of, slot_word, new_of, start_of, info_of}
 use Rattle.blk_back.specs.Ask.{ask_at, ask_of, loop_ask, response_word, reply_ask, entry_ask, index_ask, unmap_ask, next_reply, IsAnswer}
-use Rattle.blk_back.specs.Step.{giving_up, give_up, unbound, bound, other_pages, mapped, may_attach, attached, halts, overrun, looked, loop_word, loop_step, fetched, fetch_step, next_number, step_at, step_of, job_ask_of, job_step}
+use Rattle.blk_back.specs.Step.{unmapping_next, abort, unbound, bound, other_pages, mapped, may_attach, attached, halts, overrun, looked, loop_word, loop_step, fetched, fetch_step, next_number, step_at, step_of, job_ask_of, job_step}
 use Rattle.blk_back.specs.Sound.{IsMapped, AreWritable}
 use Rattle.blk_back.specs.Hands.{hands_at, hands_of}
 use Rattle.blk_back.proofs.Hands.{job_names}
 use Rattle.blk_back.proofs.Slots.{slot_within, response_fits}
 use Rattle.split_model.proofs.States.{halts_cases}
 use Rattle.split_model.proofs.Shapes.{attaches_waiting, attaches_grefs}
-use Rattle.move_laws.proofs.Jobs.{AreJobs, none_jobs, started_jobs, told_jobs, removed_jobs, behind_jobs, asked_names}
+use Rattle.move_laws.proofs.Jobs.{AreJobs, none_jobs, started_jobs, told_jobs, removed_jobs, after_jobs, asked_names}
 
 -- an entry has the word that is read next
 abbrev IsFetched : Stage → Shape → Type 0
@@ -116,7 +116,7 @@ names_at (stage.Producer r) v fetched kept b = index_written v 2 (next_of v.ring
 names_at (stage.ResponseEvent old) v fetched kept b = index_read v 3 (all_of v b kept) (omega arith)
 names_at stage.StoreEvent v fetched kept b = index_written v 1 (next_of v.ring.cons) (all_of v b kept) (omega arith)
 names_at stage.LookAgain v fetched kept b = index_read v 0 (all_of v b kept) (omega arith)
-names_at (stage.GiveUp m) v fetched kept b = (0, omega arith, refl)
+names_at (stage.Abort m) v fetched kept b = (0, omega arith, refl)
 names_at stage.UnmapRing v fetched kept b = first_named (hands_in v.jobs.works) v.pages
 names_at stage.UnmapUnbound v fetched kept b = first_named (hands_in v.jobs.works) v.pages
 names_at s v fetched kept b = tt
@@ -135,7 +135,7 @@ either : (b : Bool) (x y : View) → (b ≡ true → IsBack x) → (b ≡ false 
 either true x y p q = p refl
 either false x y p q = q refl
 
--- a back that is given up: the pages that it has mapped go one by one
+-- a back that halts before its port is bound: the pages that it has mapped go one by one
 unbound_kept : (v : View) → AreWritable v.pages → AreJobs v.jobs.works → IsBack (record v { stage = unbound v.pages })
 unbound_kept v writable jobs = by_pages v.pages writable
   where
@@ -154,15 +154,15 @@ others_writable : (pages : List Mapping) → AreWritable pages → AreWritable (
 others_writable [] all = all
 others_writable (page ∷ pages) all = All-tail (λ (m : Mapping). m.mode ≡ ReadWrite) page pages all
 
-give_up_kept : (v : View) → AreAll v → IsBack (give_up v)
-give_up_kept v all = by_mapping (first_mapping v.jobs.works)
+abort_kept : (v : View) → AreAll v → IsBack (abort v)
+abort_kept v all = by_mapping (first_mapping v.jobs.works)
   where
-    by_mapping : (m : Option Mapping) → IsBack (record (give_up v) { stage = giving_up m })
-    by_mapping None = let some = pow_pos v.shape.order in let pages = all.pages in record { fetched = tt; mapped = omega arith; writable = all.writable; jobs = behind_jobs v.jobs.works all.jobs }
-    by_mapping (Some m) = record { fetched = tt; mapped = all.pages; writable = all.writable; jobs = behind_jobs v.jobs.works all.jobs }
+    by_mapping : (m : Option Mapping) → IsBack (record (abort v) { stage = unmapping_next m })
+    by_mapping None = let some = pow_pos v.shape.order in let pages = all.pages in record { fetched = tt; mapped = omega arith; writable = all.writable; jobs = after_jobs v.jobs.works all.jobs }
+    by_mapping (Some m) = record { fetched = tt; mapped = all.pages; writable = all.writable; jobs = after_jobs v.jobs.works all.jobs }
 
 overrun_kept : (v : View) (word : ℕ) → AreAll v → IsBack (overrun v word)
-overrun_kept v word all = give_up_kept (record v { halted = Some (halt.Overrun word v.ring.prod) }) (record { pages = all.pages; writable = all.writable; jobs = all.jobs })
+overrun_kept v word all = abort_kept (record v { halted = Some (halt.Overrun word v.ring.prod) }) (record { pages = all.pages; writable = all.writable; jobs = all.jobs })
 
 looked_kept : (v : View) (word : ℕ) (otherwise : View) → AreAll v → IsBack otherwise → IsBack (looked v word otherwise)
 looked_kept v word otherwise all h =
@@ -207,9 +207,9 @@ mapped_kept m v grefs room mode b = by_test (nat_lt (length v.pages + 1) (length
 
 step_kept : (s : Stage) (v : View) (given : BackAnswer) → IsFetched s v.shape → IsMapped s v.shape.order v.grefs v.pages → IsAnswer (ask_at s v) given → IsBack v → IsBack (step_at s v given)
 step_kept stage.MapRing v (answer.Mapped m) fetched kept h b = mapped_kept m v kept.0 kept.1 h.1 b
-step_kept stage.MapRing v (answer.MapRefused status) fetched kept h b = let given_up = unbound_kept v b.writable b.jobs in record { fetched = given_up.fetched; mapped = given_up.mapped; writable = b.writable; jobs = b.jobs }
+step_kept stage.MapRing v (answer.MapRefused status) fetched kept h b = let aborted = unbound_kept v b.writable b.jobs in record { fetched = aborted.fetched; mapped = aborted.mapped; writable = b.writable; jobs = b.jobs }
 step_kept stage.Bind v answer.Done fetched kept h b = at_stage stage.Loop v tt kept b.writable b.jobs
-step_kept stage.Bind v answer.BindRefused fetched kept h b = let given_up = unbound_kept v b.writable b.jobs in record { fetched = given_up.fetched; mapped = given_up.mapped; writable = b.writable; jobs = b.jobs }
+step_kept stage.Bind v answer.BindRefused fetched kept h b = let aborted = unbound_kept v b.writable b.jobs in record { fetched = aborted.fetched; mapped = aborted.mapped; writable = b.writable; jobs = b.jobs }
 step_kept stage.Loop v given fetched kept h b = loop_kept v (next_reply v) given (all_of v b kept) b
 step_kept (stage.Fetch k) v (answer.Word word) fetched kept h b = fetch_kept v k word fetched (all_of v b kept)
 step_kept (stage.ReplyHigh r) v given fetched kept h b = at_stage (stage.ReplyLast r) v tt kept b.writable b.jobs
@@ -225,7 +225,7 @@ step_kept stage.Send v given fetched kept h b = at_stage stage.Loop v tt kept b.
 step_kept stage.StoreEvent v given fetched kept h b = at_stage stage.EventFence v tt kept b.writable b.jobs
 step_kept stage.EventFence v given fetched kept h b = at_stage stage.LookAgain v tt kept b.writable b.jobs
 step_kept stage.LookAgain v (answer.Word word) fetched kept h b = looked_kept v word (record v { seen = word; stage = stage.Loop; asleep = true }) (all_of v b kept) (record { fetched = tt; mapped = kept; writable = b.writable; jobs = b.jobs })
-step_kept (stage.GiveUp m) v given fetched kept h b = give_up_kept v (all_of v b kept)
+step_kept (stage.Abort m) v given fetched kept h b = abort_kept v (all_of v b kept)
 step_kept stage.UnmapRing v given fetched kept h b = bound_kept (record v { pages = other_pages v.pages }) (others_writable v.pages b.writable) b.jobs
 step_kept stage.ClosePort v given fetched kept h b = at_stage stage.Halted v tt kept b.writable b.jobs
 step_kept stage.UnmapUnbound v given fetched kept h b = unbound_kept (record v { pages = other_pages v.pages }) (others_writable v.pages b.writable) b.jobs
@@ -246,8 +246,8 @@ back_attached shape grefs port v may b =
 -- and where its negotiation has it halt
 pub back_halted : (why : Halt) (v : View) → IsBack v → IsBack (halts why v)
 back_halted why v b =
-    halts_cases (λ x. IsBack x) why v (λ here. let given_up = unbound_kept v b.writable b.jobs in record { fetched = given_up.fetched; mapped = given_up.mapped; writable = b.writable; jobs = b.jobs })
-    (λ here. give_up_kept (record v { halted = Some why }) (record { pages = subst (λ (s : Stage). IsMapped s v.shape.order v.grefs v.pages) here b.mapped; writable = b.writable; jobs = b.jobs })) b
+    halts_cases (λ x. IsBack x) why v (λ here. let aborted = unbound_kept v b.writable b.jobs in record { fetched = aborted.fetched; mapped = aborted.mapped; writable = b.writable; jobs = b.jobs })
+    (λ here. abort_kept (record v { halted = Some why }) (record { pages = subst (λ (s : Stage). IsMapped s v.shape.order v.grefs v.pages) here b.mapped; writable = b.writable; jobs = b.jobs })) b
 
 job_step_at : (halted : Bool) (v : View) (number : ℕ) (given : BackAnswer) → IsJobAnswer (if halted then ask.Wait else ask_job v.jobs number) given → IsBack v → IsBack (record (job_step v number given) { told = None })
 job_step_at true v number given h b = absurd h

@@ -28,7 +28,7 @@ use Rattle.segment_list.proofs.Served.{transfer_served, finished_on_disk}
 use Rattle.back_jobs.specs.declared.stage.Stage.{Stage}
 use Rattle.back_jobs.specs.declared.stage.Stage.TheVariants as stage
 use Rattle.back_jobs.specs.Task.{Work, ask_of, ask_at, map_ask, page_ask, copied, is_copied_out, passes, judged, page_done, paging, mode_of, step_of, step_at, sector_stage, next_sector, next_segment, counted, first_of, rest_of, last_of, begun, served, moving, ended, frameless, IsAnswer}
-use Rattle.back_jobs.specs.Jobs.{Held, mapping_at, asked, work_at, told_at, removed_at, behind_mapping, start_job}
+use Rattle.back_jobs.specs.Jobs.{Held, mapping_at, asked, work_at, told_at, removed_at, after_mapping, start_job}
 use Rattle.back_jobs.specs.Hands.{hand_of, hands_in, Names}
 use Rattle.back_jobs.proofs.Hands.{hand_at, named_in}
 use Rattle.back_jobs.proofs.Sizes.{only}
@@ -93,7 +93,7 @@ names_at (stage.WriteWord m k) t sound p =
     let small = last_small t.rest (sound refl) in let word = p.0 in let inside = p.1 in
     (only m, p.2.0 ∙ ap mode_of p.2.1, omega arith)
 names_at (stage.Unmap m) t sound p = only m
-names_at (stage.GiveUp m) t sound p = only m
+names_at (stage.Abort m) t sound p = only m
 names_at stage.Flush t sound p = tt
 names_at (stage.Trim count) t sound p = tt
 names_at (stage.Done status) t sound p = tt
@@ -197,7 +197,7 @@ step_job_at (stage.WriteWord m k) t answer.Done sound p h =
     further : (n : ℕ) → n < 128 → (n == 127) ≡ false → n + 1 < 128
     further n lt other = grind (arith, nat_tests)
 step_job_at (stage.Unmap m) t answer.Done sound p h = next_segment_job t (rest_of t.rest) (rest_sound t.rest (sound refl))
-step_job_at (stage.GiveUp m) t answer.Done sound p h = record { segments = λ e. sound refl; placed = tt }
+step_job_at (stage.Abort m) t answer.Done sound p h = record { segments = λ e. sound refl; placed = tt }
 step_job_at stage.Flush t answer.Done sound p h = record { segments = λ e. sound refl; placed = tt }
 step_job_at stage.Flush t answer.DiskFailed sound p h = record { segments = λ e. sound refl; placed = tt }
 step_job_at (stage.Trim count) t answer.Done sound p h = record { segments = λ e. sound refl; placed = tt }
@@ -270,15 +270,15 @@ pub removed_jobs : (works : List Work) (place : Option ℕ) → AreJobs works �
 removed_jobs works None all = all
 removed_jobs works (Some place) all = All-append IsJob _ _ (All-take IsJob place works all) (All-drop IsJob (suc place) works all)
 
-behind_jobs_at : (b : Bool) (works : List Work) → AreJobs works → AreJobs (behind_mapping works) → AreJobs (cond b works (behind_mapping works))
-behind_jobs_at true works all less = all
-behind_jobs_at false works all less = less
+after_jobs_at : (b : Bool) (works : List Work) → AreJobs works → AreJobs (after_mapping works) → AreJobs (cond b works (after_mapping works))
+after_jobs_at true works all less = all
+after_jobs_at false works all less = less
 
-pub behind_jobs : (works : List Work) → AreJobs works → AreJobs (behind_mapping works)
-behind_jobs [] all = all
-behind_jobs (t ∷ works) all =
+pub after_jobs : (works : List Work) → AreJobs works → AreJobs (after_mapping works)
+after_jobs [] all = all
+after_jobs (t ∷ works) all =
     let rest = All-tail IsJob t works all in
-    behind_jobs_at (is_some (mapping_at t.stage)) works rest (behind_jobs works rest)
+    after_jobs_at (is_some (mapping_at t.stage)) works rest (after_jobs works rest)
 
 -- what a job asks names what jobs hold
 pub asked_names : (works : List Work) (place : Option ℕ) (waits : Bool) (found : Option Work) → work_at works place ≡ found → AreJobs works → Names (hands_in works) (asked waits found)

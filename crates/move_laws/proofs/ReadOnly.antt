@@ -26,7 +26,7 @@ use Rattle.segment_list.specs.Verdict.{verdict_of}
 use Rattle.back_jobs.specs.declared.stage.Stage.{Stage as JobStage}
 use Rattle.back_jobs.specs.declared.stage.Stage.TheVariants as job
 use Rattle.back_jobs.specs.Task.{Work, ask_at, map_ask, page_ask, is_copied_out, passes, judged, page_done, paging, first_of, step_of, step_at as job_step_at, sector_stage, next_sector, next_segment, counted, rest_of, last_of, begun, moving, ended, frameless}
-use Rattle.back_jobs.specs.Jobs.{Held, work_at, work_of, place_of, waits, asked, ask_job, told_at, removed_at, behind_mapping, mapping_at, is_done, start_job}
+use Rattle.back_jobs.specs.Jobs.{Held, work_at, work_of, place_of, waits, asked, ask_job, told_at, removed_at, after_mapping, mapping_at, is_done, start_job}
 use Rattle.blk_back.specs.declared.stage.Reply.{Reply}
 use Rattle.blk_back.specs.declared.stage.Stage.{Stage}
 use Rattle.blk_back.specs.declared.stage.Stage.TheVariants as stage
@@ -100,7 +100,7 @@ step_reads (job.DiskRead m) t (answer.Sector words) r = (r.0, tt)
 step_reads (job.DiskRead m) t answer.DiskFailed r = (r.0, tt)
 step_reads (job.WriteWord m k) t answer.Done r = either_reads (k == 127) _ _ (λ last. next_reads t m r.0) (r.0, tt)
 step_reads (job.Unmap m) t answer.Done r = segment_reads t (rest_of t.rest) r.0
-step_reads (job.GiveUp m) t answer.Done r = (r.0, tt)
+step_reads (job.Abort m) t answer.Done r = (r.0, tt)
 step_reads job.Flush t answer.Done r = (r.0, tt)
 step_reads job.Flush t answer.DiskFailed r = (r.0, tt)
 step_reads (job.Trim count) t answer.Done r = (r.0, tt)
@@ -175,11 +175,11 @@ removed_reads : (works : List Work) (place : Option ℕ) → All Reads works →
 removed_reads works None all = all
 removed_reads works (Some place) all = All-append Reads _ _ (All-take Reads place works all) (All-drop Reads (suc place) works all)
 
-behind_reads : (works : List Work) → All Reads works → All Reads (behind_mapping works)
-behind_reads [] all = all
-behind_reads (t ∷ works) all = let rest = All-tail Reads t works all in by_test (is_some (mapping_at t.stage)) works rest (behind_reads works rest)
+after_reads : (works : List Work) → All Reads works → All Reads (after_mapping works)
+after_reads [] all = all
+after_reads (t ∷ works) all = let rest = All-tail Reads t works all in by_test (is_some (mapping_at t.stage)) works rest (after_reads works rest)
   where
-    by_test : (b : Bool) (works : List Work) → All Reads works → All Reads (behind_mapping works) → All Reads (cond b works (behind_mapping works))
+    by_test : (b : Bool) (works : List Work) → All Reads works → All Reads (after_mapping works) → All Reads (cond b works (after_mapping works))
     by_test true works all less = all
     by_test false works all less = less
 
@@ -193,7 +193,7 @@ either false x y p q = q
 looked_stays : (v : View) (word : ℕ) (otherwise : View) → Stays v → Stays otherwise → Stays (looked v word otherwise)
 looked_stays v word otherwise o other =
     either (overruns v.ring word) (overrun v word) (if word == v.ring.cons then otherwise else record v { seen = word; stage = stage.Loop })
-    (o.0, behind_reads v.jobs.works o.1)
+    (o.0, after_reads v.jobs.works o.1)
     (either (word == v.ring.cons) otherwise (record v { seen = word; stage = stage.Loop }) other o)
 
 loop_stays : (v : View) (r : Option Reply) (given : BackAnswer) → Stays v → Stays (loop_step v r given)
@@ -214,7 +214,7 @@ step_stays (stage.Fetch k) v (answer.Word word) o =
     (started v.jobs (next_number v) (request_of v.shape.abi (v.entry ++ word ∷ [])) o) o
 step_stays stage.LookAgain v (answer.Word word) o = looked_stays v word (record v { seen = word; stage = stage.Loop; asleep = true }) o o
 step_stays (stage.ResponseEvent old) v (answer.Word event) o = o
-step_stays (stage.GiveUp m) v given o = (o.0, behind_reads v.jobs.works o.1)
+step_stays (stage.Abort m) v given o = (o.0, after_reads v.jobs.works o.1)
 step_stays s v given o = o
 
 -- so it is whatever happens
@@ -227,7 +227,7 @@ job_stays w number None o = o
 job_stays w number (Some a) o = (o.0, told_reads w.back.jobs.works (place_of w.back.jobs.works number) (work_of w.back.jobs.works number) a.answer refl o.1)
 
 halt_stays : (why : Halt) (v : View) → Stays v → Stays (halts why v)
-halt_stays why v o = halts_cases (λ x. Stays x) why v (λ here. o) (λ here. (o.0, behind_reads v.jobs.works o.1)) o
+halt_stays why v o = halts_cases (λ x. Stays x) why v (λ here. o) (λ here. (o.0, after_reads v.jobs.works o.1)) o
 
 front_stays : (w : World) → Stays w.back → (let x : World = happens w FrontMoves in Stays x.back)
 front_stays w o = by_act (front_turn w)

@@ -6,7 +6,7 @@ use Rattle.grant_table.specs.Sound.{IsGrantable}
 use Rattle.xen_pages.specs.Pages.{word_of}
 use Rattle.schedule_text.specs.declared.line.Line.{Line}
 use Rattle.report_rules.specs.declared.standing.Standing.{Standing}
-use Rattle.report_rules.specs.Standing.{standing_behind}
+use Rattle.report_rules.specs.Standing.{standing_after}
 use Rattle.report_rules.specs.Value.{value_before}
 use Rattle.move_laws.specs.Numbers.{greatest_number}
 
@@ -18,6 +18,6 @@ standing_of held = record { number = held.mapping.number; gref = held.mapping.gr
 pub record Tells (lines : List Line) (pages : List ℕ) (table : GrantTable) : Type 0 where
   pub sized : length pages ≡ 1114112
   pub values : (frame word : ℕ) → frame < 1088 → word < 1024 → value_before lines frame word ≡ word_of pages frame word
-  pub standing : standing_behind lines ≡ map standing_of table.live
+  pub standing : standing_after lines ≡ map standing_of table.live
   pub made : greatest_number lines ≡ table.made
   pub grantable : All IsGrantable table.live

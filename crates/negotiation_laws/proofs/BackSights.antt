@@ -24,7 +24,7 @@ use Rattle.xenbus_state.specs.BackView.{BackView}
 use Rattle.xenbus_state.specs.BackAsk.{ask_at}
 use Rattle.xenbus_state.specs.BackReading as reading
 use Rattle.xenbus_state.specs.BackReading.{order_of, layout_read, with_order, with_gref, with_port, with_layout, with_persistent}
-use Rattle.xenbus_state.specs.BackStep.{at, step_at, acted, kept_or_halted, after_state, last_state, giving_up, after_feature, after_fact}
+use Rattle.xenbus_state.specs.BackStep.{at, step_at, acted, kept_or_halted, after_state, last_state, unmapping_next, after_feature, after_fact}
 use Rattle.xenbus_state.specs.BackSound.{IsPlaced, IsWriting}
 use Rattle.negotiation_laws.specs.Negotiation.{front_path, back_path, front_state, back_state, state_text, back_woken, back_answered, back_done}
 use Rattle.negotiation_laws.proofs.Shown.{state_shown}
@@ -96,7 +96,7 @@ module _ (fs : BusState) where
   last_sees state.Closing other w h = h
   last_sees own other w h = h
 
-  giving_sees : (pages : List Mapping) (bound : Bool) (own : BusState) (w : Watches) → Sees front_state w (Unit {0}) → BackSees (giving_up pages bound own) own fs w
+  giving_sees : (pages : List Mapping) (bound : Bool) (own : BusState) (w : Watches) → Sees front_state w (Unit {0}) → BackSees (unmapping_next pages bound own) own fs w
   giving_sees (page ∷ pages) bound own w h = h
   giving_sees [] true own w h = h
   giving_sees [] false own w h = last_sees own own w h

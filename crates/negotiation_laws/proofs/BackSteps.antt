@@ -28,7 +28,7 @@ use Rattle.xenbus_state.specs.declared.table.BackAction.TheVariants as action
 use Rattle.xenbus_state.specs.BackView.{BackView, is_halting, halted}
 use Rattle.xenbus_state.specs.BackAsk.{ask_at}
 use Rattle.xenbus_state.specs.BackReading as reading
-use Rattle.xenbus_state.specs.BackStep.{at, step_at, acted, kept_or_halted, after_state, last_state, giving_up, after_feature, after_fact}
+use Rattle.xenbus_state.specs.BackStep.{at, step_at, acted, kept_or_halted, after_state, last_state, unmapping_next, after_feature, after_fact}
 use Rattle.xenbus_state.specs.BackSound.{IsPlaced, IsResting, IsWriting, IsReading}
 use Rattle.xenbus_state.proofs.Agreement.{terms_again}
 use Rattle.negotiation_laws.specs.Negotiation.{back_path, front_state, state_text, back_woken, back_answered, back_done}
@@ -282,7 +282,7 @@ module _ (n : ℕ) (port : Option ℕ) (terms : FrontTerms) (f : Features) (disk
   map_holds page v texts true h = record { own = h.own; offer = h.offer; disk = h.disk; serving_after = h.serving_after; halting_after = never; said = h.said; read = h.read }
   map_holds page v texts false h = record { own = h.own; offer = h.offer; disk = h.disk; serving_after = h.serving_after; halting_after = never; said = h.said; read = h.read }
 
-  -- a halted back gives up what it has
+  -- a halted back unmaps what it has mapped, and closes its port
   record Gives (v : BackView) (texts : BackKey → Option (List ℕ)) : Type 0 where
     own : IsBackState v.state
     offer : v.features ≡ f
@@ -300,7 +300,7 @@ module _ (n : ℕ) (port : Option ℕ) (terms : FrontTerms) (f : Features) (disk
       record { own = g.own; offer = g.offer; disk = g.same; serving_after = g.serving; halting_after = λ e. g.late; said = g.said; read = g.read }
 
   giving_holds : (pages : List Mapping) (bound : Bool) (v : BackView) (texts : BackKey → Option (List ℕ)) → Gives v texts
-      → let t = giving_up pages bound v.state in BackHolds t (record v { pages = pages; bound = bound; stage = t }) n port terms f disk texts
+      → let t = unmapping_next pages bound v.state in BackHolds t (record v { pages = pages; bound = bound; stage = t }) n port terms f disk texts
   giving_holds (page ∷ pages) bound v texts g =
       record { own = g.own; offer = g.offer; disk = g.same; serving_after = g.serving; halting_after = λ e. g.late; said = g.said; read = g.read }
   giving_holds [] true v texts g = record { own = g.own; offer = g.offer; disk = g.same; serving_after = g.serving; halting_after = λ e. g.late; said = g.said; read = g.read }

@@ -86,7 +86,7 @@ fact_serving back_key.Sectors own = refl
 fact_serving k own = refl
 
 giving_serving : (pages : List Mapping) (bound : Bool) (own : BusState) → serves back.UnmapOthers own ≡ true → HasRing pages bound
-    → serves (back_step.giving_up pages bound own) own ≡ true
+    → serves (back_step.unmapping_next pages bound own) own ≡ true
 giving_serving (page ∷ pages) bound own e has = e
 giving_serving [] true own e has = e
 giving_serving [] false own e has = absurd (has_none [] false refl refl has)

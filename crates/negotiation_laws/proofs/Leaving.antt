@@ -25,7 +25,7 @@ not_yet : (own s : BusState) → own ≡ s → state_number s < 6 → 6 ≤ stat
 not_yet own s e low high = let same : state_number own ≡ state_number s = ap state_number e in omega arith
 
 closed_halted : (s : BackStage) (v : BackView) → v.stage ≡ s → IsPlaced s v → 6 ≤ state_number v.state → IsHalted v
-closed_halted back.Halted v e placed high = record { stage = e; closed = placed.0; given_up = placed.1 }
+closed_halted back.Halted v e placed high = record { stage = e; closed = placed.0; aborted = placed.1 }
 closed_halted (back.Publish k) v e placed high = absurd (not_yet v.state state.Initialising placed.0 (omega arith) high)
 closed_halted (back.WriteState state.InitWait) v e placed high = absurd (not_yet v.state state.Initialising placed.0 (omega arith) high)
 closed_halted (back.WriteState state.Connected) v e placed high = absurd (not_yet v.state state.InitWait placed.0 (omega arith) high)

@@ -124,7 +124,7 @@ last_low state.Closing = omega arith
 last_low own = omega arith
 
 giving_falls : (pages : List Mapping) (bound : Bool) (v : BackView) (most : ℕ) → 4 + length pages ≤ most
-    → Falls most (record v { pages = pages; bound = bound; stage = back_step.giving_up pages bound v.state })
+    → Falls most (record v { pages = pages; bound = bound; stage = back_step.unmapping_next pages bound v.state })
 giving_falls (page ∷ pages) bound v most low = record { less = omega arith; rests = refl }
 giving_falls [] true v most low = record { less = omega arith; rests = refl }
 giving_falls [] false v most low = (let last = last_low v.state in record { less = omega arith; rests = refl })

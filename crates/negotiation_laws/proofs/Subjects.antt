@@ -211,7 +211,7 @@ BackSaid back.ClosePort own t f d = AreFeaturesSaid t f d × FactsLeft own t f d
 BackSaid back.Halted own t f d = AreFeaturesSaid t f d × FactsLeft own t f d
 BackSaid s own t f d = AreFeaturesSaid t f d × Unit {0}
 
--- a back that goes by the front's terms, also where it has halted since and hasn't given all up
+-- a back that goes by the front's terms, also where it has halted since and holds something still
 abbrev pub serves : BackStage → BusState → Bool
 serves (back.ReadKey key) own = true
 serves back.MapPage own = true

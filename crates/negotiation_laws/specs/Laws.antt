@@ -23,7 +23,7 @@ use Rattle.xenbus_state.specs.declared.stage.FrontStage.TheVariants as front_sta
 use Rattle.xenbus_state.specs.FrontView.{FrontView, pages_of, terms_of, is_broken, suspended, start_of as first_of}
 use Rattle.xenbus_state.specs.FrontAsk as front
 use Rattle.xenbus_state.specs.BackAsk as back
-use Rattle.xenbus_state.specs.BackSound.{IsMapped, IsGivenUp}
+use Rattle.xenbus_state.specs.BackSound.{IsMapped, HoldsNothing}
 use Rattle.xenbus_state.specs.BackView.{BackView}
 use Rattle.xenbus_state.specs.declared.stage.BackStage.TheVariants as back_stage
 use Rattle.xenbus_state.specs.declared.front.FrontBusAsk.{FrontBusAsk}
@@ -236,11 +236,11 @@ IsLeaving front_ask.ClosePort = Unit {0}
 IsLeaving (front_ask.SetState state.Closed) = Unit {0}
 IsLeaving a = ⊥
 
--- it does so only once the back has halted, given up all pages and the port, and written Closed
+-- it does so only once the back has halted, unmapped all pages, closed its port, and written Closed
 pub record IsHalted (v : BackView) : Type 0 where
   pub stage : v.stage ≡ back_stage.Halted
   pub closed : v.state ≡ state.Closed
-  pub given_up : IsGivenUp v
+  pub aborted : HoldsNothing v
 
 -- so it is at each such ask
 abbrev pub LeavesAfterTheBack : Type 0

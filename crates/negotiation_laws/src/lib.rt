@@ -56,7 +56,7 @@ pub fn the_front_connects_only_to_a_connected_back()
     ensures outlasts { TheRingOutlastsTheBack }
 {}
 
-/// The front ends its grants, closes its port and writes Closed only once the back has given up every
+/// The front ends its grants, closes its port and writes Closed only once the back has unmapped every
 /// page of the ring and its port, and has written Closed.
 pub fn the_front_leaves_after_the_back()
     ensures { LeavesAfterTheBack }

@@ -102,8 +102,8 @@ one_changes line requests n id r r' at counted others = by_test (n == id) refl
         (counts_none line id (request_of requests id) is.0 is.1)
 
 -- the disk after a test, where there is one
-behind : (P : Disk → Type 0) (b : Bool) (x d' : Disk) → (b ≡ true → P x) → (if b then Some x else None) ≡ Some d' → P d'
-behind P b x d' holds e = let both = cond_some b x d' e in subst P both.1 (holds both.0)
+where_passed : (P : Disk → Type 0) (b : Bool) (x d' : Disk) → (b ≡ true → P x) → (if b then Some x else None) ≡ Some d' → P d'
+where_passed P b x d' holds e = let both = cond_some b x d' e in subst P both.1 (holds both.0)
 
 -- each kind of line
 abbrev Counts : Line → ℕ → Disk → Disk → Type 0
@@ -113,7 +113,7 @@ all_stay : (line : Line) (id : ℕ) (d d' : Disk) → is_submission_of id line �
 all_stay line id d d' s a same = subst (λ (rs : List Request). IsCounted line id (request_of d.requests id) (request_of rs id)) (sym same) (counts_none line id (request_of d.requests id) s a)
 
 submit_counts : (d d' : Disk) (n id : ℕ) (job : Job) → step d (lines.Submit n job) ≡ Some d' → Counts (lines.Submit n job) id d d'
-submit_counts d d' n id job e = behind (Counts (lines.Submit n job) id d) _ _ d' (λ t. by_test (numbered t) (n == id) refl) e
+submit_counts d d' n id job e = where_passed (Counts (lines.Submit n job) id d) _ _ d' (λ t. by_test (numbered t) (n == id) refl) e
   where
     numbered : (n == length d.requests + 1) ≡ true → n ≡ length d.requests + 1
     numbered t = grind (arith, nat_tests)
@@ -132,27 +132,27 @@ submit_counts d d' n id job e = behind (Counts (lines.Submit n job) id d) _ _ d'
 
 effect_stays : (d d' : Disk) (n index : ℕ) (r : Option Request) → effect_of d n index r ≡ Some d' → d'.requests ≡ d.requests
 effect_stays d d' n index None e = absurd (none-some d' e)
-effect_stays d d' n index (Some r) e = behind (λ (x : Disk). x.requests ≡ d.requests) _ _ d' (λ t. refl) e
+effect_stays d d' n index (Some r) e = where_passed (λ (x : Disk). x.requests ≡ d.requests) _ _ d' (λ t. refl) e
 
 read_stays : (d d' : Disk) (n index : ℕ) (words : List ℕ) (r : Option Request) → read_of d n index words r ≡ Some d' → d'.requests ≡ d.requests
 read_stays d d' n index words None e = absurd (none-some d' e)
-read_stays d d' n index words (Some r) e = behind (λ (x : Disk). x.requests ≡ d.requests) _ _ d' (λ t. refl) e
+read_stays d d' n index words (Some r) e = where_passed (λ (x : Disk). x.requests ≡ d.requests) _ _ d' (λ t. refl) e
 
 flushed_stays : (d d' : Disk) (n : ℕ) (r : Option Request) → flushed_of d n r ≡ Some d' → d'.requests ≡ d.requests
 flushed_stays d d' n None e = absurd (none-some d' e)
-flushed_stays d d' n (Some r) e = behind (λ (x : Disk). x.requests ≡ d.requests) _ _ d' (λ t. refl) e
+flushed_stays d d' n (Some r) e = where_passed (λ (x : Disk). x.requests ≡ d.requests) _ _ d' (λ t. refl) e
 
 trimmed_stays : (d d' : Disk) (n : ℕ) (r : Option Request) → trimmed_of d n r ≡ Some d' → d'.requests ≡ d.requests
 trimmed_stays d d' n None e = absurd (none-some d' e)
-trimmed_stays d d' n (Some r) e = behind (λ (x : Disk). x.requests ≡ d.requests) _ _ d' (λ t. refl) e
+trimmed_stays d d' n (Some r) e = where_passed (λ (x : Disk). x.requests ≡ d.requests) _ _ d' (λ t. refl) e
 
 fault_counts : (d d' : Disk) (n index id : ℕ) (o : Option Request) → request_of d.requests n ≡ o → fault_of d n index o ≡ Some d' → Counts (lines.Fault n index) id d d'
 fault_counts d d' n index id None at e = absurd (none-some d' e)
-fault_counts d d' n index id (Some r) at e = behind (Counts (lines.Fault n index) id d) _ _ d' (λ t. one_changes (lines.Fault n index) d.requests n id r _ at (stays_open (lines.Fault n index) n r _ refl refl refl) (λ apart. (refl, refl))) e
+fault_counts d d' n index id (Some r) at e = where_passed (Counts (lines.Fault n index) id d) _ _ d' (λ t. one_changes (lines.Fault n index) d.requests n id r _ at (stays_open (lines.Fault n index) n r _ refl refl refl) (λ apart. (refl, refl))) e
 
 reply_counts : (d d' : Disk) (n id : ℕ) (status : Status) (o : Option Request) → request_of d.requests n ≡ o → replied_of d n status o ≡ Some d' → Counts (lines.Reply n status) id d d'
 reply_counts d d' n id status None at e = absurd (none-some d' e)
-reply_counts d d' n id status (Some r) at e = behind (Counts (lines.Reply n status) id d) _ _ d' (λ t. one_changes (lines.Reply n status) d.requests n id r _ at (stays_open (lines.Reply n status) n r _ refl refl refl) (λ apart. (refl, refl))) e
+reply_counts d d' n id status (Some r) at e = where_passed (Counts (lines.Reply n status) id d) _ _ d' (λ t. one_changes (lines.Reply n status) d.requests n id r _ at (stays_open (lines.Reply n status) n r _ refl refl refl) (λ apart. (refl, refl))) e
 
 told_closed : (job : Job) (status : Status) → is_open (told_stage job status) ≡ false
 told_closed job status = by_read (is_read job) (is_okay status)
@@ -164,7 +164,7 @@ told_closed job status = by_read (is_read job) (is_okay status)
 
 answer_counts : (d d' : Disk) (n id : ℕ) (status : Status) (o : Option Request) → request_of d.requests n ≡ o → answered_of d n status o ≡ Some d' → Counts (lines.Answer n status) id d d'
 answer_counts d d' n id status None at e = absurd (none-some d' e)
-answer_counts d d' n id status (Some r) at e = behind (Counts (lines.Answer n status) id d) _ _ d' (λ t. one_changes (lines.Answer n status) d.requests n id r _ at (closes (and_parts (is_open r.stage) _ t).0) (λ apart. (refl, grind (arith, nat_tests)))) e
+answer_counts d d' n id status (Some r) at e = where_passed (Counts (lines.Answer n status) id d) _ _ d' (λ t. one_changes (lines.Answer n status) d.requests n id r _ at (closes (and_parts (is_open r.stage) _ t).0) (λ apart. (refl, grind (arith, nat_tests)))) e
   where
     closes : is_open r.stage ≡ true → IsCounted (lines.Answer n status) n (Some r) (Some (record r { stage = told_stage r.job status }))
     closes is =
@@ -185,7 +185,7 @@ telling_closed Finished index t = refl
 
 data_counts : (d d' : Disk) (n index id : ℕ) (words : List ℕ) (o : Option Request) → request_of d.requests n ≡ o → data_of d n index words o ≡ Some d' → Counts (lines.Data n index words) id d d'
 data_counts d d' n index id words None at e = absurd (none-some d' e)
-data_counts d d' n index id words (Some r) at e = behind (Counts (lines.Data n index words) id d) _ _ d' (λ t. one_changes (lines.Data n index words) d.requests n id r _ at (stays_open (lines.Data n index words) n r _ refl refl (next_closed r.job index ∙ sym (telling_closed r.stage index (and_parts (is_next r.stage index) _ t).0))) (λ apart. (refl, refl))) e
+data_counts d d' n index id words (Some r) at e = where_passed (Counts (lines.Data n index words) id d) _ _ d' (λ t. one_changes (lines.Data n index words) d.requests n id r _ at (stays_open (lines.Data n index words) n r _ refl refl (next_closed r.job index ∙ sym (telling_closed r.stage index (and_parts (is_next r.stage index) _ t).0))) (λ apart. (refl, refl))) e
 
 reopened_open : (r : Request) → is_open (reopened r).stage ≡ is_open r.stage
 reopened_open r = by_stage (is_open r.stage)
@@ -217,5 +217,5 @@ line_counts d d' (lines.Reply n status) id e = reply_counts d d' n id status (re
 line_counts d d' (lines.Answer n status) id e = answer_counts d d' n id status (request_of d.requests n) refl e
 line_counts d d' (lines.Data n index words) id e = data_counts d d' n index id words (request_of d.requests n) refl e
 line_counts d d' lines.Epoch id e = subst (Counts lines.Epoch id d) (same_Some _ d' e) (epoch_counts d.requests id)
-line_counts d d' lines.Quiet id e = behind (Counts lines.Quiet id d) _ d d' (λ t. all_stay lines.Quiet id d d refl refl refl) e
+line_counts d d' lines.Quiet id e = where_passed (Counts lines.Quiet id d) _ d d' (λ t. all_stay lines.Quiet id d d refl refl refl) e
 line_counts d d' line id e = all_stay line id d d' refl refl (ap (λ (x : Disk). x.requests) (sym (same_Some d d' e)))

@@ -63,22 +63,22 @@ answered_few (Some r) = by_stage (is_open r.stage)
     by_stage false = omega arith
 
 -- the disk before each line of a run, and after it
-pub record StandsBehind (before : List Line) (line : Line) (first : List (List ℕ)) : Type 0 where
+pub record StandsAfter (before : List Line) (line : Line) (first : List (List ℕ)) : Type 0 where
   pub disk : Disk
   pub run : after before (disk_of first) ≡ Some disk
   pub next : Disk
   pub taken : step disk line ≡ Some next
 
-pub stands_behind : (report before rest : List Line) (line : Line) (first : List (List ℕ)) (d : Disk) → after report (disk_of first) ≡ Some d → report ≡ before ++ line ∷ rest → StandsBehind before line first
-stands_behind report before rest line first d run split =
+pub stands_after : (report before rest : List Line) (line : Line) (first : List (List ℕ)) (d : Disk) → after report (disk_of first) ≡ Some d → report ≡ before ++ line ∷ rest → StandsAfter before line first
+stands_after report before rest line first d run split =
     let whole : after (before ++ line ∷ rest) (disk_of first) ≡ Some d = ap (λ (ls : List Line). after ls (disk_of first)) (sym split) ∙ run in
     let here = run_before before (line ∷ rest) (disk_of first) d whole in
     option_and_then_some (after rest) (step here.0 line) d (sym (after_append before (line ∷ rest) (disk_of first) here.0 here.1) ∙ whole) (λ next taken further.
     record { disk = here.0; run = here.1; next = next; taken = taken })
 
 -- an answer stands after its submission
-answer_behind : (before : List Line) (line : Line) (first : List (List ℕ)) → StandsBehind before line first → IsAnswerOfSubmitted before line
-answer_behind before (lines.Answer id status) first s =
+answer_after : (before : List Line) (line : Line) (first : List (List ℕ)) → StandsAfter before line first → IsAnswerOfSubmitted before line
+answer_after before (lines.Answer id status) first s =
     let was = kept_of before first s.disk id s.run in
     let one = line_counts s.disk s.next (lines.Answer id status) id s.taken in
     let here : (id == id) ≡ true = grind (arith, nat_tests) in
@@ -88,7 +88,7 @@ answer_behind before (lines.Answer id status) first s =
     let once = submitted_once (request_of s.disk.requests id) in
     let known = was.submitted in
     omega arith
-answer_behind before line first s = tt
+answer_after before line first s = tt
 
 -- at a quiet line each request has its answer
 finished_closed : (stage : Stage) → is_finished stage ≡ true → is_open stage ≡ false
@@ -102,20 +102,20 @@ all_answered requests id (Some r) at all some =
     let finished = all_at (λ (x : Request). is_finished x.stage ≡ true) requests (id - 1) r (AllPass-from_list_all (λ (x : Request). is_finished x.stage) requests all) (number_at requests id r at).1 in
     rw (finished_closed r.stage finished) refl
 
-quiet_behind : (before : List Line) (line : Line) (first : List (List ℕ)) → StandsBehind before line first → IsQuietAt before line
-quiet_behind before lines.Quiet first s = λ id some.
+quiet_after : (before : List Line) (line : Line) (first : List (List ℕ)) → StandsAfter before line first → IsQuietAt before line
+quiet_after before lines.Quiet first s = λ id some.
     let is = kept_of before first s.disk id s.run in
     let known : 1 ≤ submitted_on (request_of s.disk.requests id) = omega (arith, is.submitted) in
     is.answered ∙ all_answered s.disk.requests id (request_of s.disk.requests id) refl (cond_some _ _ _ s.taken).0 known
-quiet_behind before line first s = tt
+quiet_after before line first s = tt
 
 -- any run
 pub run_answers_once : (report : List Line) (first : List (List ℕ)) (d : Disk) → after report (disk_of first) ≡ Some d → AreAnsweredOnce report
 run_answers_once report first d run = record {
   numbered = λ id. (let is = kept_of report first d id run in let once = submitted_once (request_of d.requests id) in omega arith);
   once = λ id. (let is = kept_of report first d id run in let few = answered_few (request_of d.requests id) in let once = submitted_once (request_of d.requests id) in omega arith);
-  asked = λ before rest line split. answer_behind before line first (stands_behind report before rest line first d run split);
+  asked = λ before rest line split. answer_after before line first (stands_after report before rest line first d run split);
 }
 
 pub run_answers_at_quiet : (report : List Line) (first : List (List ℕ)) (d : Disk) → after report (disk_of first) ≡ Some d → IsQuietAnswered report
-run_answers_at_quiet report first d run before rest line split = quiet_behind before line first (stands_behind report before rest line first d run split)
+run_answers_at_quiet report first d run before rest line split = quiet_after before line first (stands_after report before rest line first d run split)

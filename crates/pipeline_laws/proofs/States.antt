@@ -16,7 +16,7 @@ use Rattle.pipeline_laws.specs.Pipeline.{Pipeline, Submits, Refuses, Moves, Conn
 use Rattle.pipeline_laws.specs.Allowed.{AreFinished, is_aside}
 use Rattle.pipeline_laws.specs.States.{IsServed, IsStateAt, AreStates}
 use Rattle.pipeline_laws.specs.Unbroken.{is_breach, IsUnbroken}
-use Rattle.pipeline_laws.proofs.AnsweredRuns.{StandsBehind, stands_behind}
+use Rattle.pipeline_laws.proofs.AnsweredRuns.{StandsAfter, stands_after}
 use Rattle.pipeline_laws.proofs.PlainRuns.{after_append}
 use Rattle.pipeline_laws.proofs.Running.{is_of_request, IsSoFar}
 use Rattle.pipeline_laws.proofs.Ruled.{move_obeys, Holds}
@@ -69,9 +69,9 @@ no_refusal d d' id (Some r) e = never (is_open r.stage) (is_none r.reply) (cond_
     never false b t = absurd (cc)
 
 whole_at : (report before rest : List Line) (line : Line) (first : List (List ℕ)) (d : Disk) → AreStates report → after report (disk_of first) ≡ Some d → report ≡ before ++ line ∷ rest → is_breach line ≡ false
-whole_at report before rest line first d states run split = by_line line (states before rest line split) (stands_behind report before rest line first d run split)
+whole_at report before rest line first d states run split = by_line line (states before rest line split) (stands_after report before rest line first d run split)
   where
-    by_line : (l : Line) → IsStateAt before l → StandsBehind before l first → is_breach l ≡ false
+    by_line : (l : Line) → IsStateAt before l → StandsAfter before l first → is_breach l ≡ false
     by_line (lines.Broken word) state stands = absurd state
     by_line (lines.Halt why) state stands = rw state.1 refl
     by_line (lines.Reply id Unsupported) state stands = absurd (no_refusal stands.disk stands.next id (request_of stands.disk.requests id) stands.taken)

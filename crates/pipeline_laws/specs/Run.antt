@@ -36,7 +36,7 @@ abbrev pub IsKept : ℕ → Disk → Option (List (List ℕ)) → Type 0
 IsKept sectors d None = Unit {0}
 IsKept sectors d (Some content) = Keeps sectors d content
 
--- the plain disk begins with what the disk holds, and where it doesn't tell with sectors that nobody knows
+-- the plain disk begins with what the disk holds, and where it doesn't expose that with sectors that nobody knows
 abbrev pub BeginsWith : List (List ℕ) → Option (List (List ℕ)) → Type 0
 BeginsWith first None = first ≡ []
 BeginsWith first (Some content) = first ≡ content

@@ -35,7 +35,7 @@ ghost use Rattle.pipeline_laws.specs.Queue.{IsQueue};
 ghost use Rattle.pipeline_laws.specs.Samples.{two_sectors, write, barrier, other_write, long_write, past_end, barrier_steps, barrier_lines, order_steps, order_lines, read_steps, read_lines, fault_steps, fault_lines, second_begun, two_entries, two_jobs, half_done, two_reads};
 
 /// The report of the pipeline is a run of the plain disk, from what the disk held to what its calls
-/// left; where the disk doesn't tell, from sectors that nobody knows. So it is from any sectors that
+/// left; where the disk doesn't expose it, from sectors that nobody knows. So it is from any sectors that
 /// the content has (`within`): the plain disk then has the pipeline's requests, each as its station
 /// says, and knows of each sector what the content holds.
 pub fn every_run_of_the_pipeline_is_a_run_of_the_plain_disk()
@@ -44,7 +44,7 @@ pub fn every_run_of_the_pipeline_is_a_run_of_the_plain_disk()
 {}
 
 /// The effects and faults that it shows are the calls of its disk, line by line: a report shows what a
-/// disk that doesn't tell what it holds was asked, and what it gave.
+/// disk that doesn't expose what it holds was asked, and what it gave.
 pub fn the_effects_of_a_report_are_the_calls_of_its_disk()
     ensures { (r : PipelineRun) → LinesDo [] (run_report r) r.disk.content r.disk.later }
 {}
@@ -136,7 +136,7 @@ pub fn a_wrong_step_is_no_step_of_the_pipeline()
 {}
 
 /// Two reads of one sector that show different words are no run of the plain disk, even from sectors
-/// that nobody knows: so the laws ask of a disk that doesn't tell that its calls are consistent.
+/// that nobody knows: so the laws ask of a disk that doesn't expose its content that its calls are consistent.
 pub fn reads_that_differ_are_no_run()
     ensures { after two_reads (disk_of []) ≡ None }
 {}

@@ -12,7 +12,7 @@ use Rattle.blk_front.specs.declared.request.Request.{Request}
 use Rattle.blk_front.specs.declared.stage.Ending.{Ending}
 use Rattle.blk_front.specs.Pool.{taking, with_all_free}
 use Rattle.blk_front.specs.Request.{frames_for, pages_for, IsCounted, IsShaped}
-use Rattle.machine_pipeline.proofs.Flow.{frames_of, ending_frames, count_of, job_of}
+use Rattle.machine_pipeline.proofs.Flow.{frames_of, ending_frames, count_of, submitted_job}
 use Rattle.machine_pipeline.proofs.Holds.{IsPooled, ArePooled}
 use Rattle.machine_pipeline.proofs.Lists.{count_one, count_none, count_set, sum_set, get_append, get_last, get_set_here, get_set_other}
 use Rattle.machine_pipeline.proofs.Removals.{removed_was}
@@ -28,7 +28,7 @@ pub record IsAsked (asked : List Asked) (r : Request) : Type 0 where
   pub at : slice_get asked (r.number - 1) ≡ Some x
   pub positive : 1 ≤ r.number
   pub unended : is_finished x.stage ≡ false
-  pub job : x.job ≡ job_of r.transfer r.sector r.count
+  pub job : x.job ≡ submitted_job r.transfer r.sector r.count
   pub shaped : IsShaped r
   pub pooled : All IsPooled r.frames.items
 
@@ -75,7 +75,7 @@ differs requests e i r once at = λ same.
     omega arith
 
 -- the ending one is told a sector more, and isn't done yet
-pub told_set : (asked : List Asked) (requests : List Request) (e : Ending) (pool : List Bool) (y : Asked) → AreAsked asked requests (Some e) pool → is_finished y.stage ≡ false → y.job ≡ job_of e.request.transfer e.request.sector e.request.count
+pub told_set : (asked : List Asked) (requests : List Request) (e : Ending) (pool : List Bool) (y : Asked) → AreAsked asked requests (Some e) pool → is_finished y.stage ≡ false → y.job ≡ submitted_job e.request.transfer e.request.sector e.request.count
     → AreAsked (slice_set asked (e.request.number - 1) y) requests (Some e) pool
 told_set asked requests e pool y h unended job = record {
   each = λ i r at. others asked e.request.number y r is.positive (differs requests e i r h.once at) (h.each i r at);
@@ -129,7 +129,7 @@ none_freed pool [] none = refl
 none_freed pool (f ∷ frames) none = absurd (omega arith)
 
 -- a request that was accepted is open, under the next number
-pub asked_more : (asked : List Asked) (requests : List Request) (ending : Option Ending) (pool taken : List Bool) (r : Request) (q : Asked) → r.number ≡ length asked + 1 → q.job ≡ job_of r.transfer r.sector r.count → is_finished q.stage ≡ false → IsCounted r.transfer r.count
+pub asked_more : (asked : List Asked) (requests : List Request) (ending : Option Ending) (pool taken : List Bool) (r : Request) (q : Asked) → r.number ≡ length asked + 1 → q.job ≡ submitted_job r.transfer r.sector r.count → is_finished q.stage ≡ false → IsCounted r.transfer r.count
     → taking (frames_for r.count + pages_for r.count) pool [] ≡ Some (r.frames.items, taken) → AreAsked asked requests ending pool → AreAsked (asked ++ q ∷ []) (requests ++ r ∷ []) ending taken
 asked_more asked requests ending pool taken r q number job unended counted frames h = record {
   each = λ i p e. elim (push_was requests r i p e) [ inl was ↦ grown p (h.each i p was) | inr new ↦ subst (IsAsked (asked ++ q ∷ [])) (sym new.1) own ];

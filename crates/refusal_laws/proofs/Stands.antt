@@ -27,7 +27,7 @@ use Rattle.blk_front.specs.Pool.{with_all_free}
 use Rattle.blk_front.specs.View.{View}
 use Rattle.blk_front.specs.Submit.{is_ready}
 use Rattle.vbd_front.specs.View.{is_broken}
-use Rattle.machine_pipeline.proofs.Flow.{ending_at, job_of}
+use Rattle.machine_pipeline.proofs.Flow.{ending_at, submitted_job}
 use Rattle.machine_pipeline.proofs.Holds.{AreOffered}
 use Rattle.refusal_laws.specs.Ruled.{at_stage}
 use Rattle.refusal_laws.proofs.Asked.{IsAsked, AreAsked, told_set, ended_set}
@@ -128,7 +128,7 @@ module _ (config : Options) (k : Share) (ready : Bool) (e : Ending) (s : Sight) 
   now = stepped asked e.request.number is.x to is.positive is.at
 
   -- it is done
-  pub line_ends : is_finished (to (job_of e.request.transfer e.request.sector e.request.count)) ≡ true
+  pub line_ends : is_finished (to (submitted_job e.request.transfer e.request.sector e.request.count)) ≡ true
       → Stands config (record k { pool = with_all_free k.pool e.request.frames.items }) ready false None s (at_stage asked e.request.number to (request_of asked e.request.number))
   line_ends done =
       subst (λ (l : List Asked). Stands config (record k { pool = with_all_free k.pool e.request.frames.items }) ready false None s l) (sym now)
@@ -136,14 +136,14 @@ module _ (config : Options) (k : Share) (ready : Bool) (e : Ending) (s : Sight) 
       (ended_set asked k.requests e k.pool y all (ap (λ (job : Job). is_finished (to job)) is.job ∙ done)))
 
   -- or not yet
-  pub line_tells : is_finished (to (job_of e.request.transfer e.request.sector e.request.count)) ≡ false → Stands config k ready false (Some e) s (at_stage asked e.request.number to (request_of asked e.request.number))
+  pub line_tells : is_finished (to (submitted_job e.request.transfer e.request.sector e.request.count)) ≡ false → Stands config k ready false (Some e) s (at_stage asked e.request.number to (request_of asked e.request.number))
   line_tells undone =
       subst (λ (l : List Asked). Stands config k ready false (Some e) s l) (sym now)
       (with_asked config k ready (Some e) (Some e) s asked (slice_set asked (e.request.number - 1) y) k.requests k.pool h (length-set asked (e.request.number - 1) y)
       (told_set asked k.requests e k.pool y all (ap (λ (job : Job). is_finished (to job)) is.job ∙ undone) is.job))
 
 -- an answer ends it, but of a read that went well
-pub told_end : (way : Transfer) (sector count : ℕ) (answer : Status) → is_finished (told_stage (job_of way sector count) answer) ≡ not (has_data way answer)
+pub told_end : (way : Transfer) (sector count : ℕ) (answer : Status) → is_finished (told_stage (submitted_job way sector count) answer) ≡ not (has_data way answer)
 told_end transfer.Read sector count status.Okay = refl
 told_end transfer.Read sector count status.Error = refl
 told_end transfer.Read sector count status.Unsupported = refl
@@ -153,7 +153,7 @@ told_end transfer.Flush sector count answer = refl
 told_end (transfer.Discard sectors) sector count answer = refl
 
 -- and its last sector does
-pub next_end : (sector count index : ℕ) → is_finished (next_stage (job_of transfer.Read sector count) index) ≡ not (nat_lt (index + 1) count)
+pub next_end : (sector count index : ℕ) → is_finished (next_stage (submitted_job transfer.Read sector count) index) ≡ not (nat_lt (index + 1) count)
 next_end sector count index = by_test (nat_lt (index + 1) count)
   where
     by_test : (b : Bool) → is_finished (if b then Telling (index + 1) else Finished) ≡ not b

@@ -30,7 +30,7 @@ use Rattle.blk_front.specs.View.{View, next_request}
 use Rattle.blk_front.specs.Submit.{is_ready}
 use Rattle.blk_front.specs.Step.{at, broken, looked, loop_step, entered, begun, after_data, data_stage, page_stage, granted, found_at, issued, freed, revokes, answered, taken, response_at, is_mapped, finished, ended, revoked, data_step, left_step, ring_left, pushed, step_at, step_of}
 use Rattle.split_model.specs.Shown.{front_lines}
-use Rattle.machine_pipeline.proofs.Flow.{ending_at, job_of}
+use Rattle.machine_pipeline.proofs.Flow.{ending_at, submitted_job}
 use Rattle.vbd_front.specs.View.{is_broken}
 use Rattle.refusal_laws.specs.Ruled.{asked_step}
 use Rattle.refusal_laws.proofs.Asked.{IsAsked, asked_taken, none_freed}
@@ -186,8 +186,8 @@ module _ (config : Options) (s : Sight) (asked : List Asked) (v : View) (untold 
     abbrev line_asked : List Asked
     line_asked = asked_step asked (lines.Data e.request.number (n / 128) words)
 
-    next_read : is_finished (next_stage (job_of e.request.transfer e.request.sector e.request.count) (n / 128)) ≡ not (nat_lt (n / 128 + 1) e.request.count)
-    next_read = ap (λ (way : Transfer). is_finished (next_stage (job_of way e.request.sector e.request.count) (n / 128))) read ∙ next_end e.request.sector e.request.count (n / 128)
+    next_read : is_finished (next_stage (submitted_job e.request.transfer e.request.sector e.request.count) (n / 128)) ≡ not (nat_lt (n / 128 + 1) e.request.count)
+    next_read = ap (λ (way : Transfer). is_finished (next_stage (submitted_job way e.request.sector e.request.count) (n / 128))) read ∙ next_end e.request.sector e.request.count (n / 128)
 
     data_more : (ready : Bool) → (n % 128 == 127) ≡ true → nat_lt (n + 1) (words_in e.request) ≡ true → At ready v.ending → Stands config (share_of v) ready false v.ending s line_asked
     data_more ready last more h =

@@ -26,7 +26,7 @@ use Rattle.blk_front.specs.View.{View}
 use Rattle.blk_front.specs.Submit.{is_ready, ending_of, unfinished, wished, wish_of, most_segments, frames_taken, request_with, accepted, submit_with, submit_one, submit_of}
 use Rattle.split_model.specs.Happening.{submit_line}
 use Rattle.machine_pipeline.specs.Allowed.{IsServable}
-use Rattle.machine_pipeline.proofs.Flow.{ending_at, count_of, job_of}
+use Rattle.machine_pipeline.proofs.Flow.{ending_at, count_of, submitted_job}
 use Rattle.machine_pipeline.proofs.Growing.{longer}
 use Rattle.machine_pipeline.proofs.Refusing.{answer_of, AreAlike, ruled_alike}
 use Rattle.machine_pipeline.proofs.Submissions.{moves_some, moves_none}
@@ -127,7 +127,7 @@ module _ (P : Result ℕ Refusal × View → Type 0) (v : View) (job : Job) (ref
 
 -- the wish is the job's
 abbrev IsOf : Offers → Job → Wish → Type 0
-IsOf offers job wish = nat_lt (most_segments offers wish.transfer) (frames_for wish.count) ≡ false → (job ≡ job_of wish.transfer wish.sector wish.count) × IsCounted wish.transfer wish.count
+IsOf offers job wish = nat_lt (most_segments offers wish.transfer) (frames_for wish.count) ≡ false → (job ≡ submitted_job wish.transfer wish.sector wish.count) × IsCounted wish.transfer wish.count
 
 offered_wish : (offered : Bool) (x wish : Wish) → wished offered x ≡ Some wish → x ≡ wish
 offered_wish true x wish e = same_Some x wish e
@@ -148,7 +148,7 @@ submit_goes config s asked v job some keeps =
     h : Stands config (share_of v) (is_ready v.stage) (is_broken v.stage) (ending_at v.stage v.ending) s asked
     h = keeps.0
 
-    goes : (wish : Wish) (taken : List ℕ × List Bool) → is_ready v.stage ≡ true → taking (frames_taken wish.count) v.pool [] ≡ Some taken → (job ≡ job_of wish.transfer wish.sector wish.count) × IsCounted wish.transfer wish.count
+    goes : (wish : Wish) (taken : List ℕ × List Bool) → is_ready v.stage ≡ true → taking (frames_taken wish.count) v.pool [] ≡ Some taken → (job ≡ submitted_job wish.transfer wish.sector wish.count) × IsCounted wish.transfer wish.count
         → Stands config (share_of (accepted v wish taken)) (is_ready v.stage) (is_broken v.stage) (ending_at v.stage v.ending) s (asked ++ opened job ∷ [])
     goes wish taken ready frames is = record {
       options = h.options;

@@ -31,7 +31,7 @@ use Rattle.back_jobs.specs.declared.stage.Stage.{Stage as JobStage}
 use Rattle.back_jobs.specs.declared.stage.Stage.TheVariants as job
 use Rattle.back_jobs.specs.Task as task
 use Rattle.back_jobs.specs.Task.{Work, sector_stage, next_sector, next_segment, counted, first_of, last_of, rest_of, is_copied_out, copied, passes, judged, page_done, id_of, response_op, ended, frameless, moving, paging, served, begun}
-use Rattle.back_jobs.specs.Jobs.{place_of, work_at, work_of, told_at, removed_at, behind_mapping, first_mapping, mapping_at, is_done, response_of, response_at, effect_at, effect_of}
+use Rattle.back_jobs.specs.Jobs.{place_of, work_at, work_of, told_at, removed_at, after_mapping, first_mapping, mapping_at, is_done, response_of, response_at, effect_at, effect_of}
 use Rattle.blk_back.specs.declared.stage.Reply.{Reply}
 use Rattle.blk_back.specs.declared.stage.Stage.{Stage}
 use Rattle.blk_back.specs.declared.stage.Stage.TheVariants as stage
@@ -41,7 +41,7 @@ use Rattle.blk_back.specs.declared.told.Halt.{Halt}
 use Rattle.blk_back.specs.declared.told.Halt.TheVariants as halt
 use Rattle.blk_back.specs.View.{View, info_of, new_of, start_of}
 use Rattle.blk_back.specs.Ask.{reply_of, next_reply, next_gref}
-use Rattle.blk_back.specs.Step.{giving_up, give_up, unbound, bound, other_pages, attached, halts, overrun, looked, loop_step, next_number, fetched, fetch_step, step_at, step_of, told_effect, job_step}
+use Rattle.blk_back.specs.Step.{unmapping_next, abort, unbound, bound, other_pages, attached, halts, overrun, looked, loop_step, next_number, fetched, fetch_step, step_at, step_of, told_effect, job_step}
 use Rattle.split_model.specs.Shown.{back_lines, halt_line, halt_lines}
 use Rattle.move_laws.proofs.Jobs.{direct_served}
 use Rattle.split_model.proofs.States.{halts_cases}
@@ -198,7 +198,7 @@ step_work (job.DiskRead m) t answer.DiskFailed h w told = (w.0, tt)
 step_work (job.WriteWord m k) t answer.Done h w told =
     either_work (k == 127) (next_sector t m) (record t { stage = job.WriteWord m (k + 1) }) (λ last. next_sector_fits t m w.0 h) (λ more. (w.0, h))
 step_work (job.Unmap m) t answer.Done h w told = next_segment_fits t (rest_of t.rest) (lists_now (rest_of t.rest) t.pages (rest_grefs t.rest w.0.grefs) w.0.listed w.0) h.0 h.1
-step_work (job.GiveUp m) t answer.Done h w told = (w.0, tt)
+step_work (job.Abort m) t answer.Done h w told = (w.0, tt)
 step_work job.Flush t answer.Done h w told = (w.0, tt)
 step_work job.Flush t answer.DiskFailed h w told = (w.0, tt)
 step_work (job.Trim count) t answer.Done h w told = (w.0, tt)
@@ -308,11 +308,11 @@ removed_works : (works : List Work) (place : Option ℕ) → All IsWork works �
 removed_works works None all = all
 removed_works works (Some place) all = All-append IsWork _ _ (All-take IsWork place works all) (All-drop IsWork (suc place) works all)
 
-later_works : (works : List Work) → All IsWork works → All IsWork (behind_mapping works)
+later_works : (works : List Work) → All IsWork works → All IsWork (after_mapping works)
 later_works [] all = all
 later_works (t ∷ works) all = let rest = All-tail IsWork t works all in by_hand (is_some (mapping_at t.stage)) rest (later_works works rest)
   where
-    by_hand : (b : Bool) → All IsWork works → All IsWork (behind_mapping works) → All IsWork (cond b works (behind_mapping works))
+    by_hand : (b : Bool) → All IsWork works → All IsWork (after_mapping works) → All IsWork (cond b works (after_mapping works))
     by_hand true rest less = rest
     by_hand false rest less = less
 
@@ -377,17 +377,17 @@ entry_now : {most count prod : ℕ} {works : List Work} {info : DiskInfo} {entry
     → AreNumbers most count prod works info entry grefs port halted → AreNumbers most count prod works info now grefs port halted
 entry_now now copied k = record { few = k.few; produced = k.produced; jobs = k.jobs; sized = k.sized; copied = copied; said = k.said; why = k.why }
 
-giving_words : (m : Option Mapping) → HasWords (giving_up m)
+giving_words : (m : Option Mapping) → HasWords (unmapping_next m)
 giving_words None = tt
 giving_words (Some m) = tt
 
-give_up_fits : (most : ℕ) (v : View) (why : Option Halt) → HaltsWith why → IsFit most v → IsFit most (give_up (record v { halted = why }))
-give_up_fits most v why halts f = (jobs_now (behind_mapping v.jobs.works) why (later_works v.jobs.works f.0.jobs) halts f.0, giving_words (first_mapping v.jobs.works), f.2)
+abort_fits : (most : ℕ) (v : View) (why : Option Halt) → HaltsWith why → IsFit most v → IsFit most (abort (record v { halted = why }))
+abort_fits most v why halts f = (jobs_now (after_mapping v.jobs.works) why (later_works v.jobs.works f.0.jobs) halts f.0, giving_words (first_mapping v.jobs.works), f.2)
 
 looked_fits : (most : ℕ) (v : View) (word : ℕ) (otherwise : View) → word < 2 ^ 32 → IsFit most v → IsFit most otherwise → IsFit most (looked v word otherwise)
 looked_fits most v word otherwise small f h =
     either most (overruns v.ring word) (overrun v word) (if word == v.ring.cons then otherwise else record v { seen = word; stage = stage.Loop })
-    (give_up_fits most v (Some (halt.Overrun word v.ring.prod)) (good (lines.Halt (halt_line (halt.Overrun word v.ring.prod))) (small, f.0.produced) refl) f) (either most (word == v.ring.cons) otherwise (record v { seen = word; stage = stage.Loop }) h (f.0, tt, f.2))
+    (abort_fits most v (Some (halt.Overrun word v.ring.prod)) (good (lines.Halt (halt_line (halt.Overrun word v.ring.prod))) (small, f.0.produced) refl) f) (either most (word == v.ring.cons) otherwise (record v { seen = word; stage = stage.Loop }) h (f.0, tt, f.2))
 
 -- the reply to a job that is done
 abbrev pub IsNext : Option Reply → Type 0
@@ -474,7 +474,7 @@ step_fits most stage.Send v a more low h f small = (f.0, tt, f.2)
 step_fits most stage.StoreEvent v a more low h f small = (f.0, tt, f.2)
 step_fits most stage.EventFence v a more low h f small = (f.0, tt, f.2)
 step_fits most stage.LookAgain v (answer.Word word) more low h f small = looked_fits most v word (record v { seen = word; stage = stage.Loop; asleep = true }) small f (f.0, tt, f.2)
-step_fits most (stage.GiveUp m) v a more low h f small = give_up_fits most v v.halted f.0.why f
+step_fits most (stage.Abort m) v a more low h f small = abort_fits most v v.halted f.0.why f
 step_fits most stage.UnmapRing v a more low h f small = (f.0, bound_words (other_pages v.pages), f.2)
 step_fits most stage.ClosePort v a more low h f small = (f.0, tt, f.2)
 step_fits most stage.UnmapUnbound v a more low h f small = (f.0, unbound_words (other_pages v.pages), f.2)
@@ -489,7 +489,7 @@ attached_fits most shape grefs port v said f = let k = f.0 in (record { few = k.
 
 -- its negotiation has it halt
 pub halts_fits : (most : ℕ) (why : Halt) (v : View) → IsSaid why → IsFit most v → IsFit most (halts why v)
-halts_fits most why v said f = halts_cases (IsFit most) why v (λ here. (jobs_now v.jobs.works (Some why) f.0.jobs said f.0, unbound_words v.pages, f.2)) (λ here. give_up_fits most v (Some why) said f) f
+halts_fits most why v said f = halts_cases (IsFit most) why v (λ here. (jobs_now v.jobs.works (Some why) f.0.jobs said f.0, unbound_words v.pages, f.2)) (λ here. abort_fits most v (Some why) said f) f
 
 -- an answer of a job's ask
 effect_told : (s : JobStage) (t : Work) (a : BackAnswer) → IsWork t → TellsWords (told_effect (effect_at s t a))

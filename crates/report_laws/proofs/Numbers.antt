@@ -72,7 +72,7 @@ step_few stage.Send v x = omega arith
 step_few stage.StoreEvent v x = omega arith
 step_few stage.EventFence v x = omega arith
 step_few stage.LookAgain v (answer.Word word) = looked_few v word (record v { seen = word; stage = stage.Loop; asleep = true }) (v.fetched + 1) (omega arith) (omega arith)
-step_few (stage.GiveUp m) v x = omega arith
+step_few (stage.Abort m) v x = omega arith
 step_few stage.UnmapRing v x = omega arith
 step_few stage.ClosePort v x = omega arith
 step_few stage.UnmapUnbound v x = omega arith

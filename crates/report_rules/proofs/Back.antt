@@ -7,7 +7,7 @@ use Rattle.std.proofs.lemmas.List.Folds.{list_any-append}
 use Rattle.report_rules.specs.declared.standing.Standing.{Standing}
 use Rattle.std.proofs.lemmas.List.{reverse-append, reverse-reverse, drop_all, drop-append-le}
 use Rattle.schedule_text.specs.declared.line.Line.{Line}
-use Rattle.report_rules.specs.Standing.{this_epoch, is_epoch, is_unmap_of, unless_unmapped, left_of, standing_behind, mapping_made}
+use Rattle.report_rules.specs.Standing.{this_epoch, is_epoch, is_unmap_of, unless_unmapped, left_of, standing_after, mapping_made}
 use Rattle.report_rules.specs.Value.{value_before, value_after}
 
 pub value_more : (before : List Line) (line : Line) (frame word : ℕ) → value_before (before ++ line ∷ []) frame word ≡ value_after (record { frame = frame; word = word }) (value_before before frame word) before line
@@ -71,5 +71,5 @@ picked true xs ys e = refl
 picked false xs ys e = e
 
 -- the mappings that stand, with one line more: none after an epoch
-pub standing_more : (before : List Line) (line : Line) → standing_behind (before ++ line ∷ []) ≡ (if is_epoch line then [] else filter (λ (s : Standing). not (is_unmap_of s.number line)) (standing_behind before) ++ option_to_list (mapping_made line))
-standing_more before line = ap left_of (epoch_more before line) ∙ picked (is_epoch line) (this_epoch before ++ line ∷ []) (filter (λ (s : Standing). not (is_unmap_of s.number line)) (standing_behind before) ++ option_to_list (mapping_made line)) (left_more (this_epoch before) line)
+pub standing_more : (before : List Line) (line : Line) → standing_after (before ++ line ∷ []) ≡ (if is_epoch line then [] else filter (λ (s : Standing). not (is_unmap_of s.number line)) (standing_after before) ++ option_to_list (mapping_made line))
+standing_more before line = ap left_of (epoch_more before line) ∙ picked (is_epoch line) (this_epoch before ++ line ∷ []) (filter (λ (s : Standing). not (is_unmap_of s.number line)) (standing_after before) ++ option_to_list (mapping_made line)) (left_more (this_epoch before) line)

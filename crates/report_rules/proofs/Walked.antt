@@ -17,7 +17,7 @@ use Rattle.report_rules.specs.declared.step.Step.{Step}
 use Rattle.report_rules.specs.declared.job.Fetched.{Fetched}
 use Rattle.report_rules.specs.Standing.{this_epoch}
 use Rattle.report_rules.specs.Step.{steps_in, steps_of, is_step, is_refusal, begins_on_frame, may_be_missing, left_by, are_first_of, job_step, moves_of, work_of}
-use Rattle.report_rules.specs.Walk.{step_at, is_step_at, spot, mapping_after, spot_behind, is_unmapped_step, spot_in, advanced, walked, walk_of, spot_of}
+use Rattle.report_rules.specs.Walk.{step_at, is_step_at, spot, mapping_after, spot_after, is_unmapped_step, spot_in, advanced, walked, walk_of, spot_of}
 use Rattle.report_rules.specs.Steps.{failed_in, IsThrough, IsNextStep, IsStepOf}
 use Rattle.report_rules.proofs.StepPlaces.{at_place, drop_at, drop_past}
 use Rattle.report_rules.proofs.MissingMaps.{missing_at, missing, IsSkipped, skipped}
@@ -54,7 +54,7 @@ record Goes (work : List Task) (s : Spot) (later : List Step) : Type 0 where
   left : left_at work s ≡ later
   placed : IsPlaced work s.done s.place
 
-goes_on : (work : List Task) (done place : ℕ) (t : Task) (mapping : Option ℕ) (m : Move) → slice_get work done ≡ Some t → Goes work (spot_behind done t place mapping m) (left_by m (later_steps work done t place))
+goes_on : (work : List Task) (done place : ℕ) (t : Task) (mapping : Option ℕ) (m : Move) → slice_get work done ≡ Some t → Goes work (spot_after done t place mapping m) (left_by m (later_steps work done t place))
 goes_on work done place t mapping m found = by_next (step_at t (place + 1)) refl
   where
     next : place + 1 ≡ suc place
@@ -103,7 +103,7 @@ Agrees persistent work moves = (s : Spot) → IsPlaced work s.done s.place → i
 step_agrees : (persistent : Bool) (work : List Task) (m : Move) (moves : List Move) (done place : ℕ) (mapping : Option ℕ) (t : Task) (x : Step) → slice_get work done ≡ Some t → step_at t place ≡ Some x → Agrees persistent work moves
     → is_some (walks persistent work (spot_in persistent done (Some t) place mapping m) moves) ≡ are_first_of persistent (m ∷ moves) (drop place (steps_of (drop done work)))
 step_agrees persistent work m moves done place mapping t x found here agrees =
-    ap (λ (o : Option Step). is_some (walks persistent work (if is_step_at o m then Some (spot_behind done t place mapping m) else (if is_unmapped_step persistent t place m then Some (spot_behind done t 1 mapping m) else None)) moves)) here
+    ap (λ (o : Option Step). is_some (walks persistent work (if is_step_at o m then Some (spot_after done t place mapping m) else (if is_unmapped_step persistent t place m then Some (spot_after done t 1 mapping m) else None)) moves)) here
     ∙ (by_tests (is_step x m) (is_unmapped_step persistent t place m) refl
     ∙ sym (ap (are_first_of persistent (m ∷ moves)) (at_step work done place t x found here)))
   where
@@ -113,7 +113,7 @@ step_agrees persistent work m moves done place mapping t x found here agrees =
     may : is_unmapped_step persistent t place m ≡ (may_be_missing persistent x && begins_on_frame (later_steps work done t place) m)
     may = missing persistent t place (drop (suc done) work) m ∙ ap (λ (o : Option Step). missing_at persistent o && begins_on_frame (later_steps work done t place) m) here
 
-    taken : Goes work (spot_behind done t place mapping m) (left_by m (later_steps work done t place))
+    taken : Goes work (spot_after done t place mapping m) (left_by m (later_steps work done t place))
     taken = goes_on work done place t mapping m found
 
     past : is_unmapped_step persistent t place m ≡ true → are_first_of persistent moves (left_by m (later_steps work done t 1)) ≡ are_first_of persistent moves (left_by m (drop 1 (later_steps work done t place)))
@@ -127,12 +127,12 @@ step_agrees persistent work m moves done place mapping t x found here agrees =
             sym (ap (λ (n : ℕ). are_first_of persistent moves (left_by m (drop 1 (later_steps work done t n)))) first
             ∙ ap (λ (l : List Step). are_first_of persistent moves (left_by m (drop 1 (l ++ steps_of (drop (suc done) work))))) (drop_at (steps_in t) 1 y (at_place t 1 ∙ e)))
 
-    by_tests : (b u : Bool) → is_unmapped_step persistent t place m ≡ u → is_some (walks persistent work (if b then Some (spot_behind done t place mapping m) else (if u then Some (spot_behind done t 1 mapping m) else None)) moves)
+    by_tests : (b u : Bool) → is_unmapped_step persistent t place m ≡ u → is_some (walks persistent work (if b then Some (spot_after done t place mapping m) else (if u then Some (spot_after done t 1 mapping m) else None)) moves)
         ≡ (if b then are_first_of persistent moves (left_by m (later_steps work done t place)) else (may_be_missing persistent x && begins_on_frame (later_steps work done t place) m && are_first_of persistent moves (left_by m (drop 1 (later_steps work done t place)))))
-    by_tests true u e = agrees (spot_behind done t place mapping m) taken.placed ∙ ap (are_first_of persistent moves) taken.left
+    by_tests true u e = agrees (spot_after done t place mapping m) taken.placed ∙ ap (are_first_of persistent moves) taken.left
     by_tests false true e =
-        let g : Goes work (spot_behind done t 1 mapping m) (left_by m (later_steps work done t 1)) = goes_on work done 1 t mapping m found in
-        agrees (spot_behind done t 1 mapping m) g.placed
+        let g : Goes work (spot_after done t 1 mapping m) (left_by m (later_steps work done t 1)) = goes_on work done 1 t mapping m found in
+        agrees (spot_after done t 1 mapping m) g.placed
         ∙ (ap (are_first_of persistent moves) g.left
         ∙ (past e ∙ sym (and_all (may_be_missing persistent x) (begins_on_frame (later_steps work done t place) m) _ (sym may ∙ e))))
     by_tests false false e = ap (λ (o : Option Spot). is_some o) (walks_none persistent work moves) ∙ sym (and_none (may_be_missing persistent x) (begins_on_frame (later_steps work done t place) m) _ (sym may ∙ e))

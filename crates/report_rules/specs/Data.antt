@@ -13,14 +13,14 @@ words_in (lines.EffectRead id index words) = Some words
 words_in line = None
 
 -- the words that the first of these lines shows, if it is the effect of a read
-abbrev pub words_behind : List Line → Option (List ℕ)
-words_behind [] = None
-words_behind (line ∷ later) = words_in line
+abbrev pub words_after : List Line → Option (List ℕ)
+words_after [] = None
+words_after (line ∷ later) = words_in line
 
 -- the words that the disk gave at the last move of job k, where these were known before
 abbrev pub words_from : Option (List ℕ) → ℕ → List Line → Option (List ℕ)
 words_from known k [] = known
-words_from known k (line ∷ later) = words_from (if is_job k (disk_mover line) then words_behind later else known) k later
+words_from known k (line ∷ later) = words_from (if is_job k (disk_mover line) then words_after later else known) k later
 
 -- a word that a job writes is the word at that place of the sector that it read last
 abbrev pub IsDataAt : List Line → Line → Type 0

@@ -1,4 +1,4 @@
--- The mappings that jobs made and that stand (`grant_table.h`): what a job has to give up before its reply, whoever unmaps it, and what may be kept under persistent grants (`io/blkif.h`, feature-persistent).
+-- The mappings that jobs made and that stand (`grant_table.h`): what a job has to unmap before its reply, whoever unmaps it, and what may be kept under persistent grants (`io/blkif.h`, feature-persistent).
 use Rattle.std.specs.Prelude.{ℕ, Bool, ◌&&◌, if◌then◌else◌, List, [], ◌∷◌, Option, Some, None}
 use Rattle.std.specs.List.{list_all, cons_option}
 use Rattle.blk_base.specs.declared.moves.BackMover.TheVariants as back
@@ -30,8 +30,8 @@ abbrev pub may_stand : Bool → Standing → Bool
 may_stand persistent s = persistent && is_for_writing s.mode
 
 -- no mapping that job k made stands, but those that may
-abbrev pub gave_up : List Line → ℕ → Bool
-gave_up before k = list_all (may_stand (is_persistent before)) (held_by k before)
+abbrev pub has_unmapped : List Line → ℕ → Bool
+has_unmapped before k = list_all (may_stand (is_persistent before)) (held_by k before)
 
 -- a mapping for writing that a job made in a line, whichever job
 abbrev pub made_for_writing : Line → Option Standing

@@ -38,8 +38,8 @@ abbrev pub overran_back : List Line → Bool
 overran_back [] = false
 overran_back (line ∷ earlier) = overran_after (overran_back earlier) (reverse earlier) line
 
-abbrev pub overran_behind : List Line → Bool
-overran_behind before = overran_back (reverse before)
+abbrev pub has_overrun : List Line → Bool
+has_overrun before = overran_back (reverse before)
 
 -- the back serves: it touches memory, maps, moves the disk, or replies
 abbrev pub is_service : Line → Bool
@@ -63,7 +63,7 @@ is_service line = false
 pub record IsOverrunAt (before : List Line) (line : Line) : Type 0 where
   pub halted : IfSome (overrun_shown before) (λ o. line ≡ lines.Halt (halts.Overrun o.produced o.replied))
   pub only : (produced replied : ℕ) → line ≡ lines.Halt (halts.Overrun produced replied) → overrun_shown before ≡ Some (record { produced = produced; replied = replied })
-  pub serves_nothing : IsTrue (overran_behind before) → is_service line ≡ false
+  pub serves_nothing : IsTrue (has_overrun before) → is_service line ≡ false
 
 abbrev pub IsOverrunRule : List Line → Type 0
 IsOverrunRule report = Obeys IsOverrunAt report

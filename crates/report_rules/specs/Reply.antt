@@ -19,7 +19,7 @@ use Rattle.report_rules.specs.Ring.{ring_word, ring_shape, replied_before}
 use Rattle.report_rules.specs.Stretch.{is_back_move}
 use Rattle.report_rules.specs.Work.{work_verdict, status_by, work_response}
 use Rattle.report_rules.specs.Job.{when, entry_values, fetched_of}
-use Rattle.report_rules.specs.Made.{gave_up}
+use Rattle.report_rules.specs.Made.{has_unmapped}
 use Rattle.report_rules.specs.Step.{values_read, work_of}
 use Rattle.report_rules.specs.Walk.{spot_of}
 use Rattle.report_rules.specs.Steps.{failed_in}
@@ -111,10 +111,10 @@ may_answer early answered last row k = not (is_one_of k answered) && is_like las
 abbrev pub most_jobs : List Line → ℕ
 most_jobs before = length (entry_values before) / 27
 
--- the job of a row that was pushed: the lowest that it may answer and that gave up what it mapped
+-- the job of a row that was pushed: the lowest that it may answer and that unmapped what it mapped
 abbrev pub job_for : List Line → List Line → List ℕ → Option (List ℕ) → Option ℕ
 job_for before early answered None = None
-job_for before early answered (Some row) = lowest (λ (k : ℕ). may_answer early answered 2 row k && gave_up before k) (most_jobs early)
+job_for before early answered (Some row) = lowest (λ (k : ℕ). may_answer early answered 2 row k && has_unmapped before k) (most_jobs early)
 
 -- the word that is written next: one of the slot's, or rsp_prod
 abbrev pub next_place : List Line → Shape → ℕ

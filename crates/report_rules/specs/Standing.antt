@@ -41,8 +41,8 @@ left_of [] = []
 left_of (line ∷ later) = cons_option (unless_unmapped later (mapping_made line)) (left_of later)
 
 -- the mappings that stand after these lines, in the order in which they were made
-abbrev pub standing_behind : List Line → List Standing
-standing_behind before = left_of (this_epoch before)
+abbrev pub standing_after : List Line → List Standing
+standing_after before = left_of (this_epoch before)
 
 -- the mapping of a number
 abbrev pub numbered : ℕ → List Standing → Option Standing

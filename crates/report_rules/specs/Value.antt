@@ -7,7 +7,7 @@ use Rattle.schedule_text.specs.declared.line.Line.{Line}
 use Rattle.schedule_text.specs.declared.line.Line.TheVariants as lines
 use Rattle.report_rules.specs.declared.value.Cell.{Cell}
 use Rattle.report_rules.specs.declared.standing.Standing.{Standing}
-use Rattle.report_rules.specs.Standing.{standing_behind, numbered, others_of, other_writers_of}
+use Rattle.report_rules.specs.Standing.{standing_after, numbered, others_of, other_writers_of}
 
 abbrev pub is_cell : Cell → ℕ → ℕ → Bool
 is_cell cell frame word = (frame == cell.frame) && (word == cell.word)
@@ -38,7 +38,7 @@ value_after cell value before (lines.Move (moves.FrontWrite frame word written))
 value_after cell value before (lines.Move (moves.FrontCas frame word old new seen)) = if seen == old then after_write cell value frame word new else value
 value_after cell value before (lines.Move (moves.Write who number frame word written)) = after_write cell value frame word written
 value_after cell value before (lines.Move (moves.Map who gref mode number frame)) = after_map cell value gref mode
-value_after cell value before (lines.Move (moves.Unmap who number)) = after_unmap cell value (standing_behind before) (numbered number (standing_behind before))
+value_after cell value before (lines.Move (moves.Unmap who number)) = after_unmap cell value (standing_after before) (numbered number (standing_after before))
 value_after cell value before (lines.Poke frame word written) = after_write cell value frame word written
 value_after cell value before lines.Epoch = if nat_lt cell.frame 2 then 0 else value
 value_after cell value before line = value

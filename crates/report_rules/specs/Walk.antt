@@ -55,8 +55,8 @@ mapping_after mapping (moves.Write who number frame word value) = Some number
 mapping_after mapping move = mapping
 
 -- after the step at a place of a task
-abbrev pub spot_behind : ℕ → Task → ℕ → Option ℕ → Move → Spot
-spot_behind done task place mapping move =
+abbrev pub spot_after : ℕ → Task → ℕ → Option ℕ → Move → Spot
+spot_after done task place mapping move =
     if is_none (step_at task (place + 1)) then spot (done + 1) 0 (is_refusal move) None
     else spot done (place + 1) (is_refusal move) (mapping_after mapping move)
 
@@ -67,8 +67,8 @@ is_unmapped_step persistent task place move = persistent && is_on_data task && (
 abbrev pub spot_in : Bool → ℕ → Option Task → ℕ → Option ℕ → Move → Option Spot
 spot_in persistent done None place mapping move = None
 spot_in persistent done (Some task) place mapping move =
-    if is_step_at (step_at task place) move then Some (spot_behind done task place mapping move)
-    else (if is_unmapped_step persistent task place move then Some (spot_behind done task 1 mapping move)
+    if is_step_at (step_at task place) move then Some (spot_after done task place mapping move)
+    else (if is_unmapped_step persistent task place move then Some (spot_after done task 1 mapping move)
     else None)
 
 -- a move takes a job one step on; none where it isn't the next step, or a map was refused before

@@ -4,7 +4,7 @@ ghost use Rattle.schedule_text.specs.declared.line.Line.TheVariants as lines;
 ghost use Rattle.report_rules.specs.Job.{back_mover_job, mover_job};
 ghost use Rattle.report_rules.specs.Step.{is_refusal, stepper};
 ghost use Rattle.report_rules.specs.Steps.{gref_of, touched_by};
-ghost use Rattle.report_rules.specs.Walk.{is_on_data, mapping_after, spot_behind, is_unmapped_step, advanced};
+ghost use Rattle.report_rules.specs.Walk.{is_on_data, mapping_after, spot_after, is_unmapped_step, advanced};
 
 use crate::step::{is_step_at, later_step};
 use crate::work::Task;
@@ -88,7 +88,7 @@ fn mapping_after(mapping: Option<u64>, made: &Move) -> Option<u64>
 // How far a job came after the step at a place of a task.
 fn spot_after(done: usize, task: &Task, place: u64, mapping: Option<u64>, made: &Move) -> Spot
     requires { done < 2 ^ 63 }
-    ensures { result ≡ spot_behind done task.now place mapping made.now }
+    ensures { result ≡ spot_after done task.now place mapping made.now }
 {
     let refused = is_refusal(made);
     match later_step(task, place) {

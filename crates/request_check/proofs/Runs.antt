@@ -9,7 +9,7 @@ use Rattle.plain_disk.specs.Disk.{Disk, disk_of}
 use Rattle.plain_disk.specs.Step.{step, after}
 use Rattle.plain_disk.specs.Refusal.{requests_in}
 use Rattle.request_check.specs.Rules.{disk_after, IsStateAt, IsSubmitAt, IsRefuseAt, KeepsRequests, keeps_effect, keeps_barrier, keeps_service, keeps_reply, keeps_answer, keeps_data, keeps_quiet}
-use Rattle.request_check.specs.Laws.{IsRun}
+use Rattle.request_check.specs.Laws.{IsRunFromUnknown}
 use Rattle.request_check.proofs.Stepping.{HasNext, KeepsSteps, steps_on, kept_by_step}
 
 pub after_append : (first rest : List Line) (d e : Disk) → after first d ≡ Some e → after (first ++ rest) d ≡ after rest e
@@ -66,10 +66,10 @@ runs_on before (line ∷ rest) d is obeys =
     let ends : (e : Disk) × (after rest s.0 ≡ Some e) = runs_on (before ++ line ∷ []) rest s.0 further (subst (λ (xs : List Line). Obeys KeepsRequests xs) (sym same) obeys) in
     (ends.0, ap (option_and_then (after rest)) s.1 ∙ ends.1)
 
-pub kept_is_run : (report : List Line) → Obeys KeepsRequests report → IsRun report
+pub kept_is_run : (report : List Line) → Obeys KeepsRequests report → IsRunFromUnknown report
 kept_is_run report obeys = runs_on [] report (disk_of []) refl obeys
 
-pub run_is_kept : (report : List Line) → IsRun report → Obeys IsStateAt report → Obeys IsSubmitAt report → Obeys IsRefuseAt report → Obeys KeepsRequests report
+pub run_is_kept : (report : List Line) → IsRunFromUnknown report → Obeys IsStateAt report → Obeys IsSubmitAt report → Obeys IsRefuseAt report → Obeys KeepsRequests report
 run_is_kept report run state submit refuse before rest line is =
     let whole : after (before ++ line ∷ rest) (disk_of []) ≡ Some run.0 = subst (λ (xs : List Line). after xs (disk_of []) ≡ Some run.0) is run.1 in
     let first : (x : Disk) × (disk_after before ≡ Some x) = run_before before (line ∷ rest) (disk_of []) run.0 whole in

@@ -11,14 +11,14 @@ use Rattle.request_check.specs.State.{state_after}
 use Rattle.request_check.specs.Verdicts.{allows_state, allows_submit, allows_refuse, allows_effect, allows_barrier, allows_service, allows_reply, allows_answer, allows_data, allows_quiet}
 
 -- the lines are a run of the plain disk
-abbrev pub IsRun : List Line → Type 0
-IsRun report = (d : Disk) × (after report (disk_of []) ≡ Some d)
+abbrev pub IsRunFromUnknown : List Line → Type 0
+IsRunFromUnknown report = (d : Disk) × (after report (disk_of []) ≡ Some d)
 
 abbrev pub KeptIsRun : Type 0
-KeptIsRun = (report : List Line) → Obeys KeepsRequests report → IsRun report
+KeptIsRun = (report : List Line) → Obeys KeepsRequests report → IsRunFromUnknown report
 
 abbrev pub RunIsKept : Type 0
-RunIsKept = (report : List Line) → IsRun report → Obeys IsStateAt report → Obeys IsSubmitAt report → Obeys IsRefuseAt report → Obeys KeepsRequests report
+RunIsKept = (report : List Line) → IsRunFromUnknown report → Obeys IsStateAt report → Obeys IsSubmitAt report → Obeys IsRefuseAt report → Obeys KeepsRequests report
 
 -- the verdict on the front's states, but for `closed`
 abbrev pub StatesAreDecided : Type 0

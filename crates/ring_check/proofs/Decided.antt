@@ -14,7 +14,7 @@ use Rattle.report_rules.specs.declared.standing.Standing.{Standing}
 use Rattle.report_rules.specs.declared.overrun.Overrun.{Overrun}
 use Rattle.report_rules.specs.Ring.{ring_pages, ring_shape, replied_before, produced_before}
 use Rattle.report_rules.specs.Stretch.{entry_word_read, next_index, words_within, word_touched, is_back_move, IsNextWord, IsStretchAt}
-use Rattle.report_rules.specs.Overrun.{overrun_shown, overran_behind, is_service, IsOverrunAt}
+use Rattle.report_rules.specs.Overrun.{overrun_shown, has_overrun, is_service, IsOverrunAt}
 use Rattle.ring_check.specs.State.{RingState, shape_seen, index_seen, within_seen, entry_word_on}
 use Rattle.ring_check.specs.Verdict.{is_next, is_next_read, is_between, touched_on, is_in_page, allows_stretch, is_halt_of, allows_overrun}
 use Rattle.ring_check.specs.Kept.{IsKept}
@@ -121,8 +121,8 @@ serves_decides true false = (λ e is. absurd (cc), λ h. refl)
 pub overrun_decides : (before : List Line) (s : RingState) (line : Line) → IsKept before s → Decides (allows_overrun s line) (IsOverrunAt before line)
 overrun_decides before s line k =
     let halt = is_halt_of (overrun_shown before) line in
-    let serves = not (is_service line) || not (overran_behind before) in
+    let serves = not (is_service line) || not (has_overrun before) in
     let test : allows_overrun s line ≡ (halt && serves) = rw (k.overrun, k.overran) refl in
     Decides-at (allows_overrun s line) (halt && serves) test
     (Decides-like (halt && serves) (λ all. record { halted = all.0.0; only = all.0.1; serves_nothing = all.1 }) (λ is. ((is.halted, is.only), is.serves_nothing))
-    (Decides-and halt serves (halt_decides (overrun_shown before) line) (serves_decides (is_service line) (overran_behind before))))
+    (Decides-and halt serves (halt_decides (overrun_shown before) line) (serves_decides (is_service line) (has_overrun before))))

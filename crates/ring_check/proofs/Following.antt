@@ -17,7 +17,7 @@ use Rattle.report_rules.specs.Mapped.{IsMapAnswerAt}
 use Rattle.report_rules.specs.Standing.{is_epoch, this_epoch}
 use Rattle.report_rules.specs.Ring.{page_made, order_of, ring_pages, start_told, start_of, replied_after, replied_before, produced_after, abi_after, ring_abi}
 use Rattle.report_rules.specs.Stretch.{entry_word_read}
-use Rattle.report_rules.specs.Overrun.{overrun_of, overrun_by, overrun_shown, overran_after, overran_behind}
+use Rattle.report_rules.specs.Overrun.{overrun_of, overrun_by, overrun_shown, overran_after, has_overrun}
 use Rattle.report_rules.proofs.Back.{epoch_more}
 use Rattle.ring_check.specs.State.{RingState, begun, no_lines, replied_seen, entry_word_on, producer_on, response_on, overrun_seen, further, seen, state_of}
 use Rattle.ring_check.specs.Kept.{IsKept, IsTouched}
@@ -32,7 +32,7 @@ pub record Sees (before : List Line) (s : RingState) : Type 0 where
   pub written : s.written ≡ newest (response_on (ring_pages before)) (this_epoch before)
   pub shown : s.shown ≡ newest (producer_on (ring_pages before)) (this_epoch before)
   pub words : s.words ≡ count_of (entry_word_on (ring_pages before)) (this_epoch before)
-  pub overran : s.overran ≡ overran_behind before
+  pub overran : s.overran ≡ has_overrun before
   pub overrun : s.overrun ≡ overrun_shown before
 
 pub kept_of : (before : List Line) (s : RingState) → Sees before s → IsKept before s
@@ -54,7 +54,7 @@ overrun_same before s line k =
     ∙ (ap (λ (replied : ℕ). overrun_of (order_of (length (ring_pages before))) replied (producer_on (ring_pages before) line)) k.replied
     ∙ ap (λ (told : Option ℕ). overrun_of (order_of (length (ring_pages before))) (replied_before before) told) (sym (producer_is before line)))
 
-overran_more : (before : List Line) (line : Line) → overran_behind (before ++ line ∷ []) ≡ overran_after (overran_behind before) before line
+overran_more : (before : List Line) (line : Line) → has_overrun (before ++ line ∷ []) ≡ overran_after (has_overrun before) before line
 overran_more before line = rw (reverse-append before (line ∷ []), reverse-reverse before) refl
 
 shown_more : (before : List Line) (line : Line) → overrun_shown (before ++ line ∷ []) ≡ overrun_by before line
@@ -91,7 +91,7 @@ sees_epoch before line s k made e =
       written = sym (ap (λ (xs : List Line). newest (response_on (ring_pages after)) xs) none);
       shown = sym (ap (λ (xs : List Line). newest (producer_on (ring_pages after)) xs) none);
       words = sym (ap (λ (xs : List Line). count_of (entry_word_on (ring_pages after)) xs) none);
-      overran = sym (overran_more before line ∙ ap (λ (b : Bool). if b then false else overran_behind before || is_some (overrun_by before line)) e);
+      overran = sym (overran_more before line ∙ ap (λ (b : Bool). if b then false else has_overrun before || is_some (overrun_by before line)) e);
       overrun = sym (shown_more before line ∙ epoch_shows before line e);
     }
 
@@ -111,7 +111,7 @@ sees_further before line s k made new e =
       written = rw (more, long, k.pages, k.written) (sym (newest_more response_on response_stays (ring_pages before) (this_epoch before) line new));
       shown = rw (more, long, k.pages, k.shown) (sym (newest_more producer_on producer_stays (ring_pages before) (this_epoch before) line new));
       words = rw (more, long, k.pages, k.words) (sym (count_more entry_word_on entry_stays (ring_pages before) (this_epoch before) line new));
-      overran = sym (overran_more before line ∙ (ap (λ (b : Bool). if b then false else overran_behind before || is_some (overrun_by before line)) e
+      overran = sym (overran_more before line ∙ (ap (λ (b : Bool). if b then false else has_overrun before || is_some (overrun_by before line)) e
           ∙ (ap (λ (b : Bool). b || is_some (overrun_by before line)) (sym k.overran) ∙ ap (λ (o : Option Overrun). s.overran || is_some o) (sym same))));
       overrun = same ∙ sym (shown_more before line);
     }

@@ -11,7 +11,7 @@ use Rattle.blk_base.specs.declared.moves.Move.TheVariants as moves
 use Rattle.schedule_text.specs.declared.line.Line.{Line}
 use Rattle.schedule_text.specs.declared.line.Line.TheVariants as lines
 use Rattle.report_rules.specs.declared.standing.Standing.{Standing}
-use Rattle.report_rules.specs.Standing.{is_epoch, this_epoch, has_number, is_unmap_of, mapping_made, standing_behind, numbered}
+use Rattle.report_rules.specs.Standing.{is_epoch, this_epoch, has_number, is_unmap_of, mapping_made, standing_after, numbered}
 use Rattle.report_rules.specs.Ring.{page_made}
 use Rattle.report_rules.specs.Touch.{IsTouchAt}
 use Rattle.report_rules.specs.Mapped.{was_made, IsMapAnswerAt}
@@ -20,7 +20,7 @@ use Rattle.ring_check.proofs.Telling.{touches, IsNew}
 
 -- each number that stands or that the back touched in this epoch was made
 pub record AreMade (before : List Line) : Type 0 where
-  pub stood : (m : ℕ) → is_some (numbered m (standing_behind before)) ≡ true → was_made before m ≡ true
+  pub stood : (m : ℕ) → is_some (numbered m (standing_after before)) ≡ true → was_made before m ≡ true
   pub touched : (m : ℕ) → list_any (touches m) (this_epoch before) ≡ true → was_made before m ≡ true
 
 pub none_made : AreMade []
@@ -92,10 +92,10 @@ found_in m line xs e =
     ]
 
 stood_by : (before : List Line) (line : Line) (m : ℕ) (epoch : Bool) → AreMade before → is_epoch line ≡ epoch
-    → is_some (numbered m (if epoch then [] else filter (λ (s : Standing). not (is_unmap_of s.number line)) (standing_behind before) ++ option_to_list (mapping_made line))) ≡ true → was_made (before ++ line ∷ []) m ≡ true
+    → is_some (numbered m (if epoch then [] else filter (λ (s : Standing). not (is_unmap_of s.number line)) (standing_after before) ++ option_to_list (mapping_made line))) ≡ true → was_made (before ++ line ∷ []) m ≡ true
 stood_by before line m true made is e = absurd (cc)
 stood_by before line m false made is e =
-    elim (found_in m line (standing_behind before) e) [
+    elim (found_in m line (standing_after before) e) [
       | first here ↦ still_made before line m (made.stood m here)
       | second now ↦ now_made before line m now
     ]
@@ -108,11 +108,11 @@ same_number : (m number : ℕ) → (m == number) ≡ true → m ≡ number
 same_number m number e = grind (arith, nat_tests)
 
 -- a number that the back touches in a line stands before
-stands : (before : List Line) (line : Line) (m : ℕ) → IsTouchAt before line → touches m line ≡ true → is_some (numbered m (standing_behind before)) ≡ true
+stands : (before : List Line) (line : Line) (m : ℕ) → IsTouchAt before line → touches m line ≡ true → is_some (numbered m (standing_after before)) ≡ true
 stands before (lines.Move (moves.Read back.Back number frame word value)) m touch e =
-    subst (λ (n : ℕ). is_some (numbered n (standing_behind before)) ≡ true) (sym (same_number m number e)) (some_of (numbered number (standing_behind before)) (λ s. s.frame ≡ frame) touch)
+    subst (λ (n : ℕ). is_some (numbered n (standing_after before)) ≡ true) (sym (same_number m number e)) (some_of (numbered number (standing_after before)) (λ s. s.frame ≡ frame) touch)
 stands before (lines.Move (moves.Write back.Back number frame word value)) m touch e =
-    subst (λ (n : ℕ). is_some (numbered n (standing_behind before)) ≡ true) (sym (same_number m number e)) (some_of (numbered number (standing_behind before)) (λ s. (s.frame ≡ frame) × (s.mode ≡ ReadWrite)) touch)
+    subst (λ (n : ℕ). is_some (numbered n (standing_after before)) ≡ true) (sym (same_number m number e)) (some_of (numbered number (standing_after before)) (λ s. (s.frame ≡ frame) × (s.mode ≡ ReadWrite)) touch)
 stands before line m touch e = absurd (cc)
 
 touched_by : (before : List Line) (line : Line) (m : ℕ) (epoch : Bool) → AreMade before → IsTouchAt before line → is_epoch line ≡ epoch

@@ -21,11 +21,11 @@ pub written_none : (held : Option (List ℕ)) → held ≡ written held []
 written_none None = refl
 written_none (Some bytes) = ap Some (sym (append-nil bytes))
 
-take-behind : (a b : List ℕ) (n : ℕ) → take (length a + n) (a ++ b) ≡ a ++ take n b
-take-behind [] b n = ap (λ k. take k b) (omega arith)
-take-behind (x ∷ a) b n =
+take-past : (a b : List ℕ) (n : ℕ) → take (length a + n) (a ++ b) ≡ a ++ take n b
+take-past [] b n = ap (λ k. take k b) (omega arith)
+take-past (x ∷ a) b n =
     let e : length (x ∷ a) + n ≡ suc (length a + n) = omega arith in
-    ap (λ k. take k (x ∷ (a ++ b))) e ∙ ap (λ t. x ∷ t) (take-behind a b n)
+    ap (λ k. take k (x ∷ (a ++ b))) e ∙ ap (λ t. x ∷ t) (take-past a b n)
 
 -- no piece
 pub takes_none : (a : SinkSeen) → TakesBytes [] a a
@@ -51,7 +51,7 @@ fails_last x y a b c p q =
     let part = q.held in
     let shorter = part.1 in
     let next = take part.0 y in
-    let held = part.2 ∙ (ap (λ h. written h next) p.held ∙ (written_twice a.held x next ∙ ap (written a.held) (sym (take-behind x y part.0)))) in
+    let held = part.2 ∙ (ap (λ h. written h next) p.held ∙ (written_twice a.held x next ∙ ap (written a.held) (sym (take-past x y part.0)))) in
     record {
       held = (length x + part.0, omega (arith, length-append x y), held);
       rose = subst (λ f. Rose f c.faults) p.faults q.rose;

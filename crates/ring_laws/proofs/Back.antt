@@ -74,7 +74,7 @@ halts_by before old new answer shown x h running told halted plain knows whole o
     (subst (λ (ls : List Line). Follows x.start x.values ls new) (append_assoc before (lines.Move shown ∷ []) (lines.Halt (halt_line h) ∷ []))
     (halt_follows (before ++ lines.Move shown ∷ []) new x h (is_some old.halted) halted plain knows whole (shows_other before (lines.Move shown) x other unnamed shows) one))
 
--- the pages are given up, whichever are left
+-- the pages are unmapped, whichever are left
 pub unbound_knows : (pages : List Mapping) (x : Sight) (v : View) → IsOver x v.halted → KnowsAt (unbound pages) x v
 unbound_knows [] x v o = o
 unbound_knows (page ∷ pages) x v o = o

@@ -117,7 +117,7 @@ change_at stage.Send v x a k t = changed (length x.values) v (at stage.Loop v) r
 change_at stage.StoreEvent v x a k t = changed (length x.values) v (at stage.EventFence v) refl refl refl t (λ r. r)
 change_at stage.EventFence v x a k t = changed (length x.values) v (at stage.LookAgain v) refl refl refl t (λ r. r)
 change_at stage.LookAgain v x (answers.Word word) k t = looked_change (length x.values) v word (record v { seen = word; stage = stage.Loop; asleep = true }) t (changed (length x.values) v (record v { seen = word; stage = stage.Loop; asleep = true }) refl refl refl t (λ r. r))
-change_at (stage.GiveUp m) v x a k t = record { change = halts k.over refl; info = refl; tells = t; running = λ r. r }
+change_at (stage.Abort m) v x a k t = record { change = halts k.over refl; info = refl; tells = t; running = λ r. r }
 change_at stage.UnmapRing v x a k t = changed (length x.values) v (unmapped_bound v) refl refl refl t (λ r. r)
 change_at stage.ClosePort v x a k t = changed (length x.values) v (at stage.Halted v) refl refl refl t (λ r. r)
 change_at stage.UnmapUnbound v x a k t = changed (length x.values) v (unmapped_unbound v) refl refl refl t (λ r. r)
@@ -235,7 +235,7 @@ back_reads before h stage.MapRing v o a x k shows e = of_back (Looks before (is_
 back_reads before h stage.Bind v o a x k shows e = of_back (Looks before (is_ready stage.Bind v.halted) v) _ a (bind_reads before h (is_ready stage.Bind v.halted) v v.port (state_of h.channels v.port)) e
 back_reads before h stage.Loop v o a x k shows e = loop_reads before h (is_ready stage.Loop v.halted) v o a (next_reply v) v.asleep (requests_of v.ring v.seen == 0) refl refl (runs v.halted k.running) (shape_is before 0 x v shows k) e
 back_reads before h (stage.Fetch n) v o a x k shows e = of_back (Looks before (is_ready (stage.Fetch n) v.halted) v) _ a (shaped (let serves : Serves n x v = k.1 in runs v.halted serves.running) v.shape (shape_is before n x v shows k.1) refl refl) e
-back_reads before h (stage.GiveUp m) v o a x k shows e = of_back (Looks before (is_ready (stage.GiveUp m) v.halted) v) _ a (blindly before v.shape.abi _ refl) e
+back_reads before h (stage.Abort m) v o a x k shows e = of_back (Looks before (is_ready (stage.Abort m) v.halted) v) _ a (blindly before v.shape.abi _ refl) e
 back_reads before h stage.UnmapRing v o a x k shows e = unmap_reads before h (is_ready stage.UnmapRing v.halted) v o a v.pages e
 back_reads before h stage.ClosePort v o a x k shows e = of_back (Looks before (is_ready stage.ClosePort v.halted) v) _ a (blindly before v.shape.abi _ refl) e
 back_reads before h stage.UnmapUnbound v o a x k shows e = unmap_reads before h (is_ready stage.UnmapUnbound v.halted) v o a v.pages e

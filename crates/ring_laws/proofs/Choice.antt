@@ -13,7 +13,7 @@ use Rattle.report_rules.specs.Standing.{this_epoch}
 use Rattle.report_rules.specs.Work.{work_response}
 use Rattle.report_rules.specs.Published.{is_persistent}
 use Rattle.report_rules.specs.Job.{fetched_of}
-use Rattle.report_rules.specs.Made.{left_to, may_stand, gave_up}
+use Rattle.report_rules.specs.Made.{left_to, may_stand, has_unmapped}
 use Rattle.report_rules.specs.Reply.{status_at_end, words_with, words_due, response_due, value_at, are_alike, is_like, is_one_of, may_answer, most_jobs, lowest, lines_before, job_for, job_replied, answered_in, reply_pushed}
 use Rattle.report_rules.proofs.Lowest.{IsFound, lowest_passes, lowest_some}
 use Rattle.ring_laws.proofs.Due.{Candidate}
@@ -96,7 +96,7 @@ pub choice : (before line_before : List Line) (line : Line) (r : Response) (c : 
 choice before line_before line r c is early same pushed left = by_found (lowest test (most_jobs (lines_before line_before 3))) refl
   where
     test : ℕ → Bool
-    test = λ (k : ℕ). may_answer (lines_before line_before 3) (answered_in line_before) 2 (response_words_of r) k && gave_up before k
+    test = λ (k : ℕ). may_answer (lines_before line_before 3) (answered_in line_before) 2 (response_words_of r) k && has_unmapped before k
 
     replied : job_replied before (answered_in before) ≡ lowest test (most_jobs (lines_before line_before 3))
     replied =
@@ -104,11 +104,11 @@ choice before line_before line r c is early same pushed left = by_found (lowest 
         ∙ (ap (λ (ls : List Line). job_for before ls (answered_in before) (Some (response_words_of r))) early
         ∙ ap (λ (js : List ℕ). job_for before (lines_before line_before 3) js (Some (response_words_of r))) same)
 
-    given : gave_up before c.job ≡ true
+    given : has_unmapped before c.job ≡ true
     given = ap (λ (l : List Standing). list_all (may_stand (is_persistent before)) l) left
 
     passes : test c.job ≡ true
-    passes = ap (λ (b : Bool). b && gave_up before c.job) (candidate_may line_before 3 2 r c) ∙ given
+    passes = ap (λ (b : Bool). b && has_unmapped before c.job) (candidate_may line_before 3 2 r c) ∙ given
 
     by_found : (o : Option ℕ) → lowest test (most_jobs (lines_before line_before 3)) ≡ o → IsChoice before (lines_before line_before 3) r
     by_found None e =
@@ -117,4 +117,4 @@ choice before line_before line r c is early same pushed left = by_found (lowest 
         absurd (cc)
     by_found (Some k) e =
         let f : IsFound test (most_jobs (lines_before line_before 3)) k = lowest_passes test (most_jobs (lines_before line_before 3)) k e in
-        record { job = k; found = replied ∙ e; due = found_due (lines_before line_before 3) (answered_in line_before) r k (gave_up before k) f.passes }
+        record { job = k; found = replied ∙ e; due = found_due (lines_before line_before 3) (answered_in line_before) r k (has_unmapped before k) f.passes }

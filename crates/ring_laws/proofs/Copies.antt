@@ -37,13 +37,13 @@ pub record IsIndirect (request : RawRequest) (info : DiskInfo) (t : Work) (pages
   pub few : t.named ≤ 960
 
 -- the work after the pages, once all segments are read
-abbrev pub behind_pages : Plan → ℕ → List ℕ → DiskInfo → List Task
-behind_pages plan count words info = if are_read count words then served_tasks false (finished_verdict plan (segments_at words 0 count) info) (segments_at words 0 count) else []
+abbrev pub after_pages : Plan → ℕ → List ℕ → DiskInfo → List Task
+after_pages plan count words info = if are_read count words then served_tasks false (finished_verdict plan (segments_at words 0 count) info) (segments_at words 0 count) else []
 
 abbrev pub verdict_by : Plan → ℕ → List ℕ → DiskInfo → Verdict
 verdict_by plan count words info = if are_read count words then finished_verdict plan (segments_at words 0 count) info else verdict.Serve plan
 
-pub indirect_work : (request : RawRequest) (info : DiskInfo) (t : Work) (pages words : List ℕ) (i : IsIndirect request info t pages) → work_tasks request info false words ≡ pages_of t.named pages ++ behind_pages i.plan t.named words info
+pub indirect_work : (request : RawRequest) (info : DiskInfo) (t : Work) (pages words : List ℕ) (i : IsIndirect request info t pages) → work_tasks request info false words ≡ pages_of t.named pages ++ after_pages i.plan t.named words info
 indirect_work request info t pages words i =
     ap (λ (r : RawRequest). work_tasks r info false words) i.request_is ∙ ap (λ (v : Verdict). indirect_tasks false v t.named pages words info) i.served
 
@@ -51,7 +51,7 @@ pub indirect_verdict : (request : RawRequest) (info : DiskInfo) (t : Work) (page
 indirect_verdict request info t pages words i =
     ap (λ (r : RawRequest). work_verdict r info words) i.request_is ∙ ap (λ (v : Verdict). settled v t.named words info) i.served
 
--- it read the words of the segments that it copied, and these; its pages from this one on aren't given up yet
+-- it read the words of the segments that it copied, and these; its pages from this one on aren't unmapped yet
 pub record Copies (request : RawRequest) (info : DiskInfo) (k : ℕ) (epoch : List Line) (t : Work) (pages : List ℕ) (page done place : ℕ) (mapping : Option ℕ) (held : List ℕ) : Type 0 where
   pub is : IsIndirect request info t pages
   pub words : List ℕ
@@ -82,7 +82,7 @@ pub record InPage (request : RawRequest) (info : DiskInfo) (k : ℕ) (epoch : Li
   pub below : length t.rest < 512 * (page + 1)
   pub more : length t.rest < t.named
 
--- it gives a page up, of which it read all
+-- it unmaps a page, of which it read all
 pub record LeavesPage (request : RawRequest) (info : DiskInfo) (k : ℕ) (epoch : List Line) (t : Work) : Type 0 where
   pub pages : List ℕ
   pub page : ℕ

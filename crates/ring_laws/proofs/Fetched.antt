@@ -118,11 +118,11 @@ entry_fetched : (terms : Terms) (before : List Line) (line : Line) (s : Shape) (
 entry_fetched terms before (lines.Move (moves.Read back.Back number frame word value)) s w read shape same tale published are k =
     let line : Line = lines.Move (moves.Read back.Back number frame word value) in
     let on : IsOnPages (lines.Move (moves.Read back.Back number frame word value)) = read_on number frame word value in
-    let behind = shape_then before line on refl ∙ shape in
+    let past = shape_then before line on refl ∙ shape in
     let values : entry_values (before ++ line ∷ []) ≡ entry_values before ++ option_to_list (entry_value before line) = values_more before line on in
     fetched_more before line k
     ∙ (rw read (ap (λ (f : Option Fetched). told_first f (option_map (fetched_with (before ++ line ∷ [])) (request_told (before ++ line ∷ []) k))) (are k)
-    ∙ (ap (λ (f : Option Fetched). told_first (fetched_by terms (entry_values before) k) f) (told_by_shape terms (before ++ line ∷ []) k s tale published behind same)
+    ∙ (ap (λ (f : Option Fetched). told_first (fetched_by terms (entry_values before) k) f) (told_by_shape terms (before ++ line ∷ []) k s tale published past same)
     ∙ (ap (λ (vs : List ℕ). told_first (fetched_by terms (entry_values before) k) (fetched_by terms vs k)) values
     ∙ (grown terms (entry_values before) (option_to_list (entry_value before line)) k ∙ ap (λ (vs : List ℕ). fetched_by terms vs k) (sym values))))))
 entry_fetched terms before line s w read shape same tale published are k = absurd (cc)

@@ -86,7 +86,7 @@ follow_all start values (line ∷ more) before v free f =
 pub free : (over : Bool) (line : Line) → is_other line ≡ true → is_of_back line ≡ false → is_service line ≡ false → is_overrun line ≡ false → IsFree over line
 free over line o f s p = record { other = o; foreign = f; idle = λ e. s; plain = p }
 
--- one of a job, which the back has not given up
+-- one of a job, which the back has not unmapped
 busy : (over : Bool) (line : Line) → over ≡ false → is_other line ≡ true → is_of_back line ≡ false → is_overrun line ≡ false → IsFree over line
 busy over line running o f p = record { other = o; foreign = f; idle = λ e. absurd (cc); plain = p }
 

@@ -1,4 +1,4 @@
--- A halt that the negotiation asks for: nothing comes of it, or the back, which was at nothing, halts and gives up what it holds.
+-- A halt that the negotiation asks for: nothing comes of it, or the back, which was at nothing, halts and unmaps what it holds.
 use Rattle.std.proofs.Common.{◌≡◌, true, false, [], refl, ap, subst}
 use Rattle.std.specs.Prelude.{Some, None, is_some}
 use Rattle.schedule_text.specs.declared.line.Line.TheVariants as lines
@@ -8,7 +8,7 @@ use Rattle.blk_back.specs.declared.stage.Stage.TheVariants as stage
 use Rattle.blk_back.specs.declared.told.Halt.{Halt}
 use Rattle.blk_back.specs.declared.told.Halt.TheVariants as halt
 use Rattle.blk_back.specs.View.{View}
-use Rattle.blk_back.specs.Step.{unbound, give_up, may_halt, halts}
+use Rattle.blk_back.specs.Step.{unbound, abort, may_halt, halts}
 use Rattle.split_model.specs.Keys.{is_between}
 use Rattle.split_model.specs.Shown.{halt_line}
 use Rattle.split_model.proofs.States.{is_unbound, halts_for_cases}
@@ -78,9 +78,9 @@ stops_cases P why v x knows stops none = halts_for_cases P why v unmapped loopin
         at_rest new both.0 both.1 (unbound_nothing v.pages) (waits_at v.stage at knows) refl refl refl refl refl may
         (unbound_knows v.pages x new (record { over = refl; whole = whole_words v.stage x v both.0 knows }))
 
-    looping : may_halt why ≡ true → v.stage ≡ stage.Loop → P (give_up (record v { halted = Some why }))
+    looping : may_halt why ≡ true → v.stage ≡ stage.Loop → P (abort (record v { halted = Some why }))
     looping may at =
-        let new : View = give_up (record v { halted = Some why }) in
+        let new : View = abort (record v { halted = Some why }) in
         let s : Serves 0 x v = subst (λ (t : Stage). KnowsAt t x v) at knows in
         at_rest new (ap is_between at) (ap under_way at) (giving_nothing (first_mapping v.jobs.works)) s.running refl refl refl refl refl may
         (giving_knows (first_mapping v.jobs.works) x new (record { over = refl; whole = served_whole x v s }))

@@ -68,7 +68,7 @@ take_goes work k epoch t m at =
       at = next_at work k now (counted t) m (subst (λ (n : ℕ). t.within ≤ n) (sym end) w.inside) over more;
     }
 
--- a move of the disk at which it failed: nothing is left but to give the mapping up
+-- a move of the disk at which it failed: nothing is left but to unmap
 pub disk_failed : (work : List Task) (k : ℕ) (epoch : List Line) (shown : Move) → IsStepOn work k epoch shown → IsDataBy k epoch shown → Steps work k epoch shown
 disk_failed work k epoch shown on moved = record { on = on; moved = moved }
 

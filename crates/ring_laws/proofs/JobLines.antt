@@ -13,7 +13,7 @@ use Rattle.report_rules.specs.Job.{disk_mover, is_job}
 use Rattle.report_rules.specs.Step.{stepper, move_in, job_step, value_read}
 use Rattle.report_rules.specs.Walk.{spot, advanced, walked, walk_of}
 use Rattle.report_rules.specs.Steps.{is_fault, begins_with_fault, failed_in}
-use Rattle.report_rules.specs.Data.{words_in, words_behind, words_from}
+use Rattle.report_rules.specs.Data.{words_in, words_after, words_from}
 use Rattle.ring_laws.proofs.Lists.{or_false, either_false, fold_none, count_none, gathered_none}
 
 -- a step of job k
@@ -38,7 +38,7 @@ read_by k epoch = filter_map (value_read k) epoch
 pub record IsAside (k : ℕ) (ls : List Line) : Type 0 where
   pub none : list_any (is_of k) ls ≡ false
   pub calm : begins_with_fault ls ≡ false
-  pub silent : words_behind ls ≡ None
+  pub silent : words_after ls ≡ None
 
 unread : (k : ℕ) (line : Line) → is_of k line ≡ false → value_read k line ≡ None
 unread k (lines.Move (moves.Read who number frame word value)) e = rw e refl
@@ -91,21 +91,21 @@ moves_step k epoch ys line other none =
     let no = count_none (is_disk_of k) (is_of k) (disk_aside k) ys none in
     omega arith
 
-first_behind : (xs ys : List Line) → words_behind ys ≡ None → words_behind (xs ++ ys) ≡ words_behind xs
-first_behind [] ys silent = silent
-first_behind (x ∷ xs) ys silent = refl
+first_after : (xs ys : List Line) → words_after ys ≡ None → words_after (xs ++ ys) ≡ words_after xs
+first_after [] ys silent = silent
+first_after (x ∷ xs) ys silent = refl
 
-pub words_split : (known : Option (List ℕ)) (k : ℕ) (xs ys : List Line) → words_behind ys ≡ None → words_from known k (xs ++ ys) ≡ words_from (words_from known k xs) k ys
+pub words_split : (known : Option (List ℕ)) (k : ℕ) (xs ys : List Line) → words_after ys ≡ None → words_from known k (xs ++ ys) ≡ words_from (words_from known k xs) k ys
 words_split known k [] ys silent = refl
 words_split known k (x ∷ xs) ys silent =
-    ap (λ (w : Option (List ℕ)). words_from (if is_disk_of k x then w else known) k (xs ++ ys)) (first_behind xs ys silent)
-    ∙ words_split (if is_disk_of k x then words_behind xs else known) k xs ys silent
+    ap (λ (w : Option (List ℕ)). words_from (if is_disk_of k x then w else known) k (xs ++ ys)) (first_after xs ys silent)
+    ∙ words_split (if is_disk_of k x then words_after xs else known) k xs ys silent
 
 words_skip : (known : Option (List ℕ)) (k : ℕ) (ys : List Line) → list_any (is_of k) ys ≡ false → words_from known k ys ≡ known
 words_skip known k [] none = refl
 words_skip known k (y ∷ ys) none =
     let both : (is_of k y ≡ false) × (list_any (is_of k) ys ≡ false) = either_false (is_of k y) (list_any (is_of k) ys) none in
-    ap (λ (b : Bool). words_from (if b then words_behind ys else known) k ys) (disk_aside k y both.0) ∙ words_skip known k ys both.1
+    ap (λ (b : Bool). words_from (if b then words_after ys else known) k ys) (disk_aside k y both.0) ∙ words_skip known k ys both.1
 
 pub words_aside : (k : ℕ) (epoch ys : List Line) → IsAside k ys → words_from None k (epoch ++ ys) ≡ words_from None k epoch
 words_aside k epoch ys aside = words_split None k epoch ys aside.silent ∙ words_skip (words_from None k epoch) k ys aside.none
@@ -114,17 +114,17 @@ words_aside k epoch ys aside = words_split None k epoch ys aside.silent ∙ word
 pub words_step : (k : ℕ) (epoch ys : List Line) (line : Line) → is_disk_of k line ≡ false → words_in line ≡ None → list_any (is_of k) ys ≡ false → words_from None k (epoch ++ line ∷ ys) ≡ words_from None k epoch
 words_step k epoch ys line other silent none =
     words_split None k epoch (line ∷ ys) silent
-    ∙ (ap (λ (b : Bool). words_from (if b then words_behind ys else words_from None k epoch) k ys) other ∙ words_skip (words_from None k epoch) k ys none)
+    ∙ (ap (λ (b : Bool). words_from (if b then words_after ys else words_from None k epoch) k ys) other ∙ words_skip (words_from None k epoch) k ys none)
 
 -- a move of the disk, and the words that it gave
-pub words_own : (k : ℕ) (epoch ys : List Line) (line : Line) (given : Option (List ℕ)) → is_disk_of k line ≡ true → words_in line ≡ None → list_any (is_of k) ys ≡ false → words_behind ys ≡ given → words_from None k (epoch ++ line ∷ ys) ≡ given
+pub words_own : (k : ℕ) (epoch ys : List Line) (line : Line) (given : Option (List ℕ)) → is_disk_of k line ≡ true → words_in line ≡ None → list_any (is_of k) ys ≡ false → words_after ys ≡ given → words_from None k (epoch ++ line ∷ ys) ≡ given
 words_own k epoch ys line given own silent none e =
     words_split None k epoch (line ∷ ys) silent
-    ∙ (ap (λ (b : Bool). words_from (if b then words_behind ys else words_from None k epoch) k ys) own ∙ (words_skip (words_behind ys) k ys none ∙ e))
+    ∙ (ap (λ (b : Bool). words_from (if b then words_after ys else words_from None k epoch) k ys) own ∙ (words_skip (words_after ys) k ys none ∙ e))
 
-begins_behind : (xs ys : List Line) → begins_with_fault ys ≡ false → begins_with_fault (xs ++ ys) ≡ begins_with_fault xs
-begins_behind [] ys calm = calm
-begins_behind (x ∷ xs) ys calm = refl
+begins_after : (xs ys : List Line) → begins_with_fault ys ≡ false → begins_with_fault (xs ++ ys) ≡ begins_with_fault xs
+begins_after [] ys calm = calm
+begins_after (x ∷ xs) ys calm = refl
 
 or_assoc : (a b c : Bool) → (a || (b || c)) ≡ ((a || b) || c)
 or_assoc true b c = refl
@@ -133,7 +133,7 @@ or_assoc false b c = refl
 failed_split : (k : ℕ) (xs ys : List Line) → begins_with_fault ys ≡ false → failed_in k (xs ++ ys) ≡ (failed_in k xs || failed_in k ys)
 failed_split k [] ys calm = refl
 failed_split k (x ∷ xs) ys calm =
-    ap (λ (b : Bool). (is_disk_of k x && b) || failed_in k (xs ++ ys)) (begins_behind xs ys calm)
+    ap (λ (b : Bool). (is_disk_of k x && b) || failed_in k (xs ++ ys)) (begins_after xs ys calm)
     ∙ (ap (λ (b : Bool). (is_disk_of k x && begins_with_fault xs) || b) (failed_split k xs ys calm)
     ∙ or_assoc (is_disk_of k x && begins_with_fault xs) (failed_in k xs) (failed_in k ys))
 

@@ -17,7 +17,7 @@ use Rattle.report_rules.specs.Work.{work_tasks}
 use Rattle.report_rules.specs.Job.{fetched_of, id_of, disk_moves_of}
 use Rattle.report_rules.specs.Published.{info_told}
 use Rattle.report_rules.specs.Step.{stepper, values_read, work_of}
-use Rattle.report_rules.specs.Walk.{step_at, is_step_at, spot_behind, is_unmapped_step, spot_in, advanced, walk_of, spot_of}
+use Rattle.report_rules.specs.Walk.{step_at, is_step_at, spot_after, is_unmapped_step, spot_in, advanced, walk_of, spot_of}
 use Rattle.report_rules.specs.Steps.{gref_of, touched_by, IsKeptFor, IsThrough, IsNextStep, IsStepOf, IsStepAt}
 use Rattle.report_rules.specs.Data.{IsDataAt}
 use Rattle.report_rules.specs.declared.effect.DiskCall.{DiskCall}
@@ -41,7 +41,7 @@ record IsTaking (work : List Task) (s : Spot) (shown : Move) : Type 0 where
 taking : (work : List Task) (s after : Spot) (shown : Move) → advanced false work shown s ≡ Some after → IsTaking work s shown
 taking work s after shown e = by_refused s.refused (slice_get work s.done) refl refl e
   where
-    by_step : (task : Task) (b : Bool) → s.refused ≡ false → slice_get work s.done ≡ Some task → is_step_at (step_at task s.place) shown ≡ b → (if b then Some (spot_behind s.done task s.place s.mapping shown) else None) ≡ Some after → IsTaking work s shown
+    by_step : (task : Task) (b : Bool) → s.refused ≡ false → slice_get work s.done ≡ Some task → is_step_at (step_at task s.place) shown ≡ b → (if b then Some (spot_after s.done task s.place s.mapping shown) else None) ≡ Some after → IsTaking work s shown
     by_step task true p q is h = record { unrefused = p; task = task; found = q; step = is }
     by_step task false p q is h = absurd (cc)
 

@@ -114,8 +114,8 @@ job_goes_on config w before k o (Some a) s e =
     let asks = ap (λ (b : Bool). back_act w.under (mover.Job k) (if b then ask.Wait else ask_job w.back.jobs k) o) (sym running) ∙ e in
     let free : AreFree (is_some w.back.halted) (job_shows w k (Some a)) = (job_free (is_some w.back.halted) w.under k (back_step.job_ask_of w.back k) o a running (jobs_of w.back k) e, free_told (is_some w.back.halted) _ a.answer running) in
     let told : JobTells config before (job_shows w k (Some a)) w.back k _ = job_tells config config.start before w.under w.back k o a (place_of w.back.jobs.works k) (waits w.back.jobs.works k) (work_of w.back.jobs.works k) refl refl running s.ring.follows s.fetched free s.tells asks in
-    let behind : After config before (job_shows w k (Some a)) = told.after in
-    record { tale = behind.tale; quiet = behind.quiet; info = t.info; room = t.room; jobs = λ r. told.jobs; unseen = told.unseen }
+    let past : After config before (job_shows w k (Some a)) = told.after in
+    record { tale = past.tale; quiet = past.quiet; info = t.info; room = t.room; jobs = λ r. told.jobs; unseen = told.unseen }
 
 pub submit_by : (job : Job) (r : Result ℕ Refusal) → IsBystander (submit_line job r)
 submit_by job (Ok number) = record { plain = refl; unstepped = refl }

@@ -87,8 +87,8 @@ job_goes work k epoch h (stage.WriteWord m j) t o a at e = of_back (Goes work k 
 job_goes work k epoch h (stage.Unmap m) t o a at e =
     of_back (Goes work k epoch (stage.Unmap m) t) _ a
     (record { steps = rests refl; at = segment_at work k (epoch ++ lines.Move (moves.Unmap (back.Job k) m.number) ∷ []) t (rest_of t.rest) (before_aside work k epoch (lines.Move (moves.Unmap (back.Job k) m.number) ∷ []) (rest_of t.rest) t.disk t.moved t.writes (unmap_aside k m.number) at) }) e
-job_goes work k epoch h (stage.GiveUp m) t o a at e =
-    of_back (Goes work k epoch (stage.GiveUp m) t) _ a
+job_goes work k epoch h (stage.Abort m) t o a at e =
+    of_back (Goes work k epoch (stage.Abort m) t) _ a
     (record { steps = rests refl; at = failed_end work k (epoch ++ lines.Move (moves.Unmap (back.Job k) m.number) ∷ []) (failed_same k epoch (lines.Move (moves.Unmap (back.Job k) m.number) ∷ []) (unmap_aside k m.number) ∙ at) }) e
 job_goes work k epoch h stage.Flush t Took a at e = of_back (Goes work k epoch stage.Flush t) _ a (call_done work k epoch tasks.Flush (moves.DiskFlush k) (lines.Flushed t.id) t at (flush_call k epoch) refl refl) e
 job_goes work k epoch h stage.Flush t Failed a at e = of_back (Goes work k epoch stage.Flush t) _ a (call_broken work k epoch tasks.Flush (moves.DiskFlush k) t.id t.moved t at (flush_call k epoch)) e

@@ -46,7 +46,7 @@ use Rattle.ring_laws.proofs.JobMoves.{itself}
 use Rattle.ring_laws.proofs.JobSteps.{StepsBy, takes, rests, JobGoes, told_at}
 use Rattle.ring_laws.proofs.JobStages.{job_goes}
 use Rattle.ring_laws.proofs.PageTasks.{steps_more}
-use Rattle.ring_laws.proofs.Copies.{IsIndirect, IsCopying, behind_pages, indirect_work}
+use Rattle.ring_laws.proofs.Copies.{IsIndirect, IsCopying, after_pages, indirect_work}
 use Rattle.ring_laws.proofs.PageMoves.{PageGoes, Goes, page_goes}
 use Rattle.ring_laws.proofs.Began.{Terms, IsDue, IsSettled, HasCome, serves, over, reads, IsJobOf, request_at}
 use Rattle.ring_laws.proofs.Works.{AreJobs, jobs_told, job_found}
@@ -90,7 +90,7 @@ job_tells work epoch h k (stage.DiskRead m) t Failed a at e =
 job_tells work epoch h k (stage.DiskRead m) t Took a at e = absurd (none-some a e)
 job_tells work epoch h k (stage.WriteWord m j) t o a at e = of_back (IsSpoken epoch k (stage.WriteWord m j) t) _ a (record { plain = refl; told = nothing refl refl }) e
 job_tells work epoch h k (stage.Unmap m) t o a at e = of_back (IsSpoken epoch k (stage.Unmap m) t) _ a (record { plain = refl; told = nothing refl refl }) e
-job_tells work epoch h k (stage.GiveUp m) t o a at e = of_back (IsSpoken epoch k (stage.GiveUp m) t) _ a (record { plain = refl; told = nothing refl refl }) e
+job_tells work epoch h k (stage.Abort m) t o a at e = of_back (IsSpoken epoch k (stage.Abort m) t) _ a (record { plain = refl; told = nothing refl refl }) e
 job_tells work epoch h k stage.Flush t Took a at e =
     let w : Alone work k epoch tasks.Flush t.moved = at in
     of_back (IsSpoken epoch k stage.Flush t) _ a (record { plain = refl; told = one _ refl (flush_done k t.id t.moved w.once) (itself k) w.counted }) e
@@ -209,7 +209,7 @@ step_same (stage.DiskRead m) t (answers.Sector words) = record { number = refl; 
 step_same (stage.DiskRead m) t answers.DiskFailed = record { number = refl; id = refl; op = refl }
 step_same (stage.WriteWord m k) t answers.Done = either_same t (k == 127) (next_sector t m) (record t { stage = stage.WriteWord m (k + 1) }) (sector_same t t m (record { number = refl; id = refl; op = refl })) (record { number = refl; id = refl; op = refl })
 step_same (stage.Unmap m) t answers.Done = segment_same t (rest_of t.rest)
-step_same (stage.GiveUp m) t answers.Done = record { number = refl; id = refl; op = refl }
+step_same (stage.Abort m) t answers.Done = record { number = refl; id = refl; op = refl }
 step_same stage.Flush t answers.Done = record { number = refl; id = refl; op = refl }
 step_same stage.Flush t answers.DiskFailed = record { number = refl; id = refl; op = refl }
 step_same (stage.Trim count) t answers.Done = record { number = refl; id = refl; op = refl }
@@ -329,8 +329,8 @@ found_turn terms before x fetched k works h o a place t found is same_values are
             let tells : IsSpoken (this_epoch before) t.number t.stage t a = page_tells request info (this_epoch before) h t.number t.stage t o a copying act in
             let is : IsIndirect request info t g.pages = goes.is in
             let words : List ℕ = read_by t.number (this_epoch before) in
-            let whole : pages_of t.named g.pages ++ behind_pages is.plan t.named words info ≡ j.work = sym (indirect_work request info t g.pages words is) ∙ plan.tasks in
-            let steps : StepsBy j.work t.number (this_epoch before) a.shown = subst (λ (w : List Task). StepsBy w t.number (this_epoch before) a.shown) whole (steps_more (pages_of t.named g.pages) (behind_pages is.plan t.named words info) t.number (this_epoch before) a.shown goes.steps) in
+            let whole : pages_of t.named g.pages ++ after_pages is.plan t.named words info ≡ j.work = sym (indirect_work request info t g.pages words is) ∙ plan.tasks in
+            let steps : StepsBy j.work t.number (this_epoch before) a.shown = subst (λ (w : List Task). StepsBy w t.number (this_epoch before) a.shown) whole (steps_more (pages_of t.named g.pages) (after_pages is.plan t.named words info) t.number (this_epoch before) a.shown goes.steps) in
             turned j steps tells (record {
               work = work_tasks request info false (read_by t.number now);
               served = status_by (work_verdict request info (read_by t.number now));

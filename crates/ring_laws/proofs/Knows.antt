@@ -97,7 +97,7 @@ abbrev pub KnowsAt : Stage → Sight → View → Type 0
 KnowsAt stage.InitWait x v = Untold x v.ring v.pages v.seen v.halted v.fetched
 KnowsAt stage.MapRing x v = Maps x v.shape v.ring v.grefs v.pages v.seen v.halted v.fetched
 KnowsAt (stage.Fetch k) x v = (1 ≤ k) × Serves k x v
-KnowsAt (stage.GiveUp m) x v = IsOver x v.halted
+KnowsAt (stage.Abort m) x v = IsOver x v.halted
 KnowsAt stage.UnmapRing x v = IsOver x v.halted
 KnowsAt stage.ClosePort x v = IsOver x v.halted
 KnowsAt stage.UnmapUnbound x v = IsOver x v.halted
@@ -114,7 +114,7 @@ pub whole_words : (s : Stage) (x : Sight) (v : View) → is_between s ≡ true �
 whole_words stage.InitWait x v is knows = none_whole x knows.waits.words
 whole_words stage.MapRing x v is knows = none_whole x knows.waits.words
 whole_words (stage.Fetch k) x v is knows = absurd (cc)
-whole_words (stage.GiveUp m) x v is knows = knows.whole
+whole_words (stage.Abort m) x v is knows = knows.whole
 whole_words stage.UnmapRing x v is knows = knows.whole
 whole_words stage.ClosePort x v is knows = knows.whole
 whole_words stage.UnmapUnbound x v is knows = knows.whole

@@ -20,7 +20,7 @@ use Rattle.blk_back.specs.declared.told.Halt.{Halt}
 use Rattle.blk_back.specs.declared.told.Halt.TheVariants as halt
 use Rattle.blk_back.specs.declared.stage.Stage.TheVariants as stage
 use Rattle.blk_back.specs.View.{View, page_of}
-use Rattle.blk_back.specs.Step.{giving_up, overrun, looked}
+use Rattle.blk_back.specs.Step.{unmapping_next, overrun, looked}
 use Rattle.ring_laws.proofs.Shows.{Sight, Shows, shows_other}
 use Rattle.ring_laws.proofs.Touches.{IsPage, shows_producer, low_word, produced_at}
 use Rattle.ring_laws.proofs.Entry.{first_is, order_is}
@@ -28,8 +28,8 @@ use Rattle.ring_laws.proofs.ObeysRing.{ObeysRing, IsWhole, ring_overrun, own_str
 use Rattle.ring_laws.proofs.Knows.{served_whole, Serves, IsOver, KnowsAt, Knows, BackGoes, halting}
 use Rattle.ring_laws.proofs.Serving.{served_line, go_on, between}
 
--- what is given up next, once the back has halted
-pub giving_knows : (m : Option Mapping) (x : Sight) (v : View) → IsOver x v.halted → KnowsAt (giving_up m) x v
+-- what is unmapped next, once the back has halted
+pub giving_knows : (m : Option Mapping) (x : Sight) (v : View) → IsOver x v.halted → KnowsAt (unmapping_next m) x v
 giving_knows None x v o = o
 giving_knows (Some m) x v o = o
 

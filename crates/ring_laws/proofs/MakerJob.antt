@@ -132,7 +132,7 @@ job_makes before h k (stage.DiskRead m) t Took a old e = absurd (none-some a e)
 job_makes before h k (stage.WriteWord m j) t o a old e =
     of_back (Makes before k (stage.WriteWord m j) t) _ a (still before k (stage.WriteWord m j) t _ (either_work (j == 127) (next_sector t m) (record t { stage = stage.WriteWord m (j + 1) }) m (next_hand t m) refl) (record { same_epoch = refl; none_gone = λ n. refl; none_made = λ j. refl }) (record { unmap = tt; touch = holds_has k m (this_epoch before) old }) old) e
 job_makes before h k (stage.Unmap m) t o a old e = of_back (Makes before k (stage.Unmap m) t) _ a (record { hand = subst (λ (x : Option Mapping). Holds x (left_to k (this_epoch before ++ lines.Move (moves.Unmap (back.Job k) m.number) ∷ []))) (sym (segment_hand t (rest_of t.rest))) (holds_gone k m (this_epoch before) old); way = gives m refl refl; mine = record { unmap = holds_has k m (this_epoch before) old; touch = tt } }) e
-job_makes before h k (stage.GiveUp m) t o a old e = of_back (Makes before k (stage.GiveUp m) t) _ a (record { hand = holds_gone k m (this_epoch before) old; way = gives m refl refl; mine = record { unmap = holds_has k m (this_epoch before) old; touch = tt } }) e
+job_makes before h k (stage.Abort m) t o a old e = of_back (Makes before k (stage.Abort m) t) _ a (record { hand = holds_gone k m (this_epoch before) old; way = gives m refl refl; mine = record { unmap = holds_has k m (this_epoch before) old; touch = tt } }) e
 job_makes before h k stage.Flush t Took a old e = of_back (Makes before k stage.Flush t) _ a (still before k stage.Flush t _ refl (record { same_epoch = refl; none_gone = λ n. refl; none_made = λ j. refl }) (record { unmap = tt; touch = tt }) old) e
 job_makes before h k stage.Flush t Failed a old e = of_back (Makes before k stage.Flush t) _ a (still before k stage.Flush t _ refl (record { same_epoch = refl; none_gone = λ n. refl; none_made = λ j. refl }) (record { unmap = tt; touch = tt }) old) e
 job_makes before h k stage.Flush t (Gave words) a old e = absurd (none-some a e)

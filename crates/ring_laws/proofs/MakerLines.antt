@@ -210,7 +210,7 @@ loop_asks v None = by_tests v.asleep (requests_of v.ring v.seen == 0)
 
 pub serving_asks : (s : Stage) (v : View) (x : Sight) → KnowsAt s x v → is_some v.halted ≡ false → is_unmap (ask_at s v) ≡ false
 serving_asks stage.Loop v x k runs = loop_asks v (next_reply v)
-serving_asks (stage.GiveUp m) v x k runs = absurd (let over = k.over in cc)
+serving_asks (stage.Abort m) v x k runs = absurd (let over = k.over in cc)
 serving_asks stage.UnmapRing v x k runs = absurd (let over = k.over in cc)
 serving_asks stage.UnmapUnbound v x k runs = absurd (let over = k.over in cc)
 serving_asks s v x k runs = refl

@@ -19,7 +19,7 @@ use Rattle.segment_list.specs.declared.verdict.Verdict.TheVariants as verdict
 use Rattle.segment_list.specs.Verdict.{verdict_of}
 use Rattle.report_rules.specs.declared.standing.Standing.{Standing}
 use Rattle.report_rules.specs.Obeys.{Obeys}
-use Rattle.report_rules.specs.Standing.{this_epoch, is_unmap_of, standing_behind, numbered}
+use Rattle.report_rules.specs.Standing.{this_epoch, is_unmap_of, standing_after, numbered}
 use Rattle.report_rules.specs.Made.{left_to}
 use Rattle.report_rules.proofs.Obeys.{obeys_more}
 use Rattle.back_jobs.specs.declared.stage.Stage.{Stage}
@@ -33,7 +33,7 @@ use Rattle.ring_laws.proofs.Shows.{epoch_longer}
 use Rattle.ring_laws.proofs.JobLines.{is_of}
 use Rattle.ring_laws.proofs.BackChange.{Change, kept, replies, halts, fetches}
 use Rattle.ring_laws.proofs.Lists.{AreApart, all_first, all_second, all_both, all_more, all_pairs}
-use Rattle.ring_laws.proofs.Works.{numbers, others_before, others_behind}
+use Rattle.ring_laws.proofs.Works.{numbers, others_before, others_after}
 use Rattle.ring_laws.proofs.JobSteps.{told_at}
 use Rattle.ring_laws.proofs.JobTurn.{IsSame, step_same, other_number}
 use Rattle.ring_laws.proofs.BackTells.{begun_number}
@@ -112,30 +112,30 @@ changed_hands words epoch old new (fetches works fetched at some) runs small non
 
 -- the mapping in the hand of a job stands by the lines
 abbrev pub HandStands : List Line → Work → Type 0
-HandStands ls t = (m : Mapping) → mapping_at t.stage ≡ Some m → IsSomeAnd (numbered m.number (standing_behind ls)) (λ (x : Standing). x.gref ≡ m.gref)
+HandStands ls t = (m : Mapping) → mapping_at t.stage ≡ Some m → IsSomeAnd (numbered m.number (standing_after ls)) (λ (x : Standing). x.gref ≡ m.gref)
 
 -- after a job's lines
-record Behind (before ys : List Line) (k : ℕ) : Type 0 where
+record AfterAll (before ys : List Line) (k : ℕ) : Type 0 where
   epoch : this_epoch (before ++ ys) ≡ this_epoch before ++ ys
-  none : (n gref : ℕ) → IsSomeAnd (numbered n (standing_behind (before ++ ys))) (λ (x : Standing). x.gref ≡ gref) → list_any (is_unmap_of n) ys ≡ false
+  none : (n gref : ℕ) → IsSomeAnd (numbered n (standing_after (before ++ ys))) (λ (x : Standing). x.gref ≡ gref) → list_any (is_unmap_of n) ys ≡ false
   others : (j : ℕ) → j ≢ k → MakeNone j ys
 
-behind : (before ys : List Line) (k : ℕ) (s : Stage) → Way k s ys → Behind before ys k
-behind before ys k s (quietly quiet) = record {
+past : (before ys : List Line) (k : ℕ) (s : Stage) → Way k s ys → AfterAll before ys k
+past before ys k s (quietly quiet) = record {
   epoch = quiet_epoch before ys quiet;
   none = λ n gref stands. quiet_none n ys quiet;
   others = λ j other. quiet_made j ys quiet;
 }
-behind before ys k s (takes gref number frame mode one) = record {
+past before ys k s (takes gref number frame mode one) = record {
   epoch = subst (λ (ls : List Line). this_epoch (before ++ ls) ≡ this_epoch before ++ ls) (sym one) (epoch_longer before (lines.Move (moves.Map (mover.Job k) gref mode number frame)) refl);
   none = λ n gref' stands. ap (λ (ls : List Line). list_any (is_unmap_of n) ls) one;
   others = λ j other. subst (λ (ls : List Line). MakeNone j ls) (sym one) (rw (other_number j k other) refl, tt);
 }
-behind before ys k s (gives m at one) = record {
+past before ys k s (gives m at one) = record {
   epoch = subst (λ (ls : List Line). this_epoch (before ++ ls) ≡ this_epoch before ++ ls) (sym one) (epoch_longer before (lines.Move (moves.Unmap (mover.Job k) m.number)) refl);
   none = λ n gref stands.
       ap (λ (ls : List Line). list_any (is_unmap_of n) ls) one
-      ∙ ap (λ (b : Bool). b || false) (unmapped_other before (mover.Job k) m.number n (λ (x : Standing). x.gref ≡ gref) (subst (λ (ls : List Line). IsSomeAnd (numbered n (standing_behind (before ++ ls))) (λ (x : Standing). x.gref ≡ gref)) one stands));
+      ∙ ap (λ (b : Bool). b || false) (unmapped_other before (mover.Job k) m.number n (λ (x : Standing). x.gref ≡ gref) (subst (λ (ls : List Line). IsSomeAnd (numbered n (standing_after (before ++ ls))) (λ (x : Standing). x.gref ≡ gref)) one stands));
   others = λ j other. subst (λ (ls : List Line). MakeNone j ls) (sym one) (refl, tt);
 }
 
@@ -171,7 +171,7 @@ job_turned before h works k o a (Some place) false (Some t) at is e obeys apart 
     let own : Holds (mapping_at t.stage) (left_to k (this_epoch before)) = subst (λ (i : ℕ). Holds (mapping_at t.stage) (left_to i (this_epoch before))) number later.0 in
     let makes : Makes before k t.stage t a = job_makes before h k t.stage t o a own e in
     let told : List Line = told_at t.stage t a.answer in
-    let b : Behind before ys k = behind before ys k t.stage makes.way in
+    let b : AfterAll before ys k = past before ys k t.stage makes.way in
     let new : Work = step_of t a.answer in
     let same : IsSame t (step_of t a.answer) = step_same t.stage t a.answer in
     let standing : AllByRecursion (HandStands (before ++ ys)) (among.front ++ step_of t a.answer ∷ among.rest) = subst (λ (ws : List Work). AllByRecursion (HandStands (before ++ ys)) ws) (among.set new) stands in
@@ -180,7 +180,7 @@ job_turned before h works k o a (Some place) false (Some t) at is e obeys apart 
     λ u s made. holds_more (mapping_at u.stage) u.number ys (this_epoch before) (b.others u.number (λ e'. s.apart (e' ∙ sym number))) (λ m e'. b.none m.number m.gref (s.stands m e')) made in
     let mine : IsMadeBy (this_epoch before ++ ys) (step_of t a.answer) = subst (λ (i : ℕ). Holds (mapping_at new.stage) (left_to i (this_epoch before ++ ys))) (sym (same.number ∙ number)) makes.hand in
     let fronts : AllByRecursion (IsOther before ys t.number) among.front = all_other before ys t.number among.front (others_before among.front among.rest t apart_now) (all_first (HandStands (before ++ ys)) among.front (step_of t a.answer ∷ among.rest) standing) in
-    let rests : AllByRecursion (IsOther before ys t.number) among.rest = all_other before ys t.number among.rest (others_behind among.front among.rest t apart_now) (all_second (HandStands (before ++ ys)) among.front (step_of t a.answer ∷ among.rest) standing).1 in
+    let rests : AllByRecursion (IsOther before ys t.number) among.rest = all_other before ys t.number among.rest (others_after among.front among.rest t apart_now) (all_second (HandStands (before ++ ys)) among.front (step_of t a.answer ∷ among.rest) standing).1 in
     let front = all_pairs (IsOther before ys t.number) (IsMadeBy (this_epoch before)) (IsMadeBy (this_epoch before ++ ys)) among.front others fronts (all_first (IsMadeBy (this_epoch before)) among.front (t ∷ among.rest) parts) in
     let rest = all_pairs (IsOther before ys t.number) (IsMadeBy (this_epoch before)) (IsMadeBy (this_epoch before ++ ys)) among.rest others rests later.1 in
     let joined : AllByRecursion (IsMadeBy (this_epoch before ++ ys)) (among.front ++ step_of t a.answer ∷ among.rest) = all_both (IsMadeBy (this_epoch before ++ ys)) among.front (step_of t a.answer ∷ among.rest) front (mine, rest) in

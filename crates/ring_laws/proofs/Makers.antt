@@ -13,7 +13,7 @@ use Rattle.schedule_text.specs.declared.line.Line.{Line}
 use Rattle.schedule_text.specs.declared.line.Line.TheVariants as lines
 use Rattle.report_rules.specs.declared.standing.Standing.{Standing}
 use Rattle.report_rules.specs.Obeys.{Obeys}
-use Rattle.report_rules.specs.Standing.{is_epoch, this_epoch, is_unmap_of, unless_unmapped, standing_behind, numbered}
+use Rattle.report_rules.specs.Standing.{is_epoch, this_epoch, is_unmap_of, unless_unmapped, standing_after, numbered}
 use Rattle.report_rules.specs.Made.{made_by, left_to}
 use Rattle.ring_laws.specs.Unmaps.{IsUnmapAt}
 use Rattle.ring_laws.specs.Own.{IsOwnAt}
@@ -144,12 +144,12 @@ none_left n (s ∷ xs) = by_test (n == s.number) refl (none_left n xs)
 same_number : (a b : ℕ) → (a == b) ≡ true → a ≡ b
 same_number a b e = grind (arith, nat_tests)
 
-pub unmapped_other : (before : List Line) (who : BackMover) (x n : ℕ) (P : Standing → Type 0) → IsSomeAnd (numbered n (standing_behind (before ++ lines.Move (moves.Unmap who x) ∷ []))) P → (x == n) ≡ false
+pub unmapped_other : (before : List Line) (who : BackMover) (x n : ℕ) (P : Standing → Type 0) → IsSomeAnd (numbered n (standing_after (before ++ lines.Move (moves.Unmap who x) ∷ []))) P → (x == n) ≡ false
 unmapped_other before who x n P stands = by_test (x == n) refl
   where
     by_test : (b : Bool) → (x == n) ≡ b → (x == n) ≡ false
     by_test false t = t
     by_test true t =
         let is : x ≡ n = same_number x n t in
-        let none : numbered n (standing_behind (before ++ lines.Move (moves.Unmap who x) ∷ [])) ≡ None = ap (numbered n) (standing_more before (lines.Move (moves.Unmap who x))) ∙ (ap (λ (i : ℕ). numbered n (filter (λ (s : Standing). not (i == s.number)) (standing_behind before) ++ [])) is ∙ none_left n (standing_behind before)) in
+        let none : numbered n (standing_after (before ++ lines.Move (moves.Unmap who x) ∷ [])) ≡ None = ap (numbered n) (standing_more before (lines.Move (moves.Unmap who x))) ∙ (ap (λ (i : ℕ). numbered n (filter (λ (s : Standing). not (i == s.number)) (standing_after before) ++ [])) is ∙ none_left n (standing_after before)) in
         absurd (subst (λ (o : Option Standing). IsSomeAnd o P) none stands)

@@ -27,9 +27,9 @@ jobs_in matched = map job_in matched
 -- a number that is taken out of the second list, and put after the first
 around : (P : ℕ → Type 0) (xs front rest : List ℕ) (n : ℕ) → AllByRecursion P (xs ++ (front ++ n ∷ rest)) → AllByRecursion P ((xs ++ n ∷ []) ++ (front ++ rest))
 around P xs front rest n all =
-    let behind = all_second P xs (front ++ n ∷ rest) all in
-    let later = all_second P front (n ∷ rest) behind in
-    all_both P (xs ++ n ∷ []) (front ++ rest) (all_both P xs (n ∷ []) (all_first P xs (front ++ n ∷ rest) all) (later.0, tt)) (all_both P front rest (all_first P front (n ∷ rest) behind) later.1)
+    let past = all_second P xs (front ++ n ∷ rest) all in
+    let later = all_second P front (n ∷ rest) past in
+    all_both P (xs ++ n ∷ []) (front ++ rest) (all_both P xs (n ∷ []) (all_first P xs (front ++ n ∷ rest) all) (later.0, tt)) (all_both P front rest (all_first P front (n ∷ rest) past) later.1)
 
 pub moved : (xs front rest : List ℕ) (n : ℕ) → AreApart (xs ++ (front ++ n ∷ rest)) → AreApart ((xs ++ n ∷ []) ++ (front ++ rest))
 moved [] front rest n apart = (all_both (λ (m : ℕ). m ≢ n) front rest (apart_first front rest n apart) (apart_second front rest n apart), apart_without front rest n apart)
@@ -81,14 +81,14 @@ free (suc n) G matched x long apart each good = by_place (place_in x matched) (�
         let parted : AreApart (jobs_in front ++ job_in m ∷ jobs_in rest) = subst AreApart split apart.1 in
         let turned : AreApart (job_in m ∷ (jobs_in front ++ jobs_in rest)) = moved [] (jobs_in front) (jobs_in rest) (job_in m) parted in
         let joined : jobs_in front ++ jobs_in rest ≡ jobs_in (front ++ rest) = sym (map-append job_in front rest) in
-        let behind = all_second (λ (k : ℕ). k ≢ x) (jobs_in front) (job_in m ∷ jobs_in rest) others in
-        let around_it : AllByRecursion (λ (k : ℕ). k ≢ x) (jobs_in (front ++ rest)) = subst (λ (ns : List ℕ). AllByRecursion (λ (k : ℕ). k ≢ x) ns) joined (all_both (λ (k : ℕ). k ≢ x) (jobs_in front) (jobs_in rest) (all_first (λ (k : ℕ). k ≢ x) (jobs_in front) (job_in m ∷ jobs_in rest) others) behind.1) in
-        let passing_behind = all_second (Passes G) front (m ∷ rest) passing in
-        let kept : AllByRecursion (Passes G) (front ++ rest) = all_both (Passes G) front rest (all_first (Passes G) front (m ∷ rest) passing) passing_behind.1 in
+        let past = all_second (λ (k : ℕ). k ≢ x) (jobs_in front) (job_in m ∷ jobs_in rest) others in
+        let around_it : AllByRecursion (λ (k : ℕ). k ≢ x) (jobs_in (front ++ rest)) = subst (λ (ns : List ℕ). AllByRecursion (λ (k : ℕ). k ≢ x) ns) joined (all_both (λ (k : ℕ). k ≢ x) (jobs_in front) (jobs_in rest) (all_first (λ (k : ℕ). k ≢ x) (jobs_in front) (job_in m ∷ jobs_in rest) others) past.1) in
+        let passing_after = all_second (Passes G) front (m ∷ rest) passing in
+        let kept : AllByRecursion (Passes G) (front ++ rest) = all_both (Passes G) front rest (all_first (Passes G) front (m ∷ rest) passing) passing_after.1 in
         let more : AllByRecursion (Passes (λ (k : ℕ). G k × (k ≢ x))) (front ++ rest) =
         all_pairs (λ (u : Matched). job_in u ≢ x) (Passes G) (Passes (λ (k : ℕ). G k × (k ≢ x))) (front ++ rest) (λ u other p g. (p g.0, other)) (all_of_map (λ (k : ℕ). k ≢ x) job_in (front ++ rest) around_it) kept in
-        let good_next : G (job_in m) = passing_behind.0 (subst G (sym at) good) in
-        let r : IsFree (λ (k : ℕ). G k × (k ≢ x)) (front ++ rest) = later (λ (k : ℕ). G k × (k ≢ x)) (front ++ rest) (job_in m) (fewer front rest m is) (subst (λ (ns : List ℕ). AreApart (job_in m ∷ ns)) joined turned) more (good_next, behind.0) in
+        let good_next : G (job_in m) = passing_after.0 (subst G (sym at) good) in
+        let r : IsFree (λ (k : ℕ). G k × (k ≢ x)) (front ++ rest) = later (λ (k : ℕ). G k × (k ≢ x)) (front ++ rest) (job_in m) (fewer front rest m is) (subst (λ (ns : List ℕ). AreApart (job_in m ∷ ns)) joined turned) more (good_next, past.0) in
         let fine = r.good in
         let free_front = all_first (λ (u : Matched). u.chosen ≢ r.job) front rest r.other in
         let free_rest = all_second (λ (u : Matched). u.chosen ≢ r.job) front rest r.other in

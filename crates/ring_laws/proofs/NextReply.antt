@@ -34,7 +34,7 @@ use Rattle.ring_laws.proofs.Rows.{lines_none}
 use Rattle.ring_laws.proofs.Replying.{pending, pending_at, IsReplyOf, done_found}
 use Rattle.ring_laws.proofs.Chosen.{words_in, IsDueTo, IsChosen}
 
--- a job that is due these words, and gave up what it mapped
+-- a job that is due these words, and unmapped what it mapped
 record IsGood (before : List Line) (words : List ℕ) (k : ℕ) : Type 0 where
   due : response_due before k ≡ Some words
   left : left_to k (this_epoch before) ≡ []

@@ -13,7 +13,7 @@ use Rattle.schedule_text.specs.declared.line.Line.TheVariants as lines
 use Rattle.report_rules.specs.Obeys.{Obeys}
 use Rattle.report_rules.specs.Standing.{is_epoch}
 use Rattle.report_rules.specs.Ring.{is_page, produced_shown, ring_order, shape_of, replied_before}
-use Rattle.report_rules.specs.Overrun.{overrun_of, overrun_by, overrun_shown, overran_after, overran_behind, is_service, IsOverrunAt}
+use Rattle.report_rules.specs.Overrun.{overrun_of, overrun_by, overrun_shown, overran_after, has_overrun, is_service, IsOverrunAt}
 use Rattle.report_rules.specs.Stretch.{entry_word_read, words_within, is_back_move, word_touched, IsStretchAt}
 use Rattle.report_rules.specs.Reply.{is_of_back}
 use Rattle.report_rules.proofs.Obeys.{obeys_none, obeys_more}
@@ -32,7 +32,7 @@ pub record ObeysRing (before : List Line) (start : ℕ) (over : Bool) : Type 0 w
   pub stretches : start < 2 ^ 32 → Obeys IsStretchAt before
   pub named : Obeys IsNamedFirstAt before
   pub last : overrun_shown before ≡ None
-  pub halted : overran_behind before ≡ true → over ≡ true
+  pub halted : has_overrun before ≡ true → over ≡ true
 
 pub ring_none : (start : ℕ) → ObeysRing [] start false
 ring_none start = record { overruns = obeys_none IsOverrunAt; stretches = λ small. obeys_none IsStretchAt; named = obeys_none IsNamedFirstAt; last = refl; halted = λ e. e }
@@ -40,14 +40,14 @@ ring_none start = record { overruns = obeys_none IsOverrunAt; stretches = λ sma
 shown_more : (before : List Line) (line : Line) → overrun_shown (before ++ line ∷ []) ≡ overrun_by before line
 shown_more before line = rw (reverse-append before (line ∷ []), reverse-reverse before) refl
 
-overran_more : (before : List Line) (line : Line) → overran_behind (before ++ line ∷ []) ≡ overran_after (overran_behind before) before line
+overran_more : (before : List Line) (line : Line) → has_overrun (before ++ line ∷ []) ≡ overran_after (has_overrun before) before line
 overran_more before line = rw (reverse-append before (line ∷ []), reverse-reverse before) refl
 
-overran_by : (before : List Line) (line : Line) → is_epoch line ≡ false → overrun_by before line ≡ None → overran_behind (before ++ line ∷ []) ≡ overran_behind before
+overran_by : (before : List Line) (line : Line) → is_epoch line ≡ false → overrun_by before line ≡ None → has_overrun (before ++ line ∷ []) ≡ has_overrun before
 overran_by before line same e =
     let none : is_some (overrun_by before line) ≡ false = ap (λ o. is_some o) e in
-    overran_more before line ∙ (ap (λ (b : Bool). if b then false else overran_behind before || is_some (overrun_by before line)) same
-    ∙ (ap (λ (b : Bool). overran_behind before || b) none ∙ or_false (overran_behind before)))
+    overran_more before line ∙ (ap (λ (b : Bool). if b then false else has_overrun before || is_some (overrun_by before line)) same
+    ∙ (ap (λ (b : Bool). has_overrun before || b) none ∙ or_false (has_overrun before)))
 
 -- a line that shows no producer shows no overrun
 pub shows_none : (before : List Line) (line : Line) → produced_shown before line ≡ None → overrun_by before line ≡ None
@@ -88,14 +88,14 @@ ring_epoch before start over now s = record {
   stretches = λ small. obeys_more IsStretchAt before lines.Epoch (s.stretches small) (record { next = tt; whole = λ own. absurd (cc); inside = tt });
   named = obeys_more IsNamedFirstAt before lines.Epoch s.named (unnamed_first before lines.Epoch refl);
   last = shown_more before lines.Epoch ∙ shows_none before lines.Epoch refl;
-  halted = λ overran. let none : overran_behind (before ++ lines.Epoch ∷ []) ≡ false = overran_more before lines.Epoch in absurd (cc);
+  halted = λ overran. let none : has_overrun (before ++ lines.Epoch ∷ []) ≡ false = overran_more before lines.Epoch in absurd (cc);
 }
 
 -- a read that overran, and the halt after it
 pub ring_overrun : (before : List Line) (line : Line) (start produced replied : ℕ) → ObeysRing before start false → is_epoch line ≡ false → overrun_by before line ≡ Some (record { produced = produced; replied = replied }) → is_overrun line ≡ false → IsNamedFirstAt before line
     → (start < 2 ^ 32 → IsStretchAt before line) → (start < 2 ^ 32 → IsStretchAt (before ++ line ∷ []) (lines.Halt (halts.Overrun produced replied)))
     → ObeysRing (before ++ line ∷ lines.Halt (halts.Overrun produced replied) ∷ []) start true
-ring_overrun before line start produced replied s same shown none first stretch behind =
+ring_overrun before line start produced replied s same shown none first stretch beyond =
     let halt : Line = lines.Halt (halts.Overrun produced replied) in
     let longer : List Line = before ++ line ∷ [] in
     let told : overrun_shown (before ++ line ∷ []) ≡ Some (record { produced = produced; replied = replied }) = shown_more before line ∙ shown in
@@ -108,7 +108,7 @@ ring_overrun before line start produced replied s same shown none first stretch 
     subst (λ (ls : List Line). ObeysRing ls start true) (append_assoc before (line ∷ []) (lines.Halt (halts.Overrun produced replied) ∷ []))
     (record {
       overruns = obeys_more IsOverrunAt longer halt one allowed_halt;
-      stretches = λ small. obeys_more IsStretchAt longer halt (obeys_more IsStretchAt before line (s.stretches small) (stretch small)) (behind small);
+      stretches = λ small. obeys_more IsStretchAt longer halt (obeys_more IsStretchAt before line (s.stretches small) (stretch small)) (beyond small);
       named = obeys_more IsNamedFirstAt longer halt (obeys_more IsNamedFirstAt before line s.named first) (λ read. absurd (cc));
       last = shown_more longer halt ∙ shows_none longer halt refl;
       halted = λ overran. refl;

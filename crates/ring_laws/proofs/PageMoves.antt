@@ -49,7 +49,7 @@ use Rattle.ring_laws.proofs.Places.{tasks_of, Before, ending}
 use Rattle.ring_laws.proofs.JobMoves.{itself}
 use Rattle.ring_laws.proofs.JobSteps.{StepsBy, takes, rests, told_at, on_step}
 use Rattle.ring_laws.proofs.PageTasks.{walk_more, page_task, page_count, first_left, drop_next, page_map, page_refused, page_more, page_read, segments_push, segments_more, enough_read}
-use Rattle.ring_laws.proofs.Copies.{IsIndirect, behind_pages, indirect_work, indirect_verdict, Copies, MapsPage, InPage, LeavesPage, IsCopying, copies_aside}
+use Rattle.ring_laws.proofs.Copies.{IsIndirect, after_pages, indirect_work, indirect_verdict, Copies, MapsPage, InPage, LeavesPage, IsCopying, copies_aside}
 use Rattle.ring_laws.proofs.Began.{IsSettled, HasCome, serves, over, reads}
 
 -- whatever the work is by the words read then, the job is in it
@@ -87,8 +87,8 @@ read_then k epoch number frame word value vs is =
 page_lost : (request : RawRequest) (info : DiskInfo) (k : ℕ) (now : List Line) (t : Work) (pages : List ℕ) (page : ℕ) (work : List Task) (served : Status) → IsIndirect request info t pages → work_tasks request info false (read_by k now) ≡ work
     → failed_in k now ≡ false → walk_of false (pages_of t.named pages) k now ≡ Some (spot page 1 true None) → ending work k now served ≡ Some Error
 page_lost request info k now t pages page work served i is whole came =
-    let all : pages_of t.named pages ++ behind_pages i.plan t.named (read_by k now) info ≡ work = sym (indirect_work request info t pages (read_by k now) i) ∙ is in
-    let walk : walk_of false work k now ≡ Some (spot page 1 true None) = ap (λ (w : List Task). walk_of false w k now) (sym all) ∙ walk_more (pages_of t.named pages) (behind_pages i.plan t.named (read_by k now) info) k now (spot page 1 true None) came in
+    let all : pages_of t.named pages ++ after_pages i.plan t.named (read_by k now) info ≡ work = sym (indirect_work request info t pages (read_by k now) i) ∙ is in
+    let walk : walk_of false work k now ≡ Some (spot page 1 true None) = ap (λ (w : List Task). walk_of false w k now) (sym all) ∙ walk_more (pages_of t.named pages) (after_pages i.plan t.named (read_by k now) info) k now (spot page 1 true None) came in
     ap (λ (failed : Bool). end_of failed (length work) served (walk_of false work k now)) whole ∙ ap (λ (s : Option Spot). end_of false (length work) served s) walk
 
 -- the first step of a page
@@ -196,7 +196,7 @@ reference_goes request info k epoch t m frame value p =
     let next = page_more p.gref (2 * min 512 (t.named - 512 * p.page)) (1 + (2 * (length t.rest - 512 * p.page) + 0)) ∙ not_above (2 * min 512 (t.named - 512 * p.page)) (1 + (2 * (length t.rest - 512 * p.page) + 0) + 1) (omega arith) in
     let taken = ap (λ (x : Option Spot). option_and_then (advanced false (pages_of t.named p.pages) shown) x) c.came
     ∙ advances (pages_of t.named p.pages) p.page (1 + (2 * (length t.rest - 512 * p.page) + 0)) (Some m.number) (tasks.Page p.gref (2 * min 512 (t.named - 512 * p.page))) shown false (page_task t.named p.pages p.page p.gref p.named (omega arith)) read next in
-    let behind : 1 + (2 * (length t.rest - 512 * p.page) + 0) + 1 ≡ 1 + (2 * (length t.rest - 512 * p.page) + 1) = omega arith in
+    let past : 1 + (2 * (length t.rest - 512 * p.page) + 0) + 1 ≡ 1 + (2 * (length t.rest - 512 * p.page) + 1) = omega arith in
     record {
       is = c.is;
       steps = takes refl (record { on = on_step (pages_of t.named p.pages) k epoch shown _ c.came c.whole taken refl; moved = tt });
@@ -212,7 +212,7 @@ reference_goes request info k epoch t m frame value p =
           long = c.long;
           copied = c.copied;
           left = c.left;
-          came = walk_own (pages_of t.named p.pages) k epoch [] shown (itself k) refl ∙ (taken ∙ ap (λ (i : ℕ). Some (spot p.page i false (Some m.number))) behind);
+          came = walk_own (pages_of t.named p.pages) k epoch [] shown (itself k) refl ∙ (taken ∙ ap (λ (i : ℕ). Some (spot p.page i false (Some m.number))) past);
           counted = moves_step k epoch [] (lines.Move shown) refl refl ∙ c.counted;
           whole = failed_own k epoch [] (lines.Move shown) refl refl refl c.whole;
         };
@@ -322,7 +322,7 @@ sectors_goes request info k epoch t m gref frame value p = by_out (is_copied_out
         let goes = goes_on (length (t.rest ++ segment_of gref value ∷ [])) (length t.rest) p.page t.named longer p.from p.below p.more out in
         let within = in_words (length t.rest + 1) p.page t.named (omega arith) goes.0 goes.1 in
         let came = taken false (not_above (2 * min 512 (t.named - 512 * p.page)) (1 + (2 * (length t.rest - 512 * p.page) + 1) + 1) (omega arith)) in
-        let behind : 1 + (2 * (length t.rest - 512 * p.page) + 1) + 1 ≡ 1 + (2 * (length (t.rest ++ segment_of gref value ∷ []) - 512 * p.page) + 0) = omega arith in
+        let past : 1 + (2 * (length t.rest - 512 * p.page) + 1) + 1 ≡ 1 + (2 * (length (t.rest ++ segment_of gref value ∷ []) - 512 * p.page) + 0) = omega arith in
         let low = goes.0 in
         let less = goes.1 in
         record {
@@ -333,7 +333,7 @@ sectors_goes request info k epoch t m gref frame value p = by_out (is_copied_out
             page = p.page;
             gref = p.gref;
             named = p.named;
-            copies = copies (stage.PageReference m) p.page (1 + (2 * (length (t.rest ++ segment_of gref value ∷ []) - 512 * p.page) + 0)) (Some m.number) (came ∙ ap (λ (i : ℕ). Some (spot p.page i false (Some m.number))) behind);
+            copies = copies (stage.PageReference m) p.page (1 + (2 * (length (t.rest ++ segment_of gref value ∷ []) - 512 * p.page) + 0)) (Some m.number) (came ∙ ap (λ (i : ℕ). Some (spot p.page i false (Some m.number))) past);
             from = omega arith;
             below = omega arith;
             more = omega arith;
@@ -415,8 +415,8 @@ judged_comes request info k epoch now t p c all work served tasks answer = by_te
     pages_long : length (pages_of t.named p.pages) ≡ p.page + 1
     pages_long = let from = p.from in let below = p.below in page_count t.named p.pages p.page p.gref p.named (omega arith) (omega arith)
 
-    came : (behind : List Task) → work ≡ pages_of t.named p.pages ++ behind → walk_of false work k now ≡ Some (spot (p.page + 1) 0 false None)
-    came behind e = ap (λ (w : List Task). walk_of false w k now) e ∙ walk_more (pages_of t.named p.pages) behind k now (spot (p.page + 1) 0 false None) c.came
+    came : (past : List Task) → work ≡ pages_of t.named p.pages ++ past → walk_of false work k now ≡ Some (spot (p.page + 1) 0 false None)
+    came past e = ap (λ (w : List Task). walk_of false w k now) e ∙ walk_more (pages_of t.named p.pages) past k now (spot (p.page + 1) 0 false None) c.came
 
     -- they fail the tests
     refused : (bad far : Bool) → list_any fails_test t.rest ≡ bad → nat_lt t.size (t.disk + sectors_of t.rest) ≡ far → served_tasks false (judged_by bad far) t.rest ≡ [] → status_by (judged_by bad far) ≡ Error → ending work k now served ≡ Some Error
@@ -463,7 +463,7 @@ judged_comes request info k epoch now t p c all work served tasks answer = by_te
     by_tests false true e f = over Error refl (refused false true e f refl refl)
     by_tests false false e f = serves (settled e f) (served_now false false e f) (passed e f, refl)
 
--- a page is given up
+-- a page is unmapped
 unmap_goes : (request : RawRequest) (info : DiskInfo) (k : ℕ) (epoch : List Line) (t : Work) (m : Mapping) (p : LeavesPage request info k epoch t) → PageGoes request info k epoch t p.pages (moves.Unmap (back.Job k) m.number) [] (page_done t)
 unmap_goes request info k epoch t m p = record { is = c.is; steps = rests refl; comes = by_all (length t.rest == t.named) refl }
   where

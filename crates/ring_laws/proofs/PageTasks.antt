@@ -158,9 +158,9 @@ page_read gref words place word who number frame value is lt =
 pub segments_push : (words : List ℕ) (n at gref sectors : ℕ) → length words ≡ at + 2 * n → segments_at (words ++ gref ∷ sectors ∷ []) at (n + 1) ≡ segments_at words at n ++ segment_of gref sectors ∷ []
 segments_push words zero at gref sectors long =
     let last : at ≡ length words + 0 = omega arith in
-    let behind : at + 1 ≡ length words + 1 = omega arith in
+    let past : at + 1 ≡ length words + 1 = omega arith in
     let one : slice_index (words ++ gref ∷ sectors ∷ []) at ≡ gref = ap (λ (i : ℕ). slice_index (words ++ gref ∷ sectors ∷ []) i) last ∙ get_or-append-add words (gref ∷ sectors ∷ []) 0 0 in
-    let two : slice_index (words ++ gref ∷ sectors ∷ []) (at + 1) ≡ sectors = ap (λ (i : ℕ). slice_index (words ++ gref ∷ sectors ∷ []) i) behind ∙ get_or-append-add words (gref ∷ sectors ∷ []) 1 0 in
+    let two : slice_index (words ++ gref ∷ sectors ∷ []) (at + 1) ≡ sectors = ap (λ (i : ℕ). slice_index (words ++ gref ∷ sectors ∷ []) i) past ∙ get_or-append-add words (gref ∷ sectors ∷ []) 1 0 in
     one_segment (words ++ gref ∷ sectors ∷ []) at 0 ∙ (rw (one, two, no_segments (words ++ gref ∷ sectors ∷ []) (at + 2), no_segments words at) refl)
 segments_push words (suc n) at gref sectors long =
     let one : slice_index (words ++ gref ∷ sectors ∷ []) at ≡ slice_index words at = get_or_append_left words (gref ∷ sectors ∷ []) 0 at (omega arith) in

@@ -10,7 +10,7 @@ use Rattle.grant_table.specs.Table.{GrantTable, IsLive, held_of}
 use Rattle.report_rules.specs.declared.standing.Standing.{Standing}
 use Rattle.report_rules.specs.Ring.{page_from}
 use Rattle.blk_back.specs.View.{View, no_page}
-use Rattle.blk_back.specs.Hands.{given_up, hands_of}
+use Rattle.blk_back.specs.Hands.{aborted, hands_of}
 use Rattle.back_jobs.specs.Hands.{hands_in}
 use Rattle.split_model.specs.Safe.{AreHeld}
 use Rattle.ring_laws.proofs.Lists.{AreApart, all_second}
@@ -54,8 +54,8 @@ AreEarlier made pages = AllByRecursion (λ (m : ℕ). m < made + 1) (map number_
 -- those that the back holds were
 pub pages_earlier : (table : GrantTable) (v : View) → AreHeld table (hands_of v) → AreEarlier table.made v.pages
 pages_earlier table v held =
-    let each : AllByRecursion (IsLive table) (given_up v.stage ++ (hands_in v.jobs.works ++ v.pages)) = recursion_from_All (IsLive table) (hands_of v) held.live in
-    last v.pages (all_second (IsLive table) (hands_in v.jobs.works) v.pages (all_second (IsLive table) (given_up v.stage) (hands_in v.jobs.works ++ v.pages) each))
+    let each : AllByRecursion (IsLive table) (aborted v.stage ++ (hands_in v.jobs.works ++ v.pages)) = recursion_from_All (IsLive table) (hands_of v) held.live in
+    last v.pages (all_second (IsLive table) (hands_in v.jobs.works) v.pages (all_second (IsLive table) (aborted v.stage) (hands_in v.jobs.works ++ v.pages) each))
   where
     lives : All (λ (h : Held). h.mapping.number ≤ table.made) table.live
     lives = held.made_before

@@ -144,10 +144,10 @@ over_then terms before ys more x all grown epoch over =
 
 finds_of : (config : Options) (before ys : List Line) (more : List ℕ) (v new : back.View) (x : Sight) → new.shape ≡ v.shape → Knows x v → AreBystanders ys → entry_values before ++ more ≡ entry_values (before ++ ys) → this_epoch (before ++ ys) ≡ this_epoch before ++ ys → is_some v.halted ≡ false → Tells config before v → Tells config (before ++ ys) new → Made before v
     → Finds (terms_of config v) (entry_values (before ++ ys)) (this_epoch (before ++ ys)) v new
-finds_of config before ys more v new x shape knows all grown epoch runs t behind made = record {
+finds_of config before ys more v new x shape knows all grown epoch runs t past made = record {
   small = small_number v.stage v x knows runs;
   low = let jobs : AreJobs (terms_of config v) (entry_values before) (this_epoch before) v.fetched v.jobs.works = t.jobs runs in jobs.low;
-  later = λ going. subst (λ (s : Shape). AreJobs (record { config = config; abi = s.abi }) (entry_values (before ++ ys)) (this_epoch (before ++ ys)) new.fetched new.jobs.works) shape (behind.jobs going);
+  later = λ going. subst (λ (s : Shape). AreJobs (record { config = config; abi = s.abi }) (entry_values (before ++ ys)) (this_epoch (before ++ ys)) new.fetched new.jobs.works) shape (past.jobs going);
   done = λ r d. over_then (terms_of config v) before ys more (let t : Work = d.job in pending t.number r) all grown epoch (done_owed config before v r d runs t made);
   lower = λ r d. low_number (terms_of config v) (entry_values before) (this_epoch before) v.fetched v.jobs.works d.place d.job d.found (t.jobs runs);
 }
@@ -175,13 +175,13 @@ back_replies config w before o (Some a) e s stand made r =
     let terms : Terms = terms_of config w.back in
     let f : Follows config.start [] before w.back = s.ring.follows in
     let t : Tells config before w.back = s.tells in
-    let behind : Tells config (before ++ lines_of_back w.back a) (record new { told = None }) = stand.tells in
+    let past : Tells config (before ++ lines_of_back w.back a) (record new { told = None }) = stand.tells in
     let gone : Follows f.sight.start f.sight.values (before ++ lines_of_back w.back a) (back_step.step_of w.back a.answer) = back_goes before w.under v.stage w.back o a f.sight (earlier_pages w s.safe) f.knows f.knows f.shows f.stands s.ring.told e in
     let c : Changed (length f.sight.values) w.back (back_step.step_of w.back a.answer) = change_at v.stage w.back f.sight a.answer f.knows (told_none v.told s.ring.told) in
     let all : AreBystanders (lines_of_back w.back a) = (back_by w.under (ask_of w.back) o a (backs_of w.back) e, told_by new.told a.answer v.halted new.halted c.tells) in
     let go : Aside config before (lines_of_back w.back a) = bystanders_go config (lines_of_back w.back a) before all t.tale t.quiet in
     let grown : entry_values before ++ gone.more ≡ entry_values (before ++ lines_of_back w.back a) = ap (λ (vs : List ℕ). vs ++ gone.more) f.shows.values ∙ (sym gone.grown ∙ sym gone.shows.values) in
-    let finds = λ (runs : is_some v.halted ≡ false). finds_of config before (lines_of_back w.back a) gone.more w.back (back_step.step_of w.back a.answer) f.sight (back_shape w.back a.answer) f.knows all grown go.epoch runs t (record { tale = behind.tale; quiet = behind.quiet; info = behind.info; room = behind.room; jobs = behind.jobs; unseen = behind.unseen }) made in
+    let finds = λ (runs : is_some v.halted ≡ false). finds_of config before (lines_of_back w.back a) gone.more w.back (back_step.step_of w.back a.answer) f.sight (back_shape w.back a.answer) f.knows all grown go.epoch runs t (record { tale = past.tale; quiet = past.quiet; info = past.info; room = past.room; jobs = past.jobs; unseen = past.unseen }) made in
     let owes = λ (runs : is_some v.halted ≡ false). same_owes terms (entry_values before ++ gone.more) (entry_values (before ++ lines_of_back w.back a)) (this_epoch before ++ lines_of_back w.back a) (this_epoch (before ++ lines_of_back w.back a)) v.fetched v.jobs.works (r.answered ++ pending_at v.stage r.job) grown (sym go.epoch)
     (owes_aside terms (entry_values before) gone.more (this_epoch before) (lines_of_back w.back a) v.fetched v.jobs.works _ (λ k. bystanders_aside k (lines_of_back w.back a) all) (r.owes runs)) in
     let next : OwesThen terms (entry_values (before ++ lines_of_back w.back a)) (this_epoch (before ++ lines_of_back w.back a)) (answered_then v.stage r.answered r.job v.ring.prod) (back_step.step_of w.back a.answer) = owes_at terms (entry_values (before ++ lines_of_back w.back a)) (this_epoch (before ++ lines_of_back w.back a)) r.answered r.job v.stage w.back f.sight a.answer refl f.knows finds owes in
@@ -205,10 +205,10 @@ moved_owes config before h v k o a place waits None owed at is e same told owes 
 moved_owes config before h v k o a place true (Some t) owed at is e same told owes = absurd (none-some a e)
 moved_owes config before h v k o a None false (Some t) owed at is e same told owes = absurd (none-some t is)
 moved_owes config before h v k o a (Some place) false (Some t) owed at is e same told owes =
-    let behind : After config before (lines_of_job (Some t) a) = told.after in
+    let past : After config before (lines_of_job (Some t) a) = told.after in
     let number : t.number ≡ k = found_number v.jobs.works k place t at is in
     let kept : IsSame t (step_of t a.answer) = step_same t.stage t a.answer in
-    same_owes (terms_of config v) (entry_values before) (entry_values (before ++ lines_of_job (Some t) a)) (this_epoch before ++ lines_of_job (Some t) a) (this_epoch (before ++ lines_of_job (Some t) a)) v.fetched _ owed (sym same) (sym behind.epoch)
+    same_owes (terms_of config v) (entry_values before) (entry_values (before ++ lines_of_job (Some t) a)) (this_epoch before ++ lines_of_job (Some t) a) (this_epoch (before ++ lines_of_job (Some t) a)) v.fetched _ owed (sym same) (sym past.epoch)
     (owes_told (terms_of config v) (entry_values before) (this_epoch before) (lines_of_job (Some t) a) v.fetched v.jobs.works owed place t (step_of t a.answer) is kept.number (λ n other. told.aside n (λ same_k. other (same_k ∙ sym number))) owes)
 
 free_epochs : (over : Bool) (ys : List Line) → AreFree over ys → list_any is_epoch ys ≡ false
@@ -226,14 +226,14 @@ job_replies config w before k o (Some a) e s r =
     let told : JobTells config before (job_shows w k (Some a)) w.back k _ = job_tells config config.start before w.under w.back k o a (place_of w.back.jobs.works k) (waits w.back.jobs.works k) (work_of w.back.jobs.works k) refl refl running f s.fetched free s.tells asks in
     let same : entry_values (before ++ job_shows w k (Some a)) ≡ entry_values before = same_values (is_some w.back.halted) before (job_shows w k (Some a)) f.sight free f.shows in
     let elses : AreElse (job_shows w k (Some a)) = job_else w.under k (back_step.job_ask_of w.back k) o a _ (jobs_of w.back k) e in
-    let behind : After config before (job_shows w k (Some a)) = told.after in
-    let behind_tale : Tale config (before ++ job_shows w k (Some a)) = behind.tale in
+    let past : After config before (job_shows w k (Some a)) = told.after in
+    let after_tale : Tale config (before ++ job_shows w k (Some a)) = past.tale in
     record {
       answered = r.answered;
       job = r.job;
       writes = other_writes before (job_shows w k (Some a)) v.stage r.answered elses r.writes;
       owes = λ runs. moved_owes config before w.under w.back k o a (place_of w.back.jobs.works k) (waits w.back.jobs.works k) (work_of w.back.jobs.works k) (r.answered ++ pending_at v.stage r.job) refl refl asks same told (r.owes running);
-      chosen = chosen_aside false before (job_shows w k (Some a)) v.stage r.answered elses (record { epoch = behind.epoch; same = free_epochs (is_some w.back.halted) (job_shows w k (Some a)) free }) (move_idle before a.shown _ a.answer behind_tale.obeys) r.chosen;
+      chosen = chosen_aside false before (job_shows w k (Some a)) v.stage r.answered elses (record { epoch = past.epoch; same = free_epochs (is_some w.back.halted) (job_shows w k (Some a)) free }) (move_idle before a.shown _ a.answer after_tale.obeys) r.chosen;
     }
 
 -- lines between all others

@@ -191,7 +191,7 @@ owes_at terms values epoch answered k stage.Send v x a here knows finds o = stay
 owes_at terms values epoch answered k stage.StoreEvent v x a here knows finds o = stays terms values epoch answered k _ (λ runs. o runs)
 owes_at terms values epoch answered k stage.EventFence v x a here knows finds o = stays terms values epoch answered k _ (λ runs. o runs)
 owes_at terms values epoch answered k stage.LookAgain v x (answers.Word word) here knows finds o = stays terms values epoch answered k _ (looked_owes terms values epoch answered k v word (record v { seen = word; stage = stage.Loop; asleep = true }) o (λ runs. o runs))
-owes_at terms values epoch answered k (stage.GiveUp m) v x a here knows finds o = stays terms values epoch answered k _ (λ runs. over _ knows.over runs)
+owes_at terms values epoch answered k (stage.Abort m) v x a here knows finds o = stays terms values epoch answered k _ (λ runs. over _ knows.over runs)
 owes_at terms values epoch answered k stage.UnmapRing v x a here knows finds o = stays terms values epoch answered k _ (λ runs. over _ knows.over runs)
 owes_at terms values epoch answered k stage.ClosePort v x a here knows finds o = stays terms values epoch answered k _ (λ runs. over _ knows.over runs)
 owes_at terms values epoch answered k stage.UnmapUnbound v x a here knows finds o = stays terms values epoch answered k _ (λ runs. over _ knows.over runs)

@@ -21,7 +21,7 @@ use Rattle.schedule_text.specs.declared.line.Detail.{Detail}
 use Rattle.hypervisor.specs.Act.{FrontAct, BackAct, Outcome, Took}
 use Rattle.report_rules.specs.Overrun.{IsOverrunRule}
 use Rattle.report_rules.specs.Stretch.{AreStretches}
-use Rattle.back_jobs.specs.Jobs.{ask_job, tell_job}
+use Rattle.back_jobs.specs.Jobs.{ask_job, complete_job}
 use Rattle.blk_front.specs.Ask as front_ask
 use Rattle.blk_front.specs.Submit as front_submit
 use Rattle.blk_back.specs.declared.told.Halt.{Halt}
@@ -94,7 +94,7 @@ job_follows start w before k o None f e = no_lines start before w f
 job_follows start w before k o (Some a) f e =
     let running : is_some w.back.halted ≡ false = job_running (is_some w.back.halted) w.under k (ask_job w.back.jobs k) o a e in
     let all : Follows start [] (before ++ job_shows w k (Some a)) w.back = follow_all start [] _ before w.back (job_free (is_some w.back.halted) w.under k (back_step.job_ask_of w.back k) o a running (jobs_of w.back k) e, free_told (is_some w.back.halted) _ a.answer running) f.follows in
-    record { follows = record { sight = all.sight; begun = all.begun; more = all.more; grown = all.grown; shows = all.shows; knows = knows_still w.back.stage all.sight w.back w.back.asleep (tell_job w.back.jobs k a.answer) None all.knows; stands = all.stands }; told = refl; begins = f.begins }
+    record { follows = record { sight = all.sight; begun = all.begun; more = all.more; grown = all.grown; shows = all.shows; knows = knows_still w.back.stage all.sight w.back w.back.asleep (complete_job w.back.jobs k a.answer) None all.knows; stands = all.stands }; told = refl; begins = f.begins }
 
 -- the lines of a back whose negotiation has it halt
 halted_follows : (start : ℕ) (w : World) (before : List Line) (why : Halt) → FollowsTo start before w → FollowsTo start (before ++ lines_at w (BackHalts why)) (happens w (BackHalts why))

@@ -24,7 +24,7 @@ use Rattle.blk_back.specs.declared.stage.Stage.{Stage}
 use Rattle.blk_back.specs.declared.stage.Stage.TheVariants as stage
 use Rattle.blk_back.specs.View.{View, page_of, slot_page}
 use Rattle.blk_back.specs.Ask.{ask_at, loop_ask, index_ask, entry_ask, unmap_ask, next_gref, next_reply, response_word}
-use Rattle.blk_back.specs.Step.{at, give_up, unmapped_bound, unmapped_unbound, other_pages, replied, loop_step}
+use Rattle.blk_back.specs.Step.{at, abort, unmapped_bound, unmapped_unbound, other_pages, replied, loop_step}
 use Rattle.split_model.proofs.SafeActs.{of_back, back_wait}
 use Rattle.ring_laws.proofs.Shows.{Sight, Shows, shows_other}
 use Rattle.ring_laws.proofs.Touches.{shows_replied}
@@ -121,8 +121,8 @@ back_goes before h stage.StoreEvent v o a x earlier k kept shows stands told e =
 back_goes before h stage.EventFence v o a x earlier k kept shows stands told e = of_back (Goes x.start x.values before stage.EventFence v) _ a (serve_other before v _ _ (moves.Fence mover.Back) x k shows stands refl refl told refl k) e
 back_goes before h stage.LookAgain v o a x earlier k kept shows stands told e =
     of_back (Goes x.start x.values before stage.LookAgain v) _ a (looked_goes before v (record v { seen = _; stage = stage.Loop; asleep = true }) _ (frame_of h.grants (page_of v 0)) _ x k shows stands told told refl (seen_producer _ x v k)) e
-back_goes before h (stage.GiveUp m) v o a x earlier k kept shows stands told e =
-    of_back (Goes x.start x.values before (stage.GiveUp m) v) _ a (over_other before v (give_up v) _ (moves.Unmap back.Back m.number) x k shows stands refl refl refl told refl (giving_knows (first_mapping v.jobs.works) x (give_up v) k)) e
+back_goes before h (stage.Abort m) v o a x earlier k kept shows stands told e =
+    of_back (Goes x.start x.values before (stage.Abort m) v) _ a (over_other before v (abort v) _ (moves.Unmap back.Back m.number) x k shows stands refl refl refl told refl (giving_knows (first_mapping v.jobs.works) x (abort v) k)) e
 back_goes before h stage.UnmapRing v o a x earlier k kept shows stands told e = unmap_goes before h v (unmapped_bound v) o a x v.pages k shows stands told refl (bound_knows (other_pages v.pages) x (unmapped_bound v) k) e
 back_goes before h stage.ClosePort v o a x earlier k kept shows stands told e = of_back (Goes x.start x.values before stage.ClosePort v) _ a (over_other before v _ _ (moves.ClosePort mover.Back) x k shows stands refl refl refl told refl k) e
 back_goes before h stage.UnmapUnbound v o a x earlier k kept shows stands told e = unmap_goes before h v (unmapped_unbound v) o a x v.pages k shows stands told refl (unbound_knows (other_pages v.pages) x (unmapped_unbound v) k) e

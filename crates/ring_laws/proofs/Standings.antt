@@ -27,7 +27,7 @@ use Rattle.schedule_text.specs.declared.line.Line.TheVariants as lines
 use Rattle.report_rules.specs.declared.standing.Standing.{Standing}
 use Rattle.report_rules.specs.Ring.{page_made}
 use Rattle.report_rules.specs.Made.{made_by}
-use Rattle.report_rules.specs.Standing.{is_epoch, is_unmap_of, mapping_made, standing_behind, numbered}
+use Rattle.report_rules.specs.Standing.{is_epoch, is_unmap_of, mapping_made, standing_after, numbered}
 use Rattle.report_rules.proofs.Back.{standing_more}
 use Rattle.back_jobs.specs.Task.{Work}
 use Rattle.back_jobs.specs.Jobs.{mapping_at}
@@ -35,7 +35,7 @@ use Rattle.back_jobs.specs.Hands.{hand_of, hands_in}
 use Rattle.back_jobs.proofs.Hands.{among, named_in}
 use Rattle.back_jobs.proofs.Sizes.{only}
 use Rattle.blk_back.specs.View.{View}
-use Rattle.blk_back.specs.Hands.{given_up, hands_of}
+use Rattle.blk_back.specs.Hands.{aborted, hands_of}
 use Rattle.split_model.specs.Safe.{AreHeld}
 use Rattle.split_model.proofs.SafeActs.{IsKeyMove, of_back, back_wait, back_keys, back_key_grants}
 use Rattle.move_laws.specs.Tells.{standing_of}
@@ -47,7 +47,7 @@ use Rattle.ring_laws.proofs.Fetched.{AreOther}
 use Rattle.ring_laws.proofs.Makers.{IsQuiet, AreQuiet}
 
 abbrev pub Stands : List Line → GrantTable → Type 0
-Stands before table = standing_behind before ≡ map standing_of table.live
+Stands before table = standing_after before ≡ map standing_of table.live
 
 -- a line that changes no mapping
 stands_still : (before : List Line) (line : Line) (table : GrantTable) → is_epoch line ≡ false → ((n : ℕ) → is_unmap_of n line ≡ false) → mapping_made line ≡ None → Stands before table → Stands (before ++ line ∷ []) table
@@ -79,7 +79,7 @@ map_stands before h who gref mode (Ok frame) s =
     ∙ (ap (λ (left : List Standing). left ++ standing_of next ∷ []) (filter_none (map standing_of h.grants.live)) ∙ sym (map-append standing_of h.grants.live (next ∷ []))))
 map_stands before h who gref mode (Err refusal) s = stands_still before _ h.grants refl (λ n. refl) refl s
 
-unmap_stands : (before : List Line) (h : Hypervisor) (who : BackMover) (m : Mapping) → Stands before h.grants → standing_behind (before ++ lines.Move (moves.Unmap who m.number) ∷ []) ≡ map standing_of (without m.number h.grants.live)
+unmap_stands : (before : List Line) (h : Hypervisor) (who : BackMover) (m : Mapping) → Stands before h.grants → standing_after (before ++ lines.Move (moves.Unmap who m.number) ∷ []) ≡ map standing_of (without m.number h.grants.live)
 unmap_stands before h who m s =
     standing_more before (lines.Move (moves.Unmap who m.number))
     ∙ (ap (λ (left : List Standing). filter (λ (x : Standing). not (m.number == x.number)) left ++ []) s ∙ (append-nil _ ∙ without_live m.number h.grants.live))
@@ -132,11 +132,11 @@ turn_stands before ys h who asked o a quiet other s e =
 
 -- the mapping in a job's hand stands, of its reference
 pub in_hand : (before : List Line) (table : GrantTable) (v : View) (place : ℕ) (t : Work) (m : Mapping) → Stands before table → AreHeld table (hands_of v) → slice_get v.jobs.works place ≡ Some t → mapping_at t.stage ≡ Some m
-    → IsSomeAnd (numbered m.number (standing_behind before)) (λ (x : Standing). x.gref ≡ m.gref)
+    → IsSomeAnd (numbered m.number (standing_after before)) (λ (x : Standing). x.gref ≡ m.gref)
 in_hand before table v place t m stands held found_at is =
     let hand : Contains (hand_of t) m = subst (λ (o : Option Mapping). Contains (option_to_list o) m) (sym is) (only m) in
     let inside : Contains (hands_in v.jobs.works) m = named_in v.jobs.works place t (ask.Unmap m) found_at hand in
-    let whole : Contains (hands_of v) m = among m (given_up v.stage) v.pages (hands_in v.jobs.works) inside in
+    let whole : Contains (hands_of v) m = among m (aborted v.stage) v.pages (hands_in v.jobs.works) inside in
     subst (λ (o : Option Standing). IsSomeAnd o (λ (x : Standing). x.gref ≡ m.gref)) (sym (ap (λ (s : List Standing). numbered m.number s) stands ∙ numbered_live m.number table.live))
     (named (held_of m.number table.live) (All-contains (IsLive table) (hands_of v) m held.live whole))
   where

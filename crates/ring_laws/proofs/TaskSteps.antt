@@ -9,7 +9,7 @@ use Rattle.blk_base.specs.declared.moves.Move.TheVariants as moves
 use Rattle.report_rules.specs.declared.work.Task.{Task}
 use Rattle.report_rules.specs.declared.work.Task.TheVariants as tasks
 use Rattle.report_rules.specs.Step.{is_refusal}
-use Rattle.report_rules.specs.Walk.{spot, step_at, is_step_at, mapping_after, spot_behind, spot_in, advanced}
+use Rattle.report_rules.specs.Walk.{spot, step_at, is_step_at, mapping_after, spot_after, spot_in, advanced}
 
 pub task_at : (done more : List Task) (task : Task) → slice_get (done ++ task ∷ more) (length done) ≡ Some task
 task_at [] more task = refl
@@ -20,7 +20,7 @@ pub advances : (work : List Task) (n place : ℕ) (mapping : Option ℕ) (task :
     → option_and_then (advanced false work move) (Some (spot n place false mapping)) ≡ Some (if last then spot (n + 1) 0 (is_refusal move) None else spot n (place + 1) (is_refusal move) (mapping_after mapping move))
 advances work n place mapping task move last found is next =
     ap (λ (t : Option Task). spot_in false n t place mapping move) found
-    ∙ (ap (λ (b : Bool). if b then Some (spot_behind n task place mapping move) else None) is
+    ∙ (ap (λ (b : Bool). if b then Some (spot_after n task place mapping move) else None) is
     ∙ ap (λ (b : Bool). Some (if b then spot (n + 1) 0 (is_refusal move) None else spot n (place + 1) (is_refusal move) (mapping_after mapping move))) next)
 
 -- the place of step j of sector i of a segment

@@ -84,7 +84,7 @@ small_number s v x = by_stage s
     by_stage stage.InitWait k r = waits k.waits
     by_stage stage.MapRing k r = waits k.waits
     by_stage (stage.Fetch n) k r = let s : Serves n x v = k.1 in of_rest v.fetched s.count s.numbered
-    by_stage (stage.GiveUp m) k r = both k.over r
+    by_stage (stage.Abort m) k r = both k.over r
     by_stage stage.UnmapRing k r = both k.over r
     by_stage stage.ClosePort k r = both k.over r
     by_stage stage.UnmapUnbound k r = both k.over r

@@ -53,8 +53,8 @@ numbers_split front rest t = map-append number_of front (t ∷ rest)
 pub others_before : (front rest : List Work) (t : Work) → AreApart (numbers (front ++ t ∷ rest)) → AllByRecursion (λ (u : Work). u.number ≢ t.number) front
 others_before front rest t apart = all_of_map (λ (m : ℕ). m ≢ t.number) number_of front (apart_first (numbers front) (numbers rest) t.number (subst AreApart (numbers_split front rest t) apart))
 
-pub others_behind : (front rest : List Work) (t : Work) → AreApart (numbers (front ++ t ∷ rest)) → AllByRecursion (λ (u : Work). u.number ≢ t.number) rest
-others_behind front rest t apart = all_of_map (λ (m : ℕ). m ≢ t.number) number_of rest (apart_second (numbers front) (numbers rest) t.number (subst AreApart (numbers_split front rest t) apart))
+pub others_after : (front rest : List Work) (t : Work) → AreApart (numbers (front ++ t ∷ rest)) → AllByRecursion (λ (u : Work). u.number ≢ t.number) rest
+others_after front rest t apart = all_of_map (λ (m : ℕ). m ≢ t.number) number_of rest (apart_second (numbers front) (numbers rest) t.number (subst AreApart (numbers_split front rest t) apart))
 
 -- the jobs by these words and these lines, of numbers up to this one
 pub record AreJobs (terms : Terms) (values : List ℕ) (epoch : List Line) (fetched : ℕ) (works : List Work) : Type 0 where
@@ -156,13 +156,13 @@ jobs_told terms values epoch ys fetched works place t new e same aside j jobs =
     let split : numbers works ≡ numbers among.front ++ t.number ∷ numbers among.rest = ap numbers among.is ∙ map-append number_of among.front (t ∷ among.rest) in
     let apart : AreApart (numbers (among.front ++ t ∷ among.rest)) = subst (λ (l : List Work). AreApart (numbers l)) among.is jobs.apart in
     let before = others_before among.front among.rest t apart in
-    let behind = others_behind among.front among.rest t apart in
+    let after = others_after among.front among.rest t apart in
     let now : numbers works ≡ numbers (among.front ++ new ∷ among.rest) = split ∙ (ap (λ (n : ℕ). numbers among.front ++ n ∷ numbers among.rest) (sym same) ∙ sym (map-append number_of among.front (new ∷ among.rest))) in
     subst (λ (l : List Work). AreJobs terms values (epoch ++ ys) fetched l) (sym (among.set new))
     (record {
       each = all_both (IsJobOf terms values (epoch ++ ys)) among.front (new ∷ among.rest)
           (all_pairs (λ (u : Work). u.number ≢ t.number) (IsJobOf terms values epoch) (IsJobOf terms values (epoch ++ ys)) among.front (λ u other k. kept u other k) before (all_first (IsJobOf terms values epoch) among.front (t ∷ among.rest) each))
-          (j, all_pairs (λ (u : Work). u.number ≢ t.number) (IsJobOf terms values epoch) (IsJobOf terms values (epoch ++ ys)) among.rest (λ u other k. kept u other k) behind (all_second (IsJobOf terms values epoch) among.front (t ∷ among.rest) each).1);
+          (j, all_pairs (λ (u : Work). u.number ≢ t.number) (IsJobOf terms values epoch) (IsJobOf terms values (epoch ++ ys)) among.rest (λ u other k. kept u other k) after (all_second (IsJobOf terms values epoch) among.front (t ∷ among.rest) each).1);
       apart = subst AreApart now jobs.apart;
       low = subst (λ (ns : List ℕ). AllByRecursion (λ (n : ℕ). n ≤ fetched) ns) now jobs.low;
     })

@@ -33,8 +33,8 @@ written_same a b same (lines.Move (moves.Write back.Back number frame word value
 written_same a b same line = refl
 
 -- after such a line, as before it
-pub written_behind : (before : List Line) (line : Line) → IsOnPages line → value_written (before ++ line ∷ []) line ≡ value_written before line
-written_behind before line on = written_same (before ++ line ∷ []) before (pages_kept before line on.same_epoch on.page) line
+pub written_after : (before : List Line) (line : Line) → IsOnPages line → value_written (before ++ line ∷ []) line ≡ value_written before line
+written_after before line on = written_same (before ++ line ∷ []) before (pages_kept before line on.same_epoch on.page) line
 
 -- a line that makes no page adds what the back writes in it
 pub written_more : (before : List Line) (line : Line) → IsOnPages line → values_written (before ++ line ∷ []) ≡ values_written before ++ option_to_list (value_written before line)

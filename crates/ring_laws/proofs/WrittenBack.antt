@@ -32,7 +32,7 @@ use Rattle.blk_back.specs.declared.told.Halt.{Halt}
 use Rattle.blk_back.specs.View.{View, page_of, slot_page, slot_word}
 use Rattle.blk_back.proofs.Slots.{response_fits}
 use Rattle.blk_back.specs.Ask.{ask_at, ask_of, loop_ask, index_ask, entry_ask, unmap_ask, next_gref, next_reply, response_word}
-use Rattle.blk_back.specs.Step.{at, unbound, bound, other_pages, mapped, unmapped_bound, unmapped_unbound, giving_up, give_up, overrun, looked, loop_word, loop_step, fetched, fetch_step, replied, step_at, step_of}
+use Rattle.blk_back.specs.Step.{at, unbound, bound, other_pages, mapped, unmapped_bound, unmapped_unbound, unmapping_next, abort, overrun, looked, loop_word, loop_step, fetched, fetch_step, replied, step_at, step_of}
 use Rattle.split_model.specs.Shown.{back_lines, halt_lines, halt_line}
 use Rattle.split_model.proofs.SafeActs.{of_back, back_wait}
 use Rattle.ring_laws.proofs.Sight.{is_other}
@@ -42,7 +42,7 @@ use Rattle.ring_laws.proofs.Entry.{first_is, slot_is, high_slot}
 use Rattle.ring_laws.proofs.Knows.{untold, unhalted, Serves, KnowsAt}
 use Rattle.ring_laws.proofs.Due.{Answered, Candidate, response_in, under_way, row_at, answered_then, next_word, replying, Writes}
 use Rattle.ring_laws.proofs.Rows.{answered_one, answered_aside}
-use Rattle.ring_laws.proofs.Written.{Passes, AllPass, passes_other, written_behind, written_still, written_map, unwritten_at, writes_still, writes_all, writes_stage}
+use Rattle.ring_laws.proofs.Written.{Passes, AllPass, passes_other, written_after, written_still, written_map, unwritten_at, writes_still, writes_all, writes_stage}
 use Rattle.ring_laws.proofs.WrittenWord.{written_event, not_one, slot_writes, slot_lines, IsRaised, producer_writes}
 
 -- what the lines of a move make of the reply under way: none is, or one has a word more, or it is told
@@ -86,7 +86,7 @@ either_view : (P : View → Type 0) (b : Bool) (x y : View) → P x → P y → 
 either_view P true x y p q = p
 either_view P false x y p q = q
 
-pub giving_nothing : (m : Option Mapping) → under_way (giving_up m) ≡ []
+pub giving_nothing : (m : Option Mapping) → under_way (unmapping_next m) ≡ []
 giving_nothing None = refl
 giving_nothing (Some m) = refl
 
@@ -209,7 +209,7 @@ event_writes before x v frame value answered k shows told w =
     let none : value_written before (lines.Move (moves.Write back.Back page.number frame 1 value)) ≡ None = written_event before x page.number frame value (first_is 0 x v k) shows in
     alone before answered stage.StoreEvent v answers.Done (moves.Write back.Back page.number frame 1 value) (at stage.EventFence v) told refl
     (writes_stage _ stage.StoreEvent stage.EventFence answered refl
-    (writes_still before line stage.StoreEvent answered w (unwritten_at before line stage.StoreEvent answered w none refl (λ own. refl)) (written_still before line on none) (written_behind before line on ∙ none)))
+    (writes_still before line stage.StoreEvent answered w (unwritten_at before line stage.StoreEvent answered w none refl (λ own. refl)) (written_still before line on none) (written_after before line on ∙ none)))
     (rests refl refl (answered_one before line refl refl))
 
 -- the producer is raised, and the reply told
@@ -256,7 +256,7 @@ writes_at before h stage.StoreEvent v o a x answered k n shows same told w job s
 writes_at before h stage.EventFence v o a x answered k n shows same told w job small e = of_back (BackWrites before stage.EventFence answered k v) _ a (quiet before answered stage.EventFence v _ (moves.Fence mover.Back) _ w refl (own_passes (lines.Move (moves.Fence mover.Back)) refl refl) told refl) e
 writes_at before h stage.LookAgain v o a x answered k n shows same told w job small e =
     of_back (BackWrites before stage.LookAgain answered k v) _ a (looked_writes before answered stage.LookAgain v (record v { seen = _; stage = stage.Loop; asleep = true }) _ _ (frame_of h.grants (page_of v 0)) 0 _ w refl told told refl) e
-writes_at before h (stage.GiveUp m) v o a x answered k n shows same told w job small e = of_back (BackWrites before (stage.GiveUp m) answered k v) _ a (quiet before answered (stage.GiveUp m) v _ (moves.Unmap back.Back m.number) (give_up v) w refl (own_passes (lines.Move (moves.Unmap back.Back m.number)) refl refl) told (giving_nothing (first_mapping v.jobs.works))) e
+writes_at before h (stage.Abort m) v o a x answered k n shows same told w job small e = of_back (BackWrites before (stage.Abort m) answered k v) _ a (quiet before answered (stage.Abort m) v _ (moves.Unmap back.Back m.number) (abort v) w refl (own_passes (lines.Move (moves.Unmap back.Back m.number)) refl refl) told (giving_nothing (first_mapping v.jobs.works))) e
 writes_at before h stage.UnmapRing v o a x answered k n shows same told w job small e = unmap_writes before h stage.UnmapRing v (unmapped_bound v) o a answered v.pages w refl told (bound_nothing (other_pages v.pages)) e
 writes_at before h stage.ClosePort v o a x answered k n shows same told w job small e = of_back (BackWrites before stage.ClosePort answered k v) _ a (quiet before answered stage.ClosePort v _ (moves.ClosePort mover.Back) _ w refl (own_passes (lines.Move (moves.ClosePort mover.Back)) refl refl) told refl) e
 writes_at before h stage.UnmapUnbound v o a x answered k n shows same told w job small e = unmap_writes before h stage.UnmapUnbound v (unmapped_unbound v) o a answered v.pages w refl told (unbound_nothing (other_pages v.pages)) e

@@ -33,21 +33,21 @@ pub rows_more : (answered : List Answered) (a : Answered) → rows_of (answered 
 rows_more [] a = refl
 rows_more (b ∷ answered) a = ap (λ (vs : List ℕ). response_words_of b.response ++ b.producer ∷ vs) (rows_more answered a)
 
-value_behind : (xs ys : List ℕ) (i j : ℕ) → i ≡ length xs + j → value_at (xs ++ ys) i ≡ value_at ys j
-value_behind xs ys i j e =
+value_past : (xs ys : List ℕ) (i j : ℕ) → i ≡ length xs + j → value_at (xs ++ ys) i ≡ value_at ys j
+value_past xs ys i j e =
     ap (λ (n : ℕ). value_at (xs ++ ys) n) e
     ∙ (unwrap_or-slice_get (xs ++ ys) (length xs + j) 0 ∙ (get_or-append-add xs ys j 0 ∙ sym (unwrap_or-slice_get ys j 0)))
 
 three : {a b c d e f : ℕ} → a ≡ d → b ≡ e → c ≡ f → a ∷ b ∷ c ∷ [] ≡ d ∷ e ∷ f ∷ []
 three p q r = cc
 
-row_behind : (xs ys : List ℕ) (m n : ℕ) → 4 * m ≡ length xs + 4 * n → row_of (xs ++ ys) m ≡ row_of ys n
-row_behind xs ys m n e =
-    three (value_behind xs ys (4 * m) (4 * n) e) (value_behind xs ys (4 * m + 1) (4 * n + 1) (omega arith)) (value_behind xs ys (4 * m + 2) (4 * n + 2) (omega arith))
+row_past : (xs ys : List ℕ) (m n : ℕ) → 4 * m ≡ length xs + 4 * n → row_of (xs ++ ys) m ≡ row_of ys n
+row_past xs ys m n e =
+    three (value_past xs ys (4 * m) (4 * n) e) (value_past xs ys (4 * m + 1) (4 * n + 1) (omega arith)) (value_past xs ys (4 * m + 2) (4 * n + 2) (omega arith))
 
 -- the row after the replies
 pub row_after : (answered : List Answered) (u : List ℕ) → row_of (rows_of answered ++ u) (length answered) ≡ row_of u 0
-row_after answered u = let rows = rows_long answered in row_behind (rows_of answered) u (length answered) 0 (omega arith)
+row_after answered u = let rows = rows_long answered in row_past (rows_of answered) u (length answered) 0 (omega arith)
 
 like_same : (last : ℕ) (row other : List ℕ) → ((words : List ℕ) → are_alike last row words ≡ are_alike last other words) → (due : Option (List ℕ)) → is_like last row due ≡ is_like last other due
 like_same last row other same None = refl

@@ -35,7 +35,7 @@ use Rattle.ring_laws.proofs.WrittenRows.{within_is, replies_are, row_after, rows
 use Rattle.ring_laws.proofs.Over.{left_aside}
 use Rattle.ring_laws.proofs.Rows.{lines_take, answered_one, answered_told}
 use Rattle.ring_laws.proofs.Choice.{IsChoice, choice}
-use Rattle.ring_laws.proofs.Written.{written_behind, written_more, written_still, pushed_more, pushes_none}
+use Rattle.ring_laws.proofs.Written.{written_after, written_more, written_still, pushed_more, pushes_none}
 
 -- what the back writes into the ring's pages: a word of a reply, but for req_event
 pub written_word : (before : List Line) (x : Sight) (number place frame word value : ℕ) → (1024 * place + word == 1) ≡ false → IsPage number place x → Shows before x → value_written before (lines.Move (moves.Write back.Back number frame word value)) ≡ Some value
@@ -149,7 +149,7 @@ next_value before prod within replied =
 pub slot_lines : (before : List Line) (x : Sight) (number place frame word value n : ℕ) → (1024 * place + word == 1) ≡ false → IsPage number place x → Shows before x → lines_before (before ++ lines.Move (moves.Write back.Back number frame word value) ∷ []) (n + 1) ≡ lines_before before n
 slot_lines before x number place frame word value n other is shows =
     let line : Line = lines.Move (moves.Write back.Back number frame word value) in
-    lines_take before line n value (write_on number frame word value) (written_behind before line (write_on number frame word value) ∙ written_word before x number place frame word value other is shows)
+    lines_take before line n value (write_on number frame word value) (written_after before line (write_on number frame word value) ∙ written_word before x number place frame word value other is shows)
 
 -- the producer is raised, and the reply told
 pub record IsRaised (before : List Line) (lines : List Line) (prod k : ℕ) (r : Reply) (answered : List Answered) : Type 0 where
@@ -173,10 +173,10 @@ producer_writes before x v frame k r answered s shows small writes c =
     let within : within_reply before ≡ 3 = within_is (values_written before) answered u writes.words (omega arith) in
     let at : 1024 * 0 + 2 ≡ next_place before v.shape = sym (ap (λ (n : ℕ). if n == 3 then 2 else ring_word_of v.shape (replied_before before) n) within) in
     let next : is_next_value before (next_of prod) ≡ true = next_value before prod within (shows.replied ∙ s.replied) in
-    let behind : values_written longer ≡ rows_of answered ++ (u ++ next_of prod ∷ []) = words_with before x number 0 frame 2 (next_of prod) answered u refl is shows writes.words in
-    let words : values_written longer ≡ rows_of (answered ++ a ∷ []) = behind ∙ sym (rows_more answered a) in
+    let past : values_written longer ≡ rows_of answered ++ (u ++ next_of prod ∷ []) = words_with before x number 0 frame 2 (next_of prod) answered u refl is shows writes.words in
+    let words : values_written longer ≡ rows_of (answered ++ a ∷ []) = past ∙ sym (rows_more answered a) in
     let flat : values_written longer ≡ rows_of (answered ++ a ∷ []) ++ [] = words ∙ sym (append-nil (rows_of (answered ++ a ∷ []))) in
-    let written : value_written longer line ≡ Some (next_of prod) = written_behind before line (write_on number frame 2 (next_of prod)) ∙ written_word before x number 0 frame 2 (next_of prod) refl is shows in
+    let written : value_written longer line ≡ Some (next_of prod) = written_after before line (write_on number frame 2 (next_of prod)) ∙ written_word before x number 0 frame 2 (next_of prod) refl is shows in
     let replies = replies_are (values_written longer) (answered ++ a ∷ []) [] flat (omega arith) in
     let more = length-append answered (a ∷ []) in
     let count : length (values_written longer) / 4 - 1 ≡ length answered = omega arith in
@@ -185,7 +185,7 @@ producer_writes before x v frame k r answered s shows small writes c =
     ∙ (ap (λ (v : Option ℕ). if is_some v && (within_reply longer == 0) then Some (row_of (values_written longer) (length (values_written longer) / 4 - 1)) else None) written
     ∙ (ap (λ (n : ℕ). if n == 0 then Some (row_of (values_written longer) (length (values_written longer) / 4 - 1)) else None) (within_is (values_written longer) (answered ++ a ∷ []) [] flat (omega arith))
     ∙ (ap (λ (n : ℕ). Some (row_of (values_written longer) n)) count
-    ∙ (ap (λ (vs : List ℕ). Some (row_of vs (length answered))) behind
+    ∙ (ap (λ (vs : List ℕ). Some (row_of vs (length answered))) past
     ∙ ap (λ (ws : List ℕ). Some ws) (row_after answered (u ++ next_of prod ∷ [])))))) in
     let one : Obeys IsReplyAt longer = obeys_more IsReplyAt before line writes.obeys (word_allowed before x number 0 frame 2 (next_of prod) v.shape refl is shows (shape_is before 0 x v shows s) writes.pushed at next) in
     let early : lines_before longer 4 ≡ lines_before before 3 = slot_lines before x number 0 frame 2 (next_of prod) 3 refl is shows in

@@ -64,9 +64,9 @@ pub fn the_data_are_what_the_disk_gave()
         → AreData (ended_report_of config detail history) }
 {}
 
-/// Behind each move of the disk stands what came of it, by the request's id and the place in it, and
+/// AfterAll each move of the disk stands what came of it, by the request's id and the place in it, and
 /// nowhere else does such a line stand.
-pub fn the_effects_stand_behind_their_moves()
+pub fn the_effects_stand_after_their_moves()
     ensures report { (config : Options) (detail : Detail) (history : List Happening) → config.indirect ≤ 960
         → length (report_of config detail history) < 2 ^ 64
         → AreEffects (report_of config detail history) }
@@ -77,7 +77,7 @@ pub fn the_effects_stand_behind_their_moves()
 
 /// A fact about this machine that no rule asks for: a job unmaps only what stands and what it mapped
 /// itself.
-pub fn the_jobs_give_up_what_they_mapped()
+pub fn the_jobs_unmap_what_they_mapped()
     ensures report { (config : Options) (detail : Detail) (history : List Happening) → config.indirect ≤ 960
         → length (report_of config detail history) < 2 ^ 64
         → AreUnmaps (report_of config detail history) }

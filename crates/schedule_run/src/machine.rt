@@ -61,7 +61,7 @@ impl Machine {
     /// Carries out an event, and gives the recorder the lines of all that happens. The event is one
     /// for which `can_carry_out` holds. After a stop, what was done before it stands, and the lines
     /// before the one at which the recorder stopped. Each call of the disk is the one that a job asks
-    /// for, and what it answered is what the job is told.
+    /// for, and what it answered completes the job's ask.
     ///
     /// Whoever makes a machine, adds a `begin` line with its options (`a_run_begins`) and then carries
     /// out events has a lawful report after each of them, where disk and recorder expose what they

@@ -36,7 +36,7 @@ pub struct Split {
     front: Frontend,
     back: Backend,
     under: Hypervisor,
-    // where what an answer lends lies until it is told
+    // where what an answer lends lies until it completes the ask
     room: Room,
     // where the memory of a new backend comes from
     alloc: Global,
@@ -112,7 +112,7 @@ impl Split {
     {
         let answer = FrontAnswer::Done;
         // A frontend takes no memory once it is made.
-        let _ = self.front.tell(&answer);
+        let _ = self.front.complete(&answer);
         self.under.write_front(frame, word, value);
         let shown = show_front(recorder, &FrontAsk::Write { frame, word, value }, &answer);
         follow_told(&mut self.front, recorder, shown)
@@ -132,7 +132,7 @@ impl Split {
     {
         let answer = FrontAnswer::Word(self.under.read_front(frame, word));
         // A frontend takes no memory once it is made.
-        let _ = self.front.tell(&answer);
+        let _ = self.front.complete(&answer);
         let shown = show_front(recorder, &FrontAsk::Read { frame, word }, &answer);
         follow_told(&mut self.front, recorder, shown)
     }
@@ -151,7 +151,7 @@ impl Split {
         };
         let shown = show_front(recorder, &ask, &answer);
         // A frontend takes no memory once it is made.
-        let _ = self.front.tell(&answer);
+        let _ = self.front.complete(&answer);
         follow_told(&mut self.front, recorder, shown)
     }
 
@@ -194,7 +194,7 @@ impl Split {
             return Ok(());
         };
         let shown = show_back(recorder, &self.under, BackMover::Back, &ask, &answer);
-        let _ = self.back.tell(&answer);
+        let _ = self.back.complete(&answer);
         let told = self.back.take_told();
         follow_back(recorder, shown, told, &answer, before, self.back.halted())
     }
@@ -241,7 +241,7 @@ impl Split {
     {
         let who = BackMover::Job(number);
         let answer = BackAnswer::Word(self.under.read(mapping, word));
-        self.back.job_tell(number, &answer);
+        self.back.job_complete(number, &answer);
         let told = self.back.take_told();
         let ask = BackAsk::Read { mapping, word };
         let shown = show_back(recorder, &self.under, who, &ask, &answer);
@@ -269,7 +269,7 @@ impl Split {
         let who = BackMover::Job(number);
         let answer = BackAnswer::Done;
         self.under.write(mapping, word, value);
-        self.back.job_tell(number, &answer);
+        self.back.job_complete(number, &answer);
         let told = self.back.take_told();
         let ask = BackAsk::Write {
             mapping,
@@ -302,7 +302,7 @@ impl Split {
             return Ok(());
         };
         let shown = show_back(recorder, &self.under, who, &ask, &answer);
-        self.back.job_tell(number, &answer);
+        self.back.job_complete(number, &answer);
         let told = self.back.take_told();
         follow_job(recorder, shown, told, &answer)
     }

@@ -12,7 +12,7 @@ use Rattle.blk_base.specs.declared.parts.Mapping.{Mapping}
 use Rattle.ring_words.specs.Shape.{Shape, entry_words_of}
 use Rattle.ring_words.specs.Ring.{next_of, requests_of, overruns, notifies}
 use Rattle.back_jobs.specs.Task.{Work}
-use Rattle.back_jobs.specs.Jobs.{is_done, removed_at, behind_mapping, first_mapping, mapping_at, response_of, work_at, told_at, place_of, work_of}
+use Rattle.back_jobs.specs.Jobs.{is_done, removed_at, after_mapping, first_mapping, mapping_at, response_of, work_at, told_at, place_of, work_of}
 use Rattle.blk_back.specs.declared.stage.Reply.{Reply}
 use Rattle.blk_back.specs.declared.stage.Stage.{Stage}
 use Rattle.blk_back.specs.declared.stage.Stage.TheVariants as stage
@@ -20,7 +20,7 @@ use Rattle.blk_back.specs.View.{View}
 use Rattle.blk_back.specs.declared.told.Halt.{Halt}
 use Rattle.blk_back.specs.declared.told.Halt.TheVariants as halt
 use Rattle.blk_back.specs.Ask.{next_reply, reply_of}
-use Rattle.blk_back.specs.Step.{at, giving_up, give_up, unbound, bound, other_pages, may_attach, attached, halts, overrun, looked, loop_step, fetched, fetch_step, replied, step_at, step_of, job_step}
+use Rattle.blk_back.specs.Step.{at, unmapping_next, abort, unbound, bound, other_pages, may_attach, attached, halts, overrun, looked, loop_step, fetched, fetch_step, replied, step_at, step_of, job_step}
 use Rattle.split_model.proofs.States.{halts_cases}
 use Rattle.split_model.proofs.Shapes.{attaches_waiting, attaches_order, few_entries}
 
@@ -31,7 +31,7 @@ IsRoomAt (stage.Fetch k) works waiting = (works ≤ waiting) × (waiting < 512)
 IsRoomAt (stage.ReplyHigh r) works waiting = (works + 1 ≤ waiting) × (waiting ≤ 512)
 IsRoomAt (stage.ReplyLast r) works waiting = (works + 1 ≤ waiting) × (waiting ≤ 512)
 IsRoomAt (stage.Producer r) works waiting = (works + 1 ≤ waiting) × (waiting ≤ 512)
-IsRoomAt (stage.GiveUp m) works waiting = works ≤ 512
+IsRoomAt (stage.Abort m) works waiting = works ≤ 512
 IsRoomAt stage.UnmapRing works waiting = works ≤ 512
 IsRoomAt stage.ClosePort works waiting = works ≤ 512
 IsRoomAt stage.UnmapUnbound works waiting = works ≤ 512
@@ -51,7 +51,7 @@ room_few (stage.Fetch k) works waiting r = omega (arith, r.0, r.1)
 room_few (stage.ReplyHigh rep) works waiting r = omega (arith, r.0, r.1)
 room_few (stage.ReplyLast rep) works waiting r = omega (arith, r.0, r.1)
 room_few (stage.Producer rep) works waiting r = omega (arith, r.0, r.1)
-room_few (stage.GiveUp m) works waiting r = r
+room_few (stage.Abort m) works waiting r = r
 room_few stage.UnmapRing works waiting r = r
 room_few stage.ClosePort works waiting r = r
 room_few stage.UnmapUnbound works waiting r = r
@@ -75,25 +75,25 @@ one_nearer a b low high some = omega (arith, low, high, some)
 moves_on : (v : View) (s : Stage) → IsRoomAt s (length v.jobs.works) (distance_of v.ring.prod v.ring.cons) → HasRoom v → HasRoom (at s v)
 moves_on v s r h = record { entries = h.entries; prod = h.prod; cons = h.cons; room = r }
 
--- the jobs that are left after some are given up
-behind_fewer : (works : List Work) → length (behind_mapping works) ≤ length works
-behind_fewer [] = omega arith
-behind_fewer (t ∷ works) = by_test (is_some (mapping_at t.stage)) (behind_fewer works)
+-- the jobs that are left after some are aborted
+after_fewer : (works : List Work) → length (after_mapping works) ≤ length works
+after_fewer [] = omega arith
+after_fewer (t ∷ works) = by_test (is_some (mapping_at t.stage)) (after_fewer works)
   where
-    by_test : (b : Bool) → length (behind_mapping works) ≤ length works → length (cond b works (behind_mapping works)) ≤ length (t ∷ works)
+    by_test : (b : Bool) → length (after_mapping works) ≤ length works → length (cond b works (after_mapping works)) ≤ length (t ∷ works)
     by_test true fewer = omega arith
     by_test false fewer = omega arith
 
-given_up : (m : Option Mapping) (works waiting : ℕ) → works ≤ 512 → IsRoomAt (giving_up m) works waiting
-given_up None works waiting few = few
-given_up (Some m) works waiting few = few
+aborted : (m : Option Mapping) (works waiting : ℕ) → works ≤ 512 → IsRoomAt (unmapping_next m) works waiting
+aborted None works waiting few = few
+aborted (Some m) works waiting few = few
 
-give_up_room : (v : View) → length v.jobs.works ≤ 512 → v.ring.entries ≤ 512 → v.ring.prod < 2 ^ 32 → v.ring.cons < 2 ^ 32 → HasRoom (give_up v)
-give_up_room v few entries prod cons = record {
+abort_room : (v : View) → length v.jobs.works ≤ 512 → v.ring.entries ≤ 512 → v.ring.prod < 2 ^ 32 → v.ring.cons < 2 ^ 32 → HasRoom (abort v)
+abort_room v few entries prod cons = record {
   entries = entries;
   prod = prod;
   cons = cons;
-  room = let fewer = behind_fewer v.jobs.works in given_up (first_mapping v.jobs.works) (length (behind_mapping v.jobs.works)) (distance_of v.ring.prod v.ring.cons) (omega arith);
+  room = let fewer = after_fewer v.jobs.works in aborted (first_mapping v.jobs.works) (length (after_mapping v.jobs.works)) (distance_of v.ring.prod v.ring.cons) (omega arith);
 }
 
 either : (b : Bool) (x y : View) → HasRoom x → HasRoom y → HasRoom (if b then x else y)
@@ -107,7 +107,7 @@ IsUsual v = (v.ring.entries ≤ 512) × (v.ring.prod < 2 ^ 32) × (v.ring.cons <
 looked_room : (v : View) (word : ℕ) (otherwise : View) → IsUsual v → HasRoom otherwise → HasRoom (looked v word otherwise)
 looked_room v word otherwise u h =
     either (overruns v.ring word) (overrun v word) _
-    (give_up_room (record v { halted = Some (halt.Overrun word v.ring.prod) }) (omega (arith, u.3, u.4)) u.0 u.1 u.2)
+    (abort_room (record v { halted = Some (halt.Overrun word v.ring.prod) }) (omega (arith, u.3, u.4)) u.0 u.1 u.2)
     (either (word == v.ring.cons) otherwise (record v { seen = word; stage = stage.Loop }) h (record { entries = u.0; prod = u.1; cons = u.2; room = (u.3, u.4) }))
 
 -- a reply takes one job
@@ -174,7 +174,7 @@ replied_room v r here h =
     let nearer = one_nearer v.ring.prod v.ring.cons h.prod h.cons (omega arith) in
     record { entries = h.entries; prod = next_below v.ring.prod; cons = h.cons; room = (omega arith, omega arith) }
 
--- pages that are left to give up, or none
+-- pages that are left to unmap, or none
 unbound_room : (pages : List Mapping) (works waiting : ℕ) → works ≤ 512 → IsRoomAt (unbound pages) works waiting
 unbound_room [] works waiting few = few
 unbound_room (page ∷ pages) works waiting few = few
@@ -210,7 +210,7 @@ step_room stage.EventFence v x here h = moves_on v stage.LookAgain (room_at v st
 step_room stage.LookAgain v (answer.Word word) here h =
     let u = usual_at v stage.LookAgain here (λ r. r) h in
     looked_room v word (record v { seen = word; stage = stage.Loop; asleep = true }) u (record { entries = u.0; prod = u.1; cons = u.2; room = (u.3, u.4) })
-step_room (stage.GiveUp m) v x here h = give_up_room v (few_jobs v h) h.entries h.prod h.cons
+step_room (stage.Abort m) v x here h = abort_room v (few_jobs v h) h.entries h.prod h.cons
 step_room stage.UnmapRing v x here h = record { entries = h.entries; prod = h.prod; cons = h.cons; room = bound_room (other_pages v.pages) _ _ (few_jobs v h) }
 step_room stage.ClosePort v x here h = moves_on v stage.Halted (few_jobs v h) h
 step_room stage.UnmapUnbound v x here h = record { entries = h.entries; prod = h.prod; cons = h.cons; room = unbound_room (other_pages v.pages) _ _ (few_jobs v h) }
@@ -223,7 +223,7 @@ back_room v x h = step_room v.stage v x refl h
 pub halted_room : (why : Halt) (v : View) → HasRoom v → HasRoom (halts why v)
 halted_room why v h =
     halts_cases (λ x. HasRoom x) why v (λ here. record { entries = h.entries; prod = h.prod; cons = h.cons; room = unbound_room v.pages _ _ (few_jobs v h) })
-    (λ here. give_up_room (record v { halted = Some why }) (few_jobs v h) h.entries h.prod h.cons) h
+    (λ here. abort_room (record v { halted = Some why }) (few_jobs v h) h.entries h.prod h.cons) h
 
 -- and whatever terms it takes
 pub attached_room : (shape : Shape) (grefs : List ℕ) (port : ℕ) (v : View) → may_attach shape grefs v ≡ true → HasRoom v → HasRoom (attached shape grefs port v)

@@ -58,7 +58,7 @@ number_at (job_stage.DiskRead m) t (answer.Sector words) = refl
 number_at (job_stage.DiskRead m) t answer.DiskFailed = refl
 number_at (job_stage.WriteWord m k) t answer.Done = either_number (k == 127) (task.next_sector t m) (record t { stage = job_stage.WriteWord m (k + 1) }) t.number (next_sector_number t m) refl
 number_at (job_stage.Unmap m) t answer.Done = segment_number t (task.rest_of t.rest)
-number_at (job_stage.GiveUp m) t answer.Done = refl
+number_at (job_stage.Abort m) t answer.Done = refl
 number_at job_stage.Flush t answer.Done = refl
 number_at job_stage.Flush t answer.DiskFailed = refl
 number_at (job_stage.Trim count) t answer.Done = refl

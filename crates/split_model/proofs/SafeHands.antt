@@ -128,7 +128,7 @@ pub held_more : (table : GrantTable) (m : Mapping) (frame : ℕ) (hands hands' :
 held_more table m frame hands hands' next held more =
     rw more.with_it (held_with table m frame more.front more.rest next (rw more.without at held))
 
--- a mapping that is given up was held once, so every other one lives still
+-- a mapping that is unmapped was held once, so every other one lives still
 held_but : (table : GrantTable) (m : Mapping) (front rest : List Mapping) → AreHeld table (front ++ m ∷ rest) → AreHeld (unmap_table table m) (front ++ rest)
 held_but table m front rest held =
     let own : as_hand m.number m ≡ 1 = grind (arith, nat_tests) in

@@ -12,7 +12,7 @@ use Rattle.blk_back.specs.declared.stage.Stage.{Stage as BackStage}
 use Rattle.blk_back.specs.declared.stage.Stage.TheVariants as back_stage
 use Rattle.blk_back.specs.declared.told.Halt.{Halt}
 use Rattle.blk_back.specs.View as back
-use Rattle.blk_back.specs.Step.{unbound, halts_at, may_halt, halts, give_up}
+use Rattle.blk_back.specs.Step.{unbound, halts_at, may_halt, halts, abort}
 use Rattle.split_model.specs.Shown.{state_lines}
 use Rattle.split_model.specs.Happening.{enter_lines}
 
@@ -44,7 +44,7 @@ is_unbound s = false
 -- a halt for a reason that may be one, before the port is bound and in the loop; or nothing happens
 pub halts_for_cases : (P : back.View → Type 0) (why : Halt) (v : back.View)
     → (may_halt why ≡ true → is_unbound v.stage ≡ true → P (record v { halted = Some why; stage = unbound v.pages }))
-    → (may_halt why ≡ true → v.stage ≡ back_stage.Loop → P (give_up (record v { halted = Some why })))
+    → (may_halt why ≡ true → v.stage ≡ back_stage.Loop → P (abort (record v { halted = Some why })))
     → P v → P (halts why v)
 halts_for_cases P why v unmapped looping none = by_test (may_halt why) refl
   where
@@ -61,6 +61,6 @@ halts_for_cases P why v unmapped looping none = by_test (may_halt why) refl
 -- whatever the reason
 pub halts_cases : (P : back.View → Type 0) (why : Halt) (v : back.View)
     → (is_unbound v.stage ≡ true → P (record v { halted = Some why; stage = unbound v.pages }))
-    → (v.stage ≡ back_stage.Loop → P (give_up (record v { halted = Some why })))
+    → (v.stage ≡ back_stage.Loop → P (abort (record v { halted = Some why })))
     → P v → P (halts why v)
 halts_cases P why v unmapped looping none = halts_for_cases P why v (λ may. unmapped) (λ may. looping) none

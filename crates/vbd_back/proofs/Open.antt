@@ -12,7 +12,7 @@ use Rattle.blk_back.specs.declared.stage.Stage.{Stage}
 use Rattle.blk_back.specs.declared.stage.Stage.TheVariants as stage
 use Rattle.blk_back.specs.View as ring
 use Rattle.blk_back.specs.Ask.{next_reply}
-use Rattle.blk_back.specs.Step.{giving_up, unbound, bound, other_pages, overrun, looked, loop_step, fetched, step_at, step_of}
+use Rattle.blk_back.specs.Step.{unmapping_next, unbound, bound, other_pages, overrun, looked, loop_step, fetched, step_at, step_of}
 use Rattle.xenbus_state.specs.declared.back.BackBusAsk.{BackBusAsk}
 use Rattle.xenbus_state.specs.declared.back.BackBusAsk.TheVariants as bus_ask
 use Rattle.vbd_back.specs.declared.turn.Turn.{Turn}
@@ -35,7 +35,7 @@ either_stage : (c : Bool) (x y : Stage) → is_open x ≡ true → is_open y ≡
 either_stage true x y p q = p
 either_stage false x y p q = q
 
-giving_open : (m : Option Mapping) → is_open (giving_up m) ≡ true
+giving_open : (m : Option Mapping) → is_open (unmapping_next m) ≡ true
 giving_open None = refl
 giving_open (Some m) = refl
 
@@ -72,7 +72,7 @@ opened (stage.ResponseEvent old) v (answer.Word event) o h = either_stage (notif
 opened (stage.ResponseEvent old) v given o h = o
 opened stage.LookAgain v (answer.Word word) o h = looked_open v word (record v { seen = word; stage = stage.Loop; asleep = true }) refl
 opened stage.LookAgain v given o h = o
-opened (stage.GiveUp m) v given o h = giving_open (first_mapping v.jobs.works)
+opened (stage.Abort m) v given o h = giving_open (first_mapping v.jobs.works)
 opened stage.UnmapRing v given o h = bound_open (other_pages v.pages)
 opened stage.UnmapUnbound v given o h = unbound_open (other_pages v.pages)
 opened stage.Halted v given o h = o

@@ -1,4 +1,4 @@
--- Whether all other mappings are to be given up shows in what the negotiation asks.
+-- Whether all other mappings are to be unmapped shows in what the negotiation asks.
 use Rattle.std.proofs.Common.{◌≡◌, Bool, true, false, ◌&&◌, if◌then◌else◌, List, [], ◌∷◌, refl, sym, ap, ◌∙◌}
 use Rattle.blk_base.specs.declared.parts.Mapping.{Mapping}
 use Rattle.blk_base.specs.declared.ask.BackAnswer.TheVariants as answer
@@ -15,7 +15,7 @@ use Rattle.xenbus_state.specs.BackStep.{step_of}
 use Rattle.vbd_back.specs.Step.{settled_at, settled}
 
 abbrev pub settled_by : BackBusAsk → Stage → BackView → BackView
-settled_by bus_ask.UnmapOthers (stage.GiveUp m) v = v
+settled_by bus_ask.UnmapOthers (stage.Abort m) v = v
 settled_by bus_ask.UnmapOthers s v = step_of v answer.Done
 settled_by a s v = v
 
@@ -40,7 +40,7 @@ never true = refl
 never false = refl
 
 others : (s : Stage) (v : BackView) → settled_at bus_stage.UnmapOthers s v ≡ settled_by bus_ask.UnmapOthers s v
-others (stage.GiveUp m) v = refl
+others (stage.Abort m) v = refl
 others s v = refl
 
 pub settled_asked : (s : Stage) (v : BackView) → settled s v ≡ settled_by (ask_of v) s v

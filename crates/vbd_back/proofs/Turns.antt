@@ -150,7 +150,7 @@ halted_none (Some why) b n = absurd (cc)
 pub rests : (v : View) (r : ring.View) → turn_of v ≡ turn.Ring → is_some r.halted ≡ false → caught_up r v.bus ≡ v.bus
 rests v r t n = ap (λ (b : BackView). settled r.stage b) (halted_none r.halted v.bus n) ∙ settled_waits r.stage v.bus (waits v t)
 
--- a key is no mapping; a halt gives up none at once, and terms that are taken map none
+-- a key is no mapping; a halt unmaps none at once, and terms that are taken map none
 key_hands : (a : BackBusAsk) (given : BackAnswer) (before after : List Mapping) → after ≡ before → HandsAfter (key_ask a) given before after
 key_hands bus_ask.Watch given before after e = e
 key_hands a given before after e = e

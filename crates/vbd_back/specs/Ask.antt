@@ -1,4 +1,4 @@
--- What the backend asks: its negotiation speaks first (`io/xenbus.h`), between two steps of the ring's end; else that end has the move, where the negotiation asks for its page or its port to be mapped, bound or given up, or rests.
+-- What the backend asks: its negotiation speaks first (`io/xenbus.h`), between two steps of the ring's end; else that end has the move, where the negotiation asks for a page to be mapped or unmapped or the port to be bound or closed, or rests.
 use Rattle.std.specs.Prelude.{ℕ, Bool, true, false, ◌&&◌, ◌||◌, List, codes, decimal, if◌then◌else◌}
 use Rattle.blk_base.specs.declared.parts.End.TheVariants.{Front, Back}
 use Rattle.blk_base.specs.declared.ask.BackAsk.{BackAsk}
@@ -59,13 +59,13 @@ is_between s = true
 abbrev pub bus_moves : BackBusAsk → Stage → Bool
 bus_moves a s = speaks a && is_between s
 
--- the end of the ring has the move: the negotiation asks for what it does next to map and bind or to give up, or both are bound
+-- the end of the ring has the move: the negotiation asks for what it does next to map and bind or to unmap, or both are bound
 abbrev pub ring_moves : BackBusAsk → Stage → Bool
 ring_moves (bus_ask.Map gref) stage.MapRing = true
 ring_moves (bus_ask.Map gref) s = false
 ring_moves (bus_ask.Bind port) stage.Bind = true
 ring_moves (bus_ask.Bind port) s = false
-ring_moves bus_ask.UnmapOthers (stage.GiveUp m) = true
+ring_moves bus_ask.UnmapOthers (stage.Abort m) = true
 ring_moves bus_ask.UnmapOthers s = false
 ring_moves (bus_ask.Unmap m) stage.UnmapRing = true
 ring_moves (bus_ask.Unmap m) stage.UnmapUnbound = true

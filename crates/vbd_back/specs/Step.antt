@@ -53,9 +53,9 @@ abbrev pub bus_halted : Option Halt → BackView → BackView
 bus_halted None v = v
 bus_halted (Some why) v = stopped v
 
--- a negotiation that has all other mappings given up goes on where the end of the ring has none to give up
+-- a negotiation that has all other mappings unmapped goes on where the end of the ring has none to unmap
 abbrev pub settled_at : BackStage → Stage → BackView → BackView
-settled_at bus_stage.UnmapOthers (stage.GiveUp m) v = v
+settled_at bus_stage.UnmapOthers (stage.Abort m) v = v
 settled_at bus_stage.UnmapOthers s v = bus.step_of v answer.Done
 settled_at b s v = v
 

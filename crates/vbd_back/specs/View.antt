@@ -30,7 +30,7 @@ start_of config = record { ring = ring.start_of config; bus = bus.start_of (offe
 abbrev pub heard : View → View
 heard v = let r : ring.View = v.ring in record v { ring = record r { told = None } }
 
--- the negotiation has begun nothing, or has halted and given all up
+-- the negotiation has begun nothing, or has halted and holds nothing
 abbrev pub rests : BackBusAsk → Bool
 rests bus_ask.Wait = true
 rests ask = false

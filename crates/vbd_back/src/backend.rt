@@ -35,7 +35,7 @@ fn offer(read_only: bool, indirect: u32) -> Features
     }
 }
 
-/// The back end of a block device of one ring, which it serves as its front connects, and gives up as
+/// The back end of a block device of one ring, which it serves as its front connects, and leaves as
 /// its front is gone (`io/blkif.h`). Its jobs move apart from it. After `new` it takes no memory.
 #[derive(Drop)]
 pub struct Backend {
@@ -121,7 +121,7 @@ impl<'a> Endpoint<'a> for Backend {
 
     ghost asked = { ask_of };
 
-    ghost MayBeTold = { λ backend answer. IsAnswer (ask_of backend) answer × (backend.ring.told ≡ None) };
+    ghost MayComplete = { λ backend answer. IsAnswer (ask_of backend) answer × (backend.ring.told ≡ None) };
 
     #[inline(always)]
     #[tactic(auto, using(crate::proofs::Turns::open_asks))]
@@ -139,9 +139,9 @@ impl<'a> Endpoint<'a> for Backend {
         }
     }
 
-    fn tell(&mut self, answer: &BackAnswer<'a>) -> Result<(), OutOfMemory>
+    fn complete(&mut self, answer: &BackAnswer<'a>) -> Result<(), OutOfMemory>
         requires { IsAnswer (ask_of self.old) answer.now × (self.old.ring.told ≡ None) }
-        ensures told { self.new ≡ step_of self.old answer.now }
+        ensures completed { self.new ≡ step_of self.old answer.now }
         ensures hands { HandsAfter (ask_of self.old) answer.now (hands_of self.old.ring) (hands_of self.new.ring) }
         ensures takes_no_memory { IsOk result }
         ensures unchanged { OnErr result (self.new ≡ self.old) }
@@ -182,14 +182,14 @@ impl Backend {
         }
     }
 
-    // Tells the answer to what is asked, whosever turn it is.
+    // Completes what is asked by this answer, whosever turn it is.
     #[inline(never)]
     fn tell_by_turn(&mut self, answer: &BackAnswer)
         requires kind { IsAnswer (ask_of self.old) answer.now }
         requires heard { self.old.ring.told ≡ None }
         ensures { self.new ≡ step_of self.old answer.now }
     {
-        moves::tell(self.turn, &mut self.ring, &mut self.bus, answer);
+        moves::complete(self.turn, &mut self.ring, &mut self.bus, answer);
         self.turn = turn_of(&self.bus, &self.ring);
         self.key = Key::of(&self.bus.ask());
     }
@@ -204,7 +204,7 @@ impl Backend {
         requires heard { self.old.ring.told ≡ None }
         ensures { self.new ≡ step_of self.old answer.now }
     {
-        let _ = self.ring.tell(answer);
+        let _ = self.ring.complete(answer);
         if self.ring.halted().is_some() {
             moves::catch_up(&self.ring, &mut self.bus);
             self.turn = turn_of(&self.bus, &self.ring);

@@ -12,8 +12,8 @@ use blk_back::{Back, Halt, Stage};
 use blk_base::{BackAnswer, Endpoint, ShortText};
 use xenbus_state::{BackBus, BackBusAsk, BackHalt, FrontKey};
 
-/// Tells the answer to what is asked, whosever turn it is.
-pub fn tell(turn: Turn, ring: &mut Back, bus: &mut BackBus, answer: &BackAnswer)
+/// Completes what is asked by this answer, whosever turn it is.
+pub fn complete(turn: Turn, ring: &mut Back, bus: &mut BackBus, answer: &BackAnswer)
     requires turn { turn ≡ turn_of (both ring.old bus.old) }
     requires kind { IsAnswer (ask_of (both ring.old bus.old)) answer.now }
     requires heard { ring.old.told ≡ None }
@@ -33,7 +33,7 @@ pub fn ring_moves(ring: &Back, bus: &BackBus) -> bool
     match (bus.ask(), ring.stage()) {
         (BackBusAsk::Map(_), stage) => matches!(stage, Stage::MapRing),
         (BackBusAsk::Bind(_), stage) => matches!(stage, Stage::Bind),
-        (BackBusAsk::UnmapOthers, stage) => matches!(stage, Stage::GiveUp(_)),
+        (BackBusAsk::UnmapOthers, stage) => matches!(stage, Stage::Abort(_)),
         (BackBusAsk::Unmap(_), stage) => matches!(stage, Stage::UnmapRing | Stage::UnmapUnbound),
         (BackBusAsk::ClosePort, stage) => matches!(stage, Stage::ClosePort),
         (_, stage) => !matches!(stage, Stage::InitWait | Stage::MapRing | Stage::Bind),
@@ -47,7 +47,7 @@ fn take_key(ring: &mut Back, bus: &mut BackBus, answer: &BackAnswer)
     ensures { both ring.new bus.new ≡ spoken (both ring.old bus.old) answer.now }
 {
     let reads_layout = matches!(bus.ask(), BackBusAsk::GetKey(FrontKey::Protocol));
-    match bus.tell(answer) {
+    match bus.complete(answer) {
         Some(why) => ring.halt(ring_halt(why)),
         None if reads_layout => {
             let terms = bus.terms();
@@ -82,7 +82,7 @@ fn move_ring(ring: &mut Back, bus: &mut BackBus, answer: &BackAnswer)
     requires heard { ring.old.told ≡ None }
     ensures { both ring.new bus.new ≡ ring_step true (bus_ask bus.old) (both ring.old bus.old) answer.now }
 {
-    let _ = ring.tell(answer);
+    let _ = ring.complete(answer);
     follow(bus, answer);
     catch_up(ring, bus);
 }
@@ -94,10 +94,10 @@ fn follow(bus: &mut BackBus, answer: &BackAnswer)
 {
     match bus.ask() {
         BackBusAsk::Map(_) | BackBusAsk::Bind(_) | BackBusAsk::ClosePort => {
-            let _ = bus.tell(answer);
+            let _ = bus.complete(answer);
         }
         BackBusAsk::Unmap(_) => {
-            let _ = bus.tell(&BackAnswer::Done);
+            let _ = bus.complete(&BackAnswer::Done);
         }
         _ => wake(bus, answer),
     }
@@ -108,7 +108,7 @@ fn wake(bus: &mut BackBus, answer: &BackAnswer)
     ensures { bus.new ≡ waited (bus_ask bus.old) bus.old answer.now }
 {
     if let (BackBusAsk::Wait, BackAnswer::Watched(_)) = (bus.ask(), answer) {
-        let _ = bus.tell(answer);
+        let _ = bus.complete(answer);
     }
 }
 
@@ -122,15 +122,15 @@ pub fn catch_up(ring: &Back, bus: &mut BackBus)
     settle(bus, ring.stage());
 }
 
-// A negotiation that has all other mappings given up goes on where there is none.
+// A negotiation that has all other mappings unmapped goes on where there is none.
 #[tactic(auto, using(crate::proofs::Settling::settled_asked))]
 fn settle(bus: &mut BackBus, stage: Stage)
     ensures { bus.new ≡ settled stage bus.old }
 {
     match (bus.ask(), stage) {
-        (BackBusAsk::UnmapOthers, Stage::GiveUp(_)) => {}
+        (BackBusAsk::UnmapOthers, Stage::Abort(_)) => {}
         (BackBusAsk::UnmapOthers, _) => {
-            let _ = bus.tell(&BackAnswer::Done);
+            let _ = bus.complete(&BackAnswer::Done);
         }
         _ => {}
     }

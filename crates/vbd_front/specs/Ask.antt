@@ -1,4 +1,4 @@
--- What the frontend asks: its negotiation speaks first (`io/xenbus.h`); else its end of the ring has the move, where the negotiation asks for the ring to be made or given up, or rests.
+-- What the frontend asks: its negotiation speaks first (`io/xenbus.h`); else its end of the ring has the move, where the negotiation asks for the ring to be made or left, or rests.
 use Rattle.std.specs.Prelude.{ℕ, Bool, true, false, List, codes, if◌then◌else◌}
 use Rattle.blk_base.specs.declared.parts.End.TheVariants.{Front, Back}
 use Rattle.blk_base.specs.declared.ask.FrontAsk.{FrontAsk}
@@ -47,7 +47,7 @@ key_ask (bus_ask.SetState s) = SetKey own_state (decimal (state_number s))
 key_ask (bus_ask.SetKey key value) = SetKey (path_under Front (front_name key)) (text_of value)
 key_ask a = Wait
 
--- the end of the ring has the move: the negotiation asks for what it does next to make the ring or to give it up, or the ring is made, or data are in hand
+-- the end of the ring has the move: the negotiation asks for what it does next to make the ring or to leave it, or the ring is made, or data are in hand
 abbrev pub ring_moves : FrontBusAsk → Stage → Bool
 ring_moves (bus_ask.WriteRingWord word) (stage.RingWord k) = true
 ring_moves (bus_ask.WriteRingWord word) s = false

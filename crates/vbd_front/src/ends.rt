@@ -19,7 +19,7 @@ use std::alloc::Global;
 use std::marker::Model;
 use xenbus_state::{FrontBus, FrontBusAsk, FrontNews};
 
-/// The front's end of the ring, which it makes, serves and gives up as its end of the negotiation
+/// The front's end of the ring, which it makes, serves and leaves as its end of the negotiation
 /// asks for it, and what the negotiation made happen, which is to be told.
 #[derive(Drop)]
 pub struct Ends {
@@ -119,17 +119,17 @@ impl Ends {
 
     /// The ring's end was answered, of which the negotiation learns nothing.
     #[inline(always)]
-    pub fn tell_ring<'a>(&mut self, answer: &FrontAnswer<'a>)
+    pub fn complete_ring<'a>(&mut self, answer: &FrontAnswer<'a>)
         requires kind { IsRingAnswer (ring_ask_of self.old.ring) answer.now }
         requires told { self.old.ring.told ≡ None }
         ensures { self.new ≡ record self.old { ring = ring_step_of self.old.ring answer.now } }
     {
-        let _ = self.ring.tell(answer);
+        let _ = self.ring.complete(answer);
     }
 
-    /// Tells the answer to what is asked, whosever turn it is.
+    /// Completes what is asked by this answer, whosever turn it is.
     #[tactic(auto, using(crate::proofs::Turns::ring_answers, crate::proofs::Turns::ring_steps, crate::proofs::Turns::left_steps, crate::proofs::Turns::left_speaks, crate::proofs::Turns::left_answers))]
-    pub fn tell<'a>(&mut self, turn: Turn, answer: &FrontAnswer<'a>)
+    pub fn complete<'a>(&mut self, turn: Turn, answer: &FrontAnswer<'a>)
         requires turn { turn ≡ turn_of self.old }
         requires kind { IsAnswer (ask_of self.old) answer.now }
         requires told { self.old.ring.told ≡ None }
@@ -137,7 +137,7 @@ impl Ends {
     {
         match turn {
             Turn::Keys => self.take_key(answer),
-            _ if self.ring.has_left() => self.tell_ring(answer),
+            _ if self.ring.has_left() => self.complete_ring(answer),
             _ if self.ring_moves() => self.move_ring(answer),
             _ => self.take_watch(answer),
         }
@@ -150,7 +150,7 @@ impl Ends {
         ensures { self.new ≡ spoken self.old answer.now }
     {
         let idle = self.is_unoccupied();
-        let news = news::tell(&mut self.bus, idle, answer);
+        let news = news::complete(&mut self.bus, idle, answer);
         self.news = news::enter(&mut self.ring, news, &self.bus.ask(idle), &self.bus);
     }
 
@@ -164,7 +164,7 @@ impl Ends {
         ensures { self.new ≡ ring_step true (bus_ask_of self.old) self.old answer.now }
     {
         let idle = self.is_unoccupied();
-        let _ = self.ring.tell(answer);
+        let _ = self.ring.complete(answer);
         news::follow(&mut self.bus, idle, self.ring.stage(), answer);
     }
 

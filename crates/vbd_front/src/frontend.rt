@@ -16,7 +16,7 @@ use std::alloc::Global;
 use std::marker::Model;
 use xenbus_state::FrontNews;
 
-/// The front end of a block device: its end of a ring, which it makes, serves and gives up
+/// The front end of a block device: its end of a ring, which it makes, serves and leaves
 /// as the negotiation with the back asks for it. To contracts it is both ends; whose turn it is,
 /// and the path and the text of a key that is asked for, are found where they may change. After `new`
 /// it takes no memory.
@@ -183,14 +183,14 @@ impl Frontend {
         }
     }
 
-    // Tells the answer to what is asked, whosever turn it is.
+    // Completes what is asked by this answer, whosever turn it is.
     #[inline(never)]
     fn tell_by_turn<'a>(&mut self, answer: &FrontAnswer<'a>)
         requires kind { IsAnswer (ask_of self.old) answer.now }
         requires told { self.old.ring.told ≡ None }
         ensures { self.new ≡ step_of self.old answer.now }
     {
-        self.ends.tell(self.turn, answer);
+        self.ends.complete(self.turn, answer);
         self.turn = self.ends.turn();
         self.key = Key::of(&self.ends.bus_ask());
     }
@@ -206,7 +206,7 @@ impl<'a> Endpoint<'a> for Frontend {
 
     ghost asked = { ask_of };
 
-    ghost MayBeTold = { λ front answer. IsAnswer (ask_of front) answer × (front.ring.told ≡ None) };
+    ghost MayComplete = { λ front answer. IsAnswer (ask_of front) answer × (front.ring.told ≡ None) };
 
     #[inline(always)]
     #[tactic(auto, using(crate::proofs::Turns::made_asks))]
@@ -223,16 +223,16 @@ impl<'a> Endpoint<'a> for Frontend {
 
     #[inline(always)]
     #[tactic(auto, using(crate::proofs::Turns::made_answers, crate::proofs::Turns::made_steps))]
-    fn tell(&mut self, answer: &FrontAnswer<'a>) -> Result<(), OutOfMemory>
+    fn complete(&mut self, answer: &FrontAnswer<'a>) -> Result<(), OutOfMemory>
         requires { IsAnswer (ask_of self.old) answer.now × (self.old.ring.told ≡ None) }
-        ensures told { self.new ≡ step_of self.old answer.now }
+        ensures completed { self.new ≡ step_of self.old answer.now }
         ensures takes_no_memory { IsOk result }
         ensures unchanged { OnErr result (self.new ≡ self.old) }
     {
         // The negotiation learns nothing of the moves of a ring that is made, but of a watch.
         match (self.turn, answer) {
             (Turn::Ring, FrontAnswer::Event | FrontAnswer::Done | FrontAnswer::Word(_)) => {
-                self.ends.tell_ring(answer);
+                self.ends.complete_ring(answer);
             }
             _ => self.tell_by_turn(answer),
         }

@@ -9,16 +9,16 @@ use blk_base::FrontAnswer;
 use blk_front::{Front, FrontState, Offers, Stage};
 use xenbus_state::{FrontBus, FrontBusAsk, FrontNews};
 
-/// Tells the negotiation the answer to what it asks, and that there are no grants to end beside those
+/// Completes what the negotiation asks by this answer, and says that there are no grants to end beside those
 /// of the ring; what that makes happen.
-pub fn tell(bus: &mut FrontBus, idle: bool, answer: &FrontAnswer) -> Option<FrontNews>
+pub fn complete(bus: &mut FrontBus, idle: bool, answer: &FrontAnswer) -> Option<FrontNews>
     requires { IsAnswer (ask_of bus.old idle) answer.now }
     ensures told { bus.new ≡ bus_told idle bus.old answer.now }
     ensures news { result ≡ news_of bus.old idle answer.now }
 {
-    let news = bus.tell(idle, answer);
+    let news = bus.complete(idle, answer);
     if let FrontBusAsk::EndOtherGrants = bus.ask(idle) {
-        let _ = bus.tell(idle, &FrontAnswer::Done);
+        let _ = bus.complete(idle, &FrontAnswer::Done);
     }
     news
 }
@@ -86,10 +86,10 @@ pub fn follow(bus: &mut FrontBus, idle: bool, later: Stage, answer: &FrontAnswer
     match (bus.ask(idle), later) {
         (FrontBusAsk::WriteRingWord(_) | FrontBusAsk::NewPort | FrontBusAsk::ClosePort, _)
         | (FrontBusAsk::Grant(_), Stage::RingFrame(_) | Stage::NewPort) => {
-            tell(bus, idle, answer);
+            complete(bus, idle, answer);
         }
         (FrontBusAsk::EndGrant(_), Stage::RingRead(_) | Stage::ClosePort) => {
-            tell(bus, idle, &FrontAnswer::Done);
+            complete(bus, idle, &FrontAnswer::Done);
         }
         (FrontBusAsk::Wait, Stage::Broken(_)) => {}
         (FrontBusAsk::Wait, _) => wake(bus, idle, answer),
@@ -102,6 +102,6 @@ pub fn wake(bus: &mut FrontBus, idle: bool, answer: &FrontAnswer)
     ensures { bus.new ≡ waited (ask_of bus.old idle) idle bus.old answer.now }
 {
     if let (FrontBusAsk::Wait, FrontAnswer::Watched(_)) = (bus.ask(idle), answer) {
-        tell(bus, idle, answer);
+        complete(bus, idle, answer);
     }
 }

@@ -34,7 +34,7 @@ use Rattle.blk_back.specs.declared.told.Halt.{Halt}
 use Rattle.blk_back.specs.declared.told.Halt.TheVariants as halt
 use Rattle.blk_back.specs.View.{View}
 use Rattle.blk_back.specs.Ask.{ask_at, loop_ask, index_ask, entry_ask, next_reply, next_gref}
-use Rattle.blk_back.specs.Step.{give_up, unbound, looked, overrun, fetched, loop_word, loop_step, may_attach, attached, attaches, step_at}
+use Rattle.blk_back.specs.Step.{abort, unbound, looked, overrun, fetched, loop_word, loop_step, may_attach, attached, attaches, step_at}
 use Rattle.xenbus_state.specs.declared.state.BusState.{BusState}
 use Rattle.xenbus_state.specs.declared.state.BusState.TheVariants as state
 use Rattle.xenbus_state.specs.declared.stage.BackStage.{BackStage}
@@ -174,7 +174,7 @@ attaches_on before shown shape grefs number r running = either before (may_attac
 led_halts : (before : List Line) (reason : Option BackHalt) (reads : Bool) (b : BackView) (r : View) (shown : Move) → r.told ≡ None → r.halted ≡ None → ((x : BackHalt) → reason ≡ Some x → CausesHalt before (halt_line (ring_halt x)) shown) → Halts before shown (ring_led reason reads b r)
 led_halts before (Some x) reads b r shown quiet running cause =
     halts_cases (λ (y : View). Halts before shown y) (ring_halt x) r (λ here. halts_for before shown (record r { halted = Some (ring_halt x); stage = unbound r.pages }) (ring_halt x) refl quiet (cause x refl))
-    (λ here. halts_for before shown (give_up (record r { halted = Some (ring_halt x) })) (ring_halt x) refl quiet (cause x refl)) (goes_on before shown r running)
+    (λ here. halts_for before shown (abort (record r { halted = Some (ring_halt x) })) (ring_halt x) refl quiet (cause x refl)) (goes_on before shown r running)
 led_halts before None true b r shown quiet running cause = attaches_on before shown (back_step.shape_read b) b.grefs b.terms.port r running
 led_halts before None false b r shown quiet running cause = goes_on before shown r running
 

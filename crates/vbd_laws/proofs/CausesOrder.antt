@@ -268,7 +268,7 @@ done_step v = by_test (bus_asks.says_closing v)
     by_test false = done_at v.stage
 
 settled_order : (b : BackStage) (s : BackRing) (v : BackView) → (back_step.settled_at b s v).terms.order ≡ v.terms.order
-settled_order bus_stage.UnmapOthers (back_ring.GiveUp m) v = refl
+settled_order bus_stage.UnmapOthers (back_ring.Abort m) v = refl
 settled_order bus_stage.UnmapOthers s v = done_step v
 settled_order b s v = refl
 

@@ -17,7 +17,7 @@ use Rattle.ring_words.specs.Shape.{entries_of}
 use Rattle.blk_front.specs.View as front_ends
 use Rattle.blk_front.specs.Submit.{unfinished}
 use Rattle.blk_back.specs.declared.stage.Stage.{Stage as Ring}
-use Rattle.blk_back.specs.Step.{giving_up}
+use Rattle.blk_back.specs.Step.{unmapping_next}
 use Rattle.blk_back.proofs.Hands.{step_info}
 use Rattle.back_jobs.specs.Jobs.{first_mapping}
 use Rattle.xenbus_state.specs.declared.keys.BackKey.{BackKey}
@@ -121,7 +121,7 @@ halted_unbound : (reason : Option BackHalt) (w : World) → IsFit w → let x : 
 halted_unbound None w fit = fit.unbound
 halted_unbound (Some why) w fit =
     halts_cases (λ (x : ends.View). IsUnbound x.stage w.rings.under.channels) (back_step.ring_halt why) w.rings.back (λ here. past_unbound _ w.rings.under.channels (unbound_past w.rings.back.pages))
-    (λ here. past_unbound _ w.rings.under.channels (gives_past (giving_up (first_mapping w.rings.back.jobs.works)) (given (first_mapping w.rings.back.jobs.works)))) fit.unbound
+    (λ here. past_unbound _ w.rings.under.channels (gives_past (unmapping_next (first_mapping w.rings.back.jobs.works)) (given (first_mapping w.rings.back.jobs.works)))) fit.unbound
 
 halted_info : (reason : Option BackHalt) (r : ends.View) → (halted_only reason r).jobs.info ≡ r.jobs.info
 halted_info None r = refl

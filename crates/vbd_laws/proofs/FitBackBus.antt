@@ -12,7 +12,7 @@ use Rattle.blk_base.specs.declared.ask.BackAnswer.TheVariants as answer
 use Rattle.blk_back.specs.declared.stage.Stage.{Stage as Ring}
 use Rattle.blk_back.specs.declared.stage.Stage.TheVariants as ring
 use Rattle.blk_back.specs.View as ends
-use Rattle.blk_back.specs.Step.{give_up, giving_up as ring_giving_up, unbound, halts_at as ring_halts_at, may_halt, halts, may_attach, attached, attaches}
+use Rattle.blk_back.specs.Step.{abort, unmapping_next as ring_aborting, unbound, halts_at as ring_halts_at, may_halt, halts, may_attach, attached, attaches}
 use Rattle.back_jobs.specs.Jobs.{first_mapping}
 use Rattle.xenbus_state.specs.declared.keys.BackKey.{BackKey}
 use Rattle.xenbus_state.specs.declared.keys.BackKey.TheVariants as back_key
@@ -34,7 +34,7 @@ use Rattle.xenbus_state.specs.Reading.{count_read}
 use Rattle.xenbus_state.specs.BackReading.{order_of, layout_read, with_order, with_gref, with_port, with_layout, with_persistent, key_read}
 use Rattle.xenbus_state.specs.BackView.{BackView, is_halting, halted}
 use Rattle.xenbus_state.specs.BackAsk.{says_closing_at, says_closing, unmap_ask, ask_at, ask_of, IsAnswer}
-use Rattle.xenbus_state.specs.BackStep.{at, acted, action_halt, key_halt, last_state, giving_up, after_feature, after_fact, kept_or_halted, step_at, step_of, halt_at, halt_of}
+use Rattle.xenbus_state.specs.BackStep.{at, acted, action_halt, key_halt, last_state, unmapping_next, after_feature, after_fact, kept_or_halted, step_at, step_of, halt_at, halt_of}
 use Rattle.xenbus_state.specs.declared.back.BackBusAsk.TheVariants as bus_ask
 use Rattle.xenbus_state.specs.BackSound.{IsSound, IsPlaced}
 use Rattle.xenbus_state.proofs.BackKeeps.{action_suits}
@@ -59,19 +59,19 @@ pub record BackShares (v : BackView) (r : ends.View) : Type 0 where
 pub told_at : (v : BackView) (x : BackAnswer) → says_closing v ≡ false → step_of v x ≡ step_at v.stage v x
 told_at v x goes_on = rw goes_on refl
 
--- a back that has halted gives up a mapping next, or has none left
+-- a back that has halted unmaps a mapping next, or has none left
 abbrev pub is_ended : Ring → Bool
-is_ended (ring.GiveUp m) = true
+is_ended (ring.Abort m) = true
 is_ended ring.UnmapRing = true
 is_ended ring.UnmapUnbound = true
 is_ended ring.Halted = true
 is_ended r = false
 
-unmapping : (pages : List Mapping) (bound : Bool) (own : BusState) → 0 < length pages → giving_up pages bound own ≡ stage.UnmapPage
+unmapping : (pages : List Mapping) (bound : Bool) (own : BusState) → 0 < length pages → unmapping_next pages bound own ≡ stage.UnmapPage
 unmapping [] bound own some = absurd (omega arith)
 unmapping (page ∷ pages) bound own some = refl
 
-pub writing : (pages : List Mapping) (bound : Bool) (own : BusState) → length pages ≡ 0 → bound ≡ false → giving_up pages bound own ≡ stage.WriteState (last_state own)
+pub writing : (pages : List Mapping) (bound : Bool) (own : BusState) → length pages ≡ 0 → bound ≡ false → unmapping_next pages bound own ≡ stage.WriteState (last_state own)
 writing [] bound own none free = rw free refl
 writing (page ∷ pages) bound own none free = absurd (omega arith)
 
@@ -97,15 +97,15 @@ ends_fit s v r at_stage ended here halts held = by_stage s at_stage ended held
     Ended : BackStage → Type 0
     Ended b = BackFits (at b v) r
 
-    gave_up : step_of v answer.Done ≡ at (giving_up v.pages v.bound v.state) v
-    gave_up = told_at v answer.Done goes_on ∙ ap (λ (b : BackStage). step_at b v answer.Done) here
+    has_unmapped : step_of v answer.Done ≡ at (unmapping_next v.pages v.bound v.state) v
+    has_unmapped = told_at v answer.Done goes_on ∙ ap (λ (b : BackStage). step_at b v answer.Done) here
 
-    settles : (s : Ring) → settled_at stage.UnmapOthers s v ≡ step_of v answer.Done → (b : BackStage) → giving_up v.pages v.bound v.state ≡ b → Ended b → BackFits (settled s v) r
-    settles s last b next fits = subst (λ (u : BackView). BackFits u r) (sym (ap (λ (b : BackStage). settled_at b s v) here ∙ (last ∙ (gave_up ∙ ap (λ (b : BackStage). at b v) next)))) fits
+    settles : (s : Ring) → settled_at stage.UnmapOthers s v ≡ step_of v answer.Done → (b : BackStage) → unmapping_next v.pages v.bound v.state ≡ b → Ended b → BackFits (settled s v) r
+    settles s last b next fits = subst (λ (u : BackView). BackFits u r) (sym (ap (λ (b : BackStage). settled_at b s v) here ∙ (last ∙ (has_unmapped ∙ ap (λ (b : BackStage). at b v) next)))) fits
 
     by_stage : (s : Ring) → r.stage ≡ s → is_ended s ≡ true → BackHolds s v.terms.order (length v.pages) v.bound → BackFits (settled s v) r
-    by_stage (ring.GiveUp m) e ended held =
-        let same : settled (ring.GiveUp m) v ≡ v = ap (λ (b : BackStage). settled_at b (ring.GiveUp m) v) here in
+    by_stage (ring.Abort m) e ended held =
+        let same : settled (ring.Abort m) v ≡ v = ap (λ (b : BackStage). settled_at b (ring.Abort m) v) here in
         subst (λ (u : BackView). BackFits u r) (sym same) (record { goes = rw (here, e) tt; held = rw e held; halted = rw here halts })
     by_stage ring.UnmapRing e ended held =
         settles ring.UnmapRing refl stage.UnmapPage (unmapping v.pages v.bound v.state held.0) (record { goes = rw e tt; held = rw e held; halted = halts })
@@ -129,7 +129,7 @@ halts_ring reason r s here = rw (may reason, here) refl
     may (bus_halt.BadPort port) = refl
     may (bus_halt.MapRefused gref status) = refl
 
--- a back whose port isn't bound gives up the pages that it has mapped
+-- a back whose port isn't bound unmaps the pages that it has mapped
 unbound_holds : (pages : List Mapping) (order : ℕ) (binds : Bool) → binds ≡ false → BackHolds (unbound pages) order (length pages) binds
 unbound_holds [] order binds free = (refl, free)
 unbound_holds (page ∷ pages) order binds free = (omega arith, free)
@@ -165,9 +165,9 @@ halt_fits reason v r (inr here) same held =
     some_pages pages order all = let some = pow_pos order in omega arith
 
     by_mapping : (m : Option Mapping) → BackHolds ring.Loop v.terms.order (length v.pages) v.bound
-        → BackFits (settled (ring_giving_up m) (halted v)) (record (give_up (record r { halted = Some (ring_halt reason) })) { stage = ring_giving_up m })
+        → BackFits (settled (ring_aborting m) (halted v)) (record (abort (record r { halted = Some (ring_halt reason) })) { stage = ring_aborting m })
     by_mapping None held = ends_fit ring.UnmapRing (halted v) _ refl refl refl refl (some_pages (length v.pages) v.terms.order held.0, held.1)
-    by_mapping (Some m) held = ends_fit (ring.GiveUp m) (halted v) _ refl refl refl refl held
+    by_mapping (Some m) held = ends_fit (ring.Abort m) (halted v) _ refl refl refl refl held
 
 -- a back that rests connects once
 connects_once : (own : BusState) (r : Ring) → is_connected own ≡ false → BackReads own r → (own ≡ state.InitWait) × (r ≡ ring.InitWait)

@@ -25,7 +25,7 @@ use Rattle.xenbus_state.specs.Tables.{back_action}
 use Rattle.xenbus_state.specs.Programs.{next_fact}
 use Rattle.xenbus_state.specs.BackView.{BackView, is_halting, halted, stopped, unplugged}
 use Rattle.xenbus_state.specs.BackAsk.{says_closing}
-use Rattle.xenbus_state.specs.BackStep.{acted, kept_or_halted, after_state, giving_up, other_pages, after_fact, step_at, step_of}
+use Rattle.xenbus_state.specs.BackStep.{acted, kept_or_halted, after_state, unmapping_next, other_pages, after_fact, step_at, step_of}
 use Rattle.vbd_back.specs.View.{View}
 use Rattle.vbd_back.specs.Ask as back
 use Rattle.vbd_back.specs.Step as back_step
@@ -34,7 +34,7 @@ use Rattle.vbd_laws.proofs.FitBackBus.{IsEarly, Follows, reads_key}
 -- what the negotiation becomes in a move of the back: what it is told, and a halt, keep this
 module _ (P : BackView → Type 0) (told : (v : BackView) (a : BackAnswer) → P v → P (step_of v a)) (stops : (v : BackView) → P v → P (stopped v)) where
   pub settled_is : (s : BackStage) (r : BackRing) (v : BackView) → P v → P (back_step.settled_at s r v)
-  settled_is stage.UnmapOthers (ring.GiveUp m) v p = p
+  settled_is stage.UnmapOthers (ring.Abort m) v p = p
   settled_is stage.UnmapOthers r v p = told v answer.Done p
   settled_is s r v p = p
 
@@ -136,7 +136,7 @@ past_fact : (k : Option BackKey) → is_publishing (after_fact k) ≡ false
 past_fact None = refl
 past_fact (Some k) = refl
 
-past_up : (pages : List Mapping) (bound : Bool) (own : BusState) → is_publishing (giving_up pages bound own) ≡ false
+past_up : (pages : List Mapping) (bound : Bool) (own : BusState) → is_publishing (unmapping_next pages bound own) ≡ false
 past_up (page ∷ pages) bound own = refl
 past_up [] true own = refl
 past_up [] false own = refl

@@ -21,13 +21,13 @@ use Rattle.xenbus_state.specs.declared.stage.BackStage.TheVariants as stage
 use Rattle.xenbus_state.specs.declared.back.BackBusAsk.TheVariants as bus_ask
 use Rattle.xenbus_state.specs.BackView.{BackView, is_halting, halted, stopped}
 use Rattle.xenbus_state.specs.BackAsk.{says_closing_at, says_closing, unmap_ask, ask_at, ask_of}
-use Rattle.xenbus_state.specs.BackStep.{at, last_state, giving_up, other_pages, step_at, step_of}
+use Rattle.xenbus_state.specs.BackStep.{at, last_state, unmapping_next, other_pages, step_at, step_of}
 use Rattle.xenbus_state.specs.BackSound.{IsPlaced}
 use Rattle.split_model.proofs.States.{is_unbound}
 use Rattle.vbd_back.specs.Ask.{is_between, bus_moves, ring_moves}
 use Rattle.vbd_back.specs.Step.{bus_halted, settled_at, settled, caught_up, woken, followed, waited}
-use Rattle.vbd_model.specs.Fit.{is_serving, BackRests, BackReads, IsGivingUp, IsUnmapping, BackGoesWith, BackHolds, has_terms, HaveTerms}
-use Rattle.vbd_laws.proofs.FitBackRing.{Serves, gives_up, serves_step, given, watched_step}
+use Rattle.vbd_model.specs.Fit.{is_serving, BackRests, BackReads, IsAborting, IsUnmapping, BackGoesWith, BackHolds, has_terms, HaveTerms}
+use Rattle.vbd_laws.proofs.FitBackRing.{Serves, aborts, serves_step, given, watched_step}
 use Rattle.vbd_laws.proofs.FitBackBus.{BackFits, BackShares, told_at, is_ended, last_goes, last_halts, ends_fit, unbound_fits, waits_reading}
 
 -- an end of the ring that serves holds its pages and its port, and leaves the move to no one
@@ -60,13 +60,13 @@ serving_moves s is = refl
 some_pages : (pages order : ℕ) → pages ≡ 2 ^ order → 0 < pages
 some_pages pages order all = let some = pow_pos order in omega arith
 
-gives_holds : (s : Ring) (order pages : ℕ) (binds : Bool) → gives_up s ≡ true → pages ≡ 2 ^ order → binds ≡ true → BackHolds s order pages binds
-gives_holds (ring.GiveUp m) order pages binds is all bound = (all, bound)
+gives_holds : (s : Ring) (order pages : ℕ) (binds : Bool) → aborts s ≡ true → pages ≡ 2 ^ order → binds ≡ true → BackHolds s order pages binds
+gives_holds (ring.Abort m) order pages binds is all bound = (all, bound)
 gives_holds ring.UnmapRing order pages binds is all bound = (some_pages pages order all, bound)
 gives_holds s order pages binds is all bound = absurd (true≢false (sym is))
 
-gives_ended : (s : Ring) → gives_up s ≡ true → is_ended s ≡ true
-gives_ended (ring.GiveUp m) is = refl
+gives_ended : (s : Ring) → aborts s ≡ true → is_ended s ≡ true
+gives_ended (ring.Abort m) is = refl
 gives_ended ring.UnmapRing is = refl
 gives_ended s is = absurd (true≢false (sym is))
 
@@ -213,18 +213,18 @@ longer : (page : Mapping) (pages : List Mapping) → 0 < length (page ∷ pages)
 longer page pages = omega arith
 
 abbrev Gave : BackView → List Mapping → Type 0
-Gave v pages = step_of v answer.Done ≡ record v { pages = pages; stage = giving_up pages v.bound v.state }
+Gave v pages = step_of v answer.Done ≡ record v { pages = pages; stage = unmapping_next pages v.bound v.state }
 
 unmaps_bound : (v : BackView) (r : ends.View) (pages : List Mapping) → Gave v pages → is_some r.halted ≡ true → v.bound ≡ true
     → let y : ends.View = record r { pages = pages; stage = bound pages } in BackFits (caught_up y (step_of v answer.Done)) y
 unmaps_bound v r [] gave some binds =
-    gives_fit v _ [] stage.ClosePort (gave ∙ ap (λ (b : Bool). record v { pages = []; stage = giving_up [] b v.state }) binds) some refl refl (record { goes = refl; held = (refl, binds); halted = some })
+    gives_fit v _ [] stage.ClosePort (gave ∙ ap (λ (b : Bool). record v { pages = []; stage = unmapping_next [] b v.state }) binds) some refl refl (record { goes = refl; held = (refl, binds); halted = some })
 unmaps_bound v r (page ∷ pages) gave some binds = gives_fit v _ (page ∷ pages) stage.UnmapPage gave some refl refl (record { goes = tt; held = (longer page pages, binds); halted = some })
 
 unmaps_unbound : (v : BackView) (r : ends.View) (pages : List Mapping) → Gave v pages → is_some r.halted ≡ true → v.bound ≡ false
     → let y : ends.View = record r { pages = pages; stage = unbound pages } in BackFits (caught_up y (step_of v answer.Done)) y
 unmaps_unbound v r [] gave some free =
-    gives_fit v _ [] (stage.WriteState (last_state v.state)) (gave ∙ ap (λ (b : Bool). record v { pages = []; stage = giving_up [] b v.state }) free) some (last_halts v.state) refl
+    gives_fit v _ [] (stage.WriteState (last_state v.state)) (gave ∙ ap (λ (b : Bool). record v { pages = []; stage = unmapping_next [] b v.state }) free) some (last_halts v.state) refl
     (record { goes = last_goes v.state ring.Halted refl; held = (refl, free); halted = some ∙ sym (last_halts v.state) })
 unmaps_unbound v r (page ∷ pages) gave some free = gives_fit v _ (page ∷ pages) stage.UnmapPage gave some refl refl (record { goes = tt; held = (longer page pages, free); halted = some })
 
@@ -234,7 +234,7 @@ unmap_fits v r [] x here on same shared some unmaps held = let more = unmapping_
 unmap_fits v r (page ∷ pages) x here on same shared some unmaps held = by_stage r.stage unmaps held
   where
     gave : Gave v pages
-    gave = told_at v answer.Done on ∙ (ap (λ (b : BackStage). step_at b v answer.Done) here ∙ ap (λ (ps : List Mapping). record v { pages = other_pages ps; stage = giving_up (other_pages ps) v.bound v.state }) same)
+    gave = told_at v answer.Done on ∙ (ap (λ (b : BackStage). step_at b v answer.Done) here ∙ ap (λ (ps : List Mapping). record v { pages = other_pages ps; stage = unmapping_next (other_pages ps) v.bound v.state }) same)
 
     left : ring_other_pages r.pages ≡ pages
     left = ap ring_other_pages (shared ∙ same)
@@ -257,14 +257,14 @@ close_fits v r answer.Done here on some held allowed =
     (halting_on x u some (last_halts v.state) (record { goes = last_goes v.state ring.Halted refl; held = (held.0, refl); halted = some ∙ sym (last_halts v.state) }))
 close_fits v r x here on some held allowed = absurd allowed
 
--- a mapping of a job was given up
-give_up_fits : (v : BackView) (r : ends.View) (x : BackAnswer) (s : Ring) → v.stage ≡ stage.UnmapOthers → r.stage ≡ s → is_some r.halted ≡ true → IsGivingUp s → BackHolds s v.terms.order (length v.pages) v.bound
+-- a mapping of a job was unmapped
+abort_fits : (v : BackView) (r : ends.View) (x : BackAnswer) (s : Ring) → v.stage ≡ stage.UnmapOthers → r.stage ≡ s → is_some r.halted ≡ true → IsAborting s → BackHolds s v.terms.order (length v.pages) v.bound
     → BackFits (caught_up (ring_step_at s r x) v) (ring_step_at s r x)
-give_up_fits v r x (ring.GiveUp m) here e some gives held =
-    let y : ends.View = ring_step_at (ring.GiveUp m) r x in
+abort_fits v r x (ring.Abort m) here e some gives held =
+    let y : ends.View = ring_step_at (ring.Abort m) r x in
     let more = given (first_mapping r.jobs.works) in
     halting_on y v some (ap is_halting here) (ends_fit y.stage v y refl (gives_ended y.stage more) here some (gives_holds y.stage v.terms.order (length v.pages) v.bound more held.0 held.1))
-give_up_fits v r x s here e some gives held = absurd gives
+abort_fits v r x s here e some gives held = absurd gives
 
 -- one that has halted hears of no watch
 over_woken : (v : BackView) (x : BackAnswer) → v.stage ≡ stage.Halted → says_closing v ≡ false → woken v x ≡ v
@@ -294,7 +294,7 @@ begun_fits stage.MapPage s v r x here e on goes h shares quiet moves allowed =
 begun_fits stage.Bind s v r x here e on goes h shares quiet moves allowed =
     rw goes.1 (bind_fits v r x here on goes.0 (subst (λ (t : Ring). BackHolds t v.terms.order (length v.pages) v.bound) (e ∙ goes.1) h.held) (h.halted ∙ ap is_halting here) shares.pages (rw goes.1 at allowed))
 begun_fits stage.UnmapOthers s v r x here e on goes h shares quiet moves allowed =
-    give_up_fits v r x s here e (h.halted ∙ ap is_halting here) goes (subst (λ (t : Ring). BackHolds t v.terms.order (length v.pages) v.bound) e h.held)
+    abort_fits v r x s here e (h.halted ∙ ap is_halting here) goes (subst (λ (t : Ring). BackHolds t v.terms.order (length v.pages) v.bound) e h.held)
 begun_fits stage.UnmapPage s v r x here e on goes h shares quiet moves allowed =
     subst (λ (t : Ring). BackFits (caught_up (ring_step_at t r x) (followed (unmap_ask v.pages) v x)) (ring_step_at t r x)) e
     (unmap_fits v r v.pages x here on refl shares.pages (h.halted ∙ ap is_halting here) (rw e goes) h.held)

@@ -1,4 +1,4 @@
--- The back's end of the ring as it moves: one that serves goes on to, or halts and gives up what it holds, and past its port's bind it stays so.
+-- The back's end of the ring as it moves: one that serves goes on to, or halts and unmaps what it holds, and past its port's bind it stays so.
 use Rattle.std.proofs.Common.{◌≡◌, ℕ, ◌+◌, Bool, true, false, true≢false, if◌then◌else◌, List, [], ◌∷◌, ◌++◌, inl, inr, refl, sym, ap, ◌∙◌}
 use Rattle.std.specs.Prelude.{Option, Some, None, is_some, ◌==◌, ◌⊎◌}
 use Rattle.blk_base.specs.declared.parts.Mapping.{Mapping}
@@ -12,7 +12,7 @@ use Rattle.blk_back.specs.declared.stage.Stage.TheVariants as stage
 use Rattle.blk_back.specs.View.{View}
 use Rattle.blk_back.specs.Ask.{ask_at, loop_ask, next_reply, IsAnswer}
 use Rattle.ring_words.specs.Shape.{entry_words_of}
-use Rattle.blk_back.specs.Step.{giving_up, unbound, bound, other_pages, overrun, looked, loop_step, fetched, fetch_step, step_at, step_of}
+use Rattle.blk_back.specs.Step.{unmapping_next, unbound, bound, other_pages, overrun, looked, loop_step, fetched, fetch_step, step_at, step_of}
 use Rattle.vbd_model.specs.Fit.{is_serving}
 
 -- the ring's page was mapped and the port was bound, or either was refused
@@ -22,21 +22,21 @@ is_past stage.InitWait = false
 is_past stage.Bind = false
 is_past s = true
 
--- it has halted, and gives up a mapping of a job or the ring's page
-abbrev pub gives_up : Stage → Bool
-gives_up (stage.GiveUp m) = true
-gives_up stage.UnmapRing = true
-gives_up s = false
+-- it has halted, and unmaps a mapping of a job or the ring's page
+abbrev pub aborts : Stage → Bool
+aborts (stage.Abort m) = true
+aborts stage.UnmapRing = true
+aborts s = false
 
 -- it serves on, or halts
 abbrev pub Serves : View → View → Type 0
-Serves v u = ((is_serving u.stage ≡ true) × (u.halted ≡ v.halted)) ⊎ ((gives_up u.stage ≡ true) × (is_some u.halted ≡ true))
+Serves v u = ((is_serving u.stage ≡ true) × (u.halted ≡ v.halted)) ⊎ ((aborts u.stage ≡ true) × (is_some u.halted ≡ true))
 
 either : (b : Bool) (v x y : View) → Serves v x → Serves v y → Serves v (if b then x else y)
 either true v x y p q = p
 either false v x y p q = q
 
-pub given : (m : Option Mapping) → gives_up (giving_up m) ≡ true
+pub given : (m : Option Mapping) → aborts (unmapping_next m) ≡ true
 given None = refl
 given (Some m) = refl
 
@@ -75,7 +75,7 @@ serves_at stage.LookAgain v (answer.Word word) here p = looked_serves v word (re
 serves_at stage.InitWait v x here p = absurd (true≢false (sym p))
 serves_at stage.MapRing v x here p = absurd (true≢false (sym p))
 serves_at stage.Bind v x here p = absurd (true≢false (sym p))
-serves_at (stage.GiveUp m) v x here p = absurd (true≢false (sym p))
+serves_at (stage.Abort m) v x here p = absurd (true≢false (sym p))
 serves_at stage.UnmapRing v x here p = absurd (true≢false (sym p))
 serves_at stage.ClosePort v x here p = absurd (true≢false (sym p))
 serves_at stage.UnmapUnbound v x here p = absurd (true≢false (sym p))
@@ -86,8 +86,8 @@ pub serves_step : (v : View) (x : BackAnswer) → is_serving v.stage ≡ true �
 serves_step v x p = serves_at v.stage v x refl p
 
 -- past its port's bind the back stays so, whatever it is told
-pub gives_past : (s : Stage) → gives_up s ≡ true → is_past s ≡ true
-gives_past (stage.GiveUp m) is = refl
+pub gives_past : (s : Stage) → aborts s ≡ true → is_past s ≡ true
+gives_past (stage.Abort m) is = refl
 gives_past stage.UnmapRing is = refl
 gives_past s is = absurd (true≢false (sym is))
 
@@ -113,7 +113,7 @@ past_at : (s : Stage) (v : View) (x : BackAnswer) → v.stage ≡ s → is_past 
 past_at stage.InitWait v x here p = absurd (true≢false (sym p))
 past_at stage.MapRing v x here p = absurd (true≢false (sym p))
 past_at stage.Bind v x here p = absurd (true≢false (sym p))
-past_at (stage.GiveUp m) v x here p = gives_past _ (given (first_mapping v.jobs.works))
+past_at (stage.Abort m) v x here p = gives_past _ (given (first_mapping v.jobs.works))
 past_at stage.UnmapRing v x here p = bound_past (other_pages v.pages)
 past_at stage.ClosePort v x here p = refl
 past_at stage.UnmapUnbound v x here p = unbound_past (other_pages v.pages)

@@ -30,7 +30,7 @@ use Rattle.xenbus_state.specs.Tables.{back_action}
 use Rattle.xenbus_state.specs.BackView.{BackView, is_halting, halted, stopped, unplugged}
 use Rattle.xenbus_state.specs.BackAsk.{says_closing_at, says_closing, unmap_ask, ask_at, ask_of, IsAnswer}
 use Rattle.xenbus_state.specs.BackReading.{key_read}
-use Rattle.xenbus_state.specs.BackStep.{at, acted, action_halt, key_halt, kept_or_halted, giving_up, other_pages, step_at, step_of, halt_at, halt_of}
+use Rattle.xenbus_state.specs.BackStep.{at, acted, action_halt, key_halt, kept_or_halted, unmapping_next, other_pages, step_at, step_of, halt_at, halt_of}
 use Rattle.xenbus_state.specs.BackSound.{IsSound}
 use Rattle.xenbus_state.specs.declared.values.FrontTerms.{FrontTerms}
 use Rattle.xenbus_state.specs.Runs.{Unplugs, Stops}
@@ -91,7 +91,7 @@ step_all (ring.ProducerFence old) v x still = refl
 step_all ring.Send v x still = refl
 step_all ring.StoreEvent v x still = refl
 step_all ring.EventFence v x still = refl
-step_all (ring.GiveUp m) v x still = refl
+step_all (ring.Abort m) v x still = refl
 step_all ring.ClosePort v x still = refl
 step_all s v x still = refl
 
@@ -125,8 +125,8 @@ pub record IsAlike (v u : BackView) : Type 0 where
 alike : (v : BackView) → IsAlike v v
 alike v = record { pages = refl; terms = refl; grefs = refl }
 
--- it counts what the end of the ring has to give up, and goes on
-gives_halting : (pages : List Mapping) (bound : Bool) (own : BusState) → is_halting (giving_up pages bound own) ≡ true
+-- it counts what the end of the ring has to unmap, and goes on
+gives_halting : (pages : List Mapping) (bound : Bool) (own : BusState) → is_halting (unmapping_next pages bound own) ≡ true
 gives_halting (page ∷ pages) bound own = refl
 gives_halting [] true own = refl
 gives_halting [] false state.Closing = refl
@@ -139,19 +139,19 @@ never false = refl
 others_asked : (v : BackView) → v.stage ≡ stage.UnmapOthers → says_closing v ≡ false
 others_asked v here = ap (λ (b : BackStage). v.unplugged && says_closing_at b v.state) here ∙ never v.unplugged
 
-gave_up : (v : BackView) → v.stage ≡ stage.UnmapOthers → step_of v answer.Done ≡ at (giving_up v.pages v.bound v.state) v
-gave_up v here = told_at v answer.Done (others_asked v here) ∙ ap (λ (b : BackStage). step_at b v answer.Done) here
+has_unmapped : (v : BackView) → v.stage ≡ stage.UnmapOthers → step_of v answer.Done ≡ at (unmapping_next v.pages v.bound v.state) v
+has_unmapped v here = told_at v answer.Done (others_asked v here) ∙ ap (λ (b : BackStage). step_at b v answer.Done) here
 
 settled_cases : (P : BackView → Type 0) (s : Ring) (v : BackView) → P v → (v.stage ≡ stage.UnmapOthers → P (step_of v answer.Done)) → P (settled s v)
 settled_cases P s v same given = by_stage v.stage s refl
   where
     by_stage : (b : BackStage) (s : Ring) → v.stage ≡ b → P (settled_at b s v)
-    by_stage stage.UnmapOthers (ring.GiveUp m) here = same
+    by_stage stage.UnmapOthers (ring.Abort m) here = same
     by_stage stage.UnmapOthers s here = given here
     by_stage b s here = same
 
 pub settled_alike : (s : Ring) (v : BackView) → IsAlike v (settled s v)
-settled_alike s v = settled_cases (IsAlike v) s v (alike v) (λ here. subst (IsAlike v) (sym (gave_up v here)) (record { pages = refl; terms = refl; grefs = refl }))
+settled_alike s v = settled_cases (IsAlike v) s v (alike v) (λ here. subst (IsAlike v) (sym (has_unmapped v here)) (record { pages = refl; terms = refl; grefs = refl }))
 
 settled_sound : (s : Ring) (v : BackView) → IsSound v → IsSound (settled s v)
 settled_sound s v sound =
@@ -160,12 +160,12 @@ settled_sound s v sound =
 -- where it goes on it went on before
 settled_on : (s : Ring) (v : BackView) → is_halting (settled s v).stage ≡ false → is_halting v.stage ≡ false
 settled_on s v on = settled_cases (λ (u : BackView). is_halting u.stage ≡ false → is_halting v.stage ≡ false) s v (λ same. same)
-    (λ here still. absurd (true≢false (sym (ap (λ (u : BackView). is_halting u.stage) (gave_up v here) ∙ gives_halting v.pages v.bound v.state) ∙ still))) on
+    (λ here still. absurd (true≢false (sym (ap (λ (u : BackView). is_halting u.stage) (has_unmapped v here) ∙ gives_halting v.pages v.bound v.state) ∙ still))) on
 
 have_alike : (r : ends.View) (v u : BackView) → IsAlike v u → HaveTerms r v → HaveTerms r u
 have_alike r v u same have = record { shape = have.shape ∙ ap (λ (t : FrontTerms). record { abi = t.abi; order = t.order }) (sym same.terms); grefs = have.grefs ∙ sym same.grefs; port = have.port ∙ ap (λ (t : FrontTerms). t.port) (sym same.terms) }
 
--- the end of the ring is led by the negotiation: no page is mapped or given up at once
+-- the end of the ring is led by the negotiation: no page is mapped or unmapped at once
 led_pages : (why : Option BackHalt) (reads : Bool) (w : BackView) (r : ends.View) → (ring_led why reads w r).pages ≡ r.pages
 led_pages (Some why) reads w r = halts_cases (λ (x : ends.View). x.pages ≡ r.pages) (ring_halt why) r (λ here. refl) (λ here. refl) refl
 led_pages None true w r = by_test (ring_step.may_attach (shape_read w) w.grefs r)
@@ -331,7 +331,7 @@ begun_moves stage.Bind s v r x here on goes shared moves allowed = rw goes.1 (bi
     binds answer.Done allowed = told_moves stage.Bind v r _ answer.Done here on (record { pages = shared; terms = refl; grefs = refl; halts = λ h. absurd (true≢false (sym h ∙ ap is_halting here)) })
     binds answer.BindRefused allowed = told_moves stage.Bind v r _ answer.BindRefused here on (record { pages = shared; terms = refl; grefs = refl; halts = λ h. refl })
     binds x allowed = absurd allowed
-begun_moves stage.UnmapOthers (ring.GiveUp m) v r x here on goes shared moves allowed = stays v r _ refl shared
+begun_moves stage.UnmapOthers (ring.Abort m) v r x here on goes shared moves allowed = stays v r _ refl shared
 begun_moves stage.UnmapOthers s v r x here on goes shared moves allowed = absurd goes
 begun_moves stage.UnmapPage s v r x here on goes shared moves allowed = by_stage s goes
   where
@@ -358,7 +358,7 @@ begun_moves stage.ClosePort s v r x here on goes shared moves allowed = rw goes 
     closes : (x : BackAnswer) → IsRingAnswer (ring_ask_at ring.ClosePort r) x → Moves v r (ring_step.step_at ring.ClosePort r x) (step_of v x)
     closes answer.Done allowed = told_moves stage.ClosePort v r _ answer.Done here on (record { pages = shared; terms = refl; grefs = refl; halts = λ h. gives_last v.state })
       where
-        gives_last : (own : BusState) → is_halting (giving_up [] false own) ≡ true
+        gives_last : (own : BusState) → is_halting (unmapping_next [] false own) ≡ true
         gives_last own = gives_halting [] false own
     closes x allowed = absurd allowed
 begun_moves stage.Halted s v r x here on goes shared moves allowed = rw goes.1 (subst (Moves v r r) (sym (still x)) (stays v r r refl shared))

@@ -264,7 +264,7 @@ rest_follows v f x here e h moves allowed =
     by_test false whole =
         rests_on v.state v.gone v.port f x moves (whole_rests v f here whole h) (λ own. h.through own whole) (λ own gone. let ends : stage.Rest ≡ stage.EndGrant 0 = sym e ∙ leaves_next v f here whole h own gone in absurd (cc)) allowed
 
--- and while the negotiation asks it to make the ring, or to give it up
+-- and while the negotiation asks it to make the ring, or to leave it
 begun_follows : (b : FrontStage) (s : Ring) (v : FrontView) (idle : Bool) (f : ends.View) (x : FrontAnswer) → v.stage ≡ b → f.stage ≡ s → due v idle ≡ b → FrontOrdered b v f.shape.order → FrontGoesWith b v s
     → (b ≡ stage.Rest → Follows v (followed ask.Wait (ring_step_at s f x).stage idle v x) (ring_step_at s f x).stage f.shape.order) → speaks (ask_at b v) ≡ false → ring_moves (ask_at b v) s ≡ true
     → IsAnswer (ring_ask_at s f) x → Follows v (followed (ask_at b v) (ring_step_at s f x).stage idle v x) (ring_step_at s f x).stage f.shape.order

@@ -39,7 +39,7 @@ use Rattle.vbd_front.specs.Ask as front
 use Rattle.vbd_back.specs.Ask as back
 use Rattle.vbd_back.specs.View.{offer}
 use Rattle.vbd_front.specs.View.{is_unoccupied, is_broken}
-use Rattle.vbd_model.specs.Fit.{IsEndingPage, FrontRests, IsGranting, FrontGoesWith, IsGivingUp, IsUnmapping, BackGoesWith, IsUnbound}
+use Rattle.vbd_model.specs.Fit.{IsEndingPage, FrontRests, IsGranting, FrontGoesWith, IsAborting, IsUnmapping, BackGoesWith, IsUnbound}
 use Rattle.vbd_laws.proofs.FitFrontMoves.{connected_still}
 use Rattle.vbd_laws.proofs.FitFrontBus.{FrontFits, unoccupied, due_cases, closing_cases}
 use Rattle.vbd_laws.proofs.FitFrontSpoken.{whole_rests}
@@ -180,9 +180,9 @@ unbound_free back_ring.MapRing still = refl
 unbound_free back_ring.Bind still = refl
 unbound_free r still = absurd (true≢false still)
 
--- one that has halted moves to give up what it holds
-giving_moves : (r : BackRing) → IsGivingUp r → back.ring_moves back_ask.UnmapOthers r ≡ true
-giving_moves (back_ring.GiveUp m) gives = refl
+-- one that has halted moves to unmap what it holds
+giving_moves : (r : BackRing) → IsAborting r → back.ring_moves back_ask.UnmapOthers r ≡ true
+giving_moves (back_ring.Abort m) gives = refl
 giving_moves r gives = absurd gives
 
 unmapping_moves : (r : BackRing) (pages : List Mapping) → IsUnmapping r → back.ring_moves (back_bus.unmap_ask pages) r ≡ true

@@ -33,7 +33,7 @@ use Rattle.xenbus_state.specs.declared.back.BackBusAsk.{BackBusAsk}
 use Rattle.xenbus_state.specs.declared.back.BackBusAsk.TheVariants as bus_ask
 use Rattle.xenbus_state.specs.BackView.{BackView, is_halting, halted}
 use Rattle.xenbus_state.specs.BackAsk.{ask_of, ask_at, says_closing, unmap_ask}
-use Rattle.xenbus_state.specs.BackStep.{step_of, step_at, after_state, last_state, giving_up, other_pages}
+use Rattle.xenbus_state.specs.BackStep.{step_of, step_at, after_state, last_state, unmapping_next, other_pages}
 use Rattle.split_model.proofs.SafeActs.{of_back, back_takes}
 use Rattle.split_model.proofs.SafeAnswers.{IsBacks, backs_of}
 use Rattle.negotiation_laws.specs.Negotiation.{Negotiation, back_woken, back_answered, back_done, back_moved}
@@ -45,7 +45,7 @@ use Rattle.vbd_back.specs.Step as backend_step
 use Rattle.vbd_back.specs.Step.{settled_at, settled, bus_halted, woken, followed, waited}
 use Rattle.vbd_model.specs.World.{World, backend_of}
 use Rattle.vbd_model.specs.Happening.{back_turn, is_backs_ring}
-use Rattle.vbd_model.specs.Fit.{IsGivingUp, IsUnmapping, BackGoesWith, BackHolds, IsFit}
+use Rattle.vbd_model.specs.Fit.{IsAborting, IsUnmapping, BackGoesWith, BackHolds, IsFit}
 use Rattle.vbd_laws.proofs.NegotiatedRun.{negotiation_of, Reached, Joined, reached_one}
 
 -- the negotiation with this back, over these keys
@@ -56,7 +56,7 @@ with_back n v keys = record { front = n.front; back = v; keys = keys }
 abbrev pub a_page : Mapping
 a_page = record { number = 0; gref = 0; mode = ReadWrite }
 
--- a back that gives up its other mappings asks for that
+-- a back that unmaps its other mappings asks for that
 others_asked : (v : BackView) → v.stage ≡ stage.UnmapOthers → ask_of v ≡ bus_ask.UnmapOthers
 others_asked v here = rw here (by_test v.unplugged)
   where
@@ -74,9 +74,9 @@ module _ (P : Negotiation → Type 0) (keeps : (n : Negotiation) (page : Mapping
       subst P (sym (ap (λ (y : BackAnswer). with_back n (step_of n.back y) later) heard ∙ ap (λ (d : Directory). with_back n (step_of n.back (back_answered (ask_of n.back) page n.keys)) d) keyed))
       (keeps n page j)
 
-  -- where its end of the ring has no other mapping to give up it goes on
+  -- where its end of the ring has no other mapping to unmap it goes on
   settles : (b : BackStage) (s : Stage) (n : Negotiation) → n.back.stage ≡ b → P n → P (with_back n (settled_at b s n.back) n.keys)
-  settles stage.UnmapOthers (ring_stage.GiveUp m) n here j = j
+  settles stage.UnmapOthers (ring_stage.Abort m) n here j = j
   settles stage.UnmapOthers s n here j = told_holds n bus_ask.UnmapOthers a_page answer.Done n.keys (others_asked n.back here) refl refl j
   settles b s n here j = j
 
@@ -191,7 +191,7 @@ module _ (P : Negotiation → Type 0) (keeps : (n : Negotiation) (page : Mapping
   push_leaves r a ring_stage.Send within e = of_back (Leaves h) _ a (record { unwatched = tt; keys = refl }) e
   push_leaves r a s within e = absurd (true≢false within)
 
-  -- a page that was mapped is given up
+  -- a page that was mapped is unmapped
   unmaps_follow : (m : Mapping) (pages : List Mapping) (a : BackAct) → ask_of n.back ≡ bus_ask.Unmap m → 0 < length pages → back_act h back_mover.Back (ring_ask.unmap_ask pages) Took ≡ Some a → Follows (bus_ask.Unmap m) a
   unmaps_follow m [] a asks some e = absurd (omega arith)
   unmaps_follow m (page ∷ pages) a asks some e = of_back (Follows (bus_ask.Unmap m)) _ a (λ given. told_done (bus_ask.Unmap m) a_page answer.Done asks refl refl) e
@@ -205,7 +205,7 @@ module _ (P : Negotiation → Type 0) (keeps : (n : Negotiation) (page : Mapping
   ring_follows r a (bus_ask.Unmap m) ring_stage.UnmapRing asks here quiet moves some own e = unmaps_follow m r.pages a asks (some tt) e
   ring_follows r a (bus_ask.Unmap m) ring_stage.UnmapUnbound asks here quiet moves some own e = unmaps_follow m r.pages a asks (some tt) e
   ring_follows r a bus_ask.ClosePort ring_stage.ClosePort asks here quiet moves some own e = of_back (Follows bus_ask.ClosePort) _ a (λ given. told_done bus_ask.ClosePort a_page answer.Done asks refl refl) e
-  ring_follows r a bus_ask.UnmapOthers (ring_stage.GiveUp m) asks here quiet moves some own e = of_back (Follows bus_ask.UnmapOthers) _ a (λ given. still_holds P keeps n h h.keys kept refl j) e
+  ring_follows r a bus_ask.UnmapOthers (ring_stage.Abort m) asks here quiet moves some own e = of_back (Follows bus_ask.UnmapOthers) _ a (λ given. still_holds P keeps n h h.keys kept refl j) e
   ring_follows r a bus_ask.Watch s asks here quiet moves some own e = λ given. leaves_follows a (push_leaves r a s quiet e)
   ring_follows r a bus_ask.GetState s asks here quiet moves some own e = λ given. leaves_follows a (push_leaves r a s quiet e)
   ring_follows r a (bus_ask.GetKey key) s asks here quiet moves some own e = λ given. leaves_follows a (push_leaves r a s quiet e)
@@ -223,7 +223,7 @@ last_halting : (s : BusState) → is_halting (stage.WriteState (last_state s)) �
 last_halting state.Closing = refl
 last_halting s = refl
 
-up_halting : (pages : List Mapping) (bound : Bool) (s : BusState) → is_halting (giving_up pages bound s) ≡ true
+up_halting : (pages : List Mapping) (bound : Bool) (s : BusState) → is_halting (unmapping_next pages bound s) ≡ true
 up_halting (page ∷ pages) bound s = refl
 up_halting [] true s = refl
 up_halting [] false s = last_halting s
@@ -293,8 +293,8 @@ says_stuck b r says quiet still = absurd (true≢false (sym (speaks_ring b r say
 moves_stuck : (b : BackBusAsk) (r : Stage) → ring_moves b r ≡ true → ring_moves b r ≡ false → IsStuck b r
 moves_stuck b r moves still = absurd (true≢false (sym moves ∙ still))
 
-giving_moves : (r : Stage) → IsGivingUp r → ring_moves bus_ask.UnmapOthers r ≡ true
-giving_moves (ring_stage.GiveUp m) is = refl
+giving_moves : (r : Stage) → IsAborting r → ring_moves bus_ask.UnmapOthers r ≡ true
+giving_moves (ring_stage.Abort m) is = refl
 giving_moves r is = absurd is
 
 unmapping_moves : (m : Mapping) (r : Stage) → IsUnmapping r → ring_moves (bus_ask.Unmap m) r ≡ true

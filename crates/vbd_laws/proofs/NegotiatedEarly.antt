@@ -38,7 +38,7 @@ use Rattle.vbd_front.specs.View as front_view
 use Rattle.vbd_front.specs.Step as front_step
 use Rattle.vbd_model.specs.World.{World, frontend_of}
 use Rattle.vbd_model.specs.Happening.{FrontMoves, Closes, front_turn, happens}
-use Rattle.vbd_model.specs.Fit.{BackGoesWith, BackRests, BackReads, IsGivingUp, IsUnmapping, is_serving, IsFit}
+use Rattle.vbd_model.specs.Fit.{BackGoesWith, BackRests, BackReads, IsAborting, IsUnmapping, is_serving, IsFit}
 use Rattle.vbd_laws.specs.Moves.{IsNoMove, IsFrontMove}
 use Rattle.vbd_laws.proofs.FitBackRing.{is_past}
 use Rattle.vbd_laws.proofs.MovesTurns.{front_cases}
@@ -110,9 +110,9 @@ not_served ring.InitWait early is = absurd (true≢false (sym is))
 not_served ring.MapRing early is = absurd (true≢false (sym is))
 not_served r early is = absurd (true≢false (sym early))
 
-not_given_up : {A : Type 0} (r : BackRing) → is_unbound r ≡ true → IsGivingUp r → A
-not_given_up (ring.GiveUp m) early is = absurd (true≢false (sym early))
-not_given_up r early is = absurd is
+not_aborting : {A : Type 0} (r : BackRing) → is_unbound r ≡ true → IsAborting r → A
+not_aborting (ring.Abort m) early is = absurd (true≢false (sym early))
+not_aborting r early is = absurd is
 
 not_unmapped : {A : Type 0} (r : BackRing) → is_unbound r ≡ true → IsUnmapping r → A
 not_unmapped ring.UnmapRing early is = absurd (true≢false (sym early))
@@ -147,7 +147,7 @@ unconnected (bus.ReadKey k) own r early fits is = unlike own state.InitWait fits
 unconnected bus.MapPage own r early fits is = unlike own state.InitWait fits.0 refl is
 unconnected bus.Bind own r early fits is = unlike own state.InitWait fits.0 refl is
 unconnected (bus.PublishFact k) own r early fits is = unlike own state.InitWait fits.0 refl is
-unconnected bus.UnmapOthers own r early fits is = not_given_up r early fits
+unconnected bus.UnmapOthers own r early fits is = not_aborting r early fits
 unconnected bus.UnmapPage own r early fits is = not_unmapped r early fits
 unconnected bus.ClosePort own r early fits is = elsewhere r ring.ClosePort early refl fits
 unconnected bus.Halted own r early fits is = unlike own state.Closed fits.0 refl is

@@ -79,7 +79,7 @@ halt_may (bus_halt.BadOrder s) = refl
 halt_may (bus_halt.BadPort p) = refl
 halt_may (bus_halt.MapRefused gref status) = refl
 
--- it halts before the ring is mapped: nothing is left to give up
+-- it halts before the ring is mapped: nothing is left to unmap
 halts_early : (why : BackHalt) (r : ring_view.View) → is_unbound r.stage ≡ true → r.pages ≡ [] → (let u : ring_view.View = ring_step.halts (back_step.ring_halt why) r in (u.stage ≡ ring.Halted) × (is_some u.halted ≡ true))
 halts_early why r early none =
     let h : Halt = back_step.ring_halt why in

@@ -34,7 +34,7 @@ use Rattle.xenbus_state.specs.BackReading.{order_of, layout_read, with_order, wi
 use Rattle.xenbus_state.specs.Values.{back_value}
 use Rattle.xenbus_state.specs.BackView.{BackView, is_halting, halted, stopped, unplugged}
 use Rattle.xenbus_state.specs.BackAsk.{says_closing, unmap_ask, ask_at, ask_of}
-use Rattle.xenbus_state.specs.BackStep.{acted, action_halt, kept_or_halted, key_halt, halt_at, halt_of, after_state, giving_up, other_pages, after_feature, after_fact, step_at, step_of}
+use Rattle.xenbus_state.specs.BackStep.{acted, action_halt, kept_or_halted, key_halt, halt_at, halt_of, after_state, unmapping_next, other_pages, after_feature, after_fact, step_at, step_of}
 use Rattle.xenbus_state.proofs.Powers.{few_pages}
 use Rattle.line_text.specs.Texts.{is_key_name}
 use Rattle.machine_pipeline.specs.Allowed.{IsSpelled, IsSaid, AreSaid}
@@ -76,7 +76,7 @@ state_plain state.Closing = tt
 state_plain state.Closed = tt
 state_plain s = tt
 
-up_plain : (pages : List Mapping) (bound : Bool) (own : BusState) → IsPlain (giving_up pages bound own)
+up_plain : (pages : List Mapping) (bound : Bool) (own : BusState) → IsPlain (unmapping_next pages bound own)
 up_plain (page ∷ pages) bound own = tt
 up_plain [] true own = tt
 up_plain [] false own = tt
@@ -183,7 +183,7 @@ step_speaks bus.MapPage v (answer.MapRefused status) h = at_speaks bus.UnmapOthe
 step_speaks bus.Bind v answer.Done h = record { sectors = h.sectors; order = h.order; grefs = h.grefs; port = h.port; stage = tt }
 step_speaks bus.Bind v answer.BindRefused h = at_speaks bus.UnmapOthers v tt h
 step_speaks (bus.PublishFact k) v answer.Done h = at_speaks (after_fact (next_fact k)) v (fact_plain (next_fact k)) h
-step_speaks bus.UnmapOthers v answer.Done h = at_speaks (giving_up v.pages v.bound v.state) v (up_plain v.pages v.bound v.state) h
+step_speaks bus.UnmapOthers v answer.Done h = at_speaks (unmapping_next v.pages v.bound v.state) v (up_plain v.pages v.bound v.state) h
 step_speaks bus.UnmapPage v answer.Done h = record { sectors = h.sectors; order = h.order; grefs = h.grefs; port = h.port; stage = up_plain (other_pages v.pages) v.bound v.state }
 step_speaks bus.ClosePort v answer.Done h = record { sectors = h.sectors; order = h.order; grefs = h.grefs; port = h.port; stage = tt }
 step_speaks s v a h = h

@@ -70,7 +70,7 @@ use Rattle.machine_pipeline.specs.Allowed as ring_allowed
 use Rattle.machine_pipeline.specs.Allowed.{MayEnter, IsFarewell, AreTerms, is_free}
 use Rattle.machine_pipeline.proofs.Flow.{Flow}
 use Rattle.machine_pipeline.proofs.Holds.{Holds}
-use Rattle.machine_pipeline.proofs.Over.{IsGivingUp, Over, IsKept}
+use Rattle.machine_pipeline.proofs.Over.{IsAborting, Over, IsKept}
 use Rattle.machine_pipeline.proofs.BackMoves.{back_moves}
 use Rattle.machine_pipeline.proofs.Quiet.{AreQuiet, all_quiet}
 use Rattle.machine_pipeline.proofs.Together.{IsStanding, run_kept, always_stands}
@@ -88,7 +88,7 @@ use Rattle.vbd_model.specs.World.{World, start_of, frontend_of, backend_of, is_q
 use Rattle.vbd_model.specs.Happening.{Happening, FrontMoves, BackMoves, JobMoves, Closes, Submits, Notifies, Pokes, OverwritesKey, Suspends, Dumps, Looks, Settles, front_turn, back_turn, entered_at, halted_at, reasons_of, front_key, front_does, back_does, is_backs_ring, attaches, back_negotiates, does, happens, after, all_does}
 use Rattle.vbd_model.specs.Possible.{IsPossible, ArePossible}
 use Rattle.vbd_model.specs.Kind.{are_carried}
-use Rattle.vbd_model.specs.Fit.{FrontRests, FrontGoesWith, FrontOrdered, IsGivingUp as GivesUp, IsUnmapping, is_serving, BackRests, BackReads, BackGoesWith, IsFit}
+use Rattle.vbd_model.specs.Fit.{FrontRests, FrontGoesWith, FrontOrdered, IsAborting as Aborts, IsUnmapping, is_serving, BackRests, BackReads, BackGoesWith, IsFit}
 use Rattle.vbd_laws.specs.Moves.{IsNoMove, IsFrontMove, IsBackMove}
 use Rattle.vbd_laws.specs.Quiet.{IsUntouched, AreUntouched}
 use Rattle.vbd_laws.proofs.FitBackBus.{waits_reading}
@@ -406,12 +406,12 @@ unhalted_given s v (answer.MapRefused status) is unhalted = absurd is
 unhalted_given s v answer.BindRefused is unhalted = absurd is
 unhalted_given s v x is unhalted = tt
 
--- a back that gives up goes on with it
+-- a back that unmaps goes on with it
 record Quiet (r : ring_view.View) (x : BackAnswer) : Type 0 where
   given : IsGiven x
   same : (ring_step.step_of r x).halted ≡ r.halted
 
-up_quiet : (s : BackRing) (held : List Mapping) (r : ring_view.View) (x : BackAnswer) → IsGivingUp held s → ring_ask.IsAnswer (ring_ask.ask_at s r) x → IsGiven x × ((ring_step.step_at s r x).halted ≡ r.halted)
+up_quiet : (s : BackRing) (held : List Mapping) (r : ring_view.View) (x : BackAnswer) → IsAborting held s → ring_ask.IsAnswer (ring_ask.ask_at s r) x → IsGiven x × ((ring_step.step_at s r x).halted ≡ r.halted)
 up_quiet ring.UnmapRing held r x up is = (unmap_given r.pages x is, refl)
 up_quiet ring.UnmapUnbound held r x up is = (unmap_given r.pages x is, refl)
 up_quiet ring.ClosePort held r answer.Done up is = (tt, refl)
@@ -484,8 +484,8 @@ reads_map state.Connected t fits e = not_mapping t fits e refl
 reads_map state.Closing t fits e = not_mapping t fits e refl
 reads_map own t fits e = absurd fits
 
-given_map : {A : Type 0} (t : BackRing) → GivesUp t → t ≡ ring.MapRing → A
-given_map (ring.GiveUp m) up e = not_mapping (ring.GiveUp m) refl e refl
+given_map : {A : Type 0} (t : BackRing) → Aborts t → t ≡ ring.MapRing → A
+given_map (ring.Abort m) up e = not_mapping (ring.Abort m) refl e refl
 given_map t up e = absurd up
 
 unmapped_map : {A : Type 0} (t : BackRing) → IsUnmapping t → t ≡ ring.MapRing → A

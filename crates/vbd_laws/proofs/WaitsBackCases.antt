@@ -24,7 +24,7 @@ use Rattle.xenbus_state.specs.BackAsk as bus
 use Rattle.vbd_back.specs.View as back_view
 use Rattle.vbd_back.specs.Ask as back
 use Rattle.vbd_model.specs.World.{World, backend_of}
-use Rattle.vbd_model.specs.Fit.{is_serving as serves_ring, BackRests, BackReads, IsGivingUp, IsUnmapping, BackGoesWith}
+use Rattle.vbd_model.specs.Fit.{is_serving as serves_ring, BackRests, BackReads, IsAborting, IsUnmapping, BackGoesWith}
 use Rattle.vbd_laws.specs.Waits.{Check, Asleep, is_serving}
 use Rattle.vbd_laws.proofs.MovesTurns.{back_asks}
 use Rattle.vbd_laws.proofs.WaitsFrontRing.{sleeps}
@@ -239,8 +239,8 @@ module _ (w : World) (c : Check) (k : Knows w c) where
   abbrev Only : BackStage → Type 0
   Only s = back.ask_at (bus.ask_at s w.back) v ≡ back_ask.Wait → bus.ask_at s w.back ≡ bus_ask.Wait
 
-  giving : (s : Stage) → r ≡ s → IsGivingUp s → Only stage.UnmapOthers
-  giving (ring_stage.GiveUp m) here is e = moving bus_ask.UnmapOthers (ring_stage.GiveUp m) here refl refl refl e
+  giving : (s : Stage) → r ≡ s → IsAborting s → Only stage.UnmapOthers
+  giving (ring_stage.Abort m) here is e = moving bus_ask.UnmapOthers (ring_stage.Abort m) here refl refl refl e
   giving s here is e = absurd is
 
   unmapping : (s : Stage) (pages : List Mapping) → r ≡ s → w.back.pages ≡ pages → IsUnmapping s → 0 < length pages → back.ask_at (bus.unmap_ask pages) v ≡ back_ask.Wait → bus.unmap_ask pages ≡ bus_ask.Wait

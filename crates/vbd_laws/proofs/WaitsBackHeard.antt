@@ -26,7 +26,7 @@ use Rattle.xenbus_state.specs.Tables.{is_connected, bad_order, front_gone, back_
 use Rattle.xenbus_state.specs.BackReading.{key_read}
 use Rattle.xenbus_state.specs.BackView.{BackView, is_halting, halted, stopped}
 use Rattle.xenbus_state.specs.BackAsk.{says_closing, says_closing_at, ask_at, ask_of, unmap_ask, IsAnswer}
-use Rattle.xenbus_state.specs.BackStep.{acted, last_state, kept_or_halted, after_feature, after_fact, giving_up, other_pages, step_at, step_of}
+use Rattle.xenbus_state.specs.BackStep.{acted, last_state, kept_or_halted, after_feature, after_fact, unmapping_next, other_pages, step_at, step_of}
 use Rattle.vbd_back.specs.Ask as back
 use Rattle.vbd_back.specs.View.{rests as is_rest}
 use Rattle.vbd_laws.proofs.WaitsBackCases.{BusWaits, bus_waits}
@@ -77,7 +77,7 @@ halting_hears stage.ClosePort own h is = tt
 halting_hears stage.Halted own h is = tt
 halting_hears s own h is = absurd (true≢false (sym is))
 
-giving_hears : (pages : List Mapping) (bound : Bool) (own now : BusState) (h : Heard) → HearsAt (giving_up pages bound own) now h
+giving_hears : (pages : List Mapping) (bound : Bool) (own now : BusState) (h : Heard) → HearsAt (unmapping_next pages bound own) now h
 giving_hears (page ∷ pages) bound own now h = tt
 giving_hears [] true own now h = tt
 giving_hears [] false state.Closing now h = tt
@@ -253,7 +253,7 @@ moved_at s v h a here is m = absurd (true≢false (sym m))
 pub moved_hears : (v : BackView) (h : Heard) (a : BackAnswer) → says_closing v ≡ false → moves v.stage ≡ true → Hears v h → Hears (step_of v a) h
 moved_hears v h a quiet m is = subst (λ (b : Bool). Hears (if b then record v { state = state.Closing } else step_at v.stage v a) h) (sym quiet) (moved_at v.stage v h a refl is m)
 
--- the other mappings are given up, or its end of the ring halted
+-- the other mappings are unmapped, or its end of the ring halted
 step_gives : (v : BackView) (h : Heard) → v.stage ≡ stage.UnmapOthers → Hears (step_of v answer.Done) h
 step_gives v h here = by_test (v.unplugged && says_closing_at v.stage v.state) (ap (λ (s : BackStage). v.unplugged && says_closing_at s v.state) here ∙ never v.unplugged)
   where
@@ -269,7 +269,7 @@ pub settled_hears : (r : Ring) (v : BackView) (h : Heard) → Hears v h → Hear
 settled_hears r v h is = by_stage v.stage refl
   where
     by_ring : (r : Ring) → v.stage ≡ stage.UnmapOthers → Hears (settled_at stage.UnmapOthers r v) h
-    by_ring (ring.GiveUp m) here = is
+    by_ring (ring.Abort m) here = is
     by_ring r here = step_gives v h here
 
     by_stage : (s : BackStage) → v.stage ≡ s → Hears (settled_at s r v) h

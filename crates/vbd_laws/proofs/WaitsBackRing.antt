@@ -16,7 +16,7 @@ use Rattle.blk_back.specs.declared.stage.Stage.TheVariants as stage
 use Rattle.blk_back.specs.declared.told.Halt.{Halt}
 use Rattle.blk_back.specs.View.{View, page_of}
 use Rattle.blk_back.specs.Ask.{ask_at, loop_ask, index_ask, entry_ask, next_reply, is_led, IsAnswer}
-use Rattle.blk_back.specs.Step.{giving_up, unbound, bound, other_pages, overrun, looked, loop_word, loop_step, fetched, may_attach, attached, attaches, halts, step_at, step_of}
+use Rattle.blk_back.specs.Step.{unmapping_next, unbound, bound, other_pages, overrun, looked, loop_word, loop_step, fetched, may_attach, attached, attaches, halts, step_at, step_of}
 use Rattle.line_text.proofs.Both.{both_true}
 use Rattle.split_model.proofs.States.{halts_cases}
 use Rattle.vbd_laws.specs.Waits.{Check, Awake, Stored, Fenced, fences, looks, others, writes, is_page_word, back_checks}
@@ -31,7 +31,7 @@ Sees (stage.Fetch k) c asleep = IsAlert c asleep
 Sees stage.StoreEvent c asleep = IsAwake c asleep
 Sees stage.EventFence c asleep = (asleep ≡ false) × (c ≡ Stored)
 Sees stage.LookAgain c asleep = (asleep ≡ false) × (c ≡ Fenced)
-Sees (stage.GiveUp m) c asleep = Unit {0}
+Sees (stage.Abort m) c asleep = Unit {0}
 Sees stage.UnmapRing c asleep = Unit {0}
 Sees stage.ClosePort c asleep = Unit {0}
 Sees stage.UnmapUnbound c asleep = Unit {0}
@@ -49,8 +49,8 @@ either_at : (b : Bool) (x y : Stage) (c : Check) (asleep : Bool) → Sees x c as
 either_at true x y c asleep p q = p
 either_at false x y c asleep p q = q
 
--- whatever it gives up next
-given : (m : Option Mapping) (c : Check) (asleep : Bool) → Sees (giving_up m) c asleep
+-- whatever it unmaps next
+given : (m : Option Mapping) (c : Check) (asleep : Bool) → Sees (unmapping_next m) c asleep
 given None c asleep = tt
 given (Some m) c asleep = tt
 
@@ -149,7 +149,7 @@ sees_at stage.Send v x c here is allowed = (others_sleep c ∙ is, others_unfenc
 sees_at stage.StoreEvent v x c here is allowed = (is.0, stores (page_of v 0) c is.1)
 sees_at stage.EventFence v x c here is allowed = (is.0, ap fences is.1)
 sees_at stage.LookAgain v (answer.Word word) c here is allowed = last_goes v word c is.0 is.1
-sees_at (stage.GiveUp m) v x c here is allowed = given (first_mapping v.jobs.works) _ v.asleep
+sees_at (stage.Abort m) v x c here is allowed = given (first_mapping v.jobs.works) _ v.asleep
 sees_at stage.UnmapRing v x c here is allowed = bound_sees (other_pages v.pages) _ v.asleep
 sees_at stage.ClosePort v x c here is allowed = tt
 sees_at stage.UnmapUnbound v x c here is allowed = unbound_sees (other_pages v.pages) _ v.asleep

@@ -32,7 +32,7 @@ use Rattle.segment_list.proofs.Served.{transfer_served}
 use Rattle.back_jobs.specs.declared.stage.Stage.{Stage}
 use Rattle.back_jobs.specs.declared.stage.Stage.TheVariants as stage
 use Rattle.back_jobs.specs.Task.{Work, passes, judged, page_done, copied, is_copied_out, paging, moving, ended, frameless, sector_stage, next_sector, next_segment, counted, first_of, rest_of, last_of, step_at, step_of, begun, served, served_indirect, map_ask, page_ask, ask_at, ask_of}
-use Rattle.back_jobs.specs.Jobs.{Held, mapping_at, work_at, work_of, place_of, told_at, tell_job, start_job, removed_at, without_done, behind_mapping, is_done, is_done_at}
+use Rattle.back_jobs.specs.Jobs.{Held, mapping_at, work_at, work_of, place_of, told_at, complete_job, start_job, removed_at, without_done, after_mapping, is_done, is_done_at}
 use Rattle.blk_back.specs.Ask.{is_wait}
 use Rattle.back_jobs.proofs.Served.{transfer_kind}
 
@@ -122,7 +122,7 @@ supplied_at (stage.DiskRead m) t (answer.Sector words) here is = tt
 supplied_at (stage.DiskRead m) t answer.DiskFailed here is = tt
 supplied_at (stage.WriteWord m k) t answer.Done here is = either (k == 127) (next_sector t m) (record t { stage = stage.WriteWord m (k + 1) }) (sector_supplied t m) tt
 supplied_at (stage.Unmap m) t answer.Done here is = segment_supplied t (rest_of t.rest)
-supplied_at (stage.GiveUp m) t answer.Done here is = tt
+supplied_at (stage.Abort m) t answer.Done here is = tt
 supplied_at stage.Flush t answer.Done here is = tt
 supplied_at stage.Flush t answer.DiskFailed here is = tt
 supplied_at (stage.Trim count) t answer.Done here is = tt
@@ -246,7 +246,7 @@ told_all works (Some place) (Some t) a h all =
     let this = subst IsSupplied same (All-get_or IsSupplied works place t within all) in
     All-set IsSupplied works place (step_of t a) (supplied_step t a this) all
 
-pub supplied_told : (h : Held) (number : ℕ) (a : BackAnswer) → AreSupplied h.works → AreSupplied (tell_job h number a).works
+pub supplied_told : (h : Held) (number : ℕ) (a : BackAnswer) → AreSupplied h.works → AreSupplied (complete_job h number a).works
 supplied_told h number a all = told_all h.works (place_of h.works number) (work_of h.works number) a refl all
 
 removed_all : (works : List Work) (place : Option ℕ) → AreSupplied works → AreSupplied (removed_at works place)
@@ -256,15 +256,15 @@ removed_all works (Some place) all = All-append IsSupplied _ _ (All-take IsSuppl
 pub supplied_without : (h : Held) → AreSupplied h.works → AreSupplied (without_done h).works
 supplied_without h all = removed_all h.works (position (λ (t : Work). is_done t) h.works) all
 
-behind_at : (b : Bool) (works : List Work) → AreSupplied works → AreSupplied (behind_mapping works) → AreSupplied (cond b works (behind_mapping works))
-behind_at true works all less = all
-behind_at false works all less = less
+after_at : (b : Bool) (works : List Work) → AreSupplied works → AreSupplied (after_mapping works) → AreSupplied (cond b works (after_mapping works))
+after_at true works all less = all
+after_at false works all less = less
 
-pub supplied_behind : (works : List Work) → AreSupplied works → AreSupplied (behind_mapping works)
-supplied_behind [] all = all
-supplied_behind (t ∷ works) all =
+pub supplied_after : (works : List Work) → AreSupplied works → AreSupplied (after_mapping works)
+supplied_after [] all = all
+supplied_after (t ∷ works) all =
     let rest = All-tail IsSupplied t works all in
-    behind_at (is_some (mapping_at t.stage)) works rest (supplied_behind works rest)
+    after_at (is_some (mapping_at t.stage)) works rest (supplied_after works rest)
 
 -- a job that is supplied asks for something until it is done
 map_asks : (rest : List Segment) (writes : Bool) → 0 < length rest → is_wait (map_ask rest writes) ≡ false

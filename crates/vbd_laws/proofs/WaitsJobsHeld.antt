@@ -40,7 +40,7 @@ use Rattle.vbd_laws.proofs.Fit.{fit_start, fit_happens}
 use Rattle.vbd_laws.proofs.MovesTurns.{back_asks, back_cases}
 use Rattle.vbd_laws.proofs.MovesFront.{front_move_is, front_move_none}
 use Rattle.vbd_laws.proofs.MovesBack.{back_move_is, back_move_none}
-use Rattle.vbd_laws.proofs.WaitsJobs.{IsSupplied, AreSupplied, supplied_started, supplied_told, supplied_without, supplied_behind, asks_so, waits_is}
+use Rattle.vbd_laws.proofs.WaitsJobs.{IsSupplied, AreSupplied, supplied_started, supplied_told, supplied_without, supplied_after, asks_so, waits_is}
 
 abbrev Supplies : ends.View → Type 0
 Supplies v = AreSupplied v.jobs.works
@@ -51,7 +51,7 @@ either false x y p q = q
 
 looked_supplies : (v : ends.View) (word : ℕ) (otherwise : ends.View) → Supplies v → Supplies otherwise → Supplies (looked v word otherwise)
 looked_supplies v word otherwise all h =
-    either (overruns v.ring word) (overrun v word) (if word == v.ring.cons then otherwise else record v { seen = word; stage = stage.Loop }) (supplied_behind v.jobs.works all)
+    either (overruns v.ring word) (overrun v word) (if word == v.ring.cons then otherwise else record v { seen = word; stage = stage.Loop }) (supplied_after v.jobs.works all)
     (either (word == v.ring.cons) otherwise (record v { seen = word; stage = stage.Loop }) h all)
 
 loop_supplies : (v : ends.View) (r : Option Reply) (x : BackAnswer) → Supplies v → Supplies (loop_step v r x)
@@ -77,12 +77,12 @@ supplies_at stage.Loop v x all = loop_supplies v (next_reply v) x all
 supplies_at (stage.Fetch k) v (answer.Word word) all = fetch_supplies v k word all
 supplies_at (stage.ResponseEvent old) v (answer.Word event) all = all
 supplies_at stage.LookAgain v (answer.Word word) all = looked_supplies v word (record v { seen = word; stage = stage.Loop; asleep = true }) all all
-supplies_at (stage.GiveUp m) v x all = supplied_behind v.jobs.works all
+supplies_at (stage.Abort m) v x all = supplied_after v.jobs.works all
 supplies_at s v x all = all
 
 -- it halts, or takes the terms of its front
 halts_supplies : (why : Halt) (v : ends.View) → Supplies v → Supplies (halts why v)
-halts_supplies why v all = halts_cases Supplies why v (λ early. all) (λ here. supplied_behind v.jobs.works all) all
+halts_supplies why v all = halts_cases Supplies why v (λ early. all) (λ here. supplied_after v.jobs.works all) all
 
 led : (why : Option BackHalt) (reads : Bool) (b : BackView) (r : ends.View) → Supplies r → Supplies (back_step.ring_led why reads b r)
 led (Some why) reads b r all = halts_supplies (back_step.ring_halt why) r all

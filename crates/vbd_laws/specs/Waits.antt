@@ -250,7 +250,7 @@ pub record BackSleeps (w : World) (c : Check) (h : Heard) : Type 0 where
   pub none_done : next_reply w.rings.back ≡ None
   pub none_begun : back.is_between w.rings.back.stage ≡ true
 
--- before Connected, asleep, or closed, which a back is that has halted and given up all
+-- before Connected, asleep, or closed, which a back is that has halted and holds nothing
 abbrev pub BackMayWait : World → Check → Heard → Type 0
 BackMayWait w c h = ((w.back.state ≡ state.InitWait) × BackRests w h) ⊎ BackSleeps w c h ⊎ (w.back.state ≡ state.Closed)
 

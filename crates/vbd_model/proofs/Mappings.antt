@@ -36,7 +36,7 @@ use Rattle.back_jobs.specs.declared.stage.Stage.{Stage as JobStage}
 use Rattle.back_jobs.specs.declared.stage.Stage.TheVariants as job_stage
 use Rattle.back_jobs.specs.Task as task
 use Rattle.back_jobs.specs.Task.{Work}
-use Rattle.back_jobs.specs.Jobs.{asked, waits, place_of, work_at, work_of, told_at, removed_at, is_done, first_mapping, behind_mapping, mapping_at}
+use Rattle.back_jobs.specs.Jobs.{asked, waits, place_of, work_at, work_of, told_at, removed_at, is_done, first_mapping, after_mapping, mapping_at}
 use Rattle.back_jobs.proofs.Hands.{place_among}
 use Rattle.ring_words.specs.Shape.{Shape, entry_words_of}
 use Rattle.ring_words.specs.Ring.{requests_of, overruns, notifies}
@@ -54,7 +54,7 @@ use Rattle.blk_back.specs.View.{View}
 use Rattle.blk_front.specs.Ask as front_asks
 use Rattle.blk_back.specs.Ask as back_asks
 use Rattle.blk_back.specs.Ask.{next_reply}
-use Rattle.blk_back.specs.Step.{giving_up, give_up, unbound, bound, other_pages, halts, overrun, looked, loop_step, fetched, fetch_step, step_at, next_number}
+use Rattle.blk_back.specs.Step.{unmapping_next, abort, unbound, bound, other_pages, halts, overrun, looked, loop_step, fetched, fetch_step, step_at, next_number}
 use Rattle.split_model.proofs.SafeActs.{made_back, made_front, of_back}
 use Rattle.split_model.proofs.States.{halts_cases}
 use Rattle.split_model.proofs.Attaching.{attach_cases}
@@ -157,7 +157,7 @@ act_left h k (job_stage.DiskRead m) t Failed a e = of_back (IsLeft h (job_stage.
 act_left h k (job_stage.DiskRead m) t (Gave words) a e = of_back (IsLeft h (job_stage.DiskRead m) t) _ a (omega arith) e
 act_left h k (job_stage.WriteWord m n) t o a e = of_back (IsLeft h (job_stage.WriteWord m n) t) _ a (let less = write_left t m n in omega arith) e
 act_left h k (job_stage.Unmap m) t o a e = of_back (IsLeft h (job_stage.Unmap m) t) _ a (let less = segment_left t t.rest in omega arith) e
-act_left h k (job_stage.GiveUp m) t o a e = of_back (IsLeft h (job_stage.GiveUp m) t) _ a (omega arith) e
+act_left h k (job_stage.Abort m) t o a e = of_back (IsLeft h (job_stage.Abort m) t) _ a (omega arith) e
 act_left h k job_stage.Flush t Took a e = of_back (IsLeft h job_stage.Flush t) _ a (omega arith) e
 act_left h k job_stage.Flush t Failed a e = of_back (IsLeft h job_stage.Flush t) _ a (omega arith) e
 act_left h k job_stage.Flush t (Gave words) a e = absurd (none-some a e)
@@ -254,11 +254,11 @@ begun_left number size (raw.Indirect op count device id sector pages) info (verd
 begun_left number size request info (verdict.Error why) e few = omega arith
 begun_left number size request info verdict.Unsupported e few = omega arith
 
-behind_left : (works : List Work) → all_left (behind_mapping works) ≤ all_left works
-behind_left [] = omega arith
-behind_left (t ∷ works) = by_test (is_some (mapping_at t.stage)) (behind_left works)
+after_left : (works : List Work) → all_left (after_mapping works) ≤ all_left works
+after_left [] = omega arith
+after_left (t ∷ works) = by_test (is_some (mapping_at t.stage)) (after_left works)
   where
-    by_test : (b : Bool) → all_left (behind_mapping works) ≤ all_left works → all_left (cond b works (behind_mapping works)) ≤ all_left (t ∷ works)
+    by_test : (b : Bool) → all_left (after_mapping works) ≤ all_left works → all_left (cond b works (after_mapping works)) ≤ all_left (t ∷ works)
     by_test true rest = let one = sum_by-cons maps_left t works in omega arith
     by_test false rest = let one = sum_by-cons maps_left t works in omega arith
 
@@ -290,12 +290,12 @@ none_bound : (pages : List Mapping) → CopiesNone (bound pages)
 none_bound [] = refl
 none_bound (page ∷ pages) = refl
 
-none_giving : (m : Option Mapping) → CopiesNone (giving_up m)
+none_giving : (m : Option Mapping) → CopiesNone (unmapping_next m)
 none_giving None = refl
 none_giving (Some m) = refl
 
-given_up_due : (v : View) → due (give_up v) ≤ all_left v.jobs.works
-given_up_due v = let less = behind_left v.jobs.works in let none = none_giving (first_mapping v.jobs.works) in omega arith
+abort_due : (v : View) → due (abort v) ≤ all_left v.jobs.works
+abort_due v = let less = after_left v.jobs.works in let none = none_giving (first_mapping v.jobs.works) in omega arith
 
 -- no more than that, in either case
 either_few : (b : Bool) (u v : View) (n : ℕ) → due u ≤ n → due v ≤ n → due (if b then u else v) ≤ n
@@ -305,7 +305,7 @@ either_few false u v n p q = q
 looked_few : (v : View) (word : ℕ) (otherwise : View) (n : ℕ) → all_left v.jobs.works ≤ n → due otherwise ≤ n → due (looked v word otherwise) ≤ n
 looked_few v word otherwise n p q =
     either_few (overruns v.ring word) (overrun v word) (if word == v.ring.cons then otherwise else record v { seen = word; stage = stage.Loop }) n
-    (let less = given_up_due (record v { halted = Some (halt.Overrun word v.ring.prod) }) in omega arith)
+    (let less = abort_due (record v { halted = Some (halt.Overrun word v.ring.prod) }) in omega arith)
     (either_few (word == v.ring.cons) otherwise (record v { seen = word; stage = stage.Loop }) n q (omega arith))
 
 loop_few : (v : View) (r : Option Reply) (x : BackAnswer) → due (loop_step v r x) ≤ due v + 40
@@ -357,7 +357,7 @@ step_few stage.Send v x here = omega arith
 step_few stage.StoreEvent v x here = omega arith
 step_few stage.EventFence v x here = omega arith
 step_few stage.LookAgain v (answer.Word word) here = looked_few v word (record v { seen = word; stage = stage.Loop; asleep = true }) (due v + 40) (omega arith) (omega arith)
-step_few (stage.GiveUp m) v x here = let less = given_up_due v in omega arith
+step_few (stage.Abort m) v x here = let less = abort_due v in omega arith
 step_few stage.UnmapRing v x here = let none = none_bound (other_pages v.pages) in omega arith
 step_few stage.ClosePort v x here = omega arith
 step_few stage.UnmapUnbound v x here = let none = none_unbound (other_pages v.pages) in omega arith
@@ -377,7 +377,7 @@ front_left w (Some a) e = let same = ap (λ (t : GrantTable). t.made) (made_fron
 halted_left : (why : Halt) (v : View) → due (halts why v) ≤ due v
 halted_left why v =
     halts_cases (λ x. due x ≤ due v) why v (λ here. let none = none_unbound v.pages in omega arith)
-    (λ here. let less = given_up_due (record v { halted = Some why }) in omega arith) (omega arith)
+    (λ here. let less = abort_due (record v { halted = Some why }) in omega arith) (omega arith)
 
 attached_left : (w : rings.World) (shape : Shape) (grefs : List ℕ) (port : ℕ) → mappings_in (ring.happens w (ring.BackAttaches shape grefs port)) ≤ mappings_in w
 attached_left w shape grefs port = attach_cases (λ b shown. w.under.grants.made + all_left b.jobs.works + 40 * words_copied b.stage ≤ mappings_in w) w shape grefs port (λ may named says. omega arith) (omega arith)

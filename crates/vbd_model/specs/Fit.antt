@@ -111,7 +111,7 @@ abbrev pub is_serving : BackRing → Bool
 is_serving back_ring.InitWait = false
 is_serving back_ring.MapRing = false
 is_serving back_ring.Bind = false
-is_serving (back_ring.GiveUp m) = false
+is_serving (back_ring.Abort m) = false
 is_serving back_ring.UnmapRing = false
 is_serving back_ring.ClosePort = false
 is_serving back_ring.UnmapUnbound = false
@@ -131,10 +131,10 @@ BackReads state.Connected r = r ≡ back_ring.Loop
 BackReads state.Closing r = r ≡ back_ring.Loop
 BackReads s r = ⊥
 
--- a mapping of a job is given up; the ring's pages are
-abbrev pub IsGivingUp : BackRing → Type 0
-IsGivingUp (back_ring.GiveUp m) = Unit {0}
-IsGivingUp r = ⊥
+-- a mapping of a job is unmapped; the ring's pages are
+abbrev pub IsAborting : BackRing → Type 0
+IsAborting (back_ring.Abort m) = Unit {0}
+IsAborting r = ⊥
 
 abbrev pub IsUnmapping : BackRing → Type 0
 IsUnmapping back_ring.UnmapRing = Unit {0}
@@ -156,7 +156,7 @@ BackGoesWith (back.ReadKey k) s r = (s ≡ state.InitWait) × (r ≡ back_ring.I
 BackGoesWith back.MapPage s r = (s ≡ state.InitWait) × (r ≡ back_ring.MapRing)
 BackGoesWith back.Bind s r = (s ≡ state.InitWait) × (r ≡ back_ring.Bind)
 BackGoesWith (back.PublishFact key) s r = (s ≡ state.InitWait) × (r ≡ back_ring.Loop) × IsFact key
-BackGoesWith back.UnmapOthers s r = IsGivingUp r
+BackGoesWith back.UnmapOthers s r = IsAborting r
 BackGoesWith back.UnmapPage s r = IsUnmapping r
 BackGoesWith back.ClosePort s r = r ≡ back_ring.ClosePort
 BackGoesWith back.Halted s r = (s ≡ state.Closed) × (r ≡ back_ring.Halted)

@@ -26,8 +26,8 @@ use Rattle.xenbus_state.specs.Reading.{count_read}
 use Rattle.xenbus_state.specs.BackView.{BackView, halted, unplugged}
 use Rattle.xenbus_state.specs.BackAsk.{says_closing, says_closing_at, ask_at, ask_of, IsAnswer}
 use Rattle.xenbus_state.specs.BackReading.{key_read, order_of, layout_read, with_order, with_gref, with_port, with_layout, with_persistent}
-use Rattle.xenbus_state.specs.BackStep.{at, step_at, step_of, acted, kept_or_halted, mapped, after_state, last_state, giving_up, other_pages, after_feature, after_fact}
-use Rattle.xenbus_state.specs.BackSound.{IsSound, IsPlaced, IsFresh, IsMapped, IsGivenUp, IsResting, IsWriting, IsReading}
+use Rattle.xenbus_state.specs.BackStep.{at, step_at, step_of, acted, kept_or_halted, mapped, after_state, last_state, unmapping_next, other_pages, after_feature, after_fact}
+use Rattle.xenbus_state.specs.BackSound.{IsSound, IsPlaced, IsFresh, IsMapped, HoldsNothing, IsResting, IsWriting, IsReading}
 use Rattle.xenbus_state.proofs.Early.{resting_early}
 
 -- the table suits the back's own state
@@ -62,8 +62,8 @@ fresh_as s own v h = record { grefs = h.grefs; pages = h.pages; bound = h.bound 
 mapped_as : (s : BackStage) (own : BusState) (v : BackView) → IsMapped v → IsMapped (record v { stage = s; state = own })
 mapped_as s own v h = record { grefs = h.grefs; pages = h.pages }
 
-given_up_as : (s : BackStage) (own : BusState) (v : BackView) → IsGivenUp v → IsGivenUp (record v { stage = s; state = own })
-given_up_as s own v h = record { pages = h.pages; bound = h.bound }
+nothing_held_as : (s : BackStage) (own : BusState) (v : BackView) → HoldsNothing v → HoldsNothing (record v { stage = s; state = own })
+nothing_held_as s own v h = record { pages = h.pages; bound = h.bound }
 
 resting_as : (own : BusState) (s : BackStage) (v : BackView) → IsResting own v → IsResting own (record v { stage = s })
 resting_as state.InitWait s v h = fresh_as s v.state v h
@@ -198,7 +198,7 @@ map_sound page v order h = by_test (nat_lt (length v.pages + 1) (length v.grefs)
         let all : length v.pages + 1 ≡ length v.grefs = grind (arith, nat_tests) in
         record { order = order; placed = (h.0, h.1, record { grefs = refs; pages = omega (arith, more) }) }
 
-last_sound : (own : BusState) (v : BackView) → v.state ≡ own → state_number own < 6 → IsGivenUp v → IsWriting (last_state own) v
+last_sound : (own : BusState) (v : BackView) → v.state ≡ own → state_number own < 6 → HoldsNothing v → IsWriting (last_state own) v
 last_sound state.Closing v e early h = (e, h)
 last_sound state.Unknown v e early h = (rw e (omega arith), h)
 last_sound state.Initialising v e early h = (rw e (omega arith), h)
@@ -209,7 +209,7 @@ last_sound state.Closed v e early h = absurd (omega arith)
 last_sound state.Reconfiguring v e early h = absurd (omega arith)
 last_sound state.Reconfigured v e early h = absurd (omega arith)
 
-giving_sound : (pages : List Mapping) (bound : Bool) (v : BackView) → v.terms.order ≤ 4 → state_number v.state < 6 → IsSound (record v { pages = pages; bound = bound; stage = giving_up pages bound v.state })
+giving_sound : (pages : List Mapping) (bound : Bool) (v : BackView) → v.terms.order ≤ 4 → state_number v.state < 6 → IsSound (record v { pages = pages; bound = bound; stage = unmapping_next pages bound v.state })
 giving_sound (page ∷ pages) bound v order early = record { order = order; placed = (early, omega arith) }
 giving_sound [] true v order early = record { order = order; placed = (early, refl) }
 giving_sound [] false v order early = record { order = order; placed = last_sound v.state (record v { pages = []; bound = false; stage = stage.WriteState (last_state v.state) }) refl early (record { pages = refl; bound = refl }) }
@@ -217,8 +217,8 @@ giving_sound [] false v order early = record { order = order; placed = last_soun
 written_sound : (s : BusState) (v : BackView) → v.terms.order ≤ 4 → IsWriting s v → IsSound (record v { state = s; stage = after_state s })
 written_sound state.InitWait v order h = record { order = order; placed = (refl, fresh_as stage.Watch state.InitWait v h.1) }
 written_sound state.Connected v order h = record { order = order; placed = (mapped_as stage.Rest state.Connected v h.1, h.2) }
-written_sound state.Closing v order h = record { order = order; placed = (refl, given_up_as (stage.WriteState state.Closed) state.Closing v h.1) }
-written_sound state.Closed v order h = record { order = order; placed = (refl, given_up_as stage.Halted state.Closed v h.1) }
+written_sound state.Closing v order h = record { order = order; placed = (refl, nothing_held_as (stage.WriteState state.Closed) state.Closing v h.1) }
+written_sound state.Closed v order h = record { order = order; placed = (refl, nothing_held_as stage.Halted state.Closed v h.1) }
 written_sound state.Unknown v order h = absurd h
 written_sound state.Initialising v order h = absurd h
 written_sound state.Initialised v order h = absurd h

@@ -13,7 +13,7 @@ use Rattle.xenbus_state.specs.declared.back.BackBusAsk.TheVariants as ask
 use Rattle.xenbus_state.specs.States.{state_number}
 use Rattle.xenbus_state.specs.BackView.{BackView, start_of, halted, is_halting}
 use Rattle.xenbus_state.specs.BackAsk.{says_closing, says_closing_at, unmap_ask, ask_at, ask_of}
-use Rattle.xenbus_state.specs.BackSound.{IsSound, IsPlaced, IsFresh, IsMapped, IsGivenUp, IsResting, IsWriting, IsReading, IsDue, Rises}
+use Rattle.xenbus_state.specs.BackSound.{IsSound, IsPlaced, IsFresh, IsMapped, HoldsNothing, IsResting, IsWriting, IsReading, IsDue, Rises}
 use Rattle.xenbus_state.specs.Runs.{BackTurn, Hears, Unplugs, Stops, back_turned, IsBackTurn, AreBackTurns, back_after}
 use Rattle.xenbus_state.proofs.Early.{resting_early}
 use Rattle.xenbus_state.proofs.BackKeeps.{halted_sound, says_where, back_keeps}
@@ -49,8 +49,8 @@ asked_sound s v false e h whole = record { order = whole.order; placed = subst (
     mapped_too : (v : BackView) → IsMapped v → IsMapped (record v { unplugged = true })
     mapped_too v h = record { grefs = h.grefs; pages = h.pages }
 
-    given_up : (v : BackView) → IsGivenUp v → IsGivenUp (record v { unplugged = true })
-    given_up v h = record { pages = h.pages; bound = h.bound }
+    aborted : (v : BackView) → HoldsNothing v → HoldsNothing (record v { unplugged = true })
+    aborted v h = record { pages = h.pages; bound = h.bound }
 
     resting : (own : BusState) (v : BackView) → IsResting own v → IsResting own (record v { unplugged = true })
     resting state.InitWait v h = fresh v h
@@ -66,8 +66,8 @@ asked_sound s v false e h whole = record { order = whole.order; placed = subst (
     writing : (s : BusState) (v : BackView) → IsWriting s v → IsWriting s (record v { unplugged = true })
     writing state.InitWait v h = (h.0, fresh v h.1)
     writing state.Connected v h = (h.0, mapped_too v h.1, h.2)
-    writing state.Closing v h = (h.0, given_up v h.1)
-    writing state.Closed v h = (h.0, given_up v h.1)
+    writing state.Closing v h = (h.0, aborted v h.1)
+    writing state.Closed v h = (h.0, aborted v h.1)
     writing state.Unknown v h = absurd h
     writing state.Initialising v h = absurd h
     writing state.Initialised v h = absurd h
@@ -88,14 +88,14 @@ asked_sound s v false e h whole = record { order = whole.order; placed = subst (
     asked_placed stage.Watch v h = (h.0, fresh v h.1)
     asked_placed stage.Rest v h = resting v.state v h
     asked_placed stage.ReadState v h = resting v.state v h
-    asked_placed (stage.ReadKey k) v h = (h.0, given_up v h.1, reading k v h.2)
+    asked_placed (stage.ReadKey k) v h = (h.0, aborted v h.1, reading k v h.2)
     asked_placed stage.MapPage v h = h
     asked_placed stage.Bind v h = (h.0, h.1, mapped_too v h.2)
     asked_placed (stage.PublishFact k) v h = (h.0, mapped_too v h.1, h.2)
     asked_placed stage.UnmapOthers v h = h
     asked_placed stage.UnmapPage v h = h
     asked_placed stage.ClosePort v h = h
-    asked_placed stage.Halted v h = (h.0, given_up v h.1)
+    asked_placed stage.Halted v h = (h.0, aborted v h.1)
 
 pub back_turn_keeps : (turn : BackTurn) (v : BackView) → IsBackTurn turn v → IsSound v → IsSound (back_turned turn v)
 back_turn_keeps (Hears a) v lawful h = back_keeps v a lawful h

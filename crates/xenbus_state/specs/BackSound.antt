@@ -24,7 +24,7 @@ pub record IsMapped (v : BackView) : Type 0 where
   pub pages : length v.pages ≡ 2 ^ v.terms.order
 
 -- nothing is mapped or bound any more
-pub record IsGivenUp (v : BackView) : Type 0 where
+pub record HoldsNothing (v : BackView) : Type 0 where
   pub pages : length v.pages ≡ 0
   pub bound : v.bound ≡ false
 
@@ -39,8 +39,8 @@ IsResting s v = ⊥
 abbrev pub IsWriting : BusState → BackView → Type 0
 IsWriting state.InitWait v = (v.state ≡ state.Initialising) × IsFresh v
 IsWriting state.Connected v = (v.state ≡ state.InitWait) × IsMapped v × (v.bound ≡ true)
-IsWriting state.Closing v = (state_number v.state < 5) × IsGivenUp v
-IsWriting state.Closed v = (v.state ≡ state.Closing) × IsGivenUp v
+IsWriting state.Closing v = (state_number v.state < 5) × HoldsNothing v
+IsWriting state.Closed v = (v.state ≡ state.Closing) × HoldsNothing v
 IsWriting s v = ⊥
 
 -- as many references were read as the key that is read next says
@@ -68,14 +68,14 @@ IsPlaced (stage.WriteState s) v = IsWriting s v
 IsPlaced stage.Watch v = (v.state ≡ state.InitWait) × IsFresh v
 IsPlaced stage.Rest v = IsResting v.state v
 IsPlaced stage.ReadState v = IsResting v.state v
-IsPlaced (stage.ReadKey k) v = (v.state ≡ state.InitWait) × IsGivenUp v × IsReading k v
+IsPlaced (stage.ReadKey k) v = (v.state ≡ state.InitWait) × HoldsNothing v × IsReading k v
 IsPlaced stage.MapPage v = (v.state ≡ state.InitWait) × (v.bound ≡ false) × (length v.grefs ≡ 2 ^ v.terms.order) × (length v.pages < 2 ^ v.terms.order)
 IsPlaced stage.Bind v = (v.state ≡ state.InitWait) × (v.bound ≡ false) × IsMapped v
 IsPlaced (stage.PublishFact k) v = (v.state ≡ state.InitWait) × IsMapped v × (v.bound ≡ true)
 IsPlaced stage.UnmapOthers v = state_number v.state < 6
 IsPlaced stage.UnmapPage v = (state_number v.state < 6) × (0 < length v.pages)
 IsPlaced stage.ClosePort v = (state_number v.state < 6) × (length v.pages ≡ 0)
-IsPlaced stage.Halted v = (v.state ≡ state.Closed) × IsGivenUp v
+IsPlaced stage.Halted v = (v.state ≡ state.Closed) × HoldsNothing v
 
 pub record IsSound (v : BackView) : Type 0 where
   pub order : v.terms.order ≤ 4
@@ -84,7 +84,7 @@ pub record IsSound (v : BackView) : Type 0 where
 -- Connected is asked for where all pages of the ring are mapped and the port is bound, Closed where nothing is
 abbrev pub IsDue : BackView → BackBusAsk → Type 0
 IsDue v (ask.SetState state.Connected) = IsMapped v × (v.bound ≡ true)
-IsDue v (ask.SetState state.Closed) = IsGivenUp v
+IsDue v (ask.SetState state.Closed) = HoldsNothing v
 IsDue v a = Unit {0}
 
 -- a state that is written is above the one that was written before

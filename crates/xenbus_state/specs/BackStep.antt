@@ -60,10 +60,10 @@ abbrev pub last_state : BusState → BusState
 last_state state.Closing = state.Closed
 last_state own = state.Closing
 
-abbrev pub giving_up : List Mapping → Bool → BusState → BackStage
-giving_up (page ∷ pages) bound own = stage.UnmapPage
-giving_up [] true own = stage.ClosePort
-giving_up [] false own = stage.WriteState (last_state own)
+abbrev pub unmapping_next : List Mapping → Bool → BusState → BackStage
+unmapping_next (page ∷ pages) bound own = stage.UnmapPage
+unmapping_next [] true own = stage.ClosePort
+unmapping_next [] false own = stage.WriteState (last_state own)
 
 abbrev pub other_pages : List Mapping → List Mapping
 other_pages [] = []
@@ -90,8 +90,8 @@ step_at stage.MapPage v (answer.MapRefused status) = halted v
 step_at stage.Bind v answer.Done = record v { bound = true; stage = stage.PublishFact back_key.Sectors }
 step_at stage.Bind v answer.BindRefused = halted v
 step_at (stage.PublishFact k) v answer.Done = at (after_fact (next_fact k)) v
-step_at stage.UnmapOthers v answer.Done = at (giving_up v.pages v.bound v.state) v
-step_at stage.UnmapPage v answer.Done = record v { pages = other_pages v.pages; stage = giving_up (other_pages v.pages) v.bound v.state }
+step_at stage.UnmapOthers v answer.Done = at (unmapping_next v.pages v.bound v.state) v
+step_at stage.UnmapPage v answer.Done = record v { pages = other_pages v.pages; stage = unmapping_next (other_pages v.pages) v.bound v.state }
 step_at stage.ClosePort v answer.Done = record v { bound = false; stage = stage.WriteState (last_state v.state) }
 step_at s v a = v
 

@@ -61,7 +61,7 @@ is_halting s = false
 abbrev pub unplugged : BackView → BackView
 unplugged v = if is_halting v.stage then v else record v { unplugged = true }
 
--- the back halts: it gives up its mappings first
+-- the back halts: it unmaps its mappings first
 abbrev pub halted : BackView → BackView
 halted v = record v { stage = stage.UnmapOthers }
 

@@ -23,7 +23,7 @@ use Rattle.xenbus_state.specs.BackView as back_view
 use Rattle.xenbus_state.specs.BackView.{BackView}
 use Rattle.xenbus_state.specs.BackAsk as back
 use Rattle.xenbus_state.specs.BackStep as back_step
-use Rattle.xenbus_state.specs.BackSound.{IsSound, IsMapped, IsGivenUp}
+use Rattle.xenbus_state.specs.BackSound.{IsSound, IsMapped, HoldsNothing}
 use Rattle.xenbus_state.specs.Causes.{HaltsFor, BreaksFor, DoesFront, DoesBack, FrontMayWait, BackMayWait}
 use Rattle.xenbus_state.specs.Runs.{FrontTurn, BackTurn, AreFrontTurns, AreBackTurns, back_after, front_asks, back_asks, FrontRises, BackRises}
 
@@ -44,7 +44,7 @@ ConnectsOnlyMapped = (features : Features) (disk : DiskFacts) (turns : List Back
 
 -- a back that has halted holds no mapping and no port, and its state is Closed
 abbrev pub HaltedHoldsNothing : Type 0
-HaltedHoldsNothing = (features : Features) (disk : DiskFacts) (turns : List BackTurn) → let v = back_view.start_of features disk in AreBackTurns turns v → (back_after turns v).stage ≡ stage.Halted → IsGivenUp (back_after turns v) × ((back_after turns v).state ≡ state.Closed)
+HaltedHoldsNothing = (features : Features) (disk : DiskFacts) (turns : List BackTurn) → let v = back_view.start_of features disk in AreBackTurns turns v → (back_after turns v).stage ≡ stage.Halted → HoldsNothing (back_after turns v) × ((back_after turns v).state ≡ state.Closed)
 
 -- the front tells that it is ready exactly where it has written Connected, and that it is closed where it has written Closed
 pub record IsToldAfter (v : FrontView) (idle : Bool) (a : FrontAnswer) : Type 0 where

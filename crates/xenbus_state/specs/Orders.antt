@@ -26,7 +26,7 @@ use Rattle.xenbus_state.specs.FrontSound.{IsSound}
 use Rattle.xenbus_state.specs.BackView.{BackView, start_of, halted}
 use Rattle.xenbus_state.specs.Runs.{FrontTurn, Told, front_after, BackTurn, Hears, AreFrontTurns, AreBackTurns, front_asks, back_asks, back_after}
 
--- A halted back gives up the mappings of its jobs, the pages of the ring in order, and its port; then it writes Closing, unless it has written that, and Closed.
+-- A halted back unmaps the mappings of its jobs, and the pages of the ring in order, and closes its port; then it writes Closing, unless it has written that, and Closed.
 abbrev pub closing_port : Bool → List BackBusAsk
 closing_port true = back.ClosePort ∷ []
 closing_port false = []
@@ -35,11 +35,11 @@ abbrev pub last_states : BusState → List BackBusAsk
 last_states state.Closing = back.SetState state.Closed ∷ []
 last_states own = back.SetState state.Closing ∷ back.SetState state.Closed ∷ []
 
-abbrev pub giving_up : List Mapping → Bool → BusState → List BackBusAsk
-giving_up pages bound own = map (λ page. back.Unmap page) pages ++ closing_port bound ++ last_states own
+abbrev pub unmapping_next : List Mapping → Bool → BusState → List BackBusAsk
+unmapping_next pages bound own = map (λ page. back.Unmap page) pages ++ closing_port bound ++ last_states own
 
 abbrev pub halt_order : BackView → List BackBusAsk
-halt_order v = back.UnmapOthers ∷ giving_up v.pages v.bound v.state
+halt_order v = back.UnmapOthers ∷ unmapping_next v.pages v.bound v.state
 
 -- each of them is done
 abbrev pub all_done : List BackBusAsk → List BackTurn

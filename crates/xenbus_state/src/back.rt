@@ -41,7 +41,7 @@ pub enum BackBusAsk {
     Map(u32),
     /// Binds the front's port, answered by `Done` or `BindRefused`.
     Bind(u32),
-    /// Gives up all mappings but those of the ring's pages, answered by `Done` once there is none.
+    /// Unmaps all mappings but those of the ring's pages, answered by `Done` once there is none.
     UnmapOthers,
     /// Unmaps a page of the ring, answered by `Done`.
     Unmap(Mapping),
@@ -153,10 +153,10 @@ impl BackBus {
         }
     }
 
-    /// Tells the answer to what is asked. The end halts exactly where it says why.
-    pub fn tell(&mut self, answer: &BackAnswer) -> Option<BackHalt>
+    /// Completes what is asked by this answer. The end halts exactly where it says why.
+    pub fn complete(&mut self, answer: &BackAnswer) -> Option<BackHalt>
         requires { IsAnswer (ask_of self.old) answer.now }
-        ensures told { self.new ≡ step_of self.old answer.now }
+        ensures completed { self.new ≡ step_of self.old answer.now }
         ensures halt { result ≡ halt_of self.old answer.now }
     {
         if self.says_closing() {

@@ -60,7 +60,7 @@ pub enum FrontNews {
 }
 
 /// The front's end of the negotiation, over any texts that it reads. It takes no memory. Whether the
-/// front is idle, that is, has no unfinished request, is told at each call.
+/// front is idle, that is, has no unfinished request, is said at each call.
 #[derive(Drop)]
 pub struct FrontBus {
     abi: Abi,
@@ -131,10 +131,10 @@ impl FrontBus {
         }
     }
 
-    /// Tells the answer to what is asked.
-    pub fn tell(&mut self, idle: bool, answer: &FrontAnswer) -> Option<FrontNews>
+    /// Completes what is asked by this answer.
+    pub fn complete(&mut self, idle: bool, answer: &FrontAnswer) -> Option<FrontNews>
         requires { IsAnswer (ask_of self.old idle) answer.now }
-        ensures told { self.new ≡ step_of self.old idle answer.now }
+        ensures completed { self.new ≡ step_of self.old idle answer.now }
         ensures news { result ≡ news_of self.old idle answer.now }
     {
         self.stage = self.due(idle);

@@ -68,13 +68,13 @@ pub fn the_disk_is_read_as_it_is_set()
     ensures { FactsAreRead }
 {}
 
-/// A halted back gives up the mappings of its jobs, then the pages of the ring in order, closes its
+/// A halted back unmaps the mappings of its jobs, then the pages of the ring in order, closes its
 /// port if it has one, writes Closing unless it has written that, and writes Closed.
 pub fn a_halted_back_gives_all_up_in_order()
     ensures { HaltsInOrder }
 {}
 
-/// In an epoch a front asks for one port at most, whatever it is told.
+/// In an epoch a front asks for one port at most, whatever completes its asks.
 pub fn a_front_asks_for_one_port()
     ensures { AsksForOnePort }
 {}

@@ -1,6 +1,6 @@
 //! The negotiation of both ends of a block ring over the keys of xenstore (`io/xenbus.h`,
 //! `io/blkif.h`): the states, each key's name and text, what each end does on reading the other's
-//! state, and a machine for each end that asks for one thing and is told the answer. The front end
+//! state, and a machine for each end whose asks are completed one by one. The front end
 //! and the back end stand on it.
 #![tactic(auto)]
 

@@ -52,7 +52,7 @@ pub enum BackStage {
     MapPage,
     Bind,
     PublishFact(BackKey),
-    /// Has halted: gives up all mappings but the ring's, the pages of the ring, and its port.
+    /// Has halted: unmaps all mappings but the ring's, and then the ring's pages, and closes its port.
     UnmapOthers,
     UnmapPage,
     ClosePort,

@@ -30,7 +30,7 @@ impl Task {
         }
     }
 
-    // An indirect page is given up; after the last one all segments are copied, and only then tested.
+    // An indirect page is unmapped; after the last one all segments are copied, and only then tested.
     #[inline(never)]
     pub(super) fn page_done(&mut self)
         requires { IsUnmapPage self.old.stage }
@@ -143,7 +143,7 @@ impl Task {
         }
     }
 
-    // The present segment is done, and its frame given up.
+    // The present segment is done, and its frame unmapped.
     pub(super) fn next_segment(&mut self)
         requires { IsUnmap self.old.stage }
         ensures { self.new ≡ next_segment self.old (rest_of self.old.rest) }

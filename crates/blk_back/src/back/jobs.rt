@@ -29,9 +29,9 @@ impl Back {
         }
     }
 
-    /// Tells the job of a number the answer to what it asks.
+    /// Completes what the job of a number asks by this answer.
     #[inline(always)]
-    pub fn job_tell(&mut self, number: u64, answer: &BackAnswer)
+    pub fn job_complete(&mut self, number: u64, answer: &BackAnswer)
         requires answer { IsAnswer (job_ask_of self.old number) answer.now }
         requires told { self.old.told ≡ None }
         ensures stepped { self.new ≡ job_step self.old number answer.now }
@@ -41,7 +41,7 @@ impl Back {
         if let Some(_) = self.halted {
             unreachable!();
         }
-        if let Some(effect) = self.jobs.tell(number, answer) {
+        if let Some(effect) = self.jobs.complete(number, answer) {
             self.told = Some(told_effect(effect));
         }
     }

@@ -5,7 +5,7 @@ ghost use Rattle.blk_base.specs.declared.parts.Mode.TheVariants.{ReadWrite};
 ghost use Rattle.blk_base.specs.declared.ask.BackAnswer.TheVariants.{Word, Done, Mapped, MapRefused, BindRefused};
 ghost use Rattle.blk_back.specs.declared.stage.Stage.TheVariants as stage;
 ghost use Rattle.blk_back.specs.Ask.{loop_ask, next_reply, IsAnswer};
-ghost use Rattle.blk_back.specs.Step.{step_at, attaches, loop_step, loop_word, looked, halts, halts_at, overrun, give_up, unbound, bound, other_pages, fetched, fetch_step, replied};
+ghost use Rattle.blk_back.specs.Step.{step_at, attaches, loop_step, loop_word, looked, halts, halts_at, overrun, abort, unbound, bound, other_pages, fetched, fetch_step, replied};
 
 use super::Back;
 use crate::stage::{Reply, Stage};
@@ -163,8 +163,8 @@ impl Back {
     }
 
     /// Halts for what its negotiation found, where no step is begun; else nothing changes. An overrun
-    /// isn't for it to find. A back that is connected gives up its jobs' mappings and the ring's
-    /// pages, and closes its port; one that isn't gives up the pages that it has mapped. It takes no
+    /// isn't for it to find. A back that is connected unmaps its jobs' mappings and the ring's
+    /// pages, and closes its port; one that isn't unmaps the pages that it has mapped. It takes no
     /// memory.
     pub fn halt(&mut self, why: Halt)
         ensures { self.new ≡ halts why self.old }
@@ -179,7 +179,7 @@ impl Back {
             }
             Stage::Loop => {
                 self.halted = Some(why);
-                self.give_up();
+                self.abort();
             }
             _ => {}
         }
@@ -195,19 +195,19 @@ impl Back {
             prod: word,
             rsp_prod: self.ring.prod(),
         });
-        self.give_up();
+        self.abort();
     }
 
-    /// Gives up the jobs as far as the next mapping in a job's hand.
+    /// Aborts the jobs as far as the next mapping in a job's hand.
     #[inline(never)]
     #[tactic(auto, using(crate::proofs::Powers::some_pages))]
-    pub(super) fn give_up(&mut self)
+    pub(super) fn abort(&mut self)
         requires { length self.old.pages ≡ 2 ^ self.old.shape.order }
-        ensures { self.new ≡ give_up self.old }
+        ensures { self.new ≡ abort self.old }
     {
-        self.stage = match self.jobs.give_up() {
+        self.stage = match self.jobs.abort() {
             None => Stage::UnmapRing,
-            Some(mapping) => Stage::GiveUp(mapping),
+            Some(mapping) => Stage::Abort(mapping),
         };
     }
 
@@ -266,7 +266,7 @@ impl Back {
     }
 }
 
-// A back whose port isn't bound gives up the pages that it has mapped.
+// A back whose port isn't bound unmaps the pages that it has mapped.
 fn unbound(pages: &[Mapping]) -> Stage
     ensures { result ≡ unbound pages.now }
 {

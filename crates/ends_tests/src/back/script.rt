@@ -47,8 +47,8 @@ fn back_from(alloc: Global, start: u32) -> Result<Back, OutOfMemory> {
     Back::new(alloc, &config)
 }
 
-// Tells the back an answer, which is of the kind that it asks for, and takes what it tells.
-fn tell(rt: &impl Abort, back: &mut Back, given: BackAnswer) -> Option<BackTold> {
+// Completes what the back asks by an answer of that kind, and takes what it tells.
+fn complete(rt: &impl Abort, back: &mut Back, given: BackAnswer) -> Option<BackTold> {
     let _ = back.take_told();
     let allowed = match (back.ask(), &given) {
         (BackAsk::Wait, BackAnswer::Event) => true,
@@ -65,7 +65,7 @@ fn tell(rt: &impl Abort, back: &mut Back, given: BackAnswer) -> Option<BackTold>
         _ => false,
     };
     holds(rt, allowed);
-    back.tell(&given).expect(rt, "memory");
+    back.complete(&given).expect(rt, "memory");
     back.take_told()
 }
 
@@ -104,7 +104,7 @@ fn halts(back: &mut Back, why: Why) {
 // It asks this, and is told this.
 fn does(rt: &impl Abort, back: &mut Back, asks: Ask, answer: Answer) {
     same(rt, ask(back), asked(asks));
-    let _ = tell(rt, back, given(answer));
+    let _ = complete(rt, back, given(answer));
 }
 
 fn reads_zeros(rt: &impl Abort, back: &mut Back, mapping: Mapping, (first, end): (u32, u32)) {
@@ -114,7 +114,7 @@ fn reads_zeros(rt: &impl Abort, back: &mut Back, mapping: Mapping, (first, end):
 }
 
 fn replies(rt: &impl Abort, back: &mut Back, id: u64, status: Status) {
-    let told = tell(rt, back, BackAnswer::Done);
+    let told = complete(rt, back, BackAnswer::Done);
     same(rt, told, Some(BackTold::Reply { id, status }));
 }
 
@@ -123,7 +123,7 @@ fn takes(rt: &impl Abort, back: &mut Back, step: &Step) {
         Step::Attaches(abi, order, grefs) => attach(back, abi, order, grefs),
         Step::Asks(wanted) => same(rt, ask(back), asked(wanted)),
         Step::Told(answer) => {
-            let _ = tell(rt, back, given(answer));
+            let _ = complete(rt, back, given(answer));
         }
         Step::Does(asks) => does(rt, back, asks, Answer::Done),
         Step::Maps(page) => does(

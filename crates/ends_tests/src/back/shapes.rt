@@ -87,7 +87,7 @@ fn an_entry_of_a_32_bit_guest_has_27_words(rt: HostRuntime) {
 }
 
 #[test]
-fn a_refused_second_page_gives_up_the_first_alone(rt: HostRuntime) {
+fn a_refused_second_page_unmaps_the_first_alone(rt: HostRuntime) {
     plays(
         &rt,
         rt.alloc(),
@@ -104,7 +104,7 @@ fn a_refused_second_page_gives_up_the_first_alone(rt: HostRuntime) {
 }
 
 #[test]
-fn a_halt_between_two_pages_gives_up_the_first_alone(rt: HostRuntime) {
+fn a_halt_between_two_pages_unmaps_the_first_alone(rt: HostRuntime) {
     plays(
         &rt,
         rt.alloc(),
@@ -139,7 +139,7 @@ fn a_ring_of_two_pages_is_overrun_at_65(rt: HostRuntime) {
             &[
                 Step::Reads(RING, 0, 65),
                 Step::Halted(Some(Why::Overrun(65, 0))),
-                // both pages are given up in order, and the port
+                // both pages are unmapped in order, and the port
                 Step::Does(Ask::Unmap(RING)),
                 Step::Does(Ask::Unmap(SECOND)),
                 Step::Does(Ask::ClosePort),

@@ -181,7 +181,7 @@ fn submit(front: &mut Frontend, job: Job) -> Result<u32, Refusal> {
 fn moves(rt: &impl Abort, front: &mut Frontend, other: &Other) -> News {
     same(rt, front.take_told(), (None, None));
     let answer = other.answer(&front.ask()).expect(rt, "never asked");
-    front.tell(&answer).expect(rt, "memory");
+    front.complete(&answer).expect(rt, "memory");
     front.take_told()
 }
 

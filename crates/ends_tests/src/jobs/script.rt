@@ -39,7 +39,7 @@ pub enum Step {
     /// The disk gives it a sector, and it writes the words, each one 9, to this sector of its frame.
     WritesWords(u32),
     /// It maps the page of this reference for reading alone, reads both words of so many segments, each
-    /// word once, and gives it up. Each segment is of frame 24, with these sectors.
+    /// word once, and unmaps it. Each segment is of frame 24, with these sectors.
     Copies(u32, u32, u32),
     /// Which of jobs 1 to 5 ask for their frame; the others wait.
     GoOn([bool; 5]),
@@ -49,7 +49,7 @@ pub enum Step {
     Count(usize),
     /// The lowest number of a job above this one.
     NextAfter(u64, Option<u64>),
-    /// No mapping is left to be given up.
+    /// No mapping is left to be unmapped.
     GivesNothingUp,
 }
 
@@ -166,12 +166,12 @@ fn count(jobs: &Jobs) -> usize {
     jobs.count()
 }
 
-fn give_up(jobs: &mut Jobs) -> Option<Mapping> {
-    jobs.give_up()
+fn abort(jobs: &mut Jobs) -> Option<Mapping> {
+    jobs.abort()
 }
 
-// Tells a job an answer, which is one of the kind that it asks for.
-fn tell(rt: &impl Abort, jobs: &mut Jobs, number: u64, given: BackAnswer) -> Option<Effect> {
+// Completes what a job asks by an answer of that kind.
+fn complete(rt: &impl Abort, jobs: &mut Jobs, number: u64, given: BackAnswer) -> Option<Effect> {
     let allowed = match (jobs.ask(number), &given) {
         (BackAsk::Map { gref, mode }, BackAnswer::Mapped(m)) => m.gref == gref && m.mode == mode,
         (BackAsk::Map { .. }, BackAnswer::MapRefused(_)) => true,
@@ -187,11 +187,11 @@ fn tell(rt: &impl Abort, jobs: &mut Jobs, number: u64, given: BackAnswer) -> Opt
         _ => false,
     };
     holds(rt, allowed);
-    jobs.tell(number, &given)
+    jobs.complete(number, &given)
 }
 
 fn told(rt: &impl Abort, jobs: &mut Jobs, number: u64, answer: Answer) {
-    let _ = tell(rt, jobs, number, given(answer));
+    let _ = complete(rt, jobs, number, given(answer));
 }
 
 // Job 1 asks this, and is told this.
@@ -217,7 +217,7 @@ fn disk_writes(rt: &impl Abort, jobs: &Jobs, sector: u64) {
 
 fn writes_words(rt: &impl Abort, jobs: &mut Jobs, sector: u32) {
     let words = [9; 128];
-    let _ = tell(rt, jobs, 1, BackAnswer::Sector(Lent::at(&words)));
+    let _ = complete(rt, jobs, 1, BackAnswer::Sector(Lent::at(&words)));
     for k in 0..128u32 {
         let word = sector.wrapping_mul(128).wrapping_add(k);
         does(rt, jobs, Ask::Write(FRAME, word, 9), Answer::Done);
@@ -260,7 +260,7 @@ fn takes(rt: &impl Abort, jobs: &mut Jobs, step: &Step) {
         Step::Asks(wanted) => same(rt, ask(jobs, 1), asked(wanted)),
         Step::Told(answer) => told(rt, jobs, 1, answer),
         Step::ToldTo(number, answer) => told(rt, jobs, number, answer),
-        Step::Tells(answer, effect) => same(rt, tell(rt, jobs, 1, given(answer)), Some(effect)),
+        Step::Tells(answer, effect) => same(rt, complete(rt, jobs, 1, given(answer)), Some(effect)),
         Step::ReadsWords(sector) => reads_words(rt, jobs, sector),
         Step::DiskWrites(sector) => disk_writes(rt, jobs, sector),
         Step::WritesWords(sector) => writes_words(rt, jobs, sector),
@@ -270,7 +270,7 @@ fn takes(rt: &impl Abort, jobs: &mut Jobs, step: &Step) {
         Step::Taken(wanted) => same(rt, take_done(jobs), wanted),
         Step::Count(wanted) => same(rt, count(jobs), wanted),
         Step::NextAfter(number, wanted) => same(rt, next_after(jobs, number), wanted),
-        Step::GivesNothingUp => same(rt, give_up(jobs), None),
+        Step::GivesNothingUp => same(rt, abort(jobs), None),
     }
 }
 

@@ -185,6 +185,6 @@ impl Guest {
         same(rt, self.front.take_told(), None);
         let ask = self.front.ask();
         let answer = self.memory.answer(&ask).expect(rt, "never asked");
-        self.front.tell(&answer).expect(rt, "memory");
+        self.front.complete(&answer).expect(rt, "memory");
     }
 }

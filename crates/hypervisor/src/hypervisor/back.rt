@@ -161,7 +161,7 @@ impl Hypervisor {
         }
     }
 
-    // The back is told the text at a path; a job is told none.
+    // The back gets the text at a path; a job gets none.
     fn get_key<'a>(&self, who: BackMover, path: &Path, room: &'a mut Room) -> Option<BackAnswer<'a>>
         ensures acted { back_with_move self.now who (BackAsk.GetKey path.now) result ≡ back_seen (get_act self.now who path.now) }
         ensures under { back_under self.now (get_act self.now who path.now) ≡ self.now }

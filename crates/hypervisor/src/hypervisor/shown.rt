@@ -49,8 +49,8 @@ pub fn front_shown(ask: &FrontAsk, answer: &FrontAnswer) -> Move
     }
 }
 
-/// The move of the front where it reads or writes a word, which is shorter; `None` where it does
-/// something else.
+/// The front's read or write of a word, which takes less memory than its `Move`; `None` where it
+/// does something else.
 #[inline(always)]
 pub fn front_access(ask: &FrontAsk, answer: &FrontAnswer) -> Option<Access>
     ensures shown { IfSome result (λ access. move_of access ≡ front_shown ask.now answer.now) }
@@ -131,8 +131,8 @@ impl Hypervisor {
 }
 
 impl Hypervisor {
-    /// The move of the back or of a job where it reads or writes a word, which is shorter; `None` where
-    /// it does something else. Its mapping must live still.
+    /// The read or write of a word by the back or a job, which takes less memory than its `Move`; `None`
+    /// where it does something else. Its mapping must live still.
     #[inline(always)]
     pub fn back_access(&self, who: BackMover, ask: &BackAsk, answer: &BackAnswer) -> Option<Access>
         requires { MayShow self.now ask.now answer.now }

@@ -38,7 +38,7 @@ impl Split {
     }
 
     /// A hostile hand overwrites a key below the front's directory, with a name and a text of the
-    /// grammar, and that is shown; whoever watches it is told. Where there is no memory for the key
+    /// grammar, and that is shown; the watch of whoever watches it fires. Where there is no memory for the key
     /// nothing happens.
     pub fn overwrite_key<R: Recorder>(
         &mut self,

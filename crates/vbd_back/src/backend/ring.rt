@@ -26,15 +26,15 @@ impl Backend {
         self.ring.job_ask(number)
     }
 
-    /// Tells the job of a number the answer to what it asks.
+    /// Completes what the job of a number asks by this answer.
     #[inline(always)]
-    pub fn job_tell(&mut self, number: u64, answer: &BackAnswer)
+    pub fn job_complete(&mut self, number: u64, answer: &BackAnswer)
         requires answer { IsAnswer (job_ask_of self.old number) answer.now }
         requires told { self.old.ring.told ≡ None }
         ensures stepped { self.new ≡ job_step self.old number answer.now }
         ensures hands { HandsAfter (job_ask_of self.old number) answer.now (hands_of self.old.ring) (hands_of self.new.ring) }
     {
-        self.ring.job_tell(number, answer);
+        self.ring.job_complete(number, answer);
     }
 
     /// The least number above this one of a job that is held; `None` exactly where there is none, and

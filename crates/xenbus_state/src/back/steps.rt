@@ -7,7 +7,7 @@ ghost use Rattle.xenbus_state.specs.Tables.{SuitsBack};
 ghost use Rattle.xenbus_state.specs.BackView.{halted};
 ghost use Rattle.xenbus_state.specs.BackAsk.{ask_at, IsAnswer, next_gref};
 ghost use Rattle.xenbus_state.specs.BackReading.{key_read};
-ghost use Rattle.xenbus_state.specs.BackStep.{step_at, halt_at, acted, action_halt, kept_or_halted, key_halt, mapped, after_state, giving_up, other_pages, last_state};
+ghost use Rattle.xenbus_state.specs.BackStep.{step_at, halt_at, acted, action_halt, kept_or_halted, key_halt, mapped, after_state, unmapping_next, other_pages, last_state};
 
 use super::BackBus;
 use crate::keys::{BackKey, FrontKey};
@@ -22,7 +22,7 @@ impl BackBus {
     // What an answer makes of what is being done.
     pub(super) fn step(&mut self, answer: &BackAnswer) -> Option<BackHalt>
         requires { IsAnswer (ask_at self.old.stage self.old) answer.now }
-        ensures told { self.new ≡ step_at self.old.stage self.old answer.now }
+        ensures completed { self.new ≡ step_at self.old.stage self.old answer.now }
         ensures halt { result ≡ halt_at self.old.stage self.old answer.now }
     {
         match (self.stage, answer) {
@@ -81,7 +81,7 @@ impl BackBus {
                 }
             }
             BackStage::UnmapOthers => {
-                self.stage = giving_up(self.pages.as_slice(), self.bound, self.state);
+                self.stage = unmapping_next(self.pages.as_slice(), self.bound, self.state);
             }
             BackStage::UnmapPage => self.unmapped(),
             BackStage::ClosePort => {
@@ -97,7 +97,7 @@ impl BackBus {
         requires stage { self.old.stage ≡ stage.ReadState }
         requires suits { SuitsBack self.old.state action }
         requires early { state_number self.old.state < 6 }
-        ensures told { self.new ≡ acted action self.old }
+        ensures completed { self.new ≡ acted action self.old }
         ensures halt { result ≡ action_halt action }
     {
         match action {
@@ -112,7 +112,7 @@ impl BackBus {
     fn take_key(&mut self, key: FrontKey, text: &Option<Lent<'_, Text>>) -> Option<BackHalt>
         requires stage { self.old.stage ≡ stage.ReadKey key }
         requires early { state_number self.old.state < 6 }
-        ensures told { self.new ≡ kept_or_halted (key_read key text.now self.old) self.old }
+        ensures completed { self.new ≡ kept_or_halted (key_read key text.now self.old) self.old }
         ensures halt { result ≡ key_halt key (key_read key text.now self.old) }
     {
         if self.read_key(key, text) {
@@ -166,7 +166,7 @@ impl BackBus {
         ensures { self.new ≡ step_at stage.UnmapPage self.old BackAnswer.Done }
     {
         self.pages.remove(0);
-        self.stage = giving_up(self.pages.as_slice(), self.bound, self.state);
+        self.stage = unmapping_next(self.pages.as_slice(), self.bound, self.state);
     }
 }
 
@@ -181,8 +181,8 @@ fn last_state(own: BusState) -> BusState
 }
 
 // What a halted back does next that has these pages mapped.
-fn giving_up(pages: &[Mapping], bound: bool, own: BusState) -> BackStage
-    ensures { result ≡ giving_up pages.now bound own }
+fn unmapping_next(pages: &[Mapping], bound: bool, own: BusState) -> BackStage
+    ensures { result ≡ unmapping_next pages.now bound own }
 {
     if !pages.is_empty() {
         BackStage::UnmapPage

@@ -21,7 +21,7 @@ impl FrontBus {
     // What an answer makes of what is being done.
     pub(super) fn step(&mut self, idle: bool, answer: &FrontAnswer) -> Option<FrontNews>
         requires { IsAnswer (ask_at self.old.stage self.old) answer.now }
-        ensures told { self.new ≡ step_at self.old.stage self.old idle answer.now }
+        ensures completed { self.new ≡ step_at self.old.stage self.old idle answer.now }
         ensures news { result ≡ news_at self.old.stage self.old idle answer.now }
     {
         match (self.stage, answer) {
@@ -80,7 +80,7 @@ impl FrontBus {
     fn act(&mut self, action: FrontAction) -> Option<FrontNews>
         requires stage { self.old.stage ≡ stage.ReadState }
         requires suits { SuitsFront self.old.state action }
-        ensures told { self.new ≡ acted action self.old }
+        ensures completed { self.new ≡ acted action self.old }
         ensures news { result ≡ action_news action self.old.closing }
     {
         self.stage = match action {
@@ -105,7 +105,7 @@ impl FrontBus {
     // The key of a feature was read.
     fn read_feature(&mut self, key: BackKey, text: &Option<Lent<'_, Text>>) -> Option<FrontNews>
         requires { self.old.stage ≡ stage.ReadFeature key }
-        ensures told { self.new ≡ feature_step key (count_read text.now) self.old }
+        ensures completed { self.new ≡ feature_step key (count_read text.now) self.old }
         ensures news { result ≡ read_news (count_read text.now) }
     {
         let Some(number) = read_count(text) else {
@@ -123,7 +123,7 @@ impl FrontBus {
     // The key of a fact of the disk was read.
     fn read_fact(&mut self, key: BackKey, text: &Option<Lent<'_, Text>>) -> Option<FrontNews>
         requires { self.old.stage ≡ stage.ReadFact key }
-        ensures told { self.new ≡ fact_step key (fact_read key text.now) self.old }
+        ensures completed { self.new ≡ fact_step key (fact_read key text.now) self.old }
         ensures news { result ≡ read_news (fact_read key text.now) }
     {
         let Some(number) = read_fact(key, text) else {
@@ -141,7 +141,7 @@ impl FrontBus {
     // Its own state was written.
     fn wrote(&mut self, state: BusState) -> Option<FrontNews>
         requires { self.old.stage ≡ stage.WriteState state }
-        ensures told { self.new ≡ written state self.old }
+        ensures completed { self.new ≡ written state self.old }
         ensures news { result ≡ written_news state }
     {
         self.state = state;

@@ -1,6 +1,6 @@
 use Rattle.std.proofs.Common.{rules, arith}
 use Rattle.back_jobs.proofs.Rooms.{first_shared}
-use Rattle.back_jobs.proofs.jobs.give_up_first.Goals as goal
+use Rattle.back_jobs.proofs.jobs.abort_first.Goals as goal
 
 pub give_back-requires : goal.give_back-requires
 give_back-requires c =
