@@ -36,9 +36,6 @@ same_test a n h = grind (arith, nat_tests)
 low_test : (a n : ℕ) → a < n → (a == n) ≡ false
 low_test a n h = grind (arith, nat_tests)
 
-high_test : (a n : ℕ) → n < a → (a == n) ≡ false
-high_test a n h = grind (arith, nat_tests)
-
 next_test : (n a : ℕ) → n + 1 ≤ a → nat_lt n a ≡ true
 next_test n a h = grind (arith, nat_tests)
 

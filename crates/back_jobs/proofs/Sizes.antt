@@ -195,7 +195,3 @@ names_at size (stage.Abort m) t placed within = only m
 names_at size stage.Flush t placed within = tt
 names_at size (stage.Trim count) t placed within = tt
 names_at size (stage.Done status) t placed within = tt
-
--- a job names what is in its hand, and writes only to a frame that it mapped for writing
-pub names_hand : (size : ℕ) (t : Work) → IsPlaced t.stage t → StaysInPageAndDisk size (ask_of t) → Names (hand_of t) (ask_of t)
-names_hand size t placed within = names_at size t.stage t placed within

@@ -43,7 +43,7 @@ pub struct Jobs {
     // The numbers of the jobs that are done, where numbers ascend, in their order.
     finished: Vec<u64>,
     // The place of the lowest job that is done; how many are held where none is.
-    done: usize,
+    done_place: usize,
     // The place of the first write, barrier or discard that isn't done, and that of the first barrier;
     // how many jobs are held where there is none.
     ordered: usize,
@@ -63,7 +63,7 @@ impl Model for Jobs {
 
     ghost view = { λ j. record { works = j.tasks.items; room = j.room; info = j.info } };
 
-    ghost invariant = { λ j. IsKept j.ascending j.finished.items j.done j.room (vec_capacity j.tasks) (vec_capacity j.finished) j.info.sectors j.tasks.items
+    ghost invariant = { λ j. IsKept j.ascending j.finished.items j.done_place j.room (vec_capacity j.tasks) (vec_capacity j.finished) j.info.sectors j.tasks.items
         × AreFirst j.ordered j.barrier j.tasks.items
         × AreShared (length j.rooms.items) (vec_capacity j.rooms) j.room j.info.max_indirect j.tasks.items };
 }
@@ -84,7 +84,7 @@ impl Jobs {
             info,
             ascending: true,
             finished,
-            done: 0,
+            done_place: 0,
             ordered: 0,
             barrier: 0,
             rooms,
@@ -131,7 +131,7 @@ impl Jobs {
         let task = Task::begin(number, request, &self.info, &mut self.rooms);
         let is_done = task.is_done();
         let count = self.tasks.len();
-        self.done = done_with(self.done, count, is_done);
+        self.done_place = done_with(self.done_place, count, is_done);
         self.ordered = done_with(self.ordered, count, task.holds(false));
         self.barrier = done_with(self.barrier, count, task.holds(true));
         self.ascending = goes_on_ascending(self.ascending, self.tasks.as_slice(), number);
@@ -190,7 +190,7 @@ impl Jobs {
         let effect = task.effect(answer);
         task.complete(answer);
         if task.is_done() {
-            self.done = self.done.min(place);
+            self.done_place = self.done_place.min(place);
             note(&mut self.finished, task.number(), self.ascending);
             self.ordered = holding_after(self.tasks.as_slice(), false, self.ordered, place);
             self.barrier = holding_after(self.tasks.as_slice(), true, self.barrier, place);
@@ -225,7 +225,7 @@ impl Jobs {
     pub fn done(&self) -> Option<(u64, u64, u8, Status)>
         ensures { result ≡ option_and_then response_of (done_of self.now) }
     {
-        match self.tasks.get(self.done) {
+        match self.tasks.get(self.done_place) {
             None => None,
             Some(task) => task.response(),
         }
@@ -238,14 +238,14 @@ impl Jobs {
         ensures rest { self.new ≡ without_done self.old }
         ensures one_less { IsSome result → length self.new.works + 1 ≡ length self.old.works }
     {
-        if self.done >= self.tasks.len() {
+        if self.done_place >= self.tasks.len() {
             return None;
         }
-        let task = self.tasks.remove(self.done);
-        self.ordered = without(self.ordered, self.done);
-        self.barrier = without(self.barrier, self.done);
+        let task = self.tasks.remove(self.done_place);
+        self.ordered = without(self.ordered, self.done_place);
+        self.barrier = without(self.barrier, self.done_place);
         drop_first(&mut self.finished);
-        self.done = lowest_done(
+        self.done_place = lowest_done(
             self.tasks.as_slice(),
             self.ascending,
             self.finished.as_slice(),
@@ -280,7 +280,7 @@ impl Jobs {
         let tasks = self.tasks.as_slice();
         // Those that are left no more go on, and are found by a walk.
         self.ascending = tasks.is_empty();
-        self.done = first_done(tasks);
+        self.done_place = first_done(tasks);
         self.ordered = first_holding(tasks, false);
         self.barrier = first_holding(tasks, true);
         self.finished.clear();

@@ -65,14 +65,14 @@ abort_hands v =
 
 looked_hands : (v : View) (word : ℕ) (otherwise : View) → hands_of otherwise ≡ connected v → hands_of (looked v word otherwise) ≡ connected v
 looked_hands v word otherwise h =
-    either (overruns v.ring word) (overrun v word) (if word == v.ring.cons then otherwise else record v { seen = word; stage = stage.Loop }) (connected v)
-    (abort_hands (record v { halted = Some (halt.Overrun word v.ring.prod) }))
-    (either (word == v.ring.cons) otherwise (record v { seen = word; stage = stage.Loop }) (connected v) h refl)
+    either (overruns v.ring.indices word) (overrun v word) (if word == v.ring.indices.cons then otherwise else record v { ring = record v.ring { seen = word }; stage = stage.Loop }) (connected v)
+    (abort_hands (record v { halted = Some (halt.Overrun word v.ring.indices.prod) }))
+    (either (word == v.ring.indices.cons) otherwise (record v { ring = record v.ring { seen = word }; stage = stage.Loop }) (connected v) h refl)
 
 loop_word_hands : (v : View) (word : ℕ) → hands_of (loop_word v word) ≡ connected v
 loop_word_hands v word =
-    either (requests_of v.ring v.seen == 0) (looked v word (record v { seen = word; stage = stage.StoreEvent })) (record v { entry = word ∷ []; stage = stage.Fetch 1 }) (connected v)
-    (looked_hands v word (record v { seen = word; stage = stage.StoreEvent }) refl)
+    either (requests_of v.ring.indices v.ring.seen == 0) (looked v word (record v { ring = record v.ring { seen = word }; stage = stage.StoreEvent })) (record v { ring = record v.ring { entry = word ∷ [] }; stage = stage.Fetch 1 }) (connected v)
+    (looked_hands v word (record v { ring = record v.ring { seen = word }; stage = stage.StoreEvent }) refl)
     refl
 
 loop_hands : (v : View) (r : Option Reply) (given : BackAnswer) → v.stage ≡ stage.Loop → hands_of (loop_step v r given) ≡ connected v
@@ -88,13 +88,13 @@ either_after false x y given before after p q = q
 loop_after : (v : View) (r : Option Reply) (given : BackAnswer) (before after : List Mapping) → after ≡ before → HandsAfter (loop_ask v r) given before after
 loop_after v (Some r) given before after h = h
 loop_after v None given before after h =
-    either_after v.asleep ask.Wait (if requests_of v.ring v.seen == 0 then index_ask v 0 else entry_ask v 0) given before after h
-    (either_after (requests_of v.ring v.seen == 0) (index_ask v 0) (entry_ask v 0) given before after h h)
+    either_after v.ring.asleep ask.Wait (if requests_of v.ring.indices v.ring.seen == 0 then index_ask v 0 else entry_ask v 0) given before after h
+    (either_after (requests_of v.ring.indices v.ring.seen == 0) (index_ask v 0) (entry_ask v 0) given before after h h)
 
 fetched_hands : (v : View) (k word : ℕ) → hands_of (fetch_step v k word) ≡ connected v
 fetched_hands v k word =
-    either (k + 1 == entry_words_of v.shape.abi) (fetched v (v.entry ++ word ∷ [])) (record v { entry = v.entry ++ word ∷ []; stage = stage.Fetch (k + 1) }) (connected v)
-    (ap (λ (l : List Mapping). l ++ v.pages) (started_hands v.jobs (next_number v) (request_of v.shape.abi (v.entry ++ word ∷ []))))
+    either (k + 1 == entry_words_of v.shape.abi) (fetched v (v.ring.entry ++ word ∷ [])) (record v { ring = record v.ring { entry = v.ring.entry ++ word ∷ [] }; stage = stage.Fetch (k + 1) }) (connected v)
+    (ap (λ (l : List Mapping). l ++ v.pages) (started_hands v.jobs (next_number v) (request_of v.shape.abi (v.ring.entry ++ word ∷ []))))
     refl
 
 -- the pages are held last, in order
@@ -126,11 +126,11 @@ hands_after_at (stage.ReplyHigh r) v given here h = refl
 hands_after_at (stage.ReplyLast r) v given here h = refl
 hands_after_at (stage.Producer r) v given here h = refl
 hands_after_at (stage.ProducerFence old) v given here h = refl
-hands_after_at (stage.ResponseEvent old) v (answer.Word event) here h = either_stage (notifies old v.ring.prod event) stage.Send stage.Loop v (connected v) refl refl
+hands_after_at (stage.ResponseEvent old) v (answer.Word event) here h = either_stage (notifies old v.ring.indices.prod event) stage.Send stage.Loop v (connected v) refl refl
 hands_after_at stage.Send v given here h = refl
 hands_after_at stage.StoreEvent v given here h = refl
 hands_after_at stage.EventFence v given here h = refl
-hands_after_at stage.LookAgain v (answer.Word word) here h = looked_hands v word (record v { seen = word; stage = stage.Loop; asleep = true }) refl
+hands_after_at stage.LookAgain v (answer.Word word) here h = looked_hands v word (record v { ring = record v.ring { seen = word; asleep = true }; stage = stage.Loop }) refl
 hands_after_at (stage.Abort m) v answer.Done here h = record { front = []; rest = connected v; without = abort_hands v; with_it = refl }
 hands_after_at stage.UnmapRing v given here h = unmapped_after given (hands_in v.jobs.works) v.pages (aborted (bound (other_pages v.pages))) (none_given_bound (other_pages v.pages)) h
 hands_after_at stage.ClosePort v given here h = refl
@@ -204,12 +204,12 @@ slot_mode : (v : View) (k i : ℕ) → AreAll v → i < entry_words_of v.shape.a
 slot_mode v k i all inside = let below = slot_within v.shape k i inside in All-get_or (λ (m : Mapping). m.mode ≡ ReadWrite) v.pages (slot_word_of v.shape k i).0 no_page (omega arith) all.writable
 
 entry_names : (v : View) (i : ℕ) → AreAll v → i < entry_words_of v.shape.abi → StaysInPage (entry_ask v i) → Names (connected v) (entry_ask v i)
-entry_names v i all inside within = (slot_names v (hands_in v.jobs.works) v.ring.cons i all inside, within)
+entry_names v i all inside within = (slot_names v (hands_in v.jobs.works) v.ring.indices.cons i all inside, within)
 
 reply_names : (v : View) (r : Reply) (i : ℕ) → AreAll v → i < 3 → StaysInPage (reply_ask v r i) → Names (connected v) (reply_ask v r i)
 reply_names v r i all few within =
     let inside = response_fits v.shape.abi i few in
-    (slot_names v (hands_in v.jobs.works) v.ring.prod i all inside, slot_mode v v.ring.prod i all inside, within)
+    (slot_names v (hands_in v.jobs.works) v.ring.indices.prod i all inside, slot_mode v v.ring.indices.prod i all inside, within)
 
 loop_names_at : (v : View) (asleep new : Bool) → AreAll v → StaysInPage (if asleep then ask.Wait else (if new then index_ask v 0 else entry_ask v 0)) → Names (connected v) (if asleep then ask.Wait else (if new then index_ask v 0 else entry_ask v 0))
 loop_names_at v true new all within = tt
@@ -218,7 +218,7 @@ loop_names_at v false false all within = entry_names v 0 all (response_fits v.sh
 
 loop_names : (v : View) (r : Option Reply) → AreAll v → StaysInPage (loop_ask v r) → Names (connected v) (loop_ask v r)
 loop_names v (Some r) all within = reply_names v r 0 all (omega arith) within
-loop_names v None all within = loop_names_at v v.asleep (requests_of v.ring v.seen == 0) all within
+loop_names v None all within = loop_names_at v v.ring.asleep (requests_of v.ring.indices v.ring.seen == 0) all within
 
 -- the first page that is still mapped is held
 first_in : (works pages : List Mapping) → Names (works ++ pages) (unmap_ask pages)
@@ -267,14 +267,14 @@ either_info false x y info p q = q
 
 looked_info : (v : View) (word : ℕ) (otherwise : View) → otherwise.jobs.info ≡ v.jobs.info → (looked v word otherwise).jobs.info ≡ v.jobs.info
 looked_info v word otherwise h =
-    either_info (overruns v.ring word) (overrun v word) (if word == v.ring.cons then otherwise else record v { seen = word; stage = stage.Loop }) v.jobs.info refl
-    (either_info (word == v.ring.cons) otherwise (record v { seen = word; stage = stage.Loop }) v.jobs.info h refl)
+    either_info (overruns v.ring.indices word) (overrun v word) (if word == v.ring.indices.cons then otherwise else record v { ring = record v.ring { seen = word }; stage = stage.Loop }) v.jobs.info refl
+    (either_info (word == v.ring.indices.cons) otherwise (record v { ring = record v.ring { seen = word }; stage = stage.Loop }) v.jobs.info h refl)
 
 loop_info : (v : View) (r : Option Reply) (given : BackAnswer) → (loop_step v r given).jobs.info ≡ v.jobs.info
 loop_info v (Some r) given = refl
 loop_info v None (answer.Word word) =
-    either_info (requests_of v.ring v.seen == 0) (looked v word (record v { seen = word; stage = stage.StoreEvent })) (record v { entry = word ∷ []; stage = stage.Fetch 1 }) v.jobs.info
-    (looked_info v word (record v { seen = word; stage = stage.StoreEvent }) refl)
+    either_info (requests_of v.ring.indices v.ring.seen == 0) (looked v word (record v { ring = record v.ring { seen = word }; stage = stage.StoreEvent })) (record v { ring = record v.ring { entry = word ∷ [] }; stage = stage.Fetch 1 }) v.jobs.info
+    (looked_info v word (record v { ring = record v.ring { seen = word }; stage = stage.StoreEvent }) refl)
     refl
 loop_info v None given = refl
 
@@ -285,7 +285,7 @@ step_info_at stage.MapRing v (answer.MapRefused status) = refl
 step_info_at stage.Bind v answer.Done = refl
 step_info_at stage.Bind v answer.BindRefused = refl
 step_info_at stage.Loop v given = loop_info v (next_reply v) given
-step_info_at (stage.Fetch k) v (answer.Word word) = either_info (k + 1 == entry_words_of v.shape.abi) (fetched v (v.entry ++ word ∷ [])) (record v { entry = v.entry ++ word ∷ []; stage = stage.Fetch (k + 1) }) v.jobs.info refl refl
+step_info_at (stage.Fetch k) v (answer.Word word) = either_info (k + 1 == entry_words_of v.shape.abi) (fetched v (v.ring.entry ++ word ∷ [])) (record v { ring = record v.ring { entry = v.ring.entry ++ word ∷ [] }; stage = stage.Fetch (k + 1) }) v.jobs.info refl refl
 step_info_at (stage.ReplyHigh r) v given = refl
 step_info_at (stage.ReplyLast r) v given = refl
 step_info_at (stage.Producer r) v given = refl
@@ -294,7 +294,7 @@ step_info_at (stage.ResponseEvent old) v (answer.Word event) = refl
 step_info_at stage.Send v given = refl
 step_info_at stage.StoreEvent v given = refl
 step_info_at stage.EventFence v given = refl
-step_info_at stage.LookAgain v (answer.Word word) = looked_info v word (record v { seen = word; stage = stage.Loop; asleep = true }) refl
+step_info_at stage.LookAgain v (answer.Word word) = looked_info v word (record v { ring = record v.ring { seen = word; asleep = true }; stage = stage.Loop }) refl
 step_info_at (stage.Abort m) v given = refl
 step_info_at stage.UnmapRing v given = refl
 step_info_at stage.ClosePort v given = refl

@@ -28,11 +28,11 @@ response_word r i = slice_index (response_words_of (record { id = r.id; op = r.o
 
 -- a word of the next response is written
 abbrev pub reply_ask : View → Reply → ℕ → BackAsk
-reply_ask v r i = Write (slot_page v v.ring.prod i) (slot_word v.shape v.ring.prod i) (response_word r i)
+reply_ask v r i = Write (slot_page v v.ring.indices.prod i) (slot_word v.shape v.ring.indices.prod i) (response_word r i)
 
 -- a word of the next entry is read, and one of the words that both ends share
 abbrev pub entry_ask : View → ℕ → BackAsk
-entry_ask v i = Read (slot_page v v.ring.cons i) (slot_word v.shape v.ring.cons i)
+entry_ask v i = Read (slot_page v v.ring.indices.cons i) (slot_word v.shape v.ring.indices.cons i)
 
 abbrev pub index_ask : View → ℕ → BackAsk
 index_ask v word = Read (page_of v 0) word
@@ -45,8 +45,8 @@ next_gref v = slice_index_or v.grefs (length v.pages) 0
 abbrev pub loop_ask : View → Option Reply → BackAsk
 loop_ask v (Some r) = reply_ask v r 0
 loop_ask v None =
-    if v.asleep then Wait
-    else (if requests_of v.ring v.seen == 0 then index_ask v 0
+    if v.ring.asleep then Wait
+    else (if requests_of v.ring.indices v.ring.seen == 0 then index_ask v 0
     else entry_ask v 0)
 
 -- the first page of the ring that is still mapped is unmapped
@@ -57,16 +57,16 @@ unmap_ask (page ∷ pages) = Unmap page
 abbrev pub ask_at : Stage → View → BackAsk
 ask_at stage.InitWait v = Wait
 ask_at stage.MapRing v = Map (next_gref v) ReadWrite
-ask_at stage.Bind v = Bind v.port
+ask_at stage.Bind v = Bind v.ring.port
 ask_at stage.Loop v = loop_ask v (next_reply v)
 ask_at (stage.Fetch k) v = entry_ask v k
 ask_at (stage.ReplyHigh r) v = reply_ask v r 1
 ask_at (stage.ReplyLast r) v = reply_ask v r 2
-ask_at (stage.Producer r) v = Write (page_of v 0) 2 (next_of v.ring.prod)
+ask_at (stage.Producer r) v = Write (page_of v 0) 2 (next_of v.ring.indices.prod)
 ask_at (stage.ProducerFence old) v = Fence
 ask_at (stage.ResponseEvent old) v = index_ask v 3
 ask_at stage.Send v = Send
-ask_at stage.StoreEvent v = Write (page_of v 0) 1 (next_of v.ring.cons)
+ask_at stage.StoreEvent v = Write (page_of v 0) 1 (next_of v.ring.indices.cons)
 ask_at stage.EventFence v = Fence
 ask_at stage.LookAgain v = index_ask v 0
 ask_at (stage.Abort m) v = Unmap m

@@ -4,15 +4,11 @@ use Rattle.blk_back.specs.View.{View}
 
 abbrev pub view_of : Inside → View
 view_of b = record {
-  ring = b.ring;
+  ring = record { indices = b.ring.indices; asleep = b.ring.asleep; seen = b.ring.seen; port = b.ring.port; entry = b.ring.entry.items };
   stage = b.stage;
-  asleep = b.asleep;
-  seen = b.seen;
   shape = record { abi = b.abi; order = b.order };
   grefs = b.grefs.items;
-  port = b.port;
   pages = b.pages.items;
-  entry = b.entry.items;
   fetched = b.fetched;
   jobs = b.jobs;
   told = b.told;

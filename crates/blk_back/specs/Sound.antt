@@ -42,11 +42,11 @@ AreWritable pages = All (λ (m : Mapping). m.mode ≡ ReadWrite) pages
 
 pub record IsSound (v : View) : Type 0 where
   pub order : v.shape.order ≤ 4
-  pub entries : v.ring.entries ≡ entries_of v.shape.order
+  pub entries : v.ring.indices.entries ≡ entries_of v.shape.order
   pub room : v.jobs.room ≡ entries_of 4
-  pub within : distance_of v.ring.prod v.ring.cons ≤ entries_of v.shape.order
-  pub placed : IsPlaced v.stage v.shape (length v.entry) (distance_of v.ring.prod v.ring.cons)
-  pub counted : IsCounted v.stage (length v.jobs.works) (distance_of v.ring.prod v.ring.cons)
+  pub within : distance_of v.ring.indices.prod v.ring.indices.cons ≤ entries_of v.shape.order
+  pub placed : IsPlaced v.stage v.shape (length v.ring.entry) (distance_of v.ring.indices.prod v.ring.indices.cons)
+  pub counted : IsCounted v.stage (length v.jobs.works) (distance_of v.ring.indices.prod v.ring.indices.cons)
   pub mapped : IsMapped v.stage v.shape.order v.grefs v.pages
   pub writable : AreWritable v.pages
   pub few_pages : length v.pages ≤ 16

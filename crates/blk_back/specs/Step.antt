@@ -61,8 +61,7 @@ abbrev pub attached : Shape → List ℕ → ℕ → View → View
 attached shape grefs port v = record v {
   shape = shape;
   grefs = grefs;
-  port = port;
-  ring = record { entries = entries_of shape.order; prod = v.ring.prod; cons = v.ring.prod };
+  ring = record v.ring { port = port; indices = record { entries = entries_of shape.order; prod = v.ring.indices.prod; cons = v.ring.indices.prod } };
   stage = stage.MapRing;
 }
 
@@ -71,25 +70,25 @@ attaches shape grefs port v = if may_attach shape grefs v then attached shape gr
 
 -- the back halts: it serves nothing more
 abbrev pub overrun : View → ℕ → View
-overrun v word = abort (record v { halted = Some (halt.Overrun word v.ring.prod) })
+overrun v prod = abort (record v { halted = Some (halt.Overrun prod v.ring.indices.prod) })
 
 -- the requests' producer was read: one that overran halts the back; where nothing is new, `otherwise`
 abbrev pub looked : View → ℕ → View → View
-looked v word otherwise =
-    if overruns v.ring word then overrun v word
-    else (if word == v.ring.cons then otherwise else record v { seen = word; stage = stage.Loop })
+looked v prod otherwise =
+    if overruns v.ring.indices prod then overrun v prod
+    else (if prod == v.ring.indices.cons then otherwise else record v { ring = record v.ring { seen = prod }; stage = stage.Loop })
 
 abbrev pub loop_word : View → ℕ → View
 loop_word v word =
-    if requests_of v.ring v.seen == 0
-    then looked v word (record v { seen = word; stage = stage.StoreEvent })
-    else record v { entry = word ∷ []; stage = stage.Fetch 1 }
+    if requests_of v.ring.indices v.ring.seen == 0
+    then looked v word (record v { ring = record v.ring { seen = word }; stage = stage.StoreEvent })
+    else record v { ring = record v.ring { entry = word ∷ [] }; stage = stage.Fetch 1 }
 
 -- a reply begins: its job is held no longer; an event ends sleep, and a watch, which is the negotiation's, doesn't
 abbrev pub loop_step : View → Option Reply → BackAnswer → View
 loop_step v (Some r) answer = record v { stage = stage.ReplyHigh r; jobs = without_done v.jobs }
 loop_step v None (Word word) = loop_word v word
-loop_step v None Event = record v { asleep = false }
+loop_step v None Event = record v { ring = record v.ring { asleep = false } }
 loop_step v None answer = v
 
 -- one more request was fetched
@@ -99,23 +98,22 @@ next_number v = (v.fetched + 1) % 2 ^ 64
 -- the entry's last word was read: its job is made of the words as they were read
 abbrev pub fetched : View → List ℕ → View
 fetched v words = record v {
-  entry = words;
+  ring = record v.ring { entry = words; indices = record v.ring.indices { cons = next_of v.ring.indices.cons } };
   fetched = next_number v;
-  ring = record v.ring { cons = next_of v.ring.cons };
   jobs = start_job v.jobs (next_number v) (request_of v.shape.abi words);
   stage = stage.Loop;
 }
 
 abbrev pub fetch_step : View → ℕ → ℕ → View
 fetch_step v k word =
-    if k + 1 == entry_words_of v.shape.abi then fetched v (v.entry ++ word ∷ [])
-    else record v { entry = v.entry ++ word ∷ []; stage = stage.Fetch (k + 1) }
+    if k + 1 == entry_words_of v.shape.abi then fetched v (v.ring.entry ++ word ∷ [])
+    else record v { ring = record v.ring { entry = v.ring.entry ++ word ∷ [] }; stage = stage.Fetch (k + 1) }
 
 -- the reply is pushed
 abbrev pub replied : View → Reply → View
 replied v r = record v {
-  ring = record v.ring { prod = next_of v.ring.prod };
-  stage = stage.ProducerFence v.ring.prod;
+  ring = record v.ring { indices = record v.ring.indices { prod = next_of v.ring.indices.prod } };
+  stage = stage.ProducerFence v.ring.indices.prod;
   told = Some (told.Reply r.id r.status);
 }
 
@@ -142,18 +140,18 @@ abbrev pub step_at : Stage → View → BackAnswer → View
 step_at stage.MapRing v (Mapped m) = mapped m v
 step_at stage.MapRing v (MapRefused status) = record v { halted = Some (halt.MapRefused (next_gref v) status); stage = unbound v.pages }
 step_at stage.Bind v Done = at stage.Loop v
-step_at stage.Bind v BindRefused = record v { halted = Some (halt.BadPort v.port); stage = unbound v.pages }
+step_at stage.Bind v BindRefused = record v { halted = Some (halt.BadPort v.ring.port); stage = unbound v.pages }
 step_at stage.Loop v answer = loop_step v (next_reply v) answer
 step_at (stage.Fetch k) v (Word word) = fetch_step v k word
 step_at (stage.ReplyHigh r) v answer = at (stage.ReplyLast r) v
 step_at (stage.ReplyLast r) v answer = at (stage.Producer r) v
 step_at (stage.Producer r) v answer = replied v r
 step_at (stage.ProducerFence old) v answer = at (stage.ResponseEvent old) v
-step_at (stage.ResponseEvent old) v (Word event) = at (if notifies old v.ring.prod event then stage.Send else stage.Loop) v
+step_at (stage.ResponseEvent old) v (Word event) = at (if notifies old v.ring.indices.prod event then stage.Send else stage.Loop) v
 step_at stage.Send v answer = at stage.Loop v
 step_at stage.StoreEvent v answer = at stage.EventFence v
 step_at stage.EventFence v answer = at stage.LookAgain v
-step_at stage.LookAgain v (Word word) = looked v word (record v { seen = word; stage = stage.Loop; asleep = true })
+step_at stage.LookAgain v (Word word) = looked v word (record v { ring = record v.ring { seen = word; asleep = true }; stage = stage.Loop })
 step_at (stage.Abort m) v answer = abort v
 step_at stage.UnmapRing v answer = unmapped_bound v
 step_at stage.ClosePort v answer = at stage.Halted v

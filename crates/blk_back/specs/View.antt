@@ -13,17 +13,21 @@ use Rattle.blk_back.specs.declared.stage.Stage.TheVariants as stage
 use Rattle.blk_back.specs.declared.told.BackTold.{BackTold}
 use Rattle.blk_back.specs.declared.told.Halt.{Halt}
 
--- The back: its own indices and what it does; whether it sleeps; the requests' producer as last read; the shape of its ring, the references of the ring's pages and the front's port, as its negotiation read them; the pages that it has mapped; the words of the entry being copied; how many requests it fetched in this epoch; its jobs; what is to be told; and why it halted.
-pub record View : Type 0 where
-  pub ring : Ring
-  pub stage : Stage
+-- What belongs to one ring (`struct xen_blkif_ring` of Linux's back): its own indices; whether the back sleeps; the requests' producer as last read; the front's port, as its negotiation read it; and the words of the entry being copied.
+pub record RingInfo : Type 0 where
+  pub indices : Ring
   pub asleep : Bool
   pub seen : ℕ
+  pub port : ℕ
+  pub entry : List ℕ
+
+-- The back: its ring and what it does; the shape of its ring and the references of the ring's pages, as its negotiation read them; the pages that it has mapped; how many requests it fetched in this epoch; its jobs; what is to be told; and why it halted.
+pub record View : Type 0 where
+  pub ring : RingInfo
+  pub stage : Stage
   pub shape : Shape
   pub grefs : List ℕ
-  pub port : ℕ
   pub pages : List Mapping
-  pub entry : List ℕ
   pub fetched : ℕ
   pub jobs : Held
   pub told : Option BackTold
@@ -60,15 +64,11 @@ no_shape = record { abi = X64; order = 0 }
 -- a back that waits for the terms of its front, of a ring of this first index and of this disk
 abbrev pub new_of : (start : ℕ) → DiskInfo → View
 new_of start info = record {
-  ring = record { entries = entries_of 0; prod = start; cons = start };
+  ring = record { indices = record { entries = entries_of 0; prod = start; cons = start }; asleep = false; seen = start; port = 0; entry = [] };
   stage = stage.InitWait;
-  asleep = false;
-  seen = start;
   shape = no_shape;
   grefs = [];
-  port = 0;
   pages = [];
-  entry = [];
   fetched = 0;
   jobs = none_held (entries_of 4) info;
   told = None;

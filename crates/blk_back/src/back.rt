@@ -24,20 +24,28 @@ use segment_list::DiskInfo;
 use std::alloc::Global;
 use std::marker::Model;
 
+// What belongs to one ring (`struct xen_blkif_ring` of Linux's back): its own indices, whether the
+// back sleeps, the requests' producer as last read, the front's port, and the words of the entry in
+// hand.
+#[derive(Drop)]
+struct RingInfo {
+    indices: BackRing,
+    asleep: bool,
+    seen: u32,
+    port: u32,
+    entry: ArrayVec<u32, 28>,
+}
+
 /// The back end of a ring, of the shape that its front's terms say (`attach`). Its jobs move apart from it.
 /// After `new` it takes no memory.
 #[derive(Drop)]
 pub struct Back {
-    ring: BackRing,
+    ring: RingInfo,
     stage: Stage,
-    asleep: bool,
-    seen: u32,
     abi: Abi,
     order: u32,
     grefs: ArrayVec<u32, 16>,
-    port: u32,
     pages: ArrayVec<Mapping, 16>,
-    entry: ArrayVec<u32, 28>,
     fetched: u64,
     jobs: Jobs,
     told: Option<BackTold>,
@@ -89,16 +97,18 @@ impl Back {
         let largest = RingShape::of(Abi::X64, 4);
         let jobs = Jobs::reserve(alloc, largest, info)?;
         Ok(Back {
-            ring: BackRing::attach(shape, start),
+            ring: RingInfo {
+                indices: BackRing::attach(shape, start),
+                asleep: false,
+                seen: start,
+                port: 0,
+                entry: ArrayVec::new(),
+            },
             stage: Stage::InitWait,
-            asleep: false,
-            seen: start,
             abi: Abi::X64,
             order: 0,
             grefs: ArrayVec::new(),
-            port: 0,
             pages: ArrayVec::new(),
-            entry: ArrayVec::new(),
             fetched: 0,
             jobs,
             told: None,
@@ -126,9 +136,9 @@ impl Back {
         if let Some(r) = self.next_reply() {
             return self.write_reply(&r, 0);
         }
-        if self.asleep {
+        if self.ring.asleep {
             BackAsk::Wait
-        } else if self.ring.unconsumed(self.seen) == 0 {
+        } else if self.ring.indices.unconsumed(self.ring.seen) == 0 {
             self.read_index(REQ_PROD)
         } else {
             self.read_entry(0)
@@ -185,7 +195,7 @@ impl Back {
         ensures value { result ≡ entry_ask self.now word }
         ensures within { StaysInPage result }
     {
-        let (page, word) = self.shape().slot_word(self.ring.cons(), word);
+        let (page, word) = self.shape().slot_word(self.ring.indices.cons(), word);
         BackAsk::Read {
             mapping: self.page(page),
             word,
@@ -204,7 +214,7 @@ impl Back {
             status: r.status,
         });
         let value = words[word as usize];
-        let (page, word) = self.shape().slot_word(self.ring.prod(), word);
+        let (page, word) = self.shape().slot_word(self.ring.indices.prod(), word);
         BackAsk::Write {
             mapping: self.page(page),
             word,
@@ -263,7 +273,7 @@ impl<'a> Endpoint<'a> for Back {
         ensures few { length (hands_of self.now) ≤ 529 }
     {
         // Opens the back, for what is true of it at every moment.
-        let _ = &self.port;
+        let _ = &self.ring.port;
         self.next_ask()
     }
 
@@ -289,16 +299,22 @@ impl Back {
         match self.stage {
             Stage::InitWait => BackAsk::Wait,
             Stage::MapRing => self.map_ring(),
-            Stage::Bind => BackAsk::Bind(self.port),
+            Stage::Bind => BackAsk::Bind(self.ring.port),
             Stage::Loop => self.ask_in_loop(),
             Stage::Fetch(word) => self.read_entry(word),
             Stage::ReplyHigh(r) => self.write_reply(&r, 1),
             Stage::ReplyLast(r) => self.write_reply(&r, 2),
-            Stage::Producer(_) => self.write_index(RSP_PROD, self.ring.prod().wrapping_add(1)),
+            Stage::Producer(_) => self.write_index(
+                RSP_PROD,
+                self.ring.indices.prod().wrapping_add(1),
+            ),
             Stage::ProducerFence(_) => BackAsk::Fence,
             Stage::ResponseEvent(_) => self.read_index(RSP_EVENT),
             Stage::Send => BackAsk::Send,
-            Stage::StoreEvent => self.write_index(REQ_EVENT, self.ring.cons().wrapping_add(1)),
+            Stage::StoreEvent => self.write_index(
+                REQ_EVENT,
+                self.ring.indices.cons().wrapping_add(1),
+            ),
             Stage::EventFence => BackAsk::Fence,
             Stage::LookAgain => self.read_index(REQ_PROD),
             Stage::Abort(mapping) => BackAsk::Unmap(mapping),

@@ -143,6 +143,7 @@ pub resumed_sound : (v : View) → v.start < 2 ^ 32 → IsSound v → IsSound (r
 resumed_sound v word sound = record {
   order = sound.order;
   entries = refl;
+  cons = word;
   counted = omega (arith, same_distance v.start word);
   room = after_fits v.stage v.ending v.requests (entries_of v.shape.order) sound.room;
   seen = omega arith;
@@ -163,6 +164,7 @@ pub agreed_sound : (v : View) (order : ℕ) → v.stage ≡ stage.RingWord 0 →
 agreed_sound v order at word within room sound = record {
   order = let few = sound.order in omega arith;
   entries = refl;
+  cons = word;
   counted = omega (arith, same_distance v.start word, waiting);
   room = subst (λ (s : Stage). length v.requests + ending_of s ≤ entries_of order) (sym at) (omega arith);
   seen = omega arith;

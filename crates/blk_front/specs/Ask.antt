@@ -45,9 +45,13 @@ abbrev pub read_ask : Option Ending → ℕ → FrontAsk
 read_ask None n = Wait
 read_ask (Some e) n = Read (frame_at e.request (n / 1024)) (n % 1024)
 
+-- a word of the next response is read
+abbrev pub response_ask : View → ℕ → FrontAsk
+response_ask v k = Read (slot_frame v.shape v.ring.indices.cons k) (slot_word v.shape v.ring.indices.cons k)
+
 -- a word of an entry is written to its place in the ring
 abbrev pub entry_ask : View → List ℕ → ℕ → FrontAsk
-entry_ask v entry k = Write (slot_frame v.shape v.ring.prod k) (slot_word v.shape v.ring.prod k) (slice_index entry k)
+entry_ask v entry k = Write (slot_frame v.shape v.ring.indices.prod k) (slot_word v.shape v.ring.indices.prod k) (slice_index entry k)
 
 -- a request is begun: a write or a barrier with its data, a read with its indirect pages or its grants, one without frames with its entry
 abbrev pub issue_ask : View → Request → Transfer → FrontAsk
@@ -65,9 +69,8 @@ is_through v = v.closing && length v.requests == 0
 abbrev pub loop_ask : View → Option Request → FrontAsk
 loop_ask v (Some r) = issue_ask v r r.transfer
 loop_ask v None =
-    if v.asleep || is_through v then Wait
-    else (if responses_of v.ring v.seen == 0 then Read ring_frame 2
-    else Read (slot_frame v.shape v.ring.cons 0) (slot_word v.shape v.ring.cons 0))
+    if v.ring.asleep || is_through v then Wait
+    else (if responses_of v.ring.indices v.ring.seen == 0 then Read ring_frame 2 else response_ask v 0)
 
 abbrev pub ask_at : Stage → View → FrontAsk
 ask_at (stage.RingWord k) v = Write ring_frame k (fresh_word v.start k)
@@ -82,18 +85,18 @@ ask_at (stage.Pages n) v = page_ask (next_request v) n
 ask_at (stage.GrantFrame place) v = name_ask (next_request v) place
 ask_at (stage.GrantFence place) v = Fence
 ask_at (stage.GrantFlags place) v = grant_ask (next_request v) place
-ask_at (stage.Slot k) v = entry_ask v v.entry k
-ask_at stage.Producer v = Write ring_frame 0 (next_of v.ring.prod)
+ask_at (stage.Slot k) v = entry_ask v v.ring.entry k
+ask_at stage.Producer v = Write ring_frame 0 (next_of v.ring.indices.prod)
 ask_at (stage.ProducerFence old) v = Fence
 ask_at (stage.RequestEvent old) v = Read ring_frame 1
 ask_at stage.Send v = Send
-ask_at (stage.ResponseHigh low) v = Read (slot_frame v.shape v.ring.cons 1) (slot_word v.shape v.ring.cons 1)
-ask_at (stage.ResponseLast low high) v = Read (slot_frame v.shape v.ring.cons 2) (slot_word v.shape v.ring.cons 2)
+ask_at (stage.ResponseHigh low) v = response_ask v 1
+ask_at (stage.ResponseLast low high) v = response_ask v 2
 ask_at (stage.GrantRead place) v = revoke_ask v.ending place
 ask_at (stage.GrantEnd place seen) v = end_ask v.ending place seen
 ask_at (stage.ReadData n) v = read_ask v.ending n
 ask_at (stage.LeftData n) v = read_ask v.ending n
-ask_at stage.StoreEvent v = Write ring_frame 3 (next_of v.ring.cons)
+ask_at stage.StoreEvent v = Write ring_frame 3 (next_of v.ring.indices.cons)
 ask_at stage.EventFence v = Fence
 ask_at stage.LookAgain v = Read ring_frame 2
 ask_at (stage.RingRead page) v = Read (entry_frame (ring_page_frame page)) (entry_word (ring_page_frame page))

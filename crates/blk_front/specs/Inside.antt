@@ -12,17 +12,14 @@ view_of f = record {
   start = f.start;
   offers = f.offers;
   shape = record { abi = f.abi; order = f.order };
-  ring = f.ring;
+  ring = record { indices = f.ring.indices; asleep = f.ring.asleep; seen = f.ring.seen; entry = f.ring.entry.items };
   stage = f.stage;
-  asleep = f.asleep;
   closing = f.closing;
-  seen = f.seen;
   last = f.last;
   waiting = f.waiting;
   requests = f.requests.held;
   ending = f.ending;
   pool = f.pool;
-  entry = f.entry.items;
   words = f.words;
   told = f.told;
 }

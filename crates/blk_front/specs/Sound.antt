@@ -75,16 +75,17 @@ pub record IsApart (requests : List Request) (last : ℕ) (e : Ending) : Type 0 
 
 pub record IsSound (v : View) : Type 0 where
   pub order : v.shape.order ≤ 4
-  pub entries : v.ring.entries ≡ entries_of v.shape.order
+  pub entries : v.ring.indices.entries ≡ entries_of v.shape.order
+  pub cons : v.ring.indices.cons < 2 ^ 32
   -- each request between the two indices is an issued one, and all fit the ring
-  pub counted : length v.requests ≡ distance_of v.ring.cons v.ring.prod + v.waiting
+  pub counted : length v.requests ≡ distance_of v.ring.indices.cons v.ring.indices.prod + v.waiting
   pub room : length v.requests + ending_of v.stage ≤ entries_of v.shape.order
   -- no more responses were seen than requests were pushed
-  pub seen : distance_of v.ring.cons v.seen ≤ distance_of v.ring.cons v.ring.prod
+  pub seen : distance_of v.ring.indices.cons v.ring.seen ≤ distance_of v.ring.indices.cons v.ring.indices.prod
   pub placed : IsPlaced v.stage v.shape
   pub unissued : IsUnissued v.stage (length v.requests) v.waiting
   pub issuing : IsIssuing v.stage v.waiting
-  pub reading : IsReading v.stage (distance_of v.ring.cons v.seen)
+  pub reading : IsReading v.stage (distance_of v.ring.indices.cons v.ring.seen)
   -- numbers were given in order, so an id is found without a walk
   pub ascending : AreAscending v.requests
   pub given : All (λ (r : Request). r.number ≤ v.last) v.requests

@@ -44,8 +44,7 @@ may_enter (state.Broken word) v = is_open v.stage
 abbrev pub in_state : FrontState → View → View
 in_state (state.Agreed order) v = record v {
   shape = record v.shape { order = order };
-  ring = record { entries = entries_of order; prod = v.start; cons = v.start };
-  seen = v.start;
+  ring = record v.ring { indices = record { entries = entries_of order; prod = v.start; cons = v.start }; seen = v.start };
 }
 in_state (state.Connected offers) v = record v { offers = offers; stage = stage.Loop }
 in_state state.Closing v = record v { closing = true }

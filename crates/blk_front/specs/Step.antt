@@ -30,19 +30,19 @@ broken word v = record v { stage = stage.Broken word; told = Some (told.Broken w
 
 -- the responses' producer was read: further ahead than the requests' own is broken; where nothing is new, `otherwise`
 abbrev pub looked : View → ℕ → View → View
-looked v word otherwise =
-    if nat_lt (distance_of v.ring.cons v.ring.prod) (distance_of v.ring.cons word) then broken word v
-    else (if word == v.ring.cons then otherwise else record v { seen = word; stage = stage.Loop })
+looked v prod otherwise =
+    if nat_lt (distance_of v.ring.indices.cons v.ring.indices.prod) (distance_of v.ring.indices.cons prod) then broken prod v
+    else (if prod == v.ring.indices.cons then otherwise else record v { ring = record v.ring { seen = prod }; stage = stage.Loop })
 
 abbrev pub loop_word : View → ℕ → View
 loop_word v word =
-    if responses_of v.ring v.seen == 0
-    then looked v word (record v { seen = word; stage = stage.StoreEvent })
+    if responses_of v.ring.indices v.ring.seen == 0
+    then looked v word (record v { ring = record v.ring { seen = word }; stage = stage.StoreEvent })
     else at (stage.ResponseHigh word) v
 
 -- a request was begun: of a write or a barrier a word of its data was written, of a read a word of its indirect pages or of its first grant, of one without frames a word of its entry
 abbrev pub entered : View → Request → Stage → View
-entered v r s = record v { stage = s; entry = entry_of v.shape.abi r }
+entered v r s = record v { stage = s; ring = record v.ring { entry = entry_of v.shape.abi r } }
 
 abbrev pub begun : View → Request → Transfer → View
 begun v r (transfer.Write tag) = at (stage.Data 1) v
@@ -73,7 +73,7 @@ granted (Some r) place v = if nat_lt (place + 1) (length r.frames.items) then at
 abbrev pub loop_step : View → Option Request → FrontAnswer → View
 loop_step v (Some r) answer = begun v r r.transfer
 loop_step v None (Word word) = loop_word v word
-loop_step v None Event = record v { asleep = false }
+loop_step v None Event = record v { ring = record v.ring { asleep = false } }
 loop_step v None answer = v
 
 abbrev pub found_at : List Request → Option ℕ → Option (ℕ × Request)
@@ -86,7 +86,7 @@ issued v id = found_at v.requests (position (λ (r : Request). r.number == id) (
 
 -- the response is taken: its request's grants are ended next; one without frames is answered and finished
 abbrev pub freed : View → ℕ → View
-freed v place = record v { ring = record v.ring { cons = next_of v.ring.cons }; requests = remove v.requests place }
+freed v place = record v { ring = record v.ring { indices = record v.ring.indices { cons = next_of v.ring.indices.cons } }; requests = remove v.requests place }
 
 abbrev pub revokes : View → Request → Status → View
 revokes v r status = record v { ending = Some (record { request = r; status = status }); stage = stage.GrantRead 0 }
@@ -170,9 +170,9 @@ ring_ended v page before word = if word == before then at (ring_left v page) v e
 -- the request is pushed
 abbrev pub pushed : View → View
 pushed v = record v {
-  ring = record v.ring { prod = next_of v.ring.prod };
+  ring = record v.ring { indices = record v.ring.indices { prod = next_of v.ring.indices.prod } };
   waiting = v.waiting - 1;
-  stage = stage.ProducerFence v.ring.prod;
+  stage = stage.ProducerFence v.ring.indices.prod;
 }
 
 abbrev pub step_at : Stage → View → FrontAnswer → View
@@ -190,7 +190,7 @@ step_at (stage.GrantFlags place) v answer = granted (next_request v) place v
 step_at (stage.Slot k) v answer = at (if k + 1 == entry_words_of v.shape.abi then stage.Producer else stage.Slot (k + 1)) v
 step_at stage.Producer v answer = pushed v
 step_at (stage.ProducerFence old) v answer = at (stage.RequestEvent old) v
-step_at (stage.RequestEvent old) v (Word event) = at (if notifies old v.ring.prod event then stage.Send else stage.Loop) v
+step_at (stage.RequestEvent old) v (Word event) = at (if notifies old v.ring.indices.prod event then stage.Send else stage.Loop) v
 step_at stage.Send v answer = at stage.Loop v
 step_at (stage.ResponseHigh low) v (Word high) = at (stage.ResponseLast low high) v
 step_at (stage.ResponseLast low high) v (Word last) = response_step v low high last
@@ -200,7 +200,7 @@ step_at (stage.ReadData n) v (Word word) = data_step v.ending n word v
 step_at (stage.LeftData n) v (Word word) = left_step v.ending n word v
 step_at stage.StoreEvent v answer = at stage.EventFence v
 step_at stage.EventFence v answer = at stage.LookAgain v
-step_at stage.LookAgain v (Word word) = looked v word (record v { seen = word; stage = stage.Loop; asleep = true })
+step_at stage.LookAgain v (Word word) = looked v word (record v { ring = record v.ring { seen = word; asleep = true }; stage = stage.Loop })
 step_at (stage.RingRead page) v (Word word) = ring_read v page word
 step_at (stage.RingEnd page before) v (Word word) = ring_ended v page before word
 step_at stage.ClosePort v answer = at stage.Left v

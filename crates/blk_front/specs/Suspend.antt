@@ -38,10 +38,8 @@ stage_after s = stage.RingWord 0
 abbrev pub resumed : View → View
 resumed v = record v {
   offers = no_offers;
-  ring = record { entries = entries_of v.shape.order; prod = v.start; cons = v.start };
+  ring = record v.ring { indices = record { entries = entries_of v.shape.order; prod = v.start; cons = v.start }; asleep = false; seen = v.start };
   stage = stage_after v.stage;
-  asleep = false;
-  seen = v.start;
   waiting = length (requests_after v.stage v.ending v.requests);
   requests = requests_after v.stage v.ending v.requests;
   ending = ending_after v.stage v.ending;

@@ -11,24 +11,28 @@ use Rattle.blk_front.specs.declared.stage.Ending.{Ending}
 use Rattle.blk_front.specs.declared.told.Told.{Told}
 use Rattle.blk_front.specs.declared.state.Offers.{Offers}
 
--- The front: the disk's sectors and whether it is read-only, and the ring's first index; what its back serves beside reads and writes; the shape of its ring; its own indices and what it does; whether it sleeps, and whether it closes; the responses' producer as last read; the last number given; the unfinished requests in order of number, of which the last `waiting` aren't issued yet; the request whose response was taken, until it is finished; the frames in use; the words of the entry being written, and those of the sector being read; what is to be told.
+-- What belongs to one ring (`struct blkfront_ring_info` of Linux's front): its own indices; whether the front sleeps; the responses' producer as last read; and the words of the entry being written.
+pub record RingInfo : Type 0 where
+  pub indices : Ring
+  pub asleep : Bool
+  pub seen : ℕ
+  pub entry : List ℕ
+
+-- The front: the disk's sectors and whether it is read-only, and the ring's first index; what its back serves beside reads and writes; the shape of its ring; its ring and what it does; whether it closes; the last number given; the unfinished requests in order of number, of which the last `waiting` aren't issued yet; the request whose response was taken, until it is finished; the frames in use; the words of the sector being read; what is to be told.
 pub record View : Type 0 where
   pub sectors : ℕ
   pub read_only : Bool
   pub start : ℕ
   pub offers : Offers
   pub shape : Shape
-  pub ring : Ring
+  pub ring : RingInfo
   pub stage : Stage
-  pub asleep : Bool
   pub closing : Bool
-  pub seen : ℕ
   pub last : ℕ
   pub waiting : ℕ
   pub requests : List Request
   pub ending : Option Ending
   pub pool : List Bool
-  pub entry : List ℕ
   pub words : List ℕ
   pub told : Option Told
 
@@ -81,17 +85,14 @@ start_of config = record {
   start = config.start;
   offers = no_offers;
   shape = record { abi = config.abi; order = config.order };
-  ring = record { entries = entries_of config.order; prod = config.start; cons = config.start };
+  ring = record { indices = record { entries = entries_of config.order; prod = config.start; cons = config.start }; asleep = false; seen = config.start; entry = [] };
   stage = stage.RingWord 0;
-  asleep = false;
   closing = false;
-  seen = config.start;
   last = 0;
   waiting = 0;
   requests = [];
   ending = None;
   pool = empty_pool;
-  entry = [];
   words = replicate 128 0;
   told = None;
 }

@@ -4,7 +4,7 @@ ghost use Rattle.blk_base.specs.declared.ask.FrontAsk.TheVariants.{Wait};
 ghost use Rattle.std.specs.Option.{option_copied};
 ghost use Rattle.ring_words.specs.Shape.{entry_words_of};
 ghost use Rattle.blk_front.specs.View.{start_of, next_request, ring_page_frame, slot_frame, slot_word, entry_frame, entry_word};
-ghost use Rattle.blk_front.specs.Ask.{ask_of, data_asked, is_through, loop_ask, issue_ask, entry_ask, data_ask, page_ask, name_ask, grant_ask, revoke_ask, end_ask, read_ask, IsAnswer, IsPlace, StaysInMemory, Asks};
+ghost use Rattle.blk_front.specs.Ask.{ask_of, data_asked, is_through, loop_ask, issue_ask, response_ask, entry_ask, data_ask, page_ask, name_ask, grant_ask, revoke_ask, end_ask, read_ask, IsAnswer, IsPlace, StaysInMemory, Asks};
 ghost use Rattle.blk_front.specs.Step.{step_of, step_at, ring_read, ring_ended};
 ghost use Rattle.blk_front.specs.Entry.{entry_of};
 ghost use Rattle.blk_front.specs.Request.{IsShaped};
@@ -32,6 +32,16 @@ use std::alloc::Global;
 use std::marker::Model;
 use steps::wire;
 
+// What belongs to one ring (`struct blkfront_ring_info` of Linux's front): its own indices, whether
+// the front sleeps, the responses' producer as last read, and the words of the entry in hand.
+#[derive(Drop)]
+struct RingInfo {
+    indices: FrontRing,
+    asleep: bool,
+    seen: u32,
+    entry: ArrayVec<u32, 28>,
+}
+
 /// The front end of a ring of 1 to 16 pages under the layout of its guest, which issues reads and
 /// writes of up to 88 sectors, of up to 7680 where its back takes so many segments in indirect pages,
 /// and barriers, flushes and discards where its back serves them. After `new` it takes no memory.
@@ -43,18 +53,15 @@ pub struct Front {
     offers: Offers,
     abi: Abi,
     order: u32,
-    ring: FrontRing,
+    ring: RingInfo,
     stage: Stage,
-    asleep: bool,
     closing: bool,
-    seen: u32,
     last: u32,
     waiting: u32,
     requests: Shadow<Request>,
     spare: SpareLists,
     ending: Option<Ending>,
     pool: Pool,
-    entry: ArrayVec<u32, 28>,
     words: [u32; 128],
     told: Option<Told>,
 }
@@ -88,18 +95,20 @@ impl Front {
             offers: Offers::none(),
             abi: config.abi,
             order: config.order,
-            ring: FrontRing::attach(shape, config.start),
+            ring: RingInfo {
+                indices: FrontRing::attach(shape, config.start),
+                asleep: false,
+                seen: config.start,
+                entry: ArrayVec::new(),
+            },
             stage: Stage::RingWord(0),
-            asleep: false,
             closing: false,
-            seen: config.start,
             last: 0,
             waiting: 0,
             requests,
             spare,
             ending: None,
             pool: Pool::new(),
-            entry: ArrayVec::new(),
             words: [0; 128],
             told: None,
         })
@@ -157,9 +166,9 @@ impl Front {
         if let Some(r) = self.next_request() {
             return self.issue(r);
         }
-        if self.asleep || self.is_through() {
+        if self.ring.asleep || self.is_through() {
             FrontAsk::Wait
-        } else if self.ring.unconsumed(self.seen) == 0 {
+        } else if self.ring.indices.unconsumed(self.ring.seen) == 0 {
             read(place::RING_FRAME, RSP_PROD)
         } else {
             self.read_response(0)
@@ -177,18 +186,18 @@ impl Front {
     #[tactic(auto, using(crate::proofs::Shapes::wide_entries))]
     fn read_response(&self, word: u32) -> FrontAsk<'_>
         requires { word < 27 }
-        ensures { Asks result (FrontAsk.Read (slot_frame self.now.shape self.now.ring.cons word) (slot_word self.now.shape self.now.ring.cons word)) }
+        ensures { Asks result (response_ask self.now word) }
     {
-        let (frame, place) = place::slot(self.shape(), self.ring.cons(), word);
+        let (frame, place) = place::slot(self.shape(), self.ring.indices.cons(), word);
         read(frame, place)
     }
 
     // Writes a word of the next request's entry.
     fn write_slot(&self, word: u32) -> FrontAsk<'_>
         requires { word < entry_words_of self.now.shape.abi }
-        ensures { Asks result (entry_ask self.now self.now.entry word) }
+        ensures { Asks result (entry_ask self.now self.now.ring.entry word) }
     {
-        self.write_entry(self.entry.as_slice(), word)
+        self.write_entry(self.ring.entry.as_slice(), word)
     }
 
     // The same, of an entry of these words.
@@ -197,7 +206,7 @@ impl Front {
         requires { word < entry_words_of self.now.shape.abi }
         ensures { Asks result (entry_ask self.now entry.now word) }
     {
-        let (frame, place) = place::slot(self.shape(), self.ring.prod(), word);
+        let (frame, place) = place::slot(self.shape(), self.ring.indices.prod(), word);
         write(frame, place, entry.get(word as usize).copied().unwrap_or(0))
     }
 
@@ -445,7 +454,7 @@ impl<'a> Endpoint<'a> for Front {
             Stage::Producer => write(
                 place::RING_FRAME,
                 REQ_PROD,
-                self.ring.prod().wrapping_add(1),
+                self.ring.indices.prod().wrapping_add(1),
             ),
             Stage::ProducerFence(_) => FrontAsk::Fence,
             Stage::RequestEvent(_) => read(place::RING_FRAME, REQ_EVENT),
@@ -458,7 +467,7 @@ impl<'a> Endpoint<'a> for Front {
             Stage::StoreEvent => write(
                 place::RING_FRAME,
                 RSP_EVENT,
-                self.ring.cons().wrapping_add(1),
+                self.ring.indices.cons().wrapping_add(1),
             ),
             Stage::EventFence => FrontAsk::Fence,
             Stage::LookAgain => read(place::RING_FRAME, RSP_PROD),

@@ -171,9 +171,6 @@ none_told X32 whole entry n k long short later =
     let first : nat_lt 0 k ≡ true = grind (arith, nat_tests) in
     rw (first, some) refl
 
-pub no_first : (abi : Abi) (values : List ℕ) → entry_of abi values 0 ≡ None
-no_first abi values = refl
-
 -- ---- what is fetched
 pub record IsFetching (before : List Line) (fetched : ℕ) (entry : List ℕ) : Type 0 where
   pub whole : List ℕ

@@ -25,12 +25,12 @@ use Rattle.machine_pipeline.proofs.Issuing.{ring_turned, slots_turned, frames_tu
 turned_on : (config : Options) (w : World) (g : Flow) (d : Pipeline) (s s' : FrontStage)
     → may_front_sleep s ≡ true → may_front_sleep s' ≡ true → is_issuing s' ≡ is_issuing s
     → Holds config w g d s w.back.stage
-    → FrontAt g.shape g.start g.pushed g.taken g.front_seen g.submitted g.replies (next_request w.front) w.front.entry w.front.ending s'
+    → FrontAt g.shape g.start g.pushed g.taken g.front_seen g.submitted g.replies (next_request w.front) w.front.ring.entry w.front.ending s'
     → ((frames : ℕ) → filled s frames ≡ 0) → ((frames : ℕ) → filled s' frames ≡ 0) → entered s ≡ 0 → entered s' ≡ 0 → named_frames s' ≡ 0 → granted_frames s' ≡ 0
-    → (w.back.asleep ≡ true → FrontSends s g.pushed g.fetched → FrontSends s' g.pushed g.fetched)
-    → Holds config (with_front w s' w.front.entry w.under.pages) g d s' w.back.stage
+    → (w.back.ring.asleep ≡ true → FrontSends s g.pushed g.fetched → FrontSends s' g.pushed g.fetched)
+    → Holds config (with_front w s' w.front.ring.entry w.under.pages) g d s' w.back.stage
 turned_on config w g d s s' i i' same h at full full' few few' unnamed ungranted sends =
-    issue_kept config w g d s s' w.front.entry w.under.pages i i' same h at h.memory (λ f low high x lt. refl) (λ x lt. refl) (λ page lt. record { flags = refl; frame = refl })
+    issue_kept config w g d s s' w.front.ring.entry w.under.pages i i' same h at h.memory (λ f low high x lt. refl) (λ x lt. refl) (λ page lt. record { flags = refl; frame = refl })
     (slots_turned g.shape g.start g.fetched g.pushed g.taken g.replied g.series g.replies w.under.pages w.under.pages s s' w.back.stage h.shaped.narrow (λ f x from to in_it after. refl) few' h.slots)
     (frames_turned g.pushed w.under.pages w.under.pages s s' w.front.requests (λ frames. let none = full' frames in omega arith) (λ n x lt i l. refl) h.frames)
     (entries_turned g.pushed w.under.pages w.under.pages w.under.grants.live s s' w.front.ending w.front.requests i' (omega arith) (omega arith) (λ n x lt a in_it. record { flags = refl; frame = refl }) h.entries)
@@ -49,14 +49,14 @@ notified start fetched pushed old prod event e f i one =
 
 pub event_goes : (config : Options) (w : World) (g : Flow) (d : Pipeline) (old : ℕ) → IsSafe w → Holds config w g d (front.RequestEvent old) w.back.stage → FrontGoes config w d (front.RequestEvent old)
 event_goes config w g d old safe h = goes_by (said_nothing d _ w.front.told safe.front_told)
-    (by_test (notifies old w.front.ring.prod (word_of w.under.pages 2 1)) refl)
+    (by_test (notifies old w.front.ring.indices.prod (word_of w.under.pages 2 1)) refl)
   where
-    by_test : (b : Bool) → notifies old w.front.ring.prod (word_of w.under.pages 2 1) ≡ b → Holds config (with_front w (if b then front.Send else front.Loop) w.front.entry w.under.pages) g d (if b then front.Send else front.Loop) w.back.stage
+    by_test : (b : Bool) → notifies old w.front.ring.indices.prod (word_of w.under.pages 2 1) ≡ b → Holds config (with_front w (if b then front.Send else front.Loop) w.front.ring.entry w.under.pages) g d (if b then front.Send else front.Loop) w.back.stage
     by_test true t = turned_on config w g d (front.RequestEvent old) front.Send refl refl refl h tt (λ frames. refl) (λ frames. refl) refl refl refl refl (λ t sends. tt)
     by_test false t = turned_on config w g d (front.RequestEvent old) front.Loop refl refl refl h tt (λ frames. refl) (λ frames. refl) refl refl refl refl (λ sleeps sends.
         let x = h.indices in
         let u = h.back_sleep in
-        let yes : notifies old w.front.ring.prod (word_of w.under.pages 2 1) ≡ true = notified g.start g.fetched g.pushed old w.front.ring.prod (word_of w.under.pages 2 1) h.front_at.1 x.pushed (u.armed sleeps) sends in
+        let yes : notifies old w.front.ring.indices.prod (word_of w.under.pages 2 1) ≡ true = notified g.start g.fetched g.pushed old w.front.ring.indices.prod (word_of w.under.pages 2 1) h.front_at.1 x.pushed (u.armed sleeps) sends in
         absurd (cc))
 
 -- a back that sleeps is bound to the front's port
@@ -99,7 +99,7 @@ send_goes config w g d safe h =
         arming = u.arming;
         armed = u.armed;
         may = u.may;
-        woken = λ t. inr (inl (pending_sent g.before (is_bound_back w.back.stage) w.under.channels.made w.under.channels.ports w.under.channels.back_pending h.ports (bound_asleep w.back.stage w.back.asleep u.may t)));
+        woken = λ t. inr (inl (pending_sent g.before (is_bound_back w.back.stage) w.under.channels.made w.under.channels.ports w.under.channels.back_pending h.ports (bound_asleep w.back.stage w.back.ring.asleep u.may t)));
       };
       ports = h.ports;
     })

@@ -17,7 +17,7 @@ use Rattle.machine_pipeline.proofs.Quiet.{AreQuiet, all_quiet, IsCaughtUp, caugh
 
 -- a front that made its port in this epoch left no entry and no response unread; it is in its loop or closed, and no request and no job is left
 pub record IsIdleRing (w : World) : Type 0 where
-  pub ring : w.under.channels.ports ≢ [] → IsDrained w.under.pages w.front.ring.cons w.back.ring.cons
+  pub ring : w.under.channels.ports ≢ [] → IsDrained w.under.pages w.front.ring.indices.cons w.back.ring.indices.cons
   pub front_at : (w.front.stage ≡ front.Loop) ⊎ (w.front.stage ≡ front.Closed)
   pub no_job : w.back.jobs.works ≡ []
   pub no_request : w.front.requests ≡ []

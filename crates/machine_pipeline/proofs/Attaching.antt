@@ -60,8 +60,8 @@ takes config w g d shape grefs port terms h = goes_by {g = g} (asides_do d (Move
         gref = h.paged.gref;
         mode = h.paged.mode;
       };
-      front_sleep = front_sleep_at g.start g.taken g.replied w.under.pages w.front.asleep w.under.channels.front_pending w.front.stage back.InitWait back.MapRing (λ t s. absurd s) h.front_sleep;
-      back_sleep = back_sleep_at g.start g.fetched g.pushed w.under.pages w.back.asleep w.under.channels.back_pending w.front.stage back.InitWait back.MapRing (λ t. absurd (false≢true t)) (λ t. h.back_sleep.may refl) h.back_sleep;
+      front_sleep = front_sleep_at g.start g.taken g.replied w.under.pages w.front.ring.asleep w.under.channels.front_pending w.front.stage back.InitWait back.MapRing (λ t s. absurd s) h.front_sleep;
+      back_sleep = back_sleep_at g.start g.fetched g.pushed w.under.pages w.back.ring.asleep w.under.channels.back_pending w.front.stage back.InitWait back.MapRing (λ t. absurd (false≢true t)) (λ t. h.back_sleep.may refl) h.back_sleep;
       ports = h.ports;
     })
   where

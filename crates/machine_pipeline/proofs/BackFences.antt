@@ -80,7 +80,7 @@ notified start replied taken old prod event some o n e one =
 
 goes_by : (config : Options) (w : World) (g : Flow) (d : Pipeline) (old : ℕ) (shown : Shown) (given : BackAnswer) (sends : Bool)
     → BackStands config w g d (stage.ResponseEvent old)
-    → (w.front.asleep ≡ true → g.replied ≡ g.taken + 1 → sends ≡ true)
+    → (w.front.ring.asleep ≡ true → g.replied ≡ g.taken + 1 → sends ≡ true)
     → Goes config (Move shown ∷ back_lines w.back.told given ++ halt_lines w.back.halted w.back.halted) (record { front = w.front; back = record w.back { stage = if sends then stage.Send else stage.Loop; told = None }; under = w.under }) d
 goes_by config w g d old shown given true p asks =
     let h : Holds config w g d w.front.stage (stage.ResponseEvent old) = p.holds in
@@ -95,5 +95,5 @@ pub goes_response_event : (config : Options) (w : World) (g : Flow) (d : Pipelin
 goes_response_event config w g d old p =
     let h : Holds config w g d w.front.stage (stage.ResponseEvent old) = p.holds in
     let frame : frame_of w.under.grants (page_of w.back 0) ≡ 2 = first_frame config w g d (stage.ResponseEvent old) p refl refl in
-    goes_by config w g d old _ _ (notifies old w.back.ring.prod (word_of w.under.pages (frame_of w.under.grants (page_of w.back 0)) 3)) p
-    (λ t one. notified g.start g.replied g.taken old w.back.ring.prod (word_of w.under.pages (frame_of w.under.grants (page_of w.back 0)) 3) h.back_at.0 h.back_at.1 h.indices.replied (ap (λ (f : ℕ). word_of w.under.pages f 3) frame ∙ h.front_sleep.armed t) one)
+    goes_by config w g d old _ _ (notifies old w.back.ring.indices.prod (word_of w.under.pages (frame_of w.under.grants (page_of w.back 0)) 3)) p
+    (λ t one. notified g.start g.replied g.taken old w.back.ring.indices.prod (word_of w.under.pages (frame_of w.under.grants (page_of w.back 0)) 3) h.back_at.0 h.back_at.1 h.indices.replied (ap (λ (f : ℕ). word_of w.under.pages f 3) frame ∙ h.front_sleep.armed t) one)

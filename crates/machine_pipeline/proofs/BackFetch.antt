@@ -50,7 +50,7 @@ some_requests start fetched seen word ring cons here from some = elim (cases_eq 
 
 -- word i of the entry that is copied, as the back reads it
 abbrev pub entry_word : World → ℕ → ℕ
-entry_word w i = word_of w.under.pages (frame_of w.under.grants (slot_page w.back w.back.ring.cons i)) (slot_word w.back.shape w.back.ring.cons i)
+entry_word w i = word_of w.under.pages (frame_of w.under.grants (slot_page w.back w.back.ring.indices.cons i)) (slot_word w.back.shape w.back.ring.indices.cons i)
 
 -- the next request that was pushed and not fetched, and each word of its entry
 pub record IsNext (w : World) (g : Flow) : Type 0 where
@@ -67,8 +67,8 @@ next_pushed config w g d b p i some =
       r = found.0;
       known = found.1;
       words = λ k lt.
-          ap (λ (f : ℕ). word_of w.under.pages f (slot_word w.back.shape w.back.ring.cons k)) (slot_is config w g d b w.back.ring.cons k p i.bound i.hands lt)
-          ∙ (ap (λ (s : Shape). word_of w.under.pages (slot_frame g.shape w.back.ring.cons k) (slot_word s w.back.ring.cons k)) (h.paged.shaped (bound_terms b i.bound))
+          ap (λ (f : ℕ). word_of w.under.pages f (slot_word w.back.shape w.back.ring.indices.cons k)) (slot_is config w g d b w.back.ring.indices.cons k p i.bound i.hands lt)
+          ∙ (ap (λ (s : Shape). word_of w.under.pages (slot_frame g.shape w.back.ring.indices.cons k) (slot_word s w.back.ring.indices.cons k)) (h.paged.shaped (bound_terms b i.bound))
           ∙ (ap (λ (c : ℕ). slot_of w.under.pages g.shape c k) h.indices.fetched ∙ h.slots.entries g.fetched found.0 (omega arith) pushed found.1 k lt));
     }
 
@@ -87,20 +87,20 @@ many_words X32 = omega arith
 -- the entry's first word is read in the loop
 pub goes_first : (config : Options) (w : World) (g : Flow) (d : Pipeline) (shown : Shown) (given : BackAnswer) (word : ℕ)
     → word ≡ entry_word w 0
-    → w.back.asleep ≡ false
-    → (requests_of w.back.ring w.back.seen == 0) ≡ false
+    → w.back.ring.asleep ≡ false
+    → (requests_of w.back.ring.indices w.back.ring.seen == 0) ≡ false
     → BackStands config w g d stage.Loop
-    → LooksAs config w d shown given (record w.back { entry = word ∷ []; stage = stage.Fetch 1 })
+    → LooksAs config w d shown given (record w.back { ring = record w.back.ring { entry = word ∷ [] }; stage = stage.Fetch 1 })
 goes_first config w g d shown given word read awake some p =
     let h : Holds config w g d w.front.stage stage.Loop = p.holds in
     let x = h.indices in
     let i : IsBetween stage.Loop w.back = between stage.Loop w.back refl refl refl in
-    let more : g.fetched < g.back_seen = some_requests g.start g.fetched g.back_seen w.back.seen w.back.ring x.fetched x.back_saw x.back_from some in
+    let more : g.fetched < g.back_seen = some_requests g.start g.fetched g.back_seen w.back.ring.seen w.back.ring.indices x.fetched x.back_saw x.back_from some in
     let n : IsNext w g = next_pushed config w g d stage.Loop p i more in
     let s = begins_fetch config g d (is_ready w.front.stage) (is_issuing w.front.stage) (ending_at w.front.stage w.front.ending) (telling_at w.front.stage) None w.front.requests w.back.jobs.works w.under.pages n.r h.queue.ordered n.known (omega (arith, more, x.back_to)) h.stations in
-    goes_moved config w g d (s.step ∷ []) stage.Loop (stage.Fetch 1) (record w.back { entry = word ∷ [] }) w.under.pages w.under.channels g.back_seen shown given (does_step shown (back_lines w.back.told given ++ halt_lines w.back.halted w.back.halted) (rw (p.untold, h.unhalted) refl) s) p
-    (quiet_with config w g d stage.Loop (stage.Fetch 1) w.back.asleep w.back.seen (word ∷ []) w.under.channels g.back_seen h i (between (stage.Fetch 1) w.back refl refl refl) s.now x
+    goes_moved config w g d (s.step ∷ []) stage.Loop (stage.Fetch 1) (record w.back { ring = record w.back.ring { entry = word ∷ [] } }) w.under.pages w.under.channels g.back_seen shown given (does_step shown (back_lines w.back.told given ++ halt_lines w.back.halted w.back.halted) (rw (p.untold, h.unhalted) refl) s) p
+    (quiet_with config w g d stage.Loop (stage.Fetch 1) w.back.ring.asleep w.back.ring.seen (word ∷ []) w.under.channels g.back_seen h i (between (stage.Fetch 1) w.back refl refl refl) s.now x
     (omega arith, many_words g.shape.abi, more, (n.r, n.known, one_more g.shape.abi n.r 0 word [] (some_words g.shape.abi) refl (read ∙ n.words 0 (some_words g.shape.abi))))
-    (front_sleep_at g.start g.taken g.replied w.under.pages w.front.asleep w.under.channels.front_pending w.front.stage stage.Loop (stage.Fetch 1) (λ t s. absurd s) h.front_sleep)
-    (back_sleep_at g.start g.fetched g.pushed w.under.pages w.back.asleep w.under.channels.back_pending w.front.stage stage.Loop (stage.Fetch 1) (λ t. absurd (false≢true t)) (λ t. awake) h.back_sleep)
+    (front_sleep_at g.start g.taken g.replied w.under.pages w.front.ring.asleep w.under.channels.front_pending w.front.stage stage.Loop (stage.Fetch 1) (λ t s. absurd s) h.front_sleep)
+    (back_sleep_at g.start g.fetched g.pushed w.under.pages w.back.ring.asleep w.under.channels.back_pending w.front.stage stage.Loop (stage.Fetch 1) (λ t. absurd (false≢true t)) (λ t. awake) h.back_sleep)
     refl refl)

@@ -72,7 +72,7 @@ goes_fetched : (config : Options) (w : World) (g : Flow) (d : Pipeline) (k : ℕ
 goes_fetched config w g d k shown given r words p known e = subst (λ (ws : List ℕ). LooksAs config w d shown given (fetched w.back ws)) (sym e) (goes_by {g = record g { fetched = g.fetched + 1 }} (does_step shown (back_lines w.back.told given ++ halt_lines w.back.halted w.back.halted) (rw (p.untold, h.unhalted) refl) s)
     (record {
       settled = h.settled;
-      indices = indices_with g w.front.ring w.back.ring w.front.seen w.back.seen w.back.fetched w.front.last w.front.waiting (length w.front.requests) (ending_of w.front.stage) h.back_at.2 h.indices;
+      indices = indices_with g w.front.ring.indices w.back.ring.indices w.front.ring.seen w.back.ring.seen w.back.fetched w.front.last w.front.waiting (length w.front.requests) (ending_of w.front.stage) h.back_at.2 h.indices;
       queue = h.queue;
       pool = h.pool;
       stations = s.now;
@@ -89,8 +89,8 @@ goes_fetched config w g d k shown given r words p known e = subst (λ (ws : List
       telling = h.telling;
       entries = h.entries;
       mapped = record { counted = λ test. h.mapped.counted test ∙ ap (λ (l : List Mapping). count_by test (l ++ w.back.pages)) (sym (started_hands w.back.jobs (next_number w.back) (request_of w.back.shape.abi (entry_of w.back.shape.abi r)))); framed = h.mapped.framed };
-      paged = paged_at g.shape w.back.shape w.back.ring.entries w.back.grefs w.back.port (g.before + 1) w.back.pages (stage.Fetch k) stage.Loop refl refl h.paged;
-      front_sleep = front_sleep_at g.start g.taken g.replied w.under.pages w.front.asleep w.under.channels.front_pending w.front.stage (stage.Fetch k) stage.Loop (λ u s. absurd s) h.front_sleep;
+      paged = paged_at g.shape w.back.shape w.back.ring.indices.entries w.back.grefs w.back.ring.port (g.before + 1) w.back.pages (stage.Fetch k) stage.Loop refl refl h.paged;
+      front_sleep = front_sleep_at g.start g.taken g.replied w.under.pages w.front.ring.asleep w.under.channels.front_pending w.front.stage (stage.Fetch k) stage.Loop (λ u s. absurd s) h.front_sleep;
       back_sleep = record { arming = λ u. absurd (false≢true u); armed = λ u. absurd (false≢true (sym awake ∙ u)); may = λ u. awake; woken = λ u. absurd (false≢true (sym awake ∙ u)) };
       ports = h.ports;
     }))
@@ -98,7 +98,7 @@ goes_fetched config w g d k shown given r words p known e = subst (λ (ws : List
     h : Holds config w g d w.front.stage (stage.Fetch k)
     h = p.holds
 
-    awake : w.back.asleep ≡ false
+    awake : w.back.ring.asleep ≡ false
     awake = h.back_sleep.may refl
 
     number : next_number w.back ≡ g.fetched + 1
@@ -132,7 +132,7 @@ goes_further : (config : Options) (w : World) (g : Flow) (d : Pipeline) (k word 
     → (k + 1 == entry_words_of w.back.shape.abi) ≡ last
     → word ≡ entry_word w k
     → BackStands config w g d (stage.Fetch k)
-    → LooksAs config w d shown given (if last then fetched w.back (w.back.entry ++ word ∷ []) else record w.back { entry = w.back.entry ++ word ∷ []; stage = stage.Fetch (k + 1) })
+    → LooksAs config w d shown given (if last then fetched w.back (w.back.ring.entry ++ word ∷ []) else record w.back { ring = record w.back.ring { entry = w.back.ring.entry ++ word ∷ [] }; stage = stage.Fetch (k + 1) })
 goes_further config w g d k word shown given last tested read p = by_test last tested
   where
     h : Holds config w g d w.front.stage (stage.Fetch k)
@@ -156,24 +156,24 @@ goes_further config w g d k word shown given last tested read p = by_test last t
     same : n.r ≡ r
     same = same_Some n.r r (sym n.known ∙ h.back_at.3.1)
 
-    more : w.back.entry ++ word ∷ [] ≡ take (k + 1) (entry_of g.shape.abi r)
-    more = one_more g.shape.abi r k word w.back.entry few h.back_at.3.2 (read ∙ n.words k few ∙ ap (λ (q : Request). slice_index (entry_of g.shape.abi q) k) same)
+    more : w.back.ring.entry ++ word ∷ [] ≡ take (k + 1) (entry_of g.shape.abi r)
+    more = one_more g.shape.abi r k word w.back.ring.entry few h.back_at.3.2 (read ∙ n.words k few ∙ ap (λ (q : Request). slice_index (entry_of g.shape.abi q) k) same)
 
-    by_test : (last : Bool) → (k + 1 == entry_words_of w.back.shape.abi) ≡ last → LooksAs config w d shown given (if last then fetched w.back (w.back.entry ++ word ∷ []) else record w.back { entry = w.back.entry ++ word ∷ []; stage = stage.Fetch (k + 1) })
+    by_test : (last : Bool) → (k + 1 == entry_words_of w.back.shape.abi) ≡ last → LooksAs config w d shown given (if last then fetched w.back (w.back.ring.entry ++ word ∷ []) else record w.back { ring = record w.back.ring { entry = w.back.ring.entry ++ word ∷ [] }; stage = stage.Fetch (k + 1) })
     by_test true u =
         let whole : k + 1 ≡ entry_words_of w.back.shape.abi = grind (arith, nat_tests) in
         let words : entry_words_of w.back.shape.abi ≡ entry_words_of g.shape.abi = ap entry_words_of abi in
         let all : take (k + 1) (entry_of g.shape.abi r) ≡ entry_of g.shape.abi r = take_all (k + 1) (entry_of g.shape.abi r) (let sized = length_entry g.shape.abi r in omega arith) in
-        goes_fetched config w g d k shown given r (w.back.entry ++ word ∷ []) p h.back_at.3.1 (more ∙ (all ∙ ap (λ (x : Abi). entry_of x r) (sym abi)))
+        goes_fetched config w g d k shown given r (w.back.ring.entry ++ word ∷ []) p h.back_at.3.1 (more ∙ (all ∙ ap (λ (x : Abi). entry_of x r) (sym abi)))
     by_test false u =
         let apart : k + 1 ≢ entry_words_of w.back.shape.abi = grind (arith, nat_tests) in
         let words : entry_words_of w.back.shape.abi ≡ entry_words_of g.shape.abi = ap entry_words_of abi in
-        let awake : w.back.asleep ≡ false = h.back_sleep.may refl in
-        goes_still config w g d (stage.Fetch k) (stage.Fetch (k + 1)) (record w.back { entry = w.back.entry ++ word ∷ [] }) w.under.pages w.under.channels g.back_seen shown given p
-        (quiet_with config w g d (stage.Fetch k) (stage.Fetch (k + 1)) w.back.asleep w.back.seen (w.back.entry ++ word ∷ []) w.under.channels g.back_seen h i (between (stage.Fetch (k + 1)) w.back refl refl refl) h.stations h.indices
+        let awake : w.back.ring.asleep ≡ false = h.back_sleep.may refl in
+        goes_still config w g d (stage.Fetch k) (stage.Fetch (k + 1)) (record w.back { ring = record w.back.ring { entry = w.back.ring.entry ++ word ∷ [] } }) w.under.pages w.under.channels g.back_seen shown given p
+        (quiet_with config w g d (stage.Fetch k) (stage.Fetch (k + 1)) w.back.ring.asleep w.back.ring.seen (w.back.ring.entry ++ word ∷ []) w.under.channels g.back_seen h i (between (stage.Fetch (k + 1)) w.back refl refl refl) h.stations h.indices
         (omega arith, omega arith, h.back_at.2, (r, h.back_at.3.1, more))
-        (front_sleep_at g.start g.taken g.replied w.under.pages w.front.asleep w.under.channels.front_pending w.front.stage (stage.Fetch k) (stage.Fetch (k + 1)) (λ t s. absurd s) h.front_sleep)
-        (back_sleep_at g.start g.fetched g.pushed w.under.pages w.back.asleep w.under.channels.back_pending w.front.stage (stage.Fetch k) (stage.Fetch (k + 1)) (λ t. absurd (false≢true t)) (λ t. awake) h.back_sleep)
+        (front_sleep_at g.start g.taken g.replied w.under.pages w.front.ring.asleep w.under.channels.front_pending w.front.stage (stage.Fetch k) (stage.Fetch (k + 1)) (λ t s. absurd s) h.front_sleep)
+        (back_sleep_at g.start g.fetched g.pushed w.under.pages w.back.ring.asleep w.under.channels.back_pending w.front.stage (stage.Fetch k) (stage.Fetch (k + 1)) (λ t. absurd (false≢true t)) (λ t. awake) h.back_sleep)
         refl refl)
 
 pub goes_fetch : (config : Options) (w : World) (g : Flow) (d : Pipeline) (k : ℕ) → BackStands config w g d (stage.Fetch k) → BackGoes config w d (stage.Fetch k)

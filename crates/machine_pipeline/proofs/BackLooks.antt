@@ -41,7 +41,7 @@ no_overrun start replied pushed word entries ring few size prod here from to =
 
 -- the view once the producer was read, by the tests of what was read
 abbrev looked_by : (over same : Bool) → View → ℕ → View → View
-looked_by over same v word otherwise = if over then abort (record v { halted = Some (halt.Overrun word v.ring.prod) }) else (if same then otherwise else record v { seen = word; stage = stage.Loop })
+looked_by over same v word otherwise = if over then abort (record v { halted = Some (halt.Overrun word v.ring.indices.prod) }) else (if same then otherwise else record v { ring = record v.ring { seen = word }; stage = stage.Loop })
 
 abbrev pub LooksAs : Options → World → Pipeline → Shown → BackAnswer → View → Type 0
 LooksAs config w d shown given v = Goes config (Move shown ∷ back_lines v.told given ++ halt_lines w.back.halted v.halted) (record { front = w.front; back = record v { told = None }; under = w.under }) d
@@ -49,16 +49,16 @@ LooksAs config w d shown given v = Goes config (Move shown ∷ back_lines v.told
 -- the producer as it was read, and what follows of it
 pub record IsLook (w : World) (g : Flow) (word : ℕ) : Type 0 where
   pub is : word ≡ wrapped g.start g.pushed
-  pub bounded : overruns w.back.ring word ≡ false
-  pub none : word ≡ w.back.ring.cons → g.pushed ≡ g.fetched
-  pub indices : AreIndices (record g { back_seen = g.pushed }) w.front.ring w.back.ring w.front.seen word w.back.fetched w.front.last w.front.waiting (length w.front.requests) (ending_of w.front.stage)
+  pub bounded : overruns w.back.ring.indices word ≡ false
+  pub none : word ≡ w.back.ring.indices.cons → g.pushed ≡ g.fetched
+  pub indices : AreIndices (record g { back_seen = g.pushed }) w.front.ring.indices w.back.ring.indices w.front.ring.seen word w.back.fetched w.front.last w.front.waiting (length w.front.requests) (ending_of w.front.stage)
 
 pub look : (config : Options) (w : World) (g : Flow) (d : Pipeline) (b : BackStage) (word : ℕ) → Holds config w g d w.front.stage b → IsBetween b w.back → word ≡ wrapped g.start g.pushed → IsLook w g word
 look config w g d b word h i here =
     let x = h.indices in
     record {
       is = here;
-      bounded = no_overrun g.start g.replied g.pushed word (entries_of g.shape.order) w.back.ring (few_entries g.shape.order h.shaped.narrow) (h.paged.entries_are (bound_terms b i.bound)) x.replied here (omega (arith, x.replied_fetched, x.fetched_pushed)) (omega (arith, x.all, x.held, x.room, x.taken_replied));
+      bounded = no_overrun g.start g.replied g.pushed word (entries_of g.shape.order) w.back.ring.indices (few_entries g.shape.order h.shaped.narrow) (h.paged.entries_are (bound_terms b i.bound)) x.replied here (omega (arith, x.replied_fetched, x.fetched_pushed)) (omega (arith, x.all, x.held, x.room, x.taken_replied));
       none = λ e. same_wrapped g.start g.fetched g.pushed x.fetched_pushed (omega (arith, x.all, x.few)) (sym here ∙ e ∙ x.fetched);
       indices = omega (arith, x, here);
     }
@@ -77,10 +77,10 @@ looks_by config w g d b word shown given otherwise true same p i unfetching unse
 looks_by config w g d b word shown given otherwise false true p i unfetching unsent l bounded none = none refl
 looks_by config w g d b word shown given otherwise false false p i unfetching unsent l bounded none =
     let h : Holds config w g d w.front.stage b = p.holds in
-    goes_still config w g d b stage.Loop (record w.back { seen = word }) w.under.pages w.under.channels g.pushed shown given p
-    (quiet_with config w g d b stage.Loop w.back.asleep word w.back.entry w.under.channels g.pushed h i (between stage.Loop w.back refl refl refl) (stations_between config w g d b h unfetching i.none) l.indices tt
-    (front_sleep_at g.start g.taken g.replied w.under.pages w.front.asleep w.under.channels.front_pending w.front.stage b stage.Loop (λ t s. absurd (unsent s)) h.front_sleep)
-    (back_sleep_at g.start g.fetched g.pushed w.under.pages w.back.asleep w.under.channels.back_pending w.front.stage b stage.Loop (λ t. absurd (false≢true t)) (λ t. absurd (false≢true (sym t))) h.back_sleep)
+    goes_still config w g d b stage.Loop (record w.back { ring = record w.back.ring { seen = word } }) w.under.pages w.under.channels g.pushed shown given p
+    (quiet_with config w g d b stage.Loop w.back.ring.asleep word w.back.ring.entry w.under.channels g.pushed h i (between stage.Loop w.back refl refl refl) (stations_between config w g d b h unfetching i.none) l.indices tt
+    (front_sleep_at g.start g.taken g.replied w.under.pages w.front.ring.asleep w.under.channels.front_pending w.front.stage b stage.Loop (λ t s. absurd (unsent s)) h.front_sleep)
+    (back_sleep_at g.start g.fetched g.pushed w.under.pages w.back.ring.asleep w.under.channels.back_pending w.front.stage b stage.Loop (λ t. absurd (false≢true t)) (λ t. absurd (false≢true (sym t))) h.back_sleep)
     refl refl)
 
 -- the producer stands in word 0 of the ring's first page
@@ -100,25 +100,25 @@ goes_look_again config w g d p =
     let i : IsBetween stage.LookAgain w.back = between stage.LookAgain w.back refl refl refl in
     let word : ℕ = word_of w.under.pages (frame_of w.under.grants (page_of w.back 0)) 0 in
     let l : IsLook w g word = look config w g d stage.LookAgain word h i (producer config w g d stage.LookAgain p i) in
-    looks_by config w g d stage.LookAgain word _ _ (record w.back { seen = word; stage = stage.Loop; asleep = true }) (overruns w.back.ring word) (word == w.back.ring.cons) p i refl (λ s. s) l l.bounded
+    looks_by config w g d stage.LookAgain word _ _ (record w.back { ring = record w.back.ring { seen = word; asleep = true }; stage = stage.Loop }) (overruns w.back.ring.indices word) (word == w.back.ring.indices.cons) p i refl (λ s. s) l l.bounded
     (λ same.
     let e : g.pushed ≡ g.fetched = l.none (grind (arith, nat_tests)) in
-    goes_still config w g d stage.LookAgain stage.Loop (record w.back { seen = word; asleep = true }) w.under.pages w.under.channels g.pushed _ _ p
-    (quiet_with config w g d stage.LookAgain stage.Loop true word w.back.entry w.under.channels g.pushed h i (between stage.Loop w.back refl refl refl) h.stations l.indices tt
-    (front_sleep_at g.start g.taken g.replied w.under.pages w.front.asleep w.under.channels.front_pending w.front.stage stage.LookAgain stage.Loop (λ t s. absurd s) h.front_sleep)
+    goes_still config w g d stage.LookAgain stage.Loop (record w.back { ring = record w.back.ring { seen = word; asleep = true } }) w.under.pages w.under.channels g.pushed _ _ p
+    (quiet_with config w g d stage.LookAgain stage.Loop true word w.back.ring.entry w.under.channels g.pushed h i (between stage.Loop w.back refl refl refl) h.stations l.indices tt
+    (front_sleep_at g.start g.taken g.replied w.under.pages w.front.ring.asleep w.under.channels.front_pending w.front.stage stage.LookAgain stage.Loop (λ t s. absurd s) h.front_sleep)
     (record { arming = λ t. absurd (false≢true t); armed = λ t. h.back_sleep.arming refl; may = λ t. absurd (false≢true (sym t)); woken = λ t. inl e })
     refl refl))
 
 -- in the loop with nothing at hand: where nothing is new the back stores its event word
-pub goes_loop_look : (config : Options) (w : World) (g : Flow) (d : Pipeline) (shown : Shown) (given : BackAnswer) (word : ℕ) → word ≡ word_of w.under.pages (frame_of w.under.grants (page_of w.back 0)) 0 → w.back.asleep ≡ false → BackStands config w g d stage.Loop → LooksAs config w d shown given (looked w.back word (record w.back { seen = word; stage = stage.StoreEvent }))
+pub goes_loop_look : (config : Options) (w : World) (g : Flow) (d : Pipeline) (shown : Shown) (given : BackAnswer) (word : ℕ) → word ≡ word_of w.under.pages (frame_of w.under.grants (page_of w.back 0)) 0 → w.back.ring.asleep ≡ false → BackStands config w g d stage.Loop → LooksAs config w d shown given (looked w.back word (record w.back { ring = record w.back.ring { seen = word }; stage = stage.StoreEvent }))
 goes_loop_look config w g d shown given word read awake p =
     let h : Holds config w g d w.front.stage stage.Loop = p.holds in
     let i : IsBetween stage.Loop w.back = between stage.Loop w.back refl refl refl in
     let l : IsLook w g word = look config w g d stage.Loop word h i (read ∙ producer config w g d stage.Loop p i) in
-    looks_by config w g d stage.Loop word shown given (record w.back { seen = word; stage = stage.StoreEvent }) (overruns w.back.ring word) (word == w.back.ring.cons) p i refl (λ s. s) l l.bounded
+    looks_by config w g d stage.Loop word shown given (record w.back { ring = record w.back.ring { seen = word }; stage = stage.StoreEvent }) (overruns w.back.ring.indices word) (word == w.back.ring.indices.cons) p i refl (λ s. s) l l.bounded
     (λ same.
-    goes_still config w g d stage.Loop stage.StoreEvent (record w.back { seen = word }) w.under.pages w.under.channels g.pushed shown given p
-    (quiet_with config w g d stage.Loop stage.StoreEvent w.back.asleep word w.back.entry w.under.channels g.pushed h i (between stage.StoreEvent w.back refl refl refl) h.stations l.indices tt
-    (front_sleep_at g.start g.taken g.replied w.under.pages w.front.asleep w.under.channels.front_pending w.front.stage stage.Loop stage.StoreEvent (λ t s. absurd s) h.front_sleep)
-    (back_sleep_at g.start g.fetched g.pushed w.under.pages w.back.asleep w.under.channels.back_pending w.front.stage stage.Loop stage.StoreEvent (λ t. absurd (false≢true t)) (λ t. awake) h.back_sleep)
+    goes_still config w g d stage.Loop stage.StoreEvent (record w.back { ring = record w.back.ring { seen = word } }) w.under.pages w.under.channels g.pushed shown given p
+    (quiet_with config w g d stage.Loop stage.StoreEvent w.back.ring.asleep word w.back.ring.entry w.under.channels g.pushed h i (between stage.StoreEvent w.back refl refl refl) h.stations l.indices tt
+    (front_sleep_at g.start g.taken g.replied w.under.pages w.front.ring.asleep w.under.channels.front_pending w.front.stage stage.Loop stage.StoreEvent (λ t s. absurd s) h.front_sleep)
+    (back_sleep_at g.start g.fetched g.pushed w.under.pages w.back.ring.asleep w.under.channels.back_pending w.front.stage stage.Loop stage.StoreEvent (λ t. absurd (false≢true t)) (λ t. awake) h.back_sleep)
     refl refl))

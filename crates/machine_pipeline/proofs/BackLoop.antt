@@ -67,14 +67,14 @@ goes_woken : (config : Options) (w : World) (g : Flow) (d : Pipeline) (shown : S
     → c.made ≡ w.under.channels.made
     → c.ports ≡ w.under.channels.ports
     → BackStands config w g d stage.Loop
-    → Goes config (Move shown ∷ back_lines w.back.told given ++ halt_lines w.back.halted w.back.halted) (record { front = w.front; back = record w.back { asleep = false; told = None }; under = (let u : Hypervisor = w.under in record u { channels = c }) }) d
+    → Goes config (Move shown ∷ back_lines w.back.told given ++ halt_lines w.back.halted w.back.halted) (record { front = w.front; back = record w.back { ring = record w.back.ring { asleep = false }; told = None }; under = (let u : Hypervisor = w.under in record u { channels = c }) }) d
 goes_woken config w g d shown given c pending made ports p =
     let h : Holds config w g d w.front.stage stage.Loop = p.holds in
     let i : IsBetween stage.Loop w.back = between stage.Loop w.back refl refl refl in
-    subst (λ (s : BackStage). Goes config (Move shown ∷ back_lines w.back.told given ++ halt_lines w.back.halted w.back.halted) (record { front = w.front; back = record w.back { stage = s; asleep = false; told = None }; under = (let u : Hypervisor = w.under in record u { channels = c }) }) d) (sym p.at)
-    (goes_still config w g d stage.Loop stage.Loop (record w.back { asleep = false }) w.under.pages c g.back_seen shown given p
-    (quiet_with config w g d stage.Loop stage.Loop false w.back.seen w.back.entry c g.back_seen h i i h.stations h.indices tt
-    (subst (λ (b : Bool). IsFrontSleep g.start g.taken g.replied w.under.pages w.front.asleep b w.front.stage stage.Loop) (sym pending) h.front_sleep)
+    subst (λ (s : BackStage). Goes config (Move shown ∷ back_lines w.back.told given ++ halt_lines w.back.halted w.back.halted) (record { front = w.front; back = record w.back { stage = s; ring = record w.back.ring { asleep = false }; told = None }; under = (let u : Hypervisor = w.under in record u { channels = c }) }) d) (sym p.at)
+    (goes_still config w g d stage.Loop stage.Loop (record w.back { ring = record w.back.ring { asleep = false } }) w.under.pages c g.back_seen shown given p
+    (quiet_with config w g d stage.Loop stage.Loop false w.back.ring.seen w.back.ring.entry c g.back_seen h i i h.stations h.indices tt
+    (subst (λ (b : Bool). IsFrontSleep g.start g.taken g.replied w.under.pages w.front.ring.asleep b w.front.stage stage.Loop) (sym pending) h.front_sleep)
     (record { arming = λ t. absurd (false≢true t); armed = λ t. absurd (false≢true t); may = λ t. refl; woken = λ t. absurd (false≢true t) })
     made ports))
 
@@ -100,25 +100,25 @@ abbrev read_ask : Bool → View → BackAsk
 read_ask none v = if none then index_ask v 0 else entry_ask v 0
 
 abbrev read_step : Bool → View → BackAnswer → View
-read_step none v (answer.Word word) = if none then looked v word (record v { seen = word; stage = stage.StoreEvent }) else record v { entry = word ∷ []; stage = stage.Fetch 1 }
-read_step none v answer.Event = record v { asleep = false }
+read_step none v (answer.Word word) = if none then looked v word (record v { ring = record v.ring { seen = word }; stage = stage.StoreEvent }) else record v { ring = record v.ring { entry = word ∷ [] }; stage = stage.Fetch 1 }
+read_step none v answer.Event = record v { ring = record v.ring { asleep = false } }
 read_step none v given = v
 
-reads : (config : Options) (w : World) (g : Flow) (d : Pipeline) (none : Bool) → (requests_of w.back.ring w.back.seen == 0) ≡ none → w.back.asleep ≡ false → BackStands config w g d stage.Loop
+reads : (config : Options) (w : World) (g : Flow) (d : Pipeline) (none : Bool) → (requests_of w.back.ring.indices w.back.ring.seen == 0) ≡ none → w.back.ring.asleep ≡ false → BackStands config w g d stage.Loop
     → ActGoes config w d (read_step none w.back) (back_act w.under back_mover.Back (read_ask none w.back) Took)
 reads config w g d true some awake p = goes_loop_look config w g d _ _ (word_of w.under.pages (frame_of w.under.grants (page_of w.back 0)) 0) refl awake p
 reads config w g d false some awake p = goes_first config w g d _ _ (entry_word w 0) refl awake some p
 
-looks : (config : Options) (w : World) (g : Flow) (d : Pipeline) (asleep : Bool) → w.back.asleep ≡ asleep → BackStands config w g d stage.Loop
-    → ActGoes config w d (loop_step w.back None) (back_act w.under back_mover.Back (if asleep then ask.Wait else read_ask (requests_of w.back.ring w.back.seen == 0) w.back) Took)
+looks : (config : Options) (w : World) (g : Flow) (d : Pipeline) (asleep : Bool) → w.back.ring.asleep ≡ asleep → BackStands config w g d stage.Loop
+    → ActGoes config w d (loop_step w.back None) (back_act w.under back_mover.Back (if asleep then ask.Wait else read_ask (requests_of w.back.ring.indices w.back.ring.seen == 0) w.back) Took)
 looks config w g d true sleeps p = waits config w g d w.under.channels.back_pending (watch_next w.under end.Back) p
-looks config w g d false sleeps p = reads config w g d (requests_of w.back.ring w.back.seen == 0) refl sleeps p
+looks config w g d false sleeps p = reads config w g d (requests_of w.back.ring.indices w.back.ring.seen == 0) refl sleeps p
 
 loops : (config : Options) (w : World) (g : Flow) (d : Pipeline) (r : Option Reply) → next_reply w.back ≡ r → BackStands config w g d stage.Loop
     → ActGoes config w d (loop_step w.back r) (back_act w.under back_mover.Back (loop_ask w.back r) Took)
 loops config w g d (Some rep) e p =
-    goes_reply config w g d rep (frame_of w.under.grants (slot_page w.back w.back.ring.prod 0)) _ _ p (slot_is config w g d stage.Loop w.back.ring.prod 0 p refl refl (response_fits g.shape.abi 0 (omega arith))) e
-loops config w g d None e p = looks config w g d w.back.asleep refl p
+    goes_reply config w g d rep (frame_of w.under.grants (slot_page w.back w.back.ring.indices.prod 0)) _ _ p (slot_is config w g d stage.Loop w.back.ring.indices.prod 0 p refl refl (response_fits g.shape.abi 0 (omega arith))) e
+loops config w g d None e p = looks config w g d w.back.ring.asleep refl p
 
 pub goes_loop : (config : Options) (w : World) (g : Flow) (d : Pipeline) → BackStands config w g d stage.Loop → BackGoes config w d stage.Loop
 goes_loop config w g d p = loops config w g d (next_reply w.back) refl p

@@ -154,7 +154,7 @@ maps config w g d verdict b' p e named stepped i mapped = subst (λ (x : Result 
       replies = p.holds.replies;
       front_at = p.holds.front_at;
       offered = p.holds.offered;
-      back_at = back_at_setting b' g.shape g.start g.fetched g.back_seen g.replied g.series w.back.jobs.works w.back.entry i p.holds.back_at;
+      back_at = back_at_setting b' g.shape g.start g.fetched g.back_seen g.replied g.series w.back.jobs.works w.back.ring.entry i p.holds.back_at;
       memory = length-set w.under.pages (gref / 512 * 1024 + 2 * (gref % 512)) value ∙ p.holds.memory;
       ring = record {
         begun = begun g.start new w.front.stage p.connected;
@@ -187,8 +187,8 @@ maps config w g d verdict b' p e named stepped i mapped = subst (λ (x : Result 
         gref = gref_more w.back.pages mapping p.holds.paged.gref named;
         mode = mode_more w.back.pages mapping p.holds.paged.mode refl;
       };
-      front_sleep = front_sleep_at g.start g.taken g.replied new w.front.asleep w.under.channels.front_pending w.front.stage stage.MapRing b' (λ t s. absurd s) (front_sleep_kept g.start g.taken g.replied w.under.pages new w.front.asleep w.under.channels.front_pending w.front.stage stage.MapRing (others 2 (omega arith) 3 (omega arith)) p.holds.front_sleep);
-      back_sleep = back_sleep_at g.start g.fetched g.pushed new w.back.asleep w.under.channels.back_pending w.front.stage stage.MapRing b' (λ t. absurd (false≢true (sym i.unarmed ∙ t))) (λ t. p.holds.back_sleep.may refl) (back_sleep_kept g.start g.fetched g.pushed w.under.pages new w.back.asleep w.under.channels.back_pending w.front.stage stage.MapRing (others 2 (omega arith) 1 (omega arith)) p.holds.back_sleep);
+      front_sleep = front_sleep_at g.start g.taken g.replied new w.front.ring.asleep w.under.channels.front_pending w.front.stage stage.MapRing b' (λ t s. absurd s) (front_sleep_kept g.start g.taken g.replied w.under.pages new w.front.ring.asleep w.under.channels.front_pending w.front.stage stage.MapRing (others 2 (omega arith) 3 (omega arith)) p.holds.front_sleep);
+      back_sleep = back_sleep_at g.start g.fetched g.pushed new w.back.ring.asleep w.under.channels.back_pending w.front.stage stage.MapRing b' (λ t. absurd (false≢true (sym i.unarmed ∙ t))) (λ t. p.holds.back_sleep.may refl) (back_sleep_kept g.start g.fetched g.pushed w.under.pages new w.back.ring.asleep w.under.channels.back_pending w.front.stage stage.MapRing (others 2 (omega arith) 1 (omega arith)) p.holds.back_sleep);
       ports = subst (λ (bound : Bool). PortsAt g.before (is_connected w.front.stage) bound w.under.channels.made w.under.channels.ports) (sym i.unbound) p.holds.ports;
     })))
   where
@@ -278,15 +278,15 @@ binds config w g d port state p one e =
       slots = slots_at g.shape g.start g.fetched g.pushed g.taken g.replied g.series g.replies w.under.pages w.front.stage stage.Bind stage.Loop (λ rep t i lt. cc) h.slots;
       hands = refl;
       paged = record { shaped = λ t. h.paged.shaped refl; entries_are = λ t. h.paged.entries_are refl; grefs_are = λ t. h.paged.grefs_are refl; port_is = λ t. h.paged.port_is refl; mapped = h.paged.mapped; gref = h.paged.gref; mode = h.paged.mode };
-      front_sleep = front_sleep_at g.start g.taken g.replied w.under.pages w.front.asleep w.under.channels.front_pending w.front.stage stage.Bind stage.Loop (λ t s. absurd s) h.front_sleep;
-      back_sleep = back_sleep_at g.start g.fetched g.pushed w.under.pages w.back.asleep w.under.channels.back_pending w.front.stage stage.Bind stage.Loop (λ t. t) (λ t. h.back_sleep.may refl) h.back_sleep;
+      front_sleep = front_sleep_at g.start g.taken g.replied w.under.pages w.front.ring.asleep w.under.channels.front_pending w.front.stage stage.Bind stage.Loop (λ t s. absurd s) h.front_sleep;
+      back_sleep = back_sleep_at g.start g.fetched g.pushed w.under.pages w.back.ring.asleep w.under.channels.back_pending w.front.stage stage.Bind stage.Loop (λ t. t) (λ t. h.back_sleep.may refl) h.back_sleep;
       ports = is_bound_now g.before w.under.channels (is_connected w.front.stage) p.connected h.ports;
     })))
 
 pub goes_bind : (config : Options) (w : World) (g : Flow) (d : Pipeline) → BackStands config w g d stage.Bind → BackGoes config w d stage.Bind
 goes_bind config w g d p =
     let h : Holds config w g d w.front.stage stage.Bind = p.holds in
-    binds config w g d w.back.port (state_of w.under.channels w.back.port) p (h.paged.port_is refl)
+    binds config w g d w.back.ring.port (state_of w.under.channels w.back.ring.port) p (h.paged.port_is refl)
     (ap (state_of w.under.channels) (h.paged.port_is refl) ∙ waits_bound g.before w.under.channels (is_connected w.front.stage) p.connected h.ports)
 
 -- an event or a watch leaves a back that waits for terms as it is
@@ -298,7 +298,7 @@ goes_waited : (config : Options) (w : World) (g : Flow) (d : Pipeline) (shown : 
     → Goes config (Move shown ∷ back_lines w.back.told given ++ halt_lines w.back.halted w.back.halted) (record { front = w.front; back = record w.back { told = None }; under = (let u : Hypervisor = w.under in record u { channels = c }) }) d
 goes_waited config w g d shown given c pending made ports p =
     let h : Holds config w g d w.front.stage stage.InitWait = p.holds in
-    let awake : w.back.asleep ≡ false = h.back_sleep.may refl in
+    let awake : w.back.ring.asleep ≡ false = h.back_sleep.may refl in
     subst (λ (s : BackStage). Goes config (Move shown ∷ back_lines w.back.told given ++ halt_lines w.back.halted w.back.halted) (record { front = w.front; back = record w.back { stage = s; told = None }; under = (let u : Hypervisor = w.under in record u { channels = c }) }) d) (sym p.at)
     (goes_still config w g d stage.InitWait stage.InitWait w.back w.under.pages c g.back_seen shown given p (record {
       indices = h.indices;
@@ -314,7 +314,7 @@ goes_waited config w g d shown given c pending made ports p =
       slots = h.slots;
       hands = refl;
       paged = h.paged;
-      front_sleep = subst (λ (b : Bool). IsFrontSleep g.start g.taken g.replied w.under.pages w.front.asleep b w.front.stage stage.InitWait) (sym pending) h.front_sleep;
+      front_sleep = subst (λ (b : Bool). IsFrontSleep g.start g.taken g.replied w.under.pages w.front.ring.asleep b w.front.stage stage.InitWait) (sym pending) h.front_sleep;
       back_sleep = record { arming = λ t. absurd (false≢true t); armed = λ t. absurd (false≢true (sym awake ∙ t)); may = λ t. awake; woken = λ t. absurd (false≢true (sym awake ∙ t)) };
       ports = rw (made, ports) h.ports;
     }))

@@ -117,13 +117,13 @@ pub quiet_with : {d' : Pipeline} (config : Options) (w : World) (g : Flow) (d : 
     → IsBetween b w.back
     → IsBetween b' w.back
     → AreStations config g d' (is_ready w.front.stage) (is_issuing w.front.stage) (is_fetching b') (ending_at w.front.stage w.front.ending) (telling_at w.front.stage) (reply_at b') w.front.requests w.back.jobs.works w.under.pages
-    → AreIndices (record g { back_seen = seen }) w.front.ring w.back.ring w.front.seen word w.back.fetched w.front.last w.front.waiting (length w.front.requests) (ending_of w.front.stage)
+    → AreIndices (record g { back_seen = seen }) w.front.ring.indices w.back.ring.indices w.front.ring.seen word w.back.fetched w.front.last w.front.waiting (length w.front.requests) (ending_of w.front.stage)
     → BackAt g.shape g.start g.fetched seen g.replied g.series w.back.jobs.works entry b'
-    → IsFrontSleep g.start g.taken g.replied w.under.pages w.front.asleep channels.front_pending w.front.stage b'
+    → IsFrontSleep g.start g.taken g.replied w.under.pages w.front.ring.asleep channels.front_pending w.front.stage b'
     → IsBackSleep g.start g.fetched g.pushed w.under.pages asleep channels.back_pending w.front.stage b'
     → channels.made ≡ w.under.channels.made
     → channels.ports ≡ w.under.channels.ports
-    → Moves config w g d' w.front.stage b b' (record w.back { stage = b'; asleep = asleep; seen = word; entry = entry; told = None }) w.under.pages channels seen
+    → Moves config w g d' w.front.stage b b' (record w.back { stage = b'; ring = record w.back.ring { asleep = asleep; seen = word; entry = entry }; told = None }) w.under.pages channels seen
 quiet_with config w g d b b' asleep word entry channels seen h i j stations indices at front_sleep back_sleep made ports = record {
   indices = indices;
   stations = stations;
@@ -137,7 +137,7 @@ quiet_with config w g d b b' asleep word entry channels seen h i j stations indi
   ring = h.ring;
   slots = slots_at g.shape g.start g.fetched g.pushed g.taken g.replied g.series g.replies w.under.pages w.front.stage b b' (λ rep t k lt. absurd (none-some rep (sym j.none ∙ t))) h.slots;
   hands = j.hands ∙ sym i.hands;
-  paged = paged_at g.shape w.back.shape w.back.ring.entries w.back.grefs w.back.port (g.before + 1) w.back.pages b b' i.bound j.bound h.paged;
+  paged = paged_at g.shape w.back.shape w.back.ring.indices.entries w.back.grefs w.back.ring.port (g.before + 1) w.back.pages b b' i.bound j.bound h.paged;
   front_sleep = front_sleep;
   back_sleep = back_sleep;
   ports = rw (made, ports) (subst (λ (bound : Bool). PortsAt g.before (is_connected w.front.stage) bound w.under.channels.made w.under.channels.ports) (i.bound ∙ sym j.bound) h.ports);
@@ -149,15 +149,15 @@ pub quiet : (config : Options) (w : World) (g : Flow) (d : Pipeline) (b b' : Bac
     → IsBetween b w.back
     → IsBetween b' w.back
     → AreStations config g d (is_ready w.front.stage) (is_issuing w.front.stage) (is_fetching b') (ending_at w.front.stage w.front.ending) (telling_at w.front.stage) (reply_at b') w.front.requests w.back.jobs.works w.under.pages
-    → BackAt g.shape g.start g.fetched g.back_seen g.replied g.series w.back.jobs.works w.back.entry b'
-    → (w.front.asleep ≡ true → BackSends b g.replied g.taken → (g.replied ≡ g.taken) ⊎ (w.under.channels.front_pending ≡ true) ⊎ BackSends b' g.replied g.taken)
+    → BackAt g.shape g.start g.fetched g.back_seen g.replied g.series w.back.jobs.works w.back.ring.entry b'
+    → (w.front.ring.asleep ≡ true → BackSends b g.replied g.taken → (g.replied ≡ g.taken) ⊎ (w.under.channels.front_pending ≡ true) ⊎ BackSends b' g.replied g.taken)
     → (is_back_arming b' ≡ true → is_back_arming b ≡ true)
-    → (may_back_sleep b' ≡ false → w.back.asleep ≡ false)
+    → (may_back_sleep b' ≡ false → w.back.ring.asleep ≡ false)
     → Moves config w g d w.front.stage b b' (record w.back { stage = b'; told = None }) w.under.pages w.under.channels g.back_seen
 quiet config w g d b b' h i j stations at sends arming may =
-    quiet_with config w g d b b' w.back.asleep w.back.seen w.back.entry w.under.channels g.back_seen h i j stations h.indices at
-    (front_sleep_at g.start g.taken g.replied w.under.pages w.front.asleep w.under.channels.front_pending w.front.stage b b' sends h.front_sleep)
-    (back_sleep_at g.start g.fetched g.pushed w.under.pages w.back.asleep w.under.channels.back_pending w.front.stage b b' arming may h.back_sleep)
+    quiet_with config w g d b b' w.back.ring.asleep w.back.ring.seen w.back.ring.entry w.under.channels g.back_seen h i j stations h.indices at
+    (front_sleep_at g.start g.taken g.replied w.under.pages w.front.ring.asleep w.under.channels.front_pending w.front.stage b b' sends h.front_sleep)
+    (back_sleep_at g.start g.fetched g.pushed w.under.pages w.back.ring.asleep w.under.channels.back_pending w.front.stage b b' arming may h.back_sleep)
     refl refl
 
 -- the stations where no entry is being copied and no response written

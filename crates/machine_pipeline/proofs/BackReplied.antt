@@ -124,26 +124,26 @@ pub goes_producer : (config : Options) (w : World) (g : Flow) (d : Pipeline) (re
 goes_producer config w g d rep p = goes_by {g = flow} (does_step _ (lines.Reply rep.id rep.status ∷ halt_lines w.back.halted w.back.halted) (rw h.unhalted refl) s)
     (record {
       settled = h.settled;
-      indices = indices_replied g (g.replies ++ rep ∷ []) w.front.ring w.back.ring w.front.seen w.back.seen w.back.fetched w.front.last w.front.waiting (length w.front.requests) (ending_of w.front.stage) owed x;
+      indices = indices_replied g (g.replies ++ rep ∷ []) w.front.ring.indices w.back.ring.indices w.front.ring.seen w.back.ring.seen w.back.fetched w.front.last w.front.waiting (length w.front.requests) (ending_of w.front.stage) owed x;
       queue = h.queue;
       pool = h.pool;
       stations = stations_elsewhere config flow (after_steps (s.step ∷ []) d) (is_ready w.front.stage) (is_issuing w.front.stage) false (ending_at w.front.stage w.front.ending) (telling_at w.front.stage) None w.front.requests w.back.jobs.works w.under.pages new w.front.sectors w.front.last h.submitted (λ f low high. wrote.others f (inr low)) s.now;
       works = h.works;
       counted = omega (arith, h.counted);
       replies = replies_more g.fetched g.taken g.replied g.replies rep h.back_at.positive h.back_at.reached h.back_at.op others h.replies;
-      front_at = front_still g.shape g.start g.pushed g.taken g.front_seen g.submitted g.replies (next_request w.front) w.front.entry w.front.ending w.front.stage rep ending_other h.front_at;
+      front_at = front_still g.shape g.start g.pushed g.taken g.front_seen g.submitted g.replies (next_request w.front) w.front.ring.entry w.front.ending w.front.stage rep ending_other h.front_at;
       offered = h.offered;
       back_at = (omega arith, x.replied ∙ ap (λ (i : ℕ). wrapped g.start i) (omega arith));
       memory = wrote.memory;
       ring = ring_replied g.shape.order g.start g.pushed g.replied (length w.back.pages) word w.under.pages new w.front.stage wrote next p.connected h.paged.mapped h.ring;
-      slots = slots_replied g.shape g.start g.fetched g.pushed g.taken g.replied w.back.ring.prod g.series g.replies new w.front.stage rep h.replies.counted (slots_beside g.shape g.start g.fetched g.pushed g.taken g.replied 2 word g.series g.replies w.under.pages new w.front.stage (stage.Producer rep) wrote (omega arith) h.shaped.narrow h.slots);
+      slots = slots_replied g.shape g.start g.fetched g.pushed g.taken g.replied w.back.ring.indices.prod g.series g.replies new w.front.stage rep h.replies.counted (slots_beside g.shape g.start g.fetched g.pushed g.taken g.replied 2 word g.series g.replies w.under.pages new w.front.stage (stage.Producer rep) wrote (omega arith) h.shaped.narrow h.slots);
       frames = frames_beside config w g d w.front.stage (stage.Producer rep) new h wrote.others;
       telling = told_elsewhere config w g d w.front.stage (stage.Producer rep) new h (λ f low high. wrote.others f (inr low));
       entries = entries_beside config w g d w.front.stage (stage.Producer rep) new h wrote.others;
       mapped = h.mapped;
-      paged = paged_at g.shape w.back.shape w.back.ring.entries w.back.grefs w.back.port (g.before + 1) w.back.pages (stage.Producer rep) (stage.ProducerFence w.back.ring.prod) refl refl h.paged;
-      front_sleep = front_sleep_replied g.start g.taken g.replied w.back.ring.prod new w.front.asleep w.under.channels.front_pending w.front.stage rep (front_sleep_kept g.start g.taken g.replied w.under.pages new w.front.asleep w.under.channels.front_pending w.front.stage (stage.Producer rep) (wrote.words 2 3 (omega arith)) h.front_sleep);
-      back_sleep = back_sleep_at g.start g.fetched g.pushed new w.back.asleep w.under.channels.back_pending w.front.stage (stage.Producer rep) (stage.ProducerFence w.back.ring.prod) (λ t. t) (λ t. cc) (back_sleep_kept g.start g.fetched g.pushed w.under.pages new w.back.asleep w.under.channels.back_pending w.front.stage (stage.Producer rep) (wrote.words 2 1 (omega arith)) h.back_sleep);
+      paged = paged_at g.shape w.back.shape w.back.ring.indices.entries w.back.grefs w.back.ring.port (g.before + 1) w.back.pages (stage.Producer rep) (stage.ProducerFence w.back.ring.indices.prod) refl refl h.paged;
+      front_sleep = front_sleep_replied g.start g.taken g.replied w.back.ring.indices.prod new w.front.ring.asleep w.under.channels.front_pending w.front.stage rep (front_sleep_kept g.start g.taken g.replied w.under.pages new w.front.ring.asleep w.under.channels.front_pending w.front.stage (stage.Producer rep) (wrote.words 2 3 (omega arith)) h.front_sleep);
+      back_sleep = back_sleep_at g.start g.fetched g.pushed new w.back.ring.asleep w.under.channels.back_pending w.front.stage (stage.Producer rep) (stage.ProducerFence w.back.ring.indices.prod) (λ t. t) (λ t. cc) (back_sleep_kept g.start g.fetched g.pushed w.under.pages new w.back.ring.asleep w.under.channels.back_pending w.front.stage (stage.Producer rep) (wrote.words 2 1 (omega arith)) h.back_sleep);
       ports = h.ports;
     })
   where
@@ -153,7 +153,7 @@ goes_producer config w g d rep p = goes_by {g = flow} (does_step _ (lines.Reply 
     h : Holds config w g d w.front.stage (stage.Producer rep)
     h = p.holds
 
-    x : AreIndices g w.front.ring w.back.ring w.front.seen w.back.seen w.back.fetched w.front.last w.front.waiting (length w.front.requests) (ending_of w.front.stage)
+    x : AreIndices g w.front.ring.indices w.back.ring.indices w.front.ring.seen w.back.ring.seen w.back.fetched w.front.last w.front.waiting (length w.front.requests) (ending_of w.front.stage)
     x = h.indices
 
     s : Stepped None IsSame d (lines.Reply rep.id rep.status ∷ []) (λ x. AreStations config (record g { replied = g.replied + 1; replies = g.replies ++ rep ∷ [] }) x (is_ready w.front.stage) (is_issuing w.front.stage) false (ending_at w.front.stage w.front.ending) (telling_at w.front.stage) None w.front.requests w.back.jobs.works w.under.pages)
@@ -176,10 +176,10 @@ goes_producer config w g d rep p = goes_by {g = flow} (does_step _ (lines.Reply 
     in_two = first_frame config w g d (stage.Producer rep) p refl refl
 
     word : ℕ
-    word = next_of w.back.ring.prod
+    word = next_of w.back.ring.indices.prod
 
     next : word ≡ wrapped g.start (g.replied + 1)
-    next = next_wrapped g.start g.replied w.back.ring.prod x.replied
+    next = next_wrapped g.start g.replied w.back.ring.indices.prod x.replied
 
     new : List ℕ
     new = with_word w.under.pages frame 2 word

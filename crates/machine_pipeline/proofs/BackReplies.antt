@@ -95,16 +95,16 @@ pub goes_word : (config : Options) (w : World) (g : Flow) (d : Pipeline) (steps 
     → Does None IsSame (Move shown ∷ back_lines w.back.told given ++ halt_lines w.back.halted w.back.halted) d steps
     → BackStands config w g d b
     → IsAnswering b b' rep i
-    → frame ≡ slot_frame g.shape w.back.ring.prod i
+    → frame ≡ slot_frame g.shape w.back.ring.indices.prod i
     → (BackSends b g.replied g.taken → ⊥)
     → ((j : ℕ) → j < i → slot_of w.under.pages g.shape (wrapped g.start g.replied) j ≡ response_word rep j)
     → AreStations config g (after_steps steps d) (is_ready w.front.stage) (is_issuing w.front.stage) (is_fetching b') (ending_at w.front.stage w.front.ending) (telling_at w.front.stage) (reply_at b') w.front.requests jobs.works w.under.pages
     → AreWorks g.submitted g.series g.fetched jobs.works
     → length jobs.works + 1 + g.replied ≡ g.fetched
     → jobs.info ≡ w.back.jobs.info
-    → BackAt g.shape g.start g.fetched g.back_seen g.replied g.series jobs.works w.back.entry b'
+    → BackAt g.shape g.start g.fetched g.back_seen g.replied g.series jobs.works w.back.ring.entry b'
     → hands_at b' (with_jobs w.back jobs) ≡ hands_at b w.back
-    → Goes config (Move shown ∷ back_lines w.back.told given ++ halt_lines w.back.halted w.back.halted) (record { front = w.front; back = record w.back { jobs = jobs; stage = b'; told = None }; under = with_pages w.under (with_word w.under.pages frame (slot_word w.back.shape w.back.ring.prod i) (response_word rep i)) }) d
+    → Goes config (Move shown ∷ back_lines w.back.told given ++ halt_lines w.back.halted w.back.halted) (record { front = w.front; back = record w.back { jobs = jobs; stage = b'; told = None }; under = with_pages w.under (with_word w.under.pages frame (slot_word w.back.shape w.back.ring.indices.prod i) (response_word rep i)) }) d
 goes_word config w g d steps b b' rep i jobs frame shown given does p a placed unsent before stations works counted info at hands =
     goes_moved config w g d steps b b' (with_jobs w.back jobs) new w.under.channels g.back_seen shown given does p (record {
       indices = h.indices;
@@ -119,16 +119,16 @@ goes_word config w g d steps b b' rep i jobs frame shown given does p a placed u
       ring = ring_beside g.shape.order g.start g.pushed g.replied (length w.back.pages) (slot_frame g.shape index i) (slot_word g.shape index i) (response_word rep i) w.under.pages new w.front.stage r (omega (arith, after)) (omega (arith, after)) p.connected (all_mapped b g.shape.order (length w.back.pages) a.bound h.paged.mapped) h.ring;
       slots = slots_written g.shape g.start g.fetched g.pushed g.taken g.replied (length g.series) i rep g.series g.replies w.under.pages new w.front.stage b b' r h.shaped.narrow a.few a.here a.upto before (omega arith) x.fetched_pushed (omega (arith, x.all)) (omega (arith, x.held, x.room)) refl h.replies.counted h.slots;
       hands = hands;
-      paged = paged_at g.shape w.back.shape w.back.ring.entries w.back.grefs w.back.port (g.before + 1) w.back.pages b b' a.bound a.bound_still h.paged;
-      front_sleep = front_sleep_at g.start g.taken g.replied new w.front.asleep w.under.channels.front_pending w.front.stage b b' (λ t s. absurd (unsent s)) (front_sleep_kept g.start g.taken g.replied w.under.pages new w.front.asleep w.under.channels.front_pending w.front.stage b (r.words 2 3 (omega (arith, after))) h.front_sleep);
-      back_sleep = back_sleep_at g.start g.fetched g.pushed new w.back.asleep w.under.channels.back_pending w.front.stage b b' (λ t. absurd (false≢true (sym a.unarmed ∙ t))) (λ t. absurd (false≢true (sym t ∙ a.sleeps))) (back_sleep_kept g.start g.fetched g.pushed w.under.pages new w.back.asleep w.under.channels.back_pending w.front.stage b (r.words 2 1 (omega (arith, after))) h.back_sleep);
+      paged = paged_at g.shape w.back.shape w.back.ring.indices.entries w.back.grefs w.back.ring.port (g.before + 1) w.back.pages b b' a.bound a.bound_still h.paged;
+      front_sleep = front_sleep_at g.start g.taken g.replied new w.front.ring.asleep w.under.channels.front_pending w.front.stage b b' (λ t s. absurd (unsent s)) (front_sleep_kept g.start g.taken g.replied w.under.pages new w.front.ring.asleep w.under.channels.front_pending w.front.stage b (r.words 2 3 (omega (arith, after))) h.front_sleep);
+      back_sleep = back_sleep_at g.start g.fetched g.pushed new w.back.ring.asleep w.under.channels.back_pending w.front.stage b b' (λ t. absurd (false≢true (sym a.unarmed ∙ t))) (λ t. absurd (false≢true (sym t ∙ a.sleeps))) (back_sleep_kept g.start g.fetched g.pushed w.under.pages new w.back.ring.asleep w.under.channels.back_pending w.front.stage b (r.words 2 1 (omega (arith, after))) h.back_sleep);
       ports = subst (λ (bound : Bool). PortsAt g.before (is_connected w.front.stage) bound w.under.channels.made w.under.channels.ports) (a.bound ∙ sym a.bound_still) h.ports;
     })
   where
     h : Holds config w g d w.front.stage b
     h = p.holds
 
-    x : AreIndices g w.front.ring w.back.ring w.front.seen w.back.seen w.back.fetched w.front.last w.front.waiting (length w.front.requests) (ending_of w.front.stage)
+    x : AreIndices g w.front.ring.indices w.back.ring.indices w.front.ring.seen w.back.ring.seen w.back.fetched w.front.last w.front.waiting (length w.front.requests) (ending_of w.front.stage)
     x = h.indices
 
     index : ℕ
@@ -141,23 +141,23 @@ goes_word config w g d steps b b' rep i jobs frame shown given does p a placed u
     after = slot_from g.shape index i
 
     new : List ℕ
-    new = with_word w.under.pages frame (slot_word w.back.shape w.back.ring.prod i) (response_word rep i)
+    new = with_word w.under.pages frame (slot_word w.back.shape w.back.ring.indices.prod i) (response_word rep i)
 
     r : RingWritten w.under.pages new (slot_frame g.shape index i) (slot_word g.shape index i) (response_word rep i)
-    r = subst (λ (s : Shape). RingWritten w.under.pages (with_word w.under.pages frame (slot_word s w.back.ring.prod i) (response_word rep i)) (slot_frame g.shape index i) (slot_word g.shape index i) (response_word rep i)) (sym (h.paged.shaped (bound_terms b a.bound)))
-        (subst (λ (c : ℕ). RingWritten w.under.pages (with_word w.under.pages frame (slot_word g.shape w.back.ring.prod i) (response_word rep i)) (slot_frame g.shape c i) (slot_word g.shape c i) (response_word rep i)) x.replied
-        (ring_written w.under.pages frame (slot_frame g.shape w.back.ring.prod i) (slot_word g.shape w.back.ring.prod i) (response_word rep i) placed (slot_frame_from g.shape w.back.ring.prod i) (slot_frame_to g.shape w.back.ring.prod i h.shaped.narrow three) (slot_to g.shape w.back.ring.prod i) h.memory))
+    r = subst (λ (s : Shape). RingWritten w.under.pages (with_word w.under.pages frame (slot_word s w.back.ring.indices.prod i) (response_word rep i)) (slot_frame g.shape index i) (slot_word g.shape index i) (response_word rep i)) (sym (h.paged.shaped (bound_terms b a.bound)))
+        (subst (λ (c : ℕ). RingWritten w.under.pages (with_word w.under.pages frame (slot_word g.shape w.back.ring.indices.prod i) (response_word rep i)) (slot_frame g.shape c i) (slot_word g.shape c i) (response_word rep i)) x.replied
+        (ring_written w.under.pages frame (slot_frame g.shape w.back.ring.indices.prod i) (slot_word g.shape w.back.ring.indices.prod i) (response_word rep i) placed (slot_frame_from g.shape w.back.ring.indices.prod i) (slot_frame_to g.shape w.back.ring.indices.prod i h.shaped.narrow three) (slot_to g.shape w.back.ring.indices.prod i) h.memory))
 
 pub goes_reply_high : (config : Options) (w : World) (g : Flow) (d : Pipeline) (rep : Reply) → BackStands config w g d (stage.ReplyHigh rep) → BackGoes config w d (stage.ReplyHigh rep)
 goes_reply_high config w g d rep p =
     let h : Holds config w g d w.front.stage (stage.ReplyHigh rep) = p.holds in
-    goes_word config w g d [] (stage.ReplyHigh rep) (stage.ReplyLast rep) rep 1 w.back.jobs (frame_of w.under.grants (slot_page w.back w.back.ring.prod 1)) _ _ (silent _ w.back.told w.back.halted _ d p.untold h.unhalted) p
+    goes_word config w g d [] (stage.ReplyHigh rep) (stage.ReplyLast rep) rep 1 w.back.jobs (frame_of w.under.grants (slot_page w.back w.back.ring.indices.prod 1)) _ _ (silent _ w.back.told w.back.halted _ d p.untold h.unhalted) p
     (record { few = omega arith; here = refl; upto = refl; bound = refl; bound_still = refl; unarmed = refl; sleeps = refl })
-    (slot_is config w g d (stage.ReplyHigh rep) w.back.ring.prod 1 p refl refl (response_fits g.shape.abi 1 (omega arith))) (λ s. s) (λ j lt. h.slots.response rep refl j lt) h.stations h.works h.counted refl h.back_at refl
+    (slot_is config w g d (stage.ReplyHigh rep) w.back.ring.indices.prod 1 p refl refl (response_fits g.shape.abi 1 (omega arith))) (λ s. s) (λ j lt. h.slots.response rep refl j lt) h.stations h.works h.counted refl h.back_at refl
 
 pub goes_reply_last : (config : Options) (w : World) (g : Flow) (d : Pipeline) (rep : Reply) → BackStands config w g d (stage.ReplyLast rep) → BackGoes config w d (stage.ReplyLast rep)
 goes_reply_last config w g d rep p =
     let h : Holds config w g d w.front.stage (stage.ReplyLast rep) = p.holds in
-    goes_word config w g d [] (stage.ReplyLast rep) (stage.Producer rep) rep 2 w.back.jobs (frame_of w.under.grants (slot_page w.back w.back.ring.prod 2)) _ _ (silent _ w.back.told w.back.halted _ d p.untold h.unhalted) p
+    goes_word config w g d [] (stage.ReplyLast rep) (stage.Producer rep) rep 2 w.back.jobs (frame_of w.under.grants (slot_page w.back w.back.ring.indices.prod 2)) _ _ (silent _ w.back.told w.back.halted _ d p.untold h.unhalted) p
     (record { few = omega arith; here = refl; upto = refl; bound = refl; bound_still = refl; unarmed = refl; sleeps = refl })
-    (slot_is config w g d (stage.ReplyLast rep) w.back.ring.prod 2 p refl refl (response_fits g.shape.abi 2 (omega arith))) (λ s. s) (λ j lt. h.slots.response rep refl j lt) h.stations h.works h.counted refl h.back_at refl
+    (slot_is config w g d (stage.ReplyLast rep) w.back.ring.indices.prod 2 p refl refl (response_fits g.shape.abi 2 (omega arith))) (λ s. s) (λ j lt. h.slots.response rep refl j lt) h.stations h.works h.counted refl h.back_at refl

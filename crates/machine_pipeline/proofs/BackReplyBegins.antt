@@ -111,9 +111,9 @@ replying {series} submitted sectors last fetched works rep l all h =
 
 pub goes_reply : (config : Options) (w : World) (g : Flow) (d : Pipeline) (rep : Reply) (frame : ℕ) (shown : Shown) (given : BackAnswer)
     → BackStands config w g d stage.Loop
-    → frame ≡ slot_frame g.shape w.back.ring.prod 0
+    → frame ≡ slot_frame g.shape w.back.ring.indices.prod 0
     → next_reply w.back ≡ Some rep
-    → Goes config (Move shown ∷ back_lines w.back.told given ++ halt_lines w.back.halted w.back.halted) (record { front = w.front; back = record w.back { jobs = without_done w.back.jobs; stage = stage.ReplyHigh rep; told = None }; under = with_pages w.under (with_word w.under.pages frame (slot_word w.back.shape w.back.ring.prod 0) (response_word rep 0)) }) d
+    → Goes config (Move shown ∷ back_lines w.back.told given ++ halt_lines w.back.halted w.back.halted) (record { front = w.front; back = record w.back { jobs = without_done w.back.jobs; stage = stage.ReplyHigh rep; told = None }; under = with_pages w.under (with_word w.under.pages frame (slot_word w.back.shape w.back.ring.indices.prod 0) (response_word rep 0)) }) d
 goes_reply config w g d rep frame shown given p placed e =
     goes_word config w g d (s.step ∷ []) stage.Loop (stage.ReplyHigh rep) rep 0 (without_done w.back.jobs) frame shown given (does_step shown (back_lines w.back.told given ++ halt_lines w.back.halted w.back.halted) (rw (p.untold, h.unhalted) refl) s) p
     (record { few = omega arith; here = refl; upto = refl; bound = refl; bound_still = refl; unarmed = refl; sleeps = refl })

@@ -42,21 +42,21 @@ IsRingless f = (f < 2) ⊎ (18 ≤ f)
 
 -- what a move changes: the back's view, the ring's frames, the marks of events, and the producer as the back last saw it
 pub record Moves (config : Options) (w : World) (g : Flow) (d : Pipeline) (s : FrontStage) (b b' : BackStage) (v : View) (pages : List ℕ) (channels : ChannelState) (seen : ℕ) : Type 0 where
-  pub indices : AreIndices (record g { back_seen = seen }) w.front.ring v.ring w.front.seen v.seen v.fetched w.front.last w.front.waiting (length w.front.requests) (ending_of s)
+  pub indices : AreIndices (record g { back_seen = seen }) w.front.ring.indices v.ring.indices w.front.ring.seen v.ring.seen v.fetched w.front.last w.front.waiting (length w.front.requests) (ending_of s)
   pub stations : AreStations config g d (is_ready s) (is_issuing s) (is_fetching b') (ending_at s w.front.ending) (telling_at s) (reply_at b') w.front.requests v.jobs.works w.under.pages
   pub works : AreWorks g.submitted g.series g.fetched v.jobs.works
   pub counted : length v.jobs.works + reply_count (reply_at b') + g.replied ≡ g.fetched
   pub info : v.jobs.info ≡ w.back.jobs.info
-  pub back_at : BackAt g.shape g.start g.fetched seen g.replied g.series v.jobs.works v.entry b'
+  pub back_at : BackAt g.shape g.start g.fetched seen g.replied g.series v.jobs.works v.ring.entry b'
   pub unhalted : v.halted ≡ None
   pub memory : length pages ≡ 1114112
   pub others : (f : ℕ) → IsRingless f → SameFrame w.under.pages pages f
   pub ring : AreRingWords g.shape.order g.start g.pushed g.replied pages s (length v.pages)
   pub slots : AreSlots g.shape g.start g.fetched g.pushed g.taken g.replied g.series g.replies pages s b'
   pub hands : hands_at b' v ≡ hands_at b w.back
-  pub paged : ArePaged g.shape v.shape v.ring.entries v.grefs v.port (g.before + 1) v.pages b'
-  pub front_sleep : IsFrontSleep g.start g.taken g.replied pages w.front.asleep channels.front_pending s b'
-  pub back_sleep : IsBackSleep g.start g.fetched g.pushed pages v.asleep channels.back_pending s b'
+  pub paged : ArePaged g.shape v.shape v.ring.indices.entries v.grefs v.ring.port (g.before + 1) v.pages b'
+  pub front_sleep : IsFrontSleep g.start g.taken g.replied pages w.front.ring.asleep channels.front_pending s b'
+  pub back_sleep : IsBackSleep g.start g.fetched g.pushed pages v.ring.asleep channels.back_pending s b'
   pub ports : PortsAt g.before (is_connected s) (is_bound_back b') channels.made channels.ports
 
 -- a request whose grants are being ended is one that ends
@@ -71,7 +71,7 @@ pub ending_submitted : (config : Options) (w : World) (g : Flow) (d : Pipeline) 
     → ending_at s w.front.ending ≡ Some e
     → IsSubmitted w.front.sectors (e.request.number - 1) e.request
 ending_submitted config w g d s b e h same =
-    let is : IsEnding g.submitted g.replies e = ending_is g.shape g.start g.pushed g.taken g.front_seen g.submitted g.replies _ w.front.entry w.front.ending s e
+    let is : IsEnding g.submitted g.replies e = ending_is g.shape g.start g.pushed g.taken g.front_seen g.submitted g.replies _ w.front.ring.entry w.front.ending s e
     h.front_at same in
     h.submitted.each (e.request.number - 1) e.request is.known
 
@@ -92,7 +92,7 @@ pub told_elsewhere : (config : Options) (w : World) (g : Flow) (d : Pipeline) (s
 told_elsewhere config w g d s b pages h same =
     data_kept w.under.pages pages w.front.words w.front.ending s
     (λ e at. let is = ending_submitted config w g d s b e h at in data_same w.under.pages pages e.request is.frames same)
-    (told_few g.shape g.start g.pushed g.taken g.front_seen g.submitted g.replies _ w.front.entry w.front.ending s h.front_at) h.telling
+    (told_few g.shape g.start g.pushed g.taken g.front_seen g.submitted g.replies _ w.front.ring.entry w.front.ending s h.front_at) h.telling
 
 -- the back's writes to the ring leave the requests' frames and the entries as they are
 pub frames_beside : (config : Options) (w : World) (g : Flow) (d : Pipeline) (s : FrontStage) (b : BackStage) (pages : List ℕ) → Holds config w g d s b → ((f : ℕ) → IsRingless f → SameFrame w.under.pages pages f) → All (IsFilled g.series g.pushed pages s) w.front.requests

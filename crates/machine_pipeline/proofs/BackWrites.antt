@@ -120,9 +120,9 @@ goes_send config w g d p =
     let h : Holds config w g d w.front.stage stage.Send = p.holds in
     let c : ChannelState = sent w.under.channels end.Back in
     goes_still config w g d stage.Send stage.Loop w.back w.under.pages c g.back_seen _ _ p
-    (quiet_with config w g d stage.Send stage.Loop w.back.asleep w.back.seen w.back.entry c g.back_seen h (between stage.Send w.back refl refl refl) (between stage.Loop w.back refl refl refl) h.stations h.indices tt
+    (quiet_with config w g d stage.Send stage.Loop w.back.ring.asleep w.back.ring.seen w.back.ring.entry c g.back_seen h (between stage.Send w.back refl refl refl) (between stage.Loop w.back refl refl refl) h.stations h.indices tt
     (record { arming = h.front_sleep.arming; armed = h.front_sleep.armed; may = h.front_sleep.may; woken = λ t. inr (inl (bound_pending g.before w.under.channels.made w.under.channels.ports w.under.channels.front_pending (is_connected w.front.stage) p.connected h.ports)) })
-    (back_sleep_at g.start g.fetched g.pushed w.under.pages w.back.asleep w.under.channels.back_pending w.front.stage stage.Send stage.Loop (λ t. t) (λ t. cc) h.back_sleep)
+    (back_sleep_at g.start g.fetched g.pushed w.under.pages w.back.ring.asleep w.under.channels.back_pending w.front.stage stage.Send stage.Loop (λ t. t) (λ t. cc) h.back_sleep)
     refl refl)
 
 -- the back stores its event word: it wants to hear of the next request
@@ -131,10 +131,10 @@ goes_store_event config w g d p =
     let h : Holds config w g d w.front.stage stage.StoreEvent = p.holds in
     let frame : ℕ = frame_of w.under.grants (page_of w.back 0) in
     let in_two : frame ≡ 2 = first_frame config w g d stage.StoreEvent p refl refl in
-    let new : List ℕ = with_word w.under.pages frame 1 (next_of w.back.ring.cons) in
-    let r : RingWritten w.under.pages new 2 1 (next_of w.back.ring.cons) = ring_written w.under.pages frame 2 1 (next_of w.back.ring.cons) in_two (omega arith) (omega arith) (omega arith) h.memory in
-    let event : word_of new 2 1 ≡ wrapped g.start (g.fetched + 1) = r.here ∙ next_wrapped g.start g.fetched w.back.ring.cons h.indices.fetched in
-    let awake : w.back.asleep ≡ false = h.back_sleep.may refl in
+    let new : List ℕ = with_word w.under.pages frame 1 (next_of w.back.ring.indices.cons) in
+    let r : RingWritten w.under.pages new 2 1 (next_of w.back.ring.indices.cons) = ring_written w.under.pages frame 2 1 (next_of w.back.ring.indices.cons) in_two (omega arith) (omega arith) (omega arith) h.memory in
+    let event : word_of new 2 1 ≡ wrapped g.start (g.fetched + 1) = r.here ∙ next_wrapped g.start g.fetched w.back.ring.indices.cons h.indices.fetched in
+    let awake : w.back.ring.asleep ≡ false = h.back_sleep.may refl in
     goes_still config w g d stage.StoreEvent stage.EventFence w.back new w.under.channels g.back_seen _ _ p (record {
       indices = h.indices;
       stations = h.stations;
@@ -145,11 +145,11 @@ goes_store_event config w g d p =
       unhalted = h.unhalted;
       memory = r.memory;
       others = r.others;
-      ring = ring_beside g.shape.order g.start g.pushed g.replied (length w.back.pages) 2 1 (next_of w.back.ring.cons) w.under.pages new w.front.stage r (omega arith) (omega arith) p.connected h.paged.mapped h.ring;
-      slots = slots_at g.shape g.start g.fetched g.pushed g.taken g.replied g.series g.replies new w.front.stage stage.StoreEvent stage.EventFence (λ rep t i lt. cc) (slots_beside g.shape g.start g.fetched g.pushed g.taken g.replied 1 (next_of w.back.ring.cons) g.series g.replies w.under.pages new w.front.stage stage.StoreEvent r (omega arith) h.shaped.narrow h.slots);
+      ring = ring_beside g.shape.order g.start g.pushed g.replied (length w.back.pages) 2 1 (next_of w.back.ring.indices.cons) w.under.pages new w.front.stage r (omega arith) (omega arith) p.connected h.paged.mapped h.ring;
+      slots = slots_at g.shape g.start g.fetched g.pushed g.taken g.replied g.series g.replies new w.front.stage stage.StoreEvent stage.EventFence (λ rep t i lt. cc) (slots_beside g.shape g.start g.fetched g.pushed g.taken g.replied 1 (next_of w.back.ring.indices.cons) g.series g.replies w.under.pages new w.front.stage stage.StoreEvent r (omega arith) h.shaped.narrow h.slots);
       hands = refl;
-      paged = paged_at g.shape w.back.shape w.back.ring.entries w.back.grefs w.back.port (g.before + 1) w.back.pages stage.StoreEvent stage.EventFence refl refl h.paged;
-      front_sleep = front_sleep_at g.start g.taken g.replied new w.front.asleep w.under.channels.front_pending w.front.stage stage.StoreEvent stage.EventFence (λ t s. absurd s) (front_sleep_kept g.start g.taken g.replied w.under.pages new w.front.asleep w.under.channels.front_pending w.front.stage stage.StoreEvent (r.words 2 3 (omega arith)) h.front_sleep);
+      paged = paged_at g.shape w.back.shape w.back.ring.indices.entries w.back.grefs w.back.ring.port (g.before + 1) w.back.pages stage.StoreEvent stage.EventFence refl refl h.paged;
+      front_sleep = front_sleep_at g.start g.taken g.replied new w.front.ring.asleep w.under.channels.front_pending w.front.stage stage.StoreEvent stage.EventFence (λ t s. absurd s) (front_sleep_kept g.start g.taken g.replied w.under.pages new w.front.ring.asleep w.under.channels.front_pending w.front.stage stage.StoreEvent (r.words 2 3 (omega arith)) h.front_sleep);
       back_sleep = record { arming = λ t. event; armed = λ t. event; may = λ t. awake; woken = λ t. absurd (false≢true (sym awake ∙ t)) };
       ports = h.ports;
     })

@@ -96,8 +96,8 @@ begun config w g d r h following =
 -- a request without frames is begun by the first word of its entry
 bare_goes : (config : Options) (w : World) (g : Flow) (d : Pipeline) (r : Request) → IsSafe w → next_request w.front ≡ Some r → is_moving r.transfer ≡ false → is_write r.transfer ≡ false
     → Holds config w g d front.Loop w.back.stage
-    → Goes config (lines.Move (moves.FrontWrite (slot_frame w.front.shape w.front.ring.prod 0) (slot_word w.front.shape w.front.ring.prod 0) (slice_index (entry_of w.front.shape.abi r) 0)) ∷ front_lines w.front.told)
-    (with_front w (front.Slot 1) (entry_of w.front.shape.abi r) (with_slot w.under.pages w.front.shape w.front.ring.prod 0 (slice_index (entry_of w.front.shape.abi r) 0))) d
+    → Goes config (lines.Move (moves.FrontWrite (slot_frame w.front.shape w.front.ring.indices.prod 0) (slot_word w.front.shape w.front.ring.indices.prod 0) (slice_index (entry_of w.front.shape.abi r) 0)) ∷ front_lines w.front.told)
+    (with_front w (front.Slot 1) (entry_of w.front.shape.abi r) (with_slot w.under.pages w.front.shape w.front.ring.indices.prod 0 (slice_index (entry_of w.front.shape.abi r) 0))) d
 bare_goes config w g d r safe e still unwritten h = goes_by {g = g} (does_step _ (front_lines w.front.told) (rw safe.front_told refl) s)
     (rw same (word_entered config w g d (next d s.step) 0 front.Loop (front.Slot 1) r (entry_of w.front.shape.abi r) refl refl refl h s.now e (some_words g.shape.abi) (λ i lt in_it. omega arith)
     (λ new kept. frames_unfilled g.submitted w.front.requests g.pushed w.front.waiting w.under.pages new front.Loop (front.Slot 1) r following (none_own r unwritten direct) kept h.frames)
@@ -121,20 +121,20 @@ bare_goes config w g d r safe e still unwritten h = goes_by {g = g} (does_step _
     s : Stepped None IsSame d [] (λ p. AreStations config g p true true (is_fetching w.back.stage) None None (reply_at w.back.stage) w.front.requests w.back.jobs.works w.under.pages)
     s = begun config w g d r h following
 
-    same : with_slot w.under.pages w.front.shape w.front.ring.prod 0 (slice_index (entry_of w.front.shape.abi r) 0) ≡ with_slot w.under.pages g.shape (wrapped g.start g.pushed) 0 (slice_index (entry_of g.shape.abi r) 0)
-    same = let x = h.indices in slot_same w.under.pages (entry_of w.front.shape.abi r) (entry_of g.shape.abi r) w.front.shape g.shape w.front.ring.prod (wrapped g.start g.pushed) 0 h.shaped.known x.pushed (ap (λ (x : Shape). entry_of x.abi r) h.shaped.known)
+    same : with_slot w.under.pages w.front.shape w.front.ring.indices.prod 0 (slice_index (entry_of w.front.shape.abi r) 0) ≡ with_slot w.under.pages g.shape (wrapped g.start g.pushed) 0 (slice_index (entry_of g.shape.abi r) 0)
+    same = let x = h.indices in slot_same w.under.pages (entry_of w.front.shape.abi r) (entry_of g.shape.abi r) w.front.shape g.shape w.front.ring.indices.prod (wrapped g.start g.pushed) 0 h.shaped.known x.pushed (ap (λ (x : Shape). entry_of x.abi r) h.shaped.known)
 
 -- a request that fills sectors is begun by the first word of its data
 data_goes : (config : Options) (w : World) (g : Flow) (d : Pipeline) (r : Request) → IsSafe w → next_request w.front ≡ Some r → is_moving r.transfer ≡ true → is_write r.transfer ≡ true
     → Holds config w g d front.Loop w.back.stage
     → Goes config (lines.Move (moves.FrontWrite (frame_at r 0) 0 (filling_at r.transfer 0)) ∷ front_lines w.front.told)
-    (with_front w (front.Data 1) w.front.entry (with_word w.under.pages (frame_at r 0) 0 (filling_at r.transfer 0))) d
+    (with_front w (front.Data 1) w.front.ring.entry (with_word w.under.pages (frame_at r 0) 0 (filling_at r.transfer 0))) d
 data_goes config w g d r safe e moves writes h =
     let following = next_is w.front g.submitted w.front.sectors w.front.last g.pushed None r h.queue h.submitted h.pool e in
     let s = begun config w g d r h following in
     let some = following.shape.counted.some moves in
     goes_by (does_step _ (front_lines w.front.told) (rw safe.front_told refl) s)
-    (subst (λ (value : ℕ). Holds config (with_front w (front.Data 1) w.front.entry (with_word w.under.pages (frame_at r 0) 0 value)) g (next d s.step) (front.Data 1) w.back.stage) (data_value r 0 (omega arith))
+    (subst (λ (value : ℕ). Holds config (with_front w (front.Data 1) w.front.ring.entry (with_word w.under.pages (frame_at r 0) 0 value)) g (next d s.step) (front.Data 1) w.back.stage) (data_value r 0 (omega arith))
     (filled_on config w g d (next d s.step) front.Loop (front.Data 1) r 0 refl refl h s.now e refl (omega arith) (λ m own upto other. absurd (other (omega arith))) refl refl refl (r, e, (omega arith, omega arith, writes)) (λ sends. sends)))
 
 -- a read begins with its indirect pages where it has some, else with its grants
@@ -151,7 +151,7 @@ grants_begin config w g d r safe e reads direct h =
     let sized = following.shape.frames in
     let in_it : 0 < frames_of r = omega arith in
     goes_by (does_step _ (front_lines w.front.told) (rw safe.front_told refl) s)
-    (entry_moved config w g d (next d s.step) front.Loop (front.GrantFence 0) r 0 w.front.entry (2 * ((frame_at r 0 + 6) % 512) + 1) (frame_at r 0) refl refl h s.now following in_it (omega arith)
+    (entry_moved config w g d (next d s.step) front.Loop (front.GrantFence 0) r 0 w.front.ring.entry (2 * ((frame_at r 0 + 6) % 512) + 1) (frame_at r 0) refl refl h s.now following in_it (omega arith)
     (λ other lt apart. other_named w.under.pages (frame_at r 0 + 6) other (frame_at r 0) (omega (arith, (pooled_at r following.frames 0).1)) lt apart)
     (λ new same. frames_unfilled g.submitted w.front.requests g.pushed w.front.waiting w.under.pages new front.Loop (front.GrantFence 0) r following (none_own r (ap is_write reads) direct) same h.frames)
     refl (r, e, in_it)
@@ -166,7 +166,7 @@ pages_begin config w g d r safe e reads large h =
     let s = begun config w g d r h following in
     let many : 11 < frames_for r.count = grind (arith, nat_tests) in
     goes_by (does_step _ (front_lines w.front.told) (rw safe.front_told refl) s)
-    (subst (λ (pages : List ℕ). Holds config (with_front w (front.Pages 1) w.front.entry pages) g (next d s.step) (front.Pages 1) w.back.stage) (sym (page_write w.under.pages r 0))
+    (subst (λ (pages : List ℕ). Holds config (with_front w (front.Pages 1) w.front.ring.entry pages) g (next d s.step) (front.Pages 1) w.back.stage) (sym (page_write w.under.pages r 0))
     (filled_on config w g d (next d s.step) front.Loop (front.Pages 1) r (1024 * frames_for r.count + 0) refl refl h s.now e refl (page_in r 0 following.shape large (omega arith))
     (λ m own upto other. absurd (true≢false (sym (own_before r m own (omega arith)).0 ∙ ap is_write reads))) refl refl refl (r, e, (omega arith, large)) (λ sends. sends)))
 

@@ -47,7 +47,7 @@ waits_goes config w g d told e h = by_pending w.under.channels.front_pending (wa
     here : Holds config w g d w.front.stage w.back.stage
     here = subst (λ (s : FrontStage). Holds config w g d s w.back.stage) (sym e) h
 
-    awake : w.front.asleep ≡ false
+    awake : w.front.ring.asleep ≡ false
     awake = let sleep = h.front_sleep in sleep.may refl
 
     unmarked : World
@@ -151,16 +151,16 @@ yet_open true rest t = absurd (true≢false (sym t))
 
 -- the front's terms, as an order that is agreed makes them
 abbrev on_terms : View → (order entries prod cons seen : ℕ) → View
-on_terms v order entries prod cons seen = record v { shape = record v.shape { order = order }; ring = record { entries = entries; prod = prod; cons = cons }; seen = seen }
+on_terms v order entries prod cons seen = record v { shape = record v.shape { order = order }; ring = record v.ring { indices = record { entries = entries; prod = prod; cons = cons }; seen = seen } }
 
 -- the order that it wished leaves a front as it is that hasn't begun its ring
-agreed_same : (v : View) (order : ℕ) → order ≡ v.shape.order → v.ring.entries ≡ entries_of v.shape.order → v.ring.prod ≡ v.start → v.ring.cons ≡ v.start → v.seen ≡ v.start → in_state (states.Agreed order) v ≡ v
+agreed_same : (v : View) (order : ℕ) → order ≡ v.shape.order → v.ring.indices.entries ≡ entries_of v.shape.order → v.ring.indices.prod ≡ v.start → v.ring.indices.cons ≡ v.start → v.ring.seen ≡ v.start → in_state (states.Agreed order) v ≡ v
 agreed_same v order wished entries prod cons seen =
     ap (λ (n : ℕ). on_terms v n (entries_of n) v.start v.start v.start) wished
     ∙ (ap (λ (n : ℕ). on_terms v v.shape.order n v.start v.start v.start) (sym entries)
-    ∙ (ap (λ (n : ℕ). on_terms v v.shape.order v.ring.entries n v.start v.start) (sym prod)
-    ∙ (ap (λ (n : ℕ). on_terms v v.shape.order v.ring.entries v.ring.prod n v.start) (sym cons)
-    ∙ ap (λ (n : ℕ). on_terms v v.shape.order v.ring.entries v.ring.prod v.ring.cons n) (sym seen))))
+    ∙ (ap (λ (n : ℕ). on_terms v v.shape.order v.ring.indices.entries n v.start v.start) (sym prod)
+    ∙ (ap (λ (n : ℕ). on_terms v v.shape.order v.ring.indices.entries v.ring.indices.prod n v.start) (sym cons)
+    ∙ ap (λ (n : ℕ). on_terms v v.shape.order v.ring.indices.entries v.ring.indices.prod v.ring.indices.cons n) (sym seen))))
 
 pub unmade_unready : (s : FrontStage) → is_unmade s ≡ true → is_ready s ≡ false
 unmade_unready (front.RingWord k) t = refl
@@ -174,7 +174,7 @@ agrees config w g d order plain wished unmade h =
     (sym (agreed_same w.front order wished (x.front_entries ∙ ap (λ (s : Shape). entries_of s.order) (sym h.shaped.known)) (x.pushed ∙ first g.pushed none) (x.taken ∙ first g.taken (omega (arith, pushed.0, none))) (x.front_saw ∙ first g.front_seen (omega (arith, pushed.1, none)))))
     (stays IsSame config w g d (λ a b same. same) h)
   where
-    x : AreIndices g w.front.ring w.back.ring w.front.seen w.back.seen w.back.fetched w.front.last w.front.waiting (length w.front.requests) (ending_of w.front.stage)
+    x : AreIndices g w.front.ring.indices w.back.ring.indices w.front.ring.seen w.back.ring.seen w.back.fetched w.front.last w.front.waiting (length w.front.requests) (ending_of w.front.stage)
     x = h.indices
 
     none : g.pushed ≡ 0
@@ -198,6 +198,6 @@ enters_goes config w g d state plain may h = enters_cases (λ v shown. Goes conf
     entered (states.Agreed order) may can = agrees config w g d order plain may (both_true (is_unmade w.front.stage) (nat_le order w.front.shape.order) (both_true (is_unmade w.front.stage && nat_le order w.front.shape.order) _ can).0).0 h
     entered (states.Connected offers) may can = becomes_ready config w g d offers may (subst (λ (s : FrontStage). Holds config w g d s w.back.stage) (initialised_is w.front.stage can) h)
     entered states.Closing may can = begins_to_close config w g d (yet_open w.front.closing (is_open w.front.stage) can) h
-    entered states.Leaving may can = absurd (subst (BackAt g.shape g.start g.fetched g.back_seen g.replied g.series w.back.jobs.works w.back.entry) may h.back_at)
+    entered states.Leaving may can = absurd (subst (BackAt g.shape g.start g.fetched g.back_seen g.replied g.series w.back.jobs.works w.back.ring.entry) may h.back_at)
     entered states.Closed may can = absurd (unhalted may)
     entered (states.Broken word) may can = absurd may

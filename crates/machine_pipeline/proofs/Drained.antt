@@ -33,7 +33,7 @@ all_taken i none =
     let third = i.fetched_pushed in
     record { fetched = omega arith; replied = omega arith; taken = omega arith }
 
-pub drained_at : (config : Options) (w : World) (g : Flow) (d : Pipeline) (s : FrontStage) (b : BackStage) → Holds config w g d s b → has_ring s ≡ true → length w.front.requests ≡ 0 → IsDrained w.under.pages w.front.ring.cons w.back.ring.cons
+pub drained_at : (config : Options) (w : World) (g : Flow) (d : Pipeline) (s : FrontStage) (b : BackStage) → Holds config w g d s b → has_ring s ≡ true → length w.front.requests ≡ 0 → IsDrained w.under.pages w.front.ring.indices.cons w.back.ring.indices.cons
 drained_at config w g d s b h ringed none = record {
   served = requests ∙ (ap (wrapped g.start) (sym rest.replied) ∙ sym responses);
   fetched = h.indices.fetched ∙ (ap (wrapped g.start) rest.fetched ∙ sym requests);

@@ -60,7 +60,7 @@ pub ends_on : (config : Options) (w : World) (g : Flow) (d d' : Pipeline) (s s' 
     → Holds config w g d s w.back.stage
     → AreStations config g d' (is_ready s') (is_issuing s') (is_fetching w.back.stage) (ending_at s' ending) (telling_at s') (reply_at w.back.stage) w.front.requests w.back.jobs.works pages
     → ArePooled pool w.front.requests (ending_at s' ending)
-    → FrontAt g.shape g.start g.pushed g.taken g.front_seen g.submitted g.replies (next_request w.front) w.front.entry ending s'
+    → FrontAt g.shape g.start g.pushed g.taken g.front_seen g.submitted g.replies (next_request w.front) w.front.ring.entry ending s'
     → AreDataWords pages words ending s'
     → AreEntries g.series g.pushed pages w.under.grants.live s' ending w.front.requests
     → length pages ≡ 1114112
@@ -69,7 +69,7 @@ pub ends_on : (config : Options) (w : World) (g : Flow) (d d' : Pipeline) (s s' 
     → Holds config (finishing_at w s' ending pool words pages) g d' s' w.back.stage
 ends_on config w g d d' s s' ending pool words pages i i' restless unarmed fewer h stations pooled at told entries sized frames entry = record {
   settled = h.settled;
-  indices = indices_room g w.front.ring w.back.ring w.front.seen w.back.seen w.back.fetched w.front.last w.front.waiting (length w.front.requests) (ending_of s) (ending_of s') (let was = h.indices in let room = was.room in omega arith) h.indices;
+  indices = indices_room g w.front.ring.indices w.back.ring.indices w.front.ring.seen w.back.ring.seen w.back.fetched w.front.last w.front.waiting (length w.front.requests) (ending_of s) (ending_of s') (let was = h.indices in let room = was.room in omega arith) h.indices;
   queue = h.queue;
   pool = pooled;
   stations = stations;
@@ -97,7 +97,7 @@ ends_on config w g d d' s s' ending pool words pages i i' restless unarmed fewer
   mapped = h.mapped;
   paged = h.paged;
   front_sleep = (let was = h.front_sleep in record { arming = λ t. absurd (true≢false (sym t ∙ unarmed)); armed = λ t. absurd (true≢false (sym t ∙ was.may restless)); may = λ t. was.may restless; woken = was.woken });
-  back_sleep = back_sleep_rests g.start g.fetched g.pushed w.under.pages pages w.back.asleep w.under.channels.back_pending w.under.channels.back_pending s s' w.back.stage (frames 2 (omega arith) 1 (omega arith)) refl (i.quiet g.pushed g.fetched) h.back_sleep;
+  back_sleep = back_sleep_rests g.start g.fetched g.pushed w.under.pages pages w.back.ring.asleep w.under.channels.back_pending w.under.channels.back_pending s s' w.back.stage (frames 2 (omega arith) 1 (omega arith)) refl (i.quiet g.pushed g.fetched) h.back_sleep;
   ports = subst (λ (b : Bool). PortsAt g.before b (is_bound_back w.back.stage) w.under.channels.made w.under.channels.ports) (as_connected s s' i.ready i'.ready) h.ports;
 }
   where

@@ -108,11 +108,11 @@ entered_on : (config : Options) (w : World) (g : Flow) (d : Pipeline) (k : ℕ) 
     → may_front_sleep s' ≡ true → is_issuing s' ≡ true
     → Holds config w g d (front.Slot k) w.back.stage
     → next_request w.front ≡ Some r → k < entry_words_of g.shape.abi → ((i : ℕ) → i < entry_words_of g.shape.abi → i < entered s' → i ≤ k) → ((frames : ℕ) → filled s' frames ≡ 1024 * frames + 1920) → named_frames s' ≤ 962 → granted_frames s' ≤ 962
-    → FrontAt g.shape g.start g.pushed g.taken g.front_seen g.submitted g.replies (next_request w.front) w.front.entry w.front.ending s'
-    → Holds config (with_front w s' w.front.entry (with_slot w.under.pages g.shape (wrapped g.start g.pushed) k (slice_index (entry_of g.shape.abi r) k))) g d s' w.back.stage
+    → FrontAt g.shape g.start g.pushed g.taken g.front_seen g.submitted g.replies (next_request w.front) w.front.ring.entry w.front.ending s'
+    → Holds config (with_front w s' w.front.ring.entry (with_slot w.under.pages g.shape (wrapped g.start g.pushed) k (slice_index (entry_of g.shape.abi r) k))) g d s' w.back.stage
 entered_on config w g d k s' r i' same h e within more full named granted at =
     let x = issuing s' i' in
-    word_entered config w g d d k (front.Slot k) s' r w.front.entry refl i' refl h
+    word_entered config w g d d k (front.Slot k) s' r w.front.ring.entry refl i' refl h
     (turned config g d true (is_ready s') true (is_issuing s') (is_fetching w.back.stage) None (ending_at s' w.front.ending) None (telling_at s') (reply_at w.back.stage) w.front.requests w.back.jobs.works w.under.pages x.ready same (x.ending w.front.ending) x.untelling h.stations)
     e within more
     (λ new kept. frames_turned g.pushed w.under.pages new (front.Slot k) s' w.front.requests (λ frames. let all = full frames in omega arith) kept h.frames)
@@ -135,10 +135,10 @@ slot_goes config w g d k safe h = goes_by (said_nothing d _ w.front.told safe.fr
     known : entry_words_of w.front.shape.abi ≡ entry_words_of g.shape.abi
     known = ap (λ (x : Shape). entry_words_of x.abi) h.shaped.known
 
-    same : with_slot w.under.pages w.front.shape w.front.ring.prod k (slice_index w.front.entry k) ≡ with_slot w.under.pages g.shape (wrapped g.start g.pushed) k (slice_index (entry_of g.shape.abi r) k)
-    same = let x = h.indices in slot_same w.under.pages w.front.entry (entry_of g.shape.abi r) w.front.shape g.shape w.front.ring.prod (wrapped g.start g.pushed) k h.shaped.known x.pushed h.front_at.1.2
+    same : with_slot w.under.pages w.front.shape w.front.ring.indices.prod k (slice_index w.front.ring.entry k) ≡ with_slot w.under.pages g.shape (wrapped g.start g.pushed) k (slice_index (entry_of g.shape.abi r) k)
+    same = let x = h.indices in slot_same w.under.pages w.front.ring.entry (entry_of g.shape.abi r) w.front.shape g.shape w.front.ring.indices.prod (wrapped g.start g.pushed) k h.shaped.known x.pushed h.front_at.1.2
 
-    by_test : (b : Bool) → (k + 1 == entry_words_of w.front.shape.abi) ≡ b → Holds config (with_front w (if b then front.Producer else front.Slot (k + 1)) w.front.entry (with_slot w.under.pages w.front.shape w.front.ring.prod k (slice_index w.front.entry k))) g d (if b then front.Producer else front.Slot (k + 1)) w.back.stage
+    by_test : (b : Bool) → (k + 1 == entry_words_of w.front.shape.abi) ≡ b → Holds config (with_front w (if b then front.Producer else front.Slot (k + 1)) w.front.ring.entry (with_slot w.under.pages w.front.shape w.front.ring.indices.prod k (slice_index w.front.ring.entry k))) g d (if b then front.Producer else front.Slot (k + 1)) w.back.stage
     by_test true t = rw same (entered_on config w g d k front.Producer r refl refl h e h.front_at.0 (λ i lt in_it. last i lt) (λ frames. refl) (omega arith) (omega arith) (r, e, tt))
       where
         last : (i : ℕ) → i < entry_words_of g.shape.abi → i ≤ k

@@ -72,9 +72,9 @@ pub filled_on : (config : Options) (w : World) (g : Flow) (d d' : Pipeline) (s s
     → next_request w.front ≡ Some r → is_issuing s' ≡ true → n < span r
     → ((m : ℕ) → is_own r m ≡ true → m < filled s' (frames_for r.count) → m ≢ n → m < filled s (frames_for r.count))
     → entered s' ≡ 0 → named_frames s' ≡ 0 → granted_frames s' ≡ 0
-    → FrontAt g.shape g.start g.pushed g.taken g.front_seen g.submitted g.replies (next_request w.front) w.front.entry w.front.ending s'
+    → FrontAt g.shape g.start g.pushed g.taken g.front_seen g.submitted g.replies (next_request w.front) w.front.ring.entry w.front.ending s'
     → (FrontSends s g.pushed g.fetched → ⊥)
-    → Holds config (with_front w s' w.front.entry (with_word w.under.pages (frame_at r (n / 1024)) (n % 1024) (own_value r n))) g d' s' w.back.stage
+    → Holds config (with_front w s' w.front.ring.entry (with_word w.under.pages (frame_at r (n / 1024)) (n % 1024) (own_value r n))) g d' s' w.back.stage
 filled_on config w g d d' s s' r n i i' h stations e begun within more unentered unnamed ungranted at unsent =
     let next : IsNext g.submitted g.series w.front.requests g.pushed w.front.waiting r = next_is w.front g.submitted w.front.sectors w.front.last g.pushed _ r h.queue h.submitted h.pool e in
     let frame : ℕ = frame_at r (n / 1024) in
@@ -87,7 +87,7 @@ filled_on config w g d d' s s' r n i i' h stations e begun within more unentered
     let elsewhere : (f : ℕ) → f ≢ frame → SameFrame w.under.pages new f = λ f other. other_frame w.under.pages frame word value f (omega arith) other in
     let none : ending_at s' w.front.ending ≡ None = let stage = issuing s' i' in stage.ending w.front.ending in
     let others = fetched_apart g.submitted w.front.requests g.pushed w.front.waiting d'.requests r next h.queue (subst (AreOpen d'.requests w.front.requests) none stations.opened) (stations.waiting.issued begun r next.at) in
-    issue_moved config w g d d' s s' w.front.entry new i i' h
+    issue_moved config w g d d' s s' w.front.ring.entry new i i' h
     (stations_kept config g d' (is_ready s') (is_issuing s') (is_fetching w.back.stage) (ending_at s' w.front.ending) (telling_at s') (reply_at w.back.stage) w.front.requests w.back.jobs.works w.under.pages new
     (λ j x q known here low high. let is = h.submitted.each j x known in data_apart w.under.pages frame word value x (omega arith) is.shaped
     (λ a in_it. others j x q known here low high a (n / 1024) in_it (place_among r n next.shape within))) stations) at
@@ -133,10 +133,10 @@ data_goes config w g d n safe h = subst (λ (next : Option Request). WriteGoes c
     on : (s' : FrontStage) → may_front_sleep s' ≡ true → is_issuing s' ≡ true → is_ready s' ≡ true → ending_at s' w.front.ending ≡ None → telling_at s' ≡ None
         → ((m : ℕ) → is_own r m ≡ true → m < filled s' (frames_for r.count) → m ≢ n → m < n)
         → entered s' ≡ 0 → named_frames s' ≡ 0 → granted_frames s' ≡ 0
-        → FrontAt g.shape g.start g.pushed g.taken g.front_seen g.submitted g.replies (next_request w.front) w.front.entry w.front.ending s'
-        → Holds config (with_front w s' w.front.entry (with_word w.under.pages (frame_at r (n / 1024)) (n % 1024) (filling_at r.transfer n))) g d s' w.back.stage
+        → FrontAt g.shape g.start g.pushed g.taken g.front_seen g.submitted g.replies (next_request w.front) w.front.ring.entry w.front.ending s'
+        → Holds config (with_front w s' w.front.ring.entry (with_word w.under.pages (frame_at r (n / 1024)) (n % 1024) (filling_at r.transfer n))) g d s' w.back.stage
     on s' i' issues ready unended untold more none unnamed ungranted at =
-        subst (λ (value : ℕ). Holds config (with_front w s' w.front.entry (with_word w.under.pages (frame_at r (n / 1024)) (n % 1024) value)) g d s' w.back.stage) (data_value r n h.front_at.2.1)
+        subst (λ (value : ℕ). Holds config (with_front w s' w.front.ring.entry (with_word w.under.pages (frame_at r (n / 1024)) (n % 1024) value)) g d s' w.back.stage) (data_value r n h.front_at.2.1)
         (filled_on config w g d d (front.Data n) s' r n refl i' h (rw (ready, issues, unended, untold) h.stations) h.front_at.1 issues (let lt = h.front_at.2.1 in omega arith) more none unnamed ungranted at (λ sends. sends))
 
     last : nat_lt (n + 1) (words_in r) ≡ false → (m : ℕ) → is_own r m ≡ true → m < 1024 * frames_for r.count → m ≢ n → m < n
@@ -144,7 +144,7 @@ data_goes config w g d n safe h = subst (λ (next : Option Request). WriteGoes c
 
     by_test : (b : Bool) → nat_lt (n + 1) (words_in r) ≡ b → (large : Bool) → is_indirect r.count ≡ large
         → (let s' : FrontStage = (if b then front.Data (n + 1) else (if large then front.Pages 0 else front.GrantFrame 0)) in
-        Holds config (with_front w s' w.front.entry (with_word w.under.pages (frame_at r (n / 1024)) (n % 1024) (filling_at r.transfer n))) g d s' w.back.stage)
+        Holds config (with_front w s' w.front.ring.entry (with_word w.under.pages (frame_at r (n / 1024)) (n % 1024) (filling_at r.transfer n))) g d s' w.back.stage)
     by_test true t large e = on (front.Data (n + 1)) refl refl refl refl refl (λ m own upto other. omega arith) refl refl refl (r, h.front_at.1, (omega arith, less_number (n + 1) (words_in r) t, h.front_at.2.2))
     by_test false t true e = on (front.Pages 0) refl refl refl refl refl (λ m own upto other. last t m own (omega arith) other) refl refl refl (r, h.front_at.1, (some_segment, e))
       where
@@ -174,15 +174,15 @@ pages_goes config w g d n safe h = subst (λ (next : Option Request). WriteGoes 
     on : (s' : FrontStage) → may_front_sleep s' ≡ true → is_issuing s' ≡ true → is_ready s' ≡ true → ending_at s' w.front.ending ≡ None → telling_at s' ≡ None
         → ((m : ℕ) → is_own r m ≡ true → m < filled s' (frames_for r.count) → m ≢ 1024 * frames_for r.count + n → m < 1024 * frames_for r.count + n)
         → entered s' ≡ 0 → named_frames s' ≡ 0 → granted_frames s' ≡ 0
-        → FrontAt g.shape g.start g.pushed g.taken g.front_seen g.submitted g.replies (next_request w.front) w.front.entry w.front.ending s'
-        → Holds config (with_front w s' w.front.entry (with_word w.under.pages (page_at r (n / 1024)) (n % 1024) (naming_at r n))) g d s' w.back.stage
+        → FrontAt g.shape g.start g.pushed g.taken g.front_seen g.submitted g.replies (next_request w.front) w.front.ring.entry w.front.ending s'
+        → Holds config (with_front w s' w.front.ring.entry (with_word w.under.pages (page_at r (n / 1024)) (n % 1024) (naming_at r n))) g d s' w.back.stage
     on s' i' issues ready unended untold more none unnamed ungranted at =
-        subst (λ (pages : List ℕ). Holds config (with_front w s' w.front.entry pages) g d s' w.back.stage) (sym (page_write w.under.pages r n))
+        subst (λ (pages : List ℕ). Holds config (with_front w s' w.front.ring.entry pages) g d s' w.back.stage) (sym (page_write w.under.pages r n))
         (filled_on config w g d d (front.Pages n) s' r (1024 * frames_for r.count + n) refl i' h (rw (ready, issues, unended, untold) h.stations) h.front_at.1 issues (page_in r n shaped h.front_at.2.1 h.front_at.2.0) more none unnamed ungranted at (λ sends. sends))
 
     by_test : (b : Bool) → nat_lt (n + 1) (naming_words r) ≡ b
         → (let s' : FrontStage = (if b then front.Pages (n + 1) else front.GrantFrame 0) in
-        Holds config (with_front w s' w.front.entry (with_word w.under.pages (page_at r (n / 1024)) (n % 1024) (naming_at r n))) g d s' w.back.stage)
+        Holds config (with_front w s' w.front.ring.entry (with_word w.under.pages (page_at r (n / 1024)) (n % 1024) (naming_at r n))) g d s' w.back.stage)
     by_test true t = on (front.Pages (n + 1)) refl refl refl refl refl (λ m own upto other. omega arith) refl refl refl (r, h.front_at.1, (less_number (n + 1) (naming_words r) t, h.front_at.2.1))
     by_test false t = on (front.GrantFrame 0) refl refl refl refl refl (λ m own upto other. last m own other) refl refl refl (r, h.front_at.1, (let frames = shaped.frames in omega (arith, h.front_at.2.0)))
       where

@@ -38,13 +38,6 @@ ending_is shape start pushed taken front_seen submitted replies next entry endin
 ending_is shape start pushed taken front_seen submitted replies next entry ending (front.LeftData n) e h same = subst (IsEnding submitted replies) (same_Some h.0 e (sym h.1 ∙ same)) h.2
 ending_is shape start pushed taken front_seen submitted replies next entry ending s e h same = absurd (none-some e same)
 
--- the response that is being written
-pub reply_is : (shape : Shape) (start fetched back_seen replied : ℕ) (series : List Request) (works : List Work) (entry : List ℕ) (b : BackStage) (rep : Reply) → BackAt shape start fetched back_seen replied series works entry b → reply_at b ≡ Some rep → IsReplying series fetched works rep
-reply_is shape start fetched back_seen replied series works entry (back.ReplyHigh r) rep h same = subst (IsReplying series fetched works) (same_Some r rep same) h
-reply_is shape start fetched back_seen replied series works entry (back.ReplyLast r) rep h same = subst (IsReplying series fetched works) (same_Some r rep same) h
-reply_is shape start fetched back_seen replied series works entry (back.Producer r) rep h same = subst (IsReplying series fetched works) (same_Some r rep same) h
-reply_is shape start fetched back_seen replied series works entry b rep h same = absurd (none-some rep same)
-
 -- how far the words of the ring, of data and of an entry that are being written go
 pub few_words : (shape : Shape) (start pushed taken front_seen : ℕ) (submitted : List Request) (replies : List Reply) (next : Option Request) (entry : List ℕ) (ending : Option Ending) (s : FrontStage) → FrontAt shape start pushed taken front_seen submitted replies next entry ending s → (k : ℕ) → s ≡ front.RingWord k → k ≤ 16
 few_words shape start pushed taken front_seen submitted replies next entry ending s h k e =
@@ -89,7 +82,7 @@ pub none_in_hands : (config : Options) (w : World) (g : Flow) (d : Pipeline) (s 
     → (test : Mapping → Bool) → ((m : Mapping) → m.gref ≢ frame_at r a + 6 → test m ≡ false)
     → count_by test (hands_at b (record w.back { jobs = record w.back.jobs { works = works } })) ≡ 0
 none_in_hands config w g d s b h j r here a in_r works others test apart =
-    let given : aborted b ≡ [] = nothing_aborted g.shape b g.start g.fetched g.back_seen g.replied g.series w.back.jobs.works w.back.entry h.back_at in
+    let given : aborted b ≡ [] = nothing_aborted g.shape b g.start g.fetched g.back_seen g.replied g.series w.back.jobs.works w.back.ring.entry h.back_at in
     let jobs : count_by test (hands_in works) ≡ 0 = hands_none test works one in
     let pages : count_by test w.back.pages ≡ 0 = pages_none test w.back.pages (λ page lt. apart (slice_index_or w.back.pages page no_page) (
     let gref = h.paged.gref page lt in

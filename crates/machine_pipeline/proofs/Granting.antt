@@ -226,7 +226,7 @@ frame_goes config w g d place safe h = subst (λ (q : Option Request). NameGoes 
     let next : IsNext g.submitted g.series w.front.requests g.pushed w.front.waiting r = next_is w.front g.submitted w.front.sectors w.front.last g.pushed _ r h.queue h.submitted h.pool h.front_at.1 in
     let was : IsGranted g.series g.pushed w.under.pages w.under.grants.live (front.GrantFrame place) r = all_at (IsGranted g.series g.pushed w.under.pages w.under.grants.live (front.GrantFrame place)) w.front.requests (length w.front.requests - w.front.waiting) r h.entries.each next.place in
     goes_by (said_nothing d _ w.front.told safe.front_told)
-    (entry_on config w g d (front.GrantFrame place) (front.GrantFence place) r place w.front.entry (2 * ((frame_at r place + 6) % 512) + 1) (frame_at r place) refl refl refl h next h.front_at.2 (omega arith)
+    (entry_on config w g d (front.GrantFrame place) (front.GrantFence place) r place w.front.ring.entry (2 * ((frame_at r place + 6) % 512) + 1) (frame_at r place) refl refl refl h next h.front_at.2 (omega arith)
     (λ other lt apart. other_named w.under.pages (frame_at r place + 6) other (frame_at r place) (omega (arith, (pooled_at r next.frames place).1)) lt apart)
     (λ frames. omega arith) refl h.front_at
     (named_now w.under.pages r place h.memory next.frames next.own h.front_at.2 (was.named_next next.at))
@@ -235,7 +235,7 @@ frame_goes config w g d place safe h = subst (λ (q : Option Request). NameGoes 
 
 pub fence_goes : (config : Options) (w : World) (g : Flow) (d : Pipeline) (place : ℕ) → IsSafe w → Holds config w g d (front.GrantFence place) w.back.stage → FrontGoes config w d (front.GrantFence place)
 fence_goes config w g d place safe h = goes_by (said_nothing d _ w.front.told safe.front_told)
-    (issue_kept config w g d (front.GrantFence place) (front.GrantFlags place) w.front.entry w.under.pages refl refl refl h h.front_at h.memory (λ f low high x lt. refl) (λ x lt. refl) (λ page lt. record { flags = refl; frame = refl })
+    (issue_kept config w g d (front.GrantFence place) (front.GrantFlags place) w.front.ring.entry w.under.pages refl refl refl h h.front_at h.memory (λ f low high x lt. refl) (λ x lt. refl) (λ page lt. record { flags = refl; frame = refl })
     (slots_turned g.shape g.start g.fetched g.pushed g.taken g.replied g.series g.replies w.under.pages w.under.pages (front.GrantFence place) (front.GrantFlags place) w.back.stage h.shaped.narrow (λ f x from to in_it after. refl) refl h.slots)
     (frames_turned g.pushed w.under.pages w.under.pages (front.GrantFence place) (front.GrantFlags place) w.front.requests (λ frames. omega arith) (λ n x lt i l. refl) h.frames)
     (entries_turned g.pushed w.under.pages w.under.pages w.under.grants.live (front.GrantFence place) (front.GrantFlags place) w.front.ending w.front.requests refl (omega arith) (omega arith) (λ n x lt a in_it. record { flags = refl; frame = refl }) h.entries)
@@ -286,12 +286,12 @@ flags_goes config w g d place safe h = subst (λ (q : Option Request). GrantGoes
         (λ sends. sends)
 
     by_test : (b : Bool) → nat_lt (place + 1) (frames_of r) ≡ b
-        → (let x : View = (if b then at (front.GrantFrame (place + 1)) w.front else record w.front { stage = front.Slot 0; entry = entry_of w.front.shape.abi r }) in
+        → (let x : View = (if b then at (front.GrantFrame (place + 1)) w.front else record w.front { stage = front.Slot 0; ring = record w.front.ring { entry = entry_of w.front.shape.abi r } }) in
         Goes config
         (lines.Move (moves.FrontWrite ((frame_at r place + 6) / 512) (2 * ((frame_at r place + 6) % 512)) (flags_at r place)) ∷ front_lines x.told)
         (record { front = record x { told = None }; back = w.back; under = (let u : Hypervisor = w.under in record u { pages = new }) }) d)
     by_test true t = goes_by (said_nothing d _ w.front.told safe.front_told)
-        (on (front.GrantFrame (place + 1)) w.front.entry refl refl (λ frames. omega arith) refl (r, h.front_at.1, less_number (place + 1) (frames_of r) t)
+        (on (front.GrantFrame (place + 1)) w.front.ring.entry refl refl (λ frames. omega arith) refl (r, h.front_at.1, less_number (place + 1) (frames_of r) t)
         (λ a upto in_it. upto) (λ a upto in_it. upto))
     by_test false t = goes_by (said_nothing d _ w.front.told safe.front_told)
         (on (front.Slot 0) (entry_of w.front.shape.abi r) refl refl (λ frames. omega arith) refl (some_words g.shape.abi, (r, h.front_at.1, ap (λ (x : Shape). entry_of x.abi r) h.shaped.known))

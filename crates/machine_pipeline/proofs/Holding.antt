@@ -220,7 +220,7 @@ frames_alike config w g d h =
     all_fit : (o : Option Ending) → ending ≡ o → All (IsFitting d.requests) (ones w.front.requests o)
     all_fit None same = each
     all_fit (Some e) same =
-        let its = ending_is g.shape g.start g.pushed g.taken g.front_seen g.submitted g.replies (next_request w.front) w.front.entry w.front.ending w.front.stage e h.front_at same in
+        let its = ending_is g.shape g.start g.pushed g.taken g.front_seen g.submitted g.replies (next_request w.front) w.front.ring.entry w.front.ending w.front.stage e h.front_at same in
         by_place (fit e.request its.known)
       where
         by_place : IsFitting d.requests e.request → All (IsFitting d.requests) (e.request ∷ w.front.requests)

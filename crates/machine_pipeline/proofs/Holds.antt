@@ -463,16 +463,16 @@ pub record IsSettled (config : Options) (start : ℕ) (began : Bool) (shape : Sh
 pub record Holds (config : Options) (w : World) (g : Flow) (d : Pipeline) (s : FrontStage) (b : BackStage) : Type 0 where
   pub settled : IsSettled config g.start g.closing g.shape g.submitted w.front.start w.front.closing w.front.shape w.front.sectors w.front.read_only w.front.last w.back.jobs.info w.back.halted
   pub open settled use *
-  pub indices : AreIndices g w.front.ring w.back.ring w.front.seen w.back.seen w.back.fetched w.front.last w.front.waiting (length w.front.requests) (ending_of s)
+  pub indices : AreIndices g w.front.ring.indices w.back.ring.indices w.front.ring.seen w.back.ring.seen w.back.fetched w.front.last w.front.waiting (length w.front.requests) (ending_of s)
   pub queue : AreQueued g.submitted g.series g.pushed w.front.requests w.front.waiting
   pub pool : ArePooled w.front.pool w.front.requests (ending_at s w.front.ending)
   pub stations : AreStations config g d (is_ready s) (is_issuing s) (is_fetching b) (ending_at s w.front.ending) (telling_at s) (reply_at b) w.front.requests w.back.jobs.works w.under.pages
   pub works : AreWorks g.submitted g.series g.fetched w.back.jobs.works
   pub counted : length w.back.jobs.works + reply_count (reply_at b) + g.replied ≡ g.fetched
   pub replies : AreReplies g.series g.fetched g.taken g.replied g.replies
-  pub front_at : FrontAt g.shape g.start g.pushed g.taken g.front_seen g.submitted g.replies (next_request w.front) w.front.entry w.front.ending s
+  pub front_at : FrontAt g.shape g.start g.pushed g.taken g.front_seen g.submitted g.replies (next_request w.front) w.front.ring.entry w.front.ending s
   pub offered : IsOffered (is_ready s) config.read_only config.indirect w.front.offers g.pushed
-  pub back_at : BackAt g.shape g.start g.fetched g.back_seen g.replied g.series w.back.jobs.works w.back.entry b
+  pub back_at : BackAt g.shape g.start g.fetched g.back_seen g.replied g.series w.back.jobs.works w.back.ring.entry b
   pub memory : length w.under.pages ≡ 1114112
   pub ring : AreRingWords g.shape.order g.start g.pushed g.replied w.under.pages s (length w.back.pages)
   pub slots : AreSlots g.shape g.start g.fetched g.pushed g.taken g.replied g.series g.replies w.under.pages s b
@@ -480,9 +480,9 @@ pub record Holds (config : Options) (w : World) (g : Flow) (d : Pipeline) (s : F
   pub telling : AreDataWords w.under.pages w.front.words w.front.ending s
   pub entries : AreEntries g.series g.pushed w.under.pages w.under.grants.live s w.front.ending w.front.requests
   pub mapped : AreMapped w.under.grants.live (hands_at b w.back)
-  pub paged : ArePaged g.shape w.back.shape w.back.ring.entries w.back.grefs w.back.port (g.before + 1) w.back.pages b
-  pub front_sleep : IsFrontSleep g.start g.taken g.replied w.under.pages w.front.asleep w.under.channels.front_pending s b
-  pub back_sleep : IsBackSleep g.start g.fetched g.pushed w.under.pages w.back.asleep w.under.channels.back_pending s b
+  pub paged : ArePaged g.shape w.back.shape w.back.ring.indices.entries w.back.grefs w.back.ring.port (g.before + 1) w.back.pages b
+  pub front_sleep : IsFrontSleep g.start g.taken g.replied w.under.pages w.front.ring.asleep w.under.channels.front_pending s b
+  pub back_sleep : IsBackSleep g.start g.fetched g.pushed w.under.pages w.back.ring.asleep w.under.channels.back_pending s b
   pub ports : PortsAt g.before (is_connected s) (is_bound_back b) w.under.channels.made w.under.channels.ports
 
 -- and each ask may be carried out

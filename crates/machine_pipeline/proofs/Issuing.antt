@@ -177,7 +177,7 @@ back_sleep_turned start fetched pushed old new asleep pending s s' b same sends 
 -- the machine with the front at another stage, with that entry and that memory
 abbrev pub with_front : World → FrontStage → (entry pages : List ℕ) → World
 with_front w s entry pages = record {
-  front = let v : front_view.View = w.front in record v { stage = s; entry = entry; told = None };
+  front = let v : front_view.View = w.front in record v { stage = s; ring = record v.ring { entry = entry }; told = None };
   back = w.back;
   under = let h : Hypervisor = w.under in record h { pages = pages };
 }
@@ -193,7 +193,7 @@ pub issue_moved : (config : Options) (w : World) (g : Flow) (d d' : Pipeline) (s
     → AreSlots g.shape g.start g.fetched g.pushed g.taken g.replied g.series g.replies pages s' w.back.stage
     → All (IsFilled g.series g.pushed pages s') w.front.requests
     → AreEntries g.series g.pushed pages w.under.grants.live s' w.front.ending w.front.requests
-    → (w.back.asleep ≡ true → FrontSends s g.pushed g.fetched → FrontSends s' g.pushed g.fetched)
+    → (w.back.ring.asleep ≡ true → FrontSends s g.pushed g.fetched → FrontSends s' g.pushed g.fetched)
     → Holds config (with_front w s' entry pages) g d' s' w.back.stage
 issue_moved config w g d d' s s' entry pages m m' h stations at sized words named slots frames entries sends =
     let i = issuing s m in
@@ -218,8 +218,8 @@ issue_moved config w g d d' s s' entry pages m m' h stations at sized words name
       entries = entries;
       mapped = h.mapped;
       paged = h.paged;
-      front_sleep = front_sleep_turned g.start g.taken g.replied w.under.pages pages w.front.asleep w.under.channels.front_pending s s' w.back.stage m' (words 3 (omega arith)) h.front_sleep;
-      back_sleep = back_sleep_turned g.start g.fetched g.pushed w.under.pages pages w.back.asleep w.under.channels.back_pending s s' w.back.stage (words 1 (omega arith)) sends h.back_sleep;
+      front_sleep = front_sleep_turned g.start g.taken g.replied w.under.pages pages w.front.ring.asleep w.under.channels.front_pending s s' w.back.stage m' (words 3 (omega arith)) h.front_sleep;
+      back_sleep = back_sleep_turned g.start g.fetched g.pushed w.under.pages pages w.back.ring.asleep w.under.channels.back_pending s s' w.back.stage (words 1 (omega arith)) sends h.back_sleep;
       ports = rw (as_connected s' s i'.ready i.ready) h.ports;
     }
 
@@ -235,7 +235,7 @@ pub issue_kept : (config : Options) (w : World) (g : Flow) (d : Pipeline) (s s' 
     → AreSlots g.shape g.start g.fetched g.pushed g.taken g.replied g.series g.replies pages s' w.back.stage
     → All (IsFilled g.series g.pushed pages s') w.front.requests
     → AreEntries g.series g.pushed pages w.under.grants.live s' w.front.ending w.front.requests
-    → (w.back.asleep ≡ true → FrontSends s g.pushed g.fetched → FrontSends s' g.pushed g.fetched)
+    → (w.back.ring.asleep ≡ true → FrontSends s g.pushed g.fetched → FrontSends s' g.pushed g.fetched)
     → Holds config (with_front w s' entry pages) g d s' w.back.stage
 issue_kept config w g d s s' entry pages m m' same h at sized elsewhere =
     let i = issuing s m in

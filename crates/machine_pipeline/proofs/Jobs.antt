@@ -179,7 +179,7 @@ job_makes config w g d d' p t t' pages' grants' h free number stations now sized
   replies = h.replies;
   front_at = h.front_at;
   offered = h.offered;
-  back_at = back_works g.shape g.start g.fetched g.back_seen g.replied g.series w.back.jobs.works (slice_set w.back.jobs.works p t') w.back.entry w.back.stage (λ rep alone. alone_after w.back.jobs.works p t t' rep.id free.here number alone) h.back_at;
+  back_at = back_works g.shape g.start g.fetched g.back_seen g.replied g.series w.back.jobs.works (slice_set w.back.jobs.works p t') w.back.ring.entry w.back.stage (λ rep alone. alone_after w.back.jobs.works p t t' rep.id free.here number alone) h.back_at;
   memory = sized;
   ring = ring_kept g.shape.order g.start g.pushed g.replied w.under.pages pages' w.front.stage (length w.back.pages) (λ v lt. ring 2 (omega arith) (omega arith) v (omega arith)) (few_words g.shape _ _ _ _ _ _ _ _ _ w.front.stage h.front_at) (λ page lt. entry page (let few = named_at g.shape _ _ _ _ _ _ _ _ _ w.front.stage h.shaped.narrow h.front_at in omega arith)) h.ring;
   slots = slots_kept g.shape g.start g.fetched g.pushed g.taken g.replied g.series g.replies w.under.pages pages' w.front.stage w.back.stage h.shaped.narrow (same_slots w.under.pages pages' (λ f v from to within. ring f from to v within)) h.slots;
@@ -188,8 +188,8 @@ job_makes config w g d d' p t t' pages' grants' h free number stations now sized
   entries = entries;
   mapped = mapped;
   paged = h.paged;
-  front_sleep = front_sleep_kept g.start g.taken g.replied w.under.pages pages' w.front.asleep w.under.channels.front_pending w.front.stage w.back.stage (ring 2 (omega arith) (omega arith) 3 (omega arith)) h.front_sleep;
-  back_sleep = back_sleep_kept g.start g.fetched g.pushed w.under.pages pages' w.back.asleep w.under.channels.back_pending w.front.stage w.back.stage (ring 2 (omega arith) (omega arith) 1 (omega arith)) h.back_sleep;
+  front_sleep = front_sleep_kept g.start g.taken g.replied w.under.pages pages' w.front.ring.asleep w.under.channels.front_pending w.front.stage w.back.stage (ring 2 (omega arith) (omega arith) 3 (omega arith)) h.front_sleep;
+  back_sleep = back_sleep_kept g.start g.fetched g.pushed w.under.pages pages' w.back.ring.asleep w.under.channels.back_pending w.front.stage w.back.stage (ring 2 (omega arith) (omega arith) 1 (omega arith)) h.back_sleep;
   ports = h.ports;
 }
 

@@ -33,8 +33,8 @@ keyed w keys = record { front = w.front; back = w.back; under = with_keys w.unde
 
 -- other keys, and other marks with which both ends would wake as well
 beside : (config : Options) (w : World) (g : Flow) (d : Pipeline) (s : FrontStage) (b : BackStage) (keys : Directory) (front_pending back_pending : Bool)
-    → IsFrontSleep g.start g.taken g.replied w.under.pages w.front.asleep front_pending s b
-    → IsBackSleep g.start g.fetched g.pushed w.under.pages w.back.asleep back_pending s b
+    → IsFrontSleep g.start g.taken g.replied w.under.pages w.front.ring.asleep front_pending s b
+    → IsBackSleep g.start g.fetched g.pushed w.under.pages w.back.ring.asleep back_pending s b
     → Holds config w g d s b
     → Holds config (record { front = w.front; back = w.back; under = record w.under { channels = record w.under.channels { front_pending = front_pending; back_pending = back_pending }; keys = keys } }) g d s b
 beside config w g d s b keys front_pending back_pending front_sleep back_sleep h = record {
@@ -63,8 +63,8 @@ beside config w g d s b keys front_pending back_pending front_sleep back_sleep h
 }
 
 pub marked : (config : Options) (w : World) (g : Flow) (d : Pipeline) (s : FrontStage) (b : BackStage) (front_pending back_pending : Bool)
-    → IsFrontSleep g.start g.taken g.replied w.under.pages w.front.asleep front_pending s b
-    → IsBackSleep g.start g.fetched g.pushed w.under.pages w.back.asleep back_pending s b
+    → IsFrontSleep g.start g.taken g.replied w.under.pages w.front.ring.asleep front_pending s b
+    → IsBackSleep g.start g.fetched g.pushed w.under.pages w.back.ring.asleep back_pending s b
     → Holds config w g d s b
     → Holds config (record { front = w.front; back = w.back; under = record w.under { channels = record w.under.channels { front_pending = front_pending; back_pending = back_pending } } }) g d s b
 marked config w g d s b front_pending back_pending front_sleep back_sleep h = beside config w g d s b w.under.keys front_pending back_pending front_sleep back_sleep h

@@ -88,7 +88,7 @@ own_pages config w g d s b h = record {
 -- they alone are mapped
 left_mapped : (config : Options) (w : World) (g : Flow) (d : Pipeline) (s : FrontStage) (b : BackStage) → Holds config w g d s b → w.back.jobs.works ≡ [] → AreMapped w.under.grants.live w.back.pages
 left_mapped config w g d s b h no_job =
-    let given : aborted b ≡ [] = nothing_aborted g.shape b g.start g.fetched g.back_seen g.replied g.series w.back.jobs.works w.back.entry h.back_at in
+    let given : aborted b ≡ [] = nothing_aborted g.shape b g.start g.fetched g.back_seen g.replied g.series w.back.jobs.works w.back.ring.entry h.back_at in
     subst (λ (works : List Work). AreMapped w.under.grants.live (hands_in works ++ w.back.pages)) no_job
     (subst (λ (ms : List Mapping). AreMapped w.under.grants.live (ms ++ (hands_in w.back.jobs.works ++ w.back.pages))) given h.mapped)
 
@@ -99,7 +99,7 @@ leaving_at config w g d front.Initialised b b' free h = (ap (λ (f : Front). f.c
 leaving_at config w g d front.Loop b b' free h = unmapped_yet config w g d front.Loop b h refl
 leaving_at config w g d s b b' free h = absurd (true≢false (sym free))
 
-ring_left : (config : Options) (w : World) (g : Flow) (d : Pipeline) (s : FrontStage) (b : BackStage) → Holds config w g d s b → length w.front.requests ≡ 0 → length w.under.channels.ports ≢ 0 → IsDrained w.under.pages w.front.ring.cons w.back.ring.cons
+ring_left : (config : Options) (w : World) (g : Flow) (d : Pipeline) (s : FrontStage) (b : BackStage) → Holds config w g d s b → length w.front.requests ≡ 0 → length w.under.channels.ports ≢ 0 → IsDrained w.under.pages w.front.ring.indices.cons w.back.ring.indices.cons
 ring_left config w g d (front.RingWord k) b h none made = absurd (made (ap length h.ports.1))
 ring_left config w g d (front.LeftData n) b h none made = absurd (made (ap length h.ports.1))
 ring_left config w g d s b h none made = drained_at config w g d s b h refl none
@@ -117,7 +117,7 @@ unpooled (r ∷ requests) none ending ended h = absurd (omega arith)
 -- what stands then
 over_begins : (config : Options) (w : World) (g : Flow) (d : Pipeline) (why : Halt) (v : View)
     → Holds config w g d w.front.stage w.back.stage → IsFarewell w why
-    → v.halted ≡ Some why → v.jobs.works ≡ [] → v.jobs.info ≡ w.back.jobs.info → v.ring.cons ≡ w.back.ring.cons → v.pages ≡ w.back.pages
+    → v.halted ≡ Some why → v.jobs.works ≡ [] → v.jobs.info ≡ w.back.jobs.info → v.ring.indices.cons ≡ w.back.ring.indices.cons → v.pages ≡ w.back.pages
     → IsAborting w.back.pages v.stage
     → Over config (backed w v) d w.front.stage v.stage
 over_begins config w g d why v h farewell halted no_job info cons same_pages held =
@@ -152,7 +152,7 @@ over_begins config w g d why v h farewell halted no_job info cons same_pages hel
       mapped = subst (AreMapped w.under.grants.live) (sym same_pages) (left_mapped config w g d w.front.stage w.back.stage h none);
       front_at = subst (λ (ms : List Mapping). IsLeaving d.front.connected (length w.under.channels.ports) w.front.shape.order w.under.pages ms v.stage w.front.stage) (sym same_pages)
           (leaving_at config w g d w.front.stage w.back.stage v.stage farewell.free h);
-      ring = λ made. subst (IsDrained w.under.pages w.front.ring.cons) (sym cons) (ring_left config w g d w.front.stage w.back.stage h through.none made);
+      ring = λ made. subst (IsDrained w.under.pages w.front.ring.indices.cons) (sym cons) (ring_left config w g d w.front.stage w.back.stage h through.none made);
     }
 
 -- the pipeline leaves

@@ -95,12 +95,12 @@ pub left_on : (config : Options) (w : World) (g : Flow) (d d' : Pipeline) (s s' 
     → Holds config w g d s w.back.stage
     → AreStations config g d' (is_ready s') (is_issuing s') (is_fetching w.back.stage) (ending_at s' ending) (telling_at s') (reply_at w.back.stage) w.front.requests w.back.jobs.works w.under.pages
     → ArePooled pool w.front.requests (ending_at s' ending)
-    → FrontAt g.shape g.start g.pushed g.taken g.front_seen g.submitted g.replies (next_request w.front) w.front.entry ending s'
+    → FrontAt g.shape g.start g.pushed g.taken g.front_seen g.submitted g.replies (next_request w.front) w.front.ring.entry ending s'
     → AreDataWords w.under.pages words ending s'
     → Holds config (finishing_at w s' ending pool words w.under.pages) g d' s' w.back.stage
 left_on config w g d d' s s' ending pool words i i' fewer h stations pooled at told = record {
   settled = h.settled;
-  indices = indices_room g w.front.ring w.back.ring w.front.seen w.back.seen w.back.fetched w.front.last w.front.waiting (length w.front.requests) (ending_of s) (ending_of s') (let was = h.indices in let room = was.room in omega arith) h.indices;
+  indices = indices_room g w.front.ring.indices w.back.ring.indices w.front.ring.seen w.back.ring.seen w.back.fetched w.front.last w.front.waiting (length w.front.requests) (ending_of s) (ending_of s') (let was = h.indices in let room = was.room in omega arith) h.indices;
   queue = h.queue;
   pool = pooled;
   stations = stations;
@@ -126,8 +126,8 @@ left_on config w g d d' s s' ending pool words i i' fewer h stations pooled at t
   };
   mapped = h.mapped;
   paged = h.paged;
-  front_sleep = awake_front g.start g.taken g.replied w.under.pages w.front.asleep w.under.channels.front_pending s' w.back.stage (h.front_sleep.may i.restless) i'.unarmed;
-  back_sleep = back_sleep_rests g.start g.fetched g.pushed w.under.pages w.under.pages w.back.asleep w.under.channels.back_pending w.under.channels.back_pending s s' w.back.stage refl refl (i.quiet g.pushed g.fetched) h.back_sleep;
+  front_sleep = awake_front g.start g.taken g.replied w.under.pages w.front.ring.asleep w.under.channels.front_pending s' w.back.stage (h.front_sleep.may i.restless) i'.unarmed;
+  back_sleep = back_sleep_rests g.start g.fetched g.pushed w.under.pages w.under.pages w.back.ring.asleep w.under.channels.back_pending w.under.channels.back_pending s s' w.back.stage refl refl (i.quiet g.pushed g.fetched) h.back_sleep;
   ports = subst (λ (b : Bool). PortsAt g.before b (is_bound_back w.back.stage) w.under.channels.made w.under.channels.ports) (i.unconnected ∙ sym i'.unconnected) h.ports;
 }
 

@@ -33,36 +33,36 @@ pub looked_goes : (config : Options) (w : World) (g : Flow) (d : Pipeline) (s : 
     → IsResting s → ending_of s ≡ 0
     → Holds config w g d s w.back.stage
     → w.front.told ≡ None
-    → w.front.asleep ≡ false
+    → w.front.ring.asleep ≡ false
     → word ≡ wrapped g.start g.replied
     → (g.replied ≡ g.taken → Goes config (lines.Move m ∷ front_lines otherwise.told) (record { front = record otherwise { told = None }; back = w.back; under = w.under }) d)
     → (let x : View = looked w.front word otherwise in Goes config (lines.Move m ∷ front_lines x.told) (record { front = record x { told = None }; back = w.back; under = w.under }) d)
-looked_goes config w g d s m word otherwise i zero h told awake read nothing = by_break (nat_lt (distance_of w.front.ring.cons w.front.ring.prod) (distance_of w.front.ring.cons word)) refl
+looked_goes config w g d s m word otherwise i zero h told awake read nothing = by_break (nat_lt (distance_of w.front.ring.indices.cons w.front.ring.indices.prod) (distance_of w.front.ring.indices.cons word)) refl
   where
     found : View
-    found = let v : View = w.front in record v { seen = word; stage = front.Loop }
+    found = let v : View = w.front in record v { ring = record v.ring { seen = word }; stage = front.Loop }
 
     new : Goes config (lines.Move m ∷ front_lines found.told) (record { front = record found { told = None }; back = w.back; under = w.under }) d
     new =
         let v : View = w.front in
         let indices = h.indices in
-        subst (λ (a : Bool). Goes config (lines.Move m ∷ front_lines found.told) (record { front = record v { seen = word; stage = front.Loop; asleep = a; told = None }; back = w.back; under = w.under }) d) (sym awake)
+        subst (λ (a : Bool). Goes config (lines.Move m ∷ front_lines found.told) (record { front = record v { ring = record v.ring { seen = word; asleep = a }; stage = front.Loop; told = None }; back = w.back; under = w.under }) d) (sym awake)
         (goes_by {g = record g { front_seen = g.replied }} (said_nothing d m found.told told)
         (rest_kept config w g d s front.Loop word g.replied false w.under.pages w.under.channels i at_loop zero refl h tt read indices.taken_replied (omega arith) h.memory (λ f apart x lt. refl) (λ x apart lt. refl) refl refl refl
         (record { arming = λ t. absurd (true≢false (sym t)); armed = λ t. absurd (true≢false (sym t)); may = λ t. refl; woken = λ t. absurd (true≢false (sym t)) })))
 
-    by_new : (b : Bool) → (word == w.front.ring.cons) ≡ b → (let x : View = (if b then otherwise else found) in Goes config (lines.Move m ∷ front_lines x.told) (record { front = record x { told = None }; back = w.back; under = w.under }) d)
+    by_new : (b : Bool) → (word == w.front.ring.indices.cons) ≡ b → (let x : View = (if b then otherwise else found) in Goes config (lines.Move m ∷ front_lines x.told) (record { front = record x { told = None }; back = w.back; under = w.under }) d)
     by_new true t =
-        let same : word ≡ w.front.ring.cons = grind (arith, nat_tests) in
+        let same : word ≡ w.front.ring.indices.cons = grind (arith, nat_tests) in
         nothing (same_wrapped g.start g.taken g.replied h.indices.taken_replied (omega arith) (sym read ∙ (same ∙ h.indices.taken)))
     by_new false t = new
 
-    by_break : (b : Bool) → nat_lt (distance_of w.front.ring.cons w.front.ring.prod) (distance_of w.front.ring.cons word) ≡ b → (let x : View = (if b then broken word w.front else (if word == w.front.ring.cons then otherwise else found)) in Goes config (lines.Move m ∷ front_lines x.told) (record { front = record x { told = None }; back = w.back; under = w.under }) d)
+    by_break : (b : Bool) → nat_lt (distance_of w.front.ring.indices.cons w.front.ring.indices.prod) (distance_of w.front.ring.indices.cons word) ≡ b → (let x : View = (if b then broken word w.front else (if word == w.front.ring.indices.cons then otherwise else found)) in Goes config (lines.Move m ∷ front_lines x.told) (record { front = record x { told = None }; back = w.back; under = w.under }) d)
     by_break true t =
-        let far = distance_at g.start g.taken g.pushed w.front.ring.cons w.front.ring.prod h.indices.taken h.indices.pushed (omega arith) (omega arith) in
-        let near = distance_at g.start g.taken g.replied w.front.ring.cons word h.indices.taken read h.indices.taken_replied (omega arith) in
+        let far = distance_at g.start g.taken g.pushed w.front.ring.indices.cons w.front.ring.indices.prod h.indices.taken h.indices.pushed (omega arith) (omega arith) in
+        let near = distance_at g.start g.taken g.replied w.front.ring.indices.cons word h.indices.taken read h.indices.taken_replied (omega arith) in
         absurd (too_far _ _ (omega arith) t)
-    by_break false t = by_new (word == w.front.ring.cons) refl
+    by_break false t = by_new (word == w.front.ring.indices.cons) refl
 
 -- before it sleeps the front looks again
 pub look_again_goes : (config : Options) (w : World) (g : Flow) (d : Pipeline)
@@ -78,9 +78,9 @@ look_again_goes config w g d told h =
     word = word_of w.under.pages 2 2
 
     asleep : View
-    asleep = let v : View = w.front in record v { seen = word; stage = front.Loop; asleep = true }
+    asleep = let v : View = w.front in record v { ring = record v.ring { seen = word; asleep = true }; stage = front.Loop }
 
-    awake : w.front.asleep ≡ false
+    awake : w.front.ring.asleep ≡ false
     awake = let sleep = h.front_sleep in sleep.may refl
 
     read : word ≡ wrapped g.start g.replied
@@ -92,16 +92,16 @@ pub at_stage_goes : (config : Options) (w : World) (g : Flow) (d : Pipeline) (s 
     → ending_of s ≡ 0 → ending_of s' ≡ 0
     → w.front.told ≡ None
     → Holds config w g d s w.back.stage
-    → FrontAt g.shape g.start g.pushed g.taken g.front_seen g.submitted g.replies (next_request w.front) w.front.entry w.front.ending s'
+    → FrontAt g.shape g.start g.pushed g.taken g.front_seen g.submitted g.replies (next_request w.front) w.front.ring.entry w.front.ending s'
     → length pages ≡ 1114112
     → ((f : ℕ) → f ≢ 2 → SameFrame w.under.pages pages f)
     → ((x : ℕ) → x ≢ 3 → x < 1024 → word_of pages 2 x ≡ word_of w.under.pages 2 x)
-    → IsFrontSleep g.start g.taken g.replied pages w.front.asleep w.under.channels.front_pending s' w.back.stage
+    → IsFrontSleep g.start g.taken g.replied pages w.front.ring.asleep w.under.channels.front_pending s' w.back.stage
     → (let x : View = at s' w.front in Goes config (lines.Move m ∷ front_lines x.told) (record { front = record x { told = None }; back = w.back; under = record w.under { pages = pages } }) d)
 at_stage_goes config w g d s s' m pages i i' zero zero' told h place sized frames words sleep =
     let indices = h.indices in
     goes_by (said_nothing d m w.front.told told)
-    (rest_kept config w g d s s' w.front.seen g.front_seen w.front.asleep pages w.under.channels i i' zero zero' h place indices.front_saw indices.front_from indices.front_to sized frames words refl refl refl sleep)
+    (rest_kept config w g d s s' w.front.ring.seen g.front_seen w.front.ring.asleep pages w.under.channels i i' zero zero' h place indices.front_saw indices.front_from indices.front_to sized frames words refl refl refl sleep)
 
 -- it stores its event word one past what it took
 pub store_goes : (config : Options) (w : World) (g : Flow) (d : Pipeline)
@@ -109,17 +109,17 @@ pub store_goes : (config : Options) (w : World) (g : Flow) (d : Pipeline)
     → Holds config w g d front.StoreEvent w.back.stage
     → FrontGoes config w d front.StoreEvent
 store_goes config w g d told h =
-    at_stage_goes config w g d front.StoreEvent front.EventFence (moves.FrontWrite 2 3 (next_of w.front.ring.cons)) pages at_store at_fence refl refl told h tt
-    (length-set w.under.pages (2 * 1024 + 3) (next_of w.front.ring.cons) ∙ h.memory)
-    (λ f apart. other_frame w.under.pages 2 3 (next_of w.front.ring.cons) f (omega arith) apart)
-    (λ x apart lt. other_word w.under.pages 2 3 (next_of w.front.ring.cons) x apart)
+    at_stage_goes config w g d front.StoreEvent front.EventFence (moves.FrontWrite 2 3 (next_of w.front.ring.indices.cons)) pages at_store at_fence refl refl told h tt
+    (length-set w.under.pages (2 * 1024 + 3) (next_of w.front.ring.indices.cons) ∙ h.memory)
+    (λ f apart. other_frame w.under.pages 2 3 (next_of w.front.ring.indices.cons) f (omega arith) apart)
+    (λ x apart lt. other_word w.under.pages 2 3 (next_of w.front.ring.indices.cons) x apart)
     (record { arming = λ t. stored; armed = λ t. stored; may = h.front_sleep.may; woken = h.front_sleep.woken })
   where
     pages : List ℕ
-    pages = with_word w.under.pages 2 3 (next_of w.front.ring.cons)
+    pages = with_word w.under.pages 2 3 (next_of w.front.ring.indices.cons)
 
     stored : word_of pages 2 3 ≡ wrapped g.start (g.taken + 1)
-    stored = let indices = h.indices in written w.under.pages 2 3 (next_of w.front.ring.cons) h.memory (omega arith) (omega arith) ∙ next_wrapped g.start g.taken w.front.ring.cons indices.taken
+    stored = let indices = h.indices in written w.under.pages 2 3 (next_of w.front.ring.indices.cons) h.memory (omega arith) (omega arith) ∙ next_wrapped g.start g.taken w.front.ring.indices.cons indices.taken
 
 pub event_fence_goes : (config : Options) (w : World) (g : Flow) (d : Pipeline)
     → w.front.told ≡ None

@@ -51,6 +51,6 @@ notified_goes config w g d at stands = goes_by (no_move IsSame d (λ a b same. s
 
     by_end : (e : End) → (let x : World = happens w (Notifies e) in Holds config x g d w.front.stage w.back.stage)
     by_end end.Front = marked config w g d w.front.stage w.back.stage (if is_bound w.under.channels then true else w.under.channels.front_pending) w.under.channels.back_pending
-        (marked_front g.start g.taken g.replied w.under.pages w.front.asleep w.under.channels.front_pending _ w.front.stage w.back.stage (set_or_kept (is_bound w.under.channels) w.under.channels.front_pending) h.front_sleep) h.back_sleep h
+        (marked_front g.start g.taken g.replied w.under.pages w.front.ring.asleep w.under.channels.front_pending _ w.front.stage w.back.stage (set_or_kept (is_bound w.under.channels) w.under.channels.front_pending) h.front_sleep) h.back_sleep h
     by_end end.Back = marked config w g d w.front.stage w.back.stage w.under.channels.front_pending (if is_bound w.under.channels then true else w.under.channels.back_pending)
-        h.front_sleep (marked_back g.start g.fetched g.pushed w.under.pages w.back.asleep w.under.channels.back_pending _ w.front.stage w.back.stage (set_or_kept (is_bound w.under.channels) w.under.channels.back_pending) h.back_sleep) h
+        h.front_sleep (marked_back g.start g.fetched g.pushed w.under.pages w.back.ring.asleep w.under.channels.back_pending _ w.front.stage w.back.stage (set_or_kept (is_bound w.under.channels) w.under.channels.back_pending) h.back_sleep) h

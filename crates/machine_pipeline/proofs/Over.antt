@@ -130,7 +130,7 @@ pub record IsOver (config : Options) (d : Pipeline) (x : Lasting) (front_closes 
 
 -- the machine, and the pipeline that it stands for
 abbrev pub Over : Options → World → Pipeline → FrontStage → BackStage → Type 0
-Over config w d s b = IsOver config d (lasting_of w) w.front.closing w.front.requests w.front.ring.cons w.back.halted w.back.jobs.works w.back.pages w.back.ring.cons (length w.under.channels.ports) w.under.grants.live w.under.pages s b
+Over config w d s b = IsOver config d (lasting_of w) w.front.closing w.front.requests w.front.ring.indices.cons w.back.halted w.back.jobs.works w.back.pages w.back.ring.indices.cons (length w.under.channels.ports) w.under.grants.live w.under.pages s b
 
 -- one pipeline with the options, the requests and the closing of another
 abbrev pub IsAlike : Pipeline → Pipeline → Type 0

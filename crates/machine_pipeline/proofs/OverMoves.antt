@@ -112,10 +112,10 @@ loops config w d told o =
     none = none_next w.front.waiting w.front.requests o.no_request
 
     looks : FrontAsk
-    looks = if responses_of w.front.ring w.front.seen == 0 then front_ask.Read ring_frame 2 else front_ask.Read (slot_frame w.front.shape w.front.ring.cons 0) (slot_word w.front.shape w.front.ring.cons 0)
+    looks = if responses_of w.front.ring.indices w.front.ring.seen == 0 then front_ask.Read ring_frame 2 else front_ask.Read (slot_frame w.front.shape w.front.ring.indices.cons 0) (slot_word w.front.shape w.front.ring.indices.cons 0)
 
-    sleeps : (w.front.asleep || is_through w.front) ≡ true
-    sleeps = either_true w.front.asleep (is_through w.front) (rw (o.closes, o.no_request) refl)
+    sleeps : (w.front.ring.asleep || is_through w.front) ≡ true
+    sleeps = either_true w.front.ring.asleep (is_through w.front) (rw (o.closes, o.no_request) refl)
 
 -- the words of the ring's first page, where another frame was written
 still_drained : (old new : List ℕ) (front_cons back_cons : ℕ) → ((word : ℕ) → word < 1024 → word_of new 2 word ≡ word_of old 2 word) → IsDrained old front_cons back_cons → IsDrained new front_cons back_cons
@@ -193,8 +193,8 @@ ends_grant config w d page seen told o =
           ap is_mapped same.flags ∙ o.front_at.2 other within none
     ]
 
-    drained : length w.under.channels.ports ≢ 0 → IsDrained pages w.front.ring.cons w.back.ring.cons
-    drained made = still_drained w.under.pages pages w.front.ring.cons w.back.ring.cons (other_frame w.under.pages frame place 0 2 (omega (arith, few)) (omega (arith, few))) (o.ring made)
+    drained : length w.under.channels.ports ≢ 0 → IsDrained pages w.front.ring.indices.cons w.back.ring.indices.cons
+    drained made = still_drained w.under.pages pages w.front.ring.indices.cons w.back.ring.indices.cons (other_frame w.under.pages frame place 0 2 (omega (arith, few)) (omega (arith, few))) (o.ring made)
 
     sized : length pages ≡ 1114112
     sized = length-set w.under.pages (frame * 1024 + place) 0 ∙ o.memory
@@ -294,7 +294,7 @@ unmaps_first config w d b next m rest e serves gives held o =
     (record { grefs = All-tail (λ (x : Mapping). (8 ≤ x.gref) × (x.gref < 24)) m rest own.grefs; distinct = pairs_from (λ (x y : Mapping). x.gref ≢ y.gref) rest (λ i j x y lt first second. pair_at (λ (a b : Mapping). a.gref ≢ b.gref) (m ∷ rest) (i + 1) (j + 1) x y own.distinct (omega arith) (get_after m rest i x first) (get_after m rest j y second)) })
     mapped refl
     (has_unmapped d.front.connected (length w.under.channels.ports) w.front.shape.order w.under.pages pages w.back.pages rest b (next rest) w.front.stage serves still o.front_at)
-    (λ made. still_drained w.under.pages pages w.front.ring.cons w.back.ring.cons (other_frame w.under.pages (m.gref / 512) (2 * (m.gref % 512)) flags 2 (omega (arith, among.1)) (omega (arith, among.1))) (o.ring made)))
+    (λ made. still_drained w.under.pages pages w.front.ring.indices.cons w.back.ring.indices.cons (other_frame w.under.pages (m.gref / 512) (2 * (m.gref % 512)) flags 2 (omega (arith, among.1)) (omega (arith, among.1))) (o.ring made)))
   where
     own : AreOwn (m ∷ rest)
     own = subst AreOwn e o.own

@@ -42,7 +42,7 @@ producer_goes config w g d safe h =
     goes_by {g = pushed_flow g} (does_step _ (front_lines w.front.told) (rw safe.front_told refl) s)
     (record {
       settled = h.settled;
-      indices = indices_pushed g w.front.ring w.back.ring w.front.seen w.back.seen w.back.fetched w.front.last w.front.waiting (length w.front.requests) next.waits h.indices;
+      indices = indices_pushed g w.front.ring.indices w.back.ring.indices w.front.ring.seen w.back.ring.seen w.back.fetched w.front.last w.front.waiting (length w.front.requests) next.waits h.indices;
       queue = queue_pushed g.submitted w.front.requests g.pushed w.front.waiting r next (waiting_few h.indices) h.queue;
       pool = h.pool;
       stations = stations_elsewhere config (pushed_flow g) _ true false (is_fetching w.back.stage) None None (reply_at w.back.stage) w.front.requests w.back.jobs.works w.under.pages new w.front.sectors w.front.last h.submitted (λ f low high. elsewhere f (omega arith)) s.now;
@@ -52,19 +52,19 @@ producer_goes config w g d safe h =
       front_at = (omega arith, x.pushed ∙ ap (λ (n : ℕ). wrapped g.start n) (one_less g.pushed));
       offered = h.offered;
       back_at = h.back_at;
-      memory = length-set w.under.pages (2 * 1024 + 0) (next_of w.front.ring.prod) ∙ h.memory;
+      memory = length-set w.under.pages (2 * 1024 + 0) (next_of w.front.ring.indices.prod) ∙ h.memory;
       ring = record {
         begun = tt;
-        requests = λ t. written w.under.pages 2 0 (next_of w.front.ring.prod) h.memory (omega arith) (omega arith) ∙ next_wrapped g.start g.pushed w.front.ring.prod x.pushed;
+        requests = λ t. written w.under.pages 2 0 (next_of w.front.ring.indices.prod) h.memory (omega arith) (omega arith) ∙ next_wrapped g.start g.pushed w.front.ring.indices.prod x.pushed;
         responses = λ t. ring_word 2 (omega arith) ∙ y.responses t;
         named = λ page lt unmapped. let few = few_pages g.shape.order h.shaped.narrow in let entry = entry_same (8 + page) (omega arith) in entry.frame ∙ y.named page lt unmapped;
         granted = λ page lt unmapped. let few = few_pages g.shape.order h.shaped.narrow in let entry = entry_same (8 + page) (omega arith) in entry.flags ∙ y.granted page lt unmapped;
       };
-      slots = slots_pushed g.shape g.start g.fetched g.pushed g.taken g.replied w.front.ring.prod g.series g.replies w.under.pages new w.back.stage h.shaped.narrow (index_written w.under.pages 0 (next_of w.front.ring.prod) (omega arith)) h.slots;
-      frames = frames_pushed g.pushed w.front.ring.prod w.under.pages new w.front.requests next.shaped
+      slots = slots_pushed g.shape g.start g.fetched g.pushed g.taken g.replied w.front.ring.indices.prod g.series g.replies w.under.pages new w.back.stage h.shaped.narrow (index_written w.under.pages 0 (next_of w.front.ring.indices.prod) (omega arith)) h.slots;
+      frames = frames_pushed g.pushed w.front.ring.indices.prod w.under.pages new w.front.requests next.shaped
           (frames_elsewhere config w g d front.Producer w.back.stage h new (λ f from. elsewhere f (omega arith))) h.frames;
       telling = record { size = h.telling.size; so_far = tt };
-      entries = entries_pushed g.submitted w.front.requests g.pushed w.front.waiting w.front.ring.prod w.under.pages new w.under.grants.live w.front.ending
+      entries = entries_pushed g.submitted w.front.requests g.pushed w.front.waiting w.front.ring.indices.prod w.under.pages new w.under.grants.live w.front.ending
           r next
           (λ place in_it. unmapped config w g d front.Producer w.back.stage h (length w.front.requests - w.front.waiting) r next.place place in_it none_begun (λ (m : Mapping). m.gref == frame_at r place + 6) (λ m apart. grind (arith, nat_tests)))
           (entries_elsewhere config w g d front.Producer w.back.stage h new entry_same) h.entries;
@@ -95,7 +95,7 @@ producer_goes config w g d safe h =
     next = next_is w.front g.submitted w.front.sectors w.front.last g.pushed None r h.queue h.submitted h.pool h.front_at.1
 
     -- while an entry is being copied it was pushed
-    fetching_more : (b : BackStage) → BackAt g.shape g.start g.fetched g.back_seen g.replied g.series w.back.jobs.works w.back.entry b → is_fetching b ≡ true → g.fetched < g.pushed
+    fetching_more : (b : BackStage) → BackAt g.shape g.start g.fetched g.back_seen g.replied g.series w.back.jobs.works w.back.ring.entry b → is_fetching b ≡ true → g.fetched < g.pushed
     fetching_more (back.Fetch k) at t = let x = h.indices in omega (arith, at.2, x.back_to)
     fetching_more b at t = absurd (false≢true t)
 
@@ -112,13 +112,13 @@ producer_goes config w g d safe h =
         (omega (arith, (h.submitted.each (t.id - 1) work.r work.known).number, work.positive, same)))
 
     new : List ℕ
-    new = with_word w.under.pages 2 0 (next_of w.front.ring.prod)
+    new = with_word w.under.pages 2 0 (next_of w.front.ring.indices.prod)
 
     ring_word : (n : ℕ) → n ≢ 0 → word_of new 2 n ≡ word_of w.under.pages 2 n
-    ring_word n other = other_word w.under.pages 2 0 (next_of w.front.ring.prod) n other
+    ring_word n other = other_word w.under.pages 2 0 (next_of w.front.ring.indices.prod) n other
 
     elsewhere : (f : ℕ) → f ≢ 2 → SameFrame w.under.pages new f
-    elsewhere f other = other_frame w.under.pages 2 0 (next_of w.front.ring.prod) f (omega arith) other
+    elsewhere f other = other_frame w.under.pages 2 0 (next_of w.front.ring.indices.prod) f (omega arith) other
 
     entry_same : (gref : ℕ) → gref < 1024 → SameEntry w.under.pages new gref
     entry_same gref lt = same_entry w.under.pages new gref lt (elsewhere 0 (omega arith)) (elsewhere 1 (omega arith))

@@ -65,17 +65,17 @@ front_sleeps : (shape : Shape) (start pushed taken seen : ℕ) (submitted : List
     → not (front_submit.is_led s) ≡ true
     → front_submit.is_wait (front_ask.ask_at s v) ≡ true
     → FrontAt shape start pushed taken seen submitted replies (next_request v) entry v.ending s
-    → FrontSleeps s v.asleep (next_request v) (length v.requests)
-front_sleeps shape start pushed taken seen submitted replies entry v front.Loop ready waits at = in_loop (next_request v) v.asleep waits
+    → FrontSleeps s v.ring.asleep (next_request v) (length v.requests)
+front_sleeps shape start pushed taken seen submitted replies entry v front.Loop ready waits at = in_loop (next_request v) v.ring.asleep waits
   where
-    in_loop : (next : Option Request) (asleep : Bool) → front_submit.is_wait (front_ask.loop_ask (record v { asleep = asleep }) next) ≡ true → FrontSleeps front.Loop asleep next (length v.requests)
-    in_loop (Some r) asleep t = absurd (issue_acts (record v { asleep = asleep }) r r.transfer t)
+    in_loop : (next : Option Request) (asleep : Bool) → front_submit.is_wait (front_ask.loop_ask (record v { ring = record v.ring { asleep = asleep } }) next) ≡ true → FrontSleeps front.Loop asleep next (length v.requests)
+    in_loop (Some r) asleep t = absurd (issue_acts (record v { ring = record v.ring { asleep = asleep } }) r r.transfer t)
     in_loop None true t = record { looping = refl; sleeps = inl refl; none_next = refl; sends_none = λ p f x. x }
     in_loop None false t = by_through (front_ask.is_through v) refl t
       where
-        by_through : (b : Bool) → front_ask.is_through v ≡ b → front_submit.is_wait (if b then FrontWait else (if responses_of v.ring v.seen == 0 then FrontRead ring_frame 2 else FrontRead (slot_frame v.shape v.ring.cons 0) (slot_word v.shape v.ring.cons 0))) ≡ true → FrontSleeps front.Loop false None (length v.requests)
+        by_through : (b : Bool) → front_ask.is_through v ≡ b → front_submit.is_wait (if b then FrontWait else (if responses_of v.ring.indices v.ring.seen == 0 then FrontRead ring_frame 2 else FrontRead (slot_frame v.shape v.ring.indices.cons 0) (slot_word v.shape v.ring.indices.cons 0))) ≡ true → FrontSleeps front.Loop false None (length v.requests)
         by_through true through u = let left = through_is v.closing (length v.requests) through in record { looping = refl; sleeps = inr left.none; none_next = refl; sends_none = λ p f x. x }
-        by_through false through u = absurd (front_acts (responses_of v.ring v.seen == 0) _ _ refl refl u)
+        by_through false through u = absurd (front_acts (responses_of v.ring.indices v.ring.seen == 0) _ _ refl refl u)
 front_sleeps shape start pushed taken seen submitted replies entry v (front.Data n) ready waits at =
     absurd (true≢false (sym waits ∙ ap (λ (x : Option Request). front_submit.is_wait (front_ask.data_ask x n)) at.1))
 front_sleeps shape start pushed taken seen submitted replies entry v (front.Pages n) ready waits at =
@@ -112,13 +112,13 @@ back_sleeps : (shape : Shape) (start fetched seen replied : ℕ) (series : List 
     → not (back_ask.is_led s) ≡ true
     → back_ask.is_wait (back_ask.ask_at s v) ≡ true
     → BackAt shape start fetched seen replied series works entry s
-    → BackSleeps s v.asleep
-back_sleeps shape start fetched seen replied series works entry v back.Loop free waits at = in_loop (back_ask.next_reply v) v.asleep waits
+    → BackSleeps s v.ring.asleep
+back_sleeps shape start fetched seen replied series works entry v back.Loop free waits at = in_loop (back_ask.next_reply v) v.ring.asleep waits
   where
-    in_loop : (next : Option Reply) (asleep : Bool) → back_ask.is_wait (back_ask.loop_ask (record v { asleep = asleep }) next) ≡ true → BackSleeps back.Loop asleep
+    in_loop : (next : Option Reply) (asleep : Bool) → back_ask.is_wait (back_ask.loop_ask (record v { ring = record v.ring { asleep = asleep } }) next) ≡ true → BackSleeps back.Loop asleep
     in_loop (Some r) asleep t = absurd (true≢false (sym t))
     in_loop None true t = record { sleeps = refl; no_reply = refl; sends_none = λ p f x. x }
-    in_loop None false t = absurd (back_acts (requests_of v.ring v.seen == 0) _ _ refl refl t)
+    in_loop None false t = absurd (back_acts (requests_of v.ring.indices v.ring.seen == 0) _ _ refl refl t)
 back_sleeps shape start fetched seen replied series works entry v back.InitWait free waits at = absurd (true≢false (sym free))
 back_sleeps shape start fetched seen replied series works entry v back.UnmapRing free waits at = absurd at
 back_sleeps shape start fetched seen replied series works entry v back.UnmapUnbound free waits at = absurd at
@@ -172,8 +172,8 @@ caught_up_at config w g d quiet stands = record {
     waiting : (not (front_submit.is_led w.front.stage) ≡ true) × (front_submit.is_wait (front_ask.ask_of w.front) ≡ true)
     waiting = both_true _ _ parts.front
 
-    front_side : FrontSleeps w.front.stage w.front.asleep (next_request w.front) (length w.front.requests)
-    front_side = front_sleeps g.shape g.start g.pushed g.taken g.front_seen g.submitted g.replies w.front.entry w.front w.front.stage waiting.0 waiting.1 stands.holds.front_at
+    front_side : FrontSleeps w.front.stage w.front.ring.asleep (next_request w.front) (length w.front.requests)
+    front_side = front_sleeps g.shape g.start g.pushed g.taken g.front_seen g.submitted g.replies w.front.ring.entry w.front w.front.stage waiting.0 waiting.1 stands.holds.front_at
 
     none_held : ((not (back_ask.is_led w.back.stage) && back_ask.is_wait (back_ask.ask_of w.back)) ≡ true) × ((length w.back.jobs.works == 0) ≡ true)
     none_held = both_true _ _ parts.back
@@ -181,10 +181,10 @@ caught_up_at config w g d quiet stands = record {
     idle : (not (back_ask.is_led w.back.stage) ≡ true) × (back_ask.is_wait (back_ask.ask_of w.back) ≡ true)
     idle = both_true _ _ none_held.0
 
-    back_side : BackSleeps w.back.stage w.back.asleep
-    back_side = back_sleeps g.shape g.start g.fetched g.back_seen g.replied g.series w.back.jobs.works w.back.entry w.back w.back.stage idle.0 idle.1 stands.holds.back_at
+    back_side : BackSleeps w.back.stage w.back.ring.asleep
+    back_side = back_sleeps g.shape g.start g.fetched g.back_seen g.replied g.series w.back.jobs.works w.back.ring.entry w.back w.back.stage idle.0 idle.1 stands.holds.back_at
 
-    replies_taken : w.front.asleep ≡ true → g.replied ≡ g.taken
+    replies_taken : w.front.ring.asleep ≡ true → g.replied ≡ g.taken
     replies_taken sleeps =
         let sleep = stands.holds.front_sleep in
         caught_up g.replied g.taken w.under.channels.front_pending (BackSends w.back.stage g.replied g.taken) (neither _ _ parts.no_front) (back_side.sends_none g.replied g.taken) (sleep.woken sleeps)
@@ -202,7 +202,7 @@ caught_up_at config w g d quiet stands = record {
         let counted : length w.back.jobs.works + 0 + g.replied ≡ g.fetched = subst (λ (r : Option Reply). length w.back.jobs.works + reply_count r + g.replied ≡ g.fetched) back_side.no_reply stands.holds.counted in
         omega (arith, no_job)
 
-    all_wait : w.front.asleep ≡ true → length w.front.requests ≡ w.front.waiting
+    all_wait : w.front.ring.asleep ≡ true → length w.front.requests ≡ w.front.waiting
     all_wait sleeps = omega (arith, stands.holds.indices.held, stands.holds.indices.all, all_fetched, replies_taken sleeps, all_replied)
 
     no_request : length w.front.requests ≡ 0

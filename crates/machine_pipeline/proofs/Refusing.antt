@@ -235,7 +235,7 @@ ruled config w g d job plain h =
     ruled_alike config w.front (map asked d.requests) job plain.indirect (record {
       spent = length-map d.requests asked ∙ h.stations.known.as_many ∙ (let all = h.submitted in all.counted);
       opened = as_unfinished d.requests ∙ h.stations.opened.unfinished ∙ ap (λ (n : ℕ). length w.front.requests + n)
-          (same_ending g.shape g.start g.pushed g.taken g.front_seen g.submitted g.replies (next_request w.front) w.front.entry w.front.ending w.front.stage h.front_at);
+          (same_ending g.shape g.start g.pushed g.taken g.front_seen g.submitted g.replies (next_request w.front) w.front.ring.entry w.front.ending w.front.stage h.front_at);
       held = frames_alike config w g d h;
       size = h.pool.size;
       sectors = h.sized.sectors;

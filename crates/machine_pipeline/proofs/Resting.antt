@@ -179,7 +179,7 @@ back_sleep_rests start fetched pushed old new asleep pending pending' s s' b wor
 -- the machine with the front at another stage, another producer seen, asleep or not, and those words and marks
 abbrev pub rested : World → FrontStage → (seen : ℕ) → (asleep : Bool) → List ℕ → ChannelState → World
 rested w s seen asleep pages channels = record {
-  front = let v : front_view.View = w.front in record v { stage = s; seen = seen; asleep = asleep; told = None };
+  front = let v : front_view.View = w.front in record v { stage = s; ring = record v.ring { seen = seen; asleep = asleep }; told = None };
   back = w.back;
   under = let h : Hypervisor = w.under in record h { pages = pages; channels = channels };
 }
@@ -188,7 +188,7 @@ pub rest_kept : (config : Options) (w : World) (g : Flow) (d : Pipeline) (s s' :
     → IsResting s → IsResting s'
     → ending_of s ≡ 0 → ending_of s' ≡ 0
     → Holds config w g d s w.back.stage
-    → FrontAt g.shape g.start g.pushed g.taken whole g.submitted g.replies (next_request w.front) w.front.entry w.front.ending s'
+    → FrontAt g.shape g.start g.pushed g.taken whole g.submitted g.replies (next_request w.front) w.front.ring.entry w.front.ending s'
     → seen ≡ wrapped g.start whole → g.taken ≤ whole → whole ≤ g.replied
     → length pages ≡ 1114112
     → ((f : ℕ) → f ≢ 2 → SameFrame w.under.pages pages f)
@@ -198,7 +198,7 @@ pub rest_kept : (config : Options) (w : World) (g : Flow) (d : Pipeline) (s s' :
     → Holds config (rested w s' seen asleep pages channels) (record g { front_seen = whole }) d s' w.back.stage
 rest_kept config w g d s s' seen whole asleep pages channels i i' zero zero' h at saw from to sized frames words made ports pending sleep = record {
   settled = h.settled;
-  indices = indices_seen g whole w.front.ring w.back.ring w.front.seen seen w.back.seen w.back.fetched w.front.last w.front.waiting (length w.front.requests) (ending_of s) (ending_of s') saw from to (let was = h.indices in let room = was.room in omega arith) h.indices;
+  indices = indices_seen g whole w.front.ring.indices w.back.ring.indices w.front.ring.seen seen w.back.ring.seen w.back.fetched w.front.last w.front.waiting (length w.front.requests) (ending_of s) (ending_of s') saw from to (let was = h.indices in let room = was.room in omega arith) h.indices;
   queue = h.queue;
   pool = subst (ArePooled w.front.pool w.front.requests) (none ∙ sym none') h.pool;
   stations = saw_more config g whole g.back_seen d (is_ready s') (is_issuing s') (is_fetching w.back.stage) (ending_at s' w.front.ending) (telling_at s') (reply_at w.back.stage) w.front.requests w.back.jobs.works pages
@@ -223,7 +223,7 @@ rest_kept config w g d s s' seen whole asleep pages channels i i' zero zero' h a
   mapped = h.mapped;
   paged = h.paged;
   front_sleep = sleep;
-  back_sleep = back_sleep_rests g.start g.fetched g.pushed w.under.pages pages w.back.asleep w.under.channels.back_pending channels.back_pending s s' w.back.stage (words 1 (omega arith) (omega arith)) pending (i.quiet g.pushed g.fetched) h.back_sleep;
+  back_sleep = back_sleep_rests g.start g.fetched g.pushed w.under.pages pages w.back.ring.asleep w.under.channels.back_pending channels.back_pending s s' w.back.stage (words 1 (omega arith) (omega arith)) pending (i.quiet g.pushed g.fetched) h.back_sleep;
   ports = subst (λ (b : Bool). PortsAt g.before b (is_bound_back w.back.stage) channels.made channels.ports) (as_connected s s' i.ready i'.ready)
       (subst (λ (n : ℕ). PortsAt g.before (is_connected s) (is_bound_back w.back.stage) n channels.ports) (sym made) (subst (PortsAt g.before (is_connected s) (is_bound_back w.back.stage) w.under.channels.made) (sym ports) h.ports));
 }

@@ -101,10 +101,8 @@ abbrev anew : World → FrontStage → List Request → Option Ending → World
 anew w s after ending = record {
   front = let v : View = w.front in record v {
     offers = no_offers;
-    ring = record { entries = entries_of v.shape.order; prod = v.start; cons = v.start };
+    ring = record v.ring { indices = record { entries = entries_of v.shape.order; prod = v.start; cons = v.start }; asleep = false; seen = v.start };
     stage = s;
-    asleep = false;
-    seen = v.start;
     waiting = length after;
     requests = after;
     ending = ending;
@@ -168,7 +166,7 @@ begins_anew config w d s after ending plain i b =
           room = b.room;
           waiting = refl;
           pool = b.pool;
-          front_at = b.front_at _ w.front.entry;
+          front_at = b.front_at _ w.front.ring.entry;
           telling = b.telling;
           stations = stations_elsewhere config flow (next d r.step) false false false (ending_at s ending) (telling_at s) None after [] w.under.pages (tables_cleared w.under.pages) w.front.sectors w.front.last lasts.each
               (λ f low high x lt. kept_word w.under.pages f x (omega arith)) r.now;
@@ -282,10 +280,10 @@ module _ (config : Options) (w : World) (g : Flow) (d : Pipeline) (s : FrontStag
   words_stay =
       data_kept w.under.pages (tables_cleared w.under.pages) w.front.words w.front.ending s
       (λ e same.
-      let is = ending_is g.shape g.start g.pushed g.taken g.front_seen g.submitted g.replies _ w.front.entry w.front.ending s e h.front_at same in
+      let is = ending_is g.shape g.start g.pushed g.taken g.front_seen g.submitted g.replies _ w.front.ring.entry w.front.ending s e h.front_at same in
       let its = h.submitted.each (e.request.number - 1) e.request is.known in
       data_same w.under.pages (tables_cleared w.under.pages) e.request its.frames (λ f low high x lt. kept_word w.under.pages f x (omega arith)))
-      (told_few g.shape g.start g.pushed g.taken g.front_seen g.submitted g.replies _ w.front.entry w.front.ending s h.front_at) h.telling
+      (told_few g.shape g.start g.pushed g.taken g.front_seen g.submitted g.replies _ w.front.ring.entry w.front.ending s h.front_at) h.telling
 
 -- so at each stage
 abbrev Begins : Options → World → Pipeline → FrontStage → List Request → Option Ending → Type 0

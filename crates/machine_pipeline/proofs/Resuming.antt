@@ -68,15 +68,15 @@ wait_goes config w g d told e h = by_pending w.under.channels.front_pending (wat
     by_pending false None t = stays IsSame config w g d (λ a b same. same) here
     by_pending false (Some path) t = watched_goes config w g d path told here
     by_pending true next t = goes_by (said_nothing d (moves.Event mover.Front) w.front.told told)
-        (subst (λ (s : FrontStage). Holds config (rested w s w.front.seen false w.under.pages channels) g d s w.back.stage) (sym e)
-        (let indices = h.indices in rest_kept config w g d front.Loop front.Loop w.front.seen g.front_seen false w.under.pages channels at_loop at_loop refl refl h tt indices.front_saw indices.front_from indices.front_to h.memory (λ f apart x lt. refl) (λ x apart lt. refl) refl refl refl
+        (subst (λ (s : FrontStage). Holds config (rested w s w.front.ring.seen false w.under.pages channels) g d s w.back.stage) (sym e)
+        (let indices = h.indices in rest_kept config w g d front.Loop front.Loop w.front.ring.seen g.front_seen false w.under.pages channels at_loop at_loop refl refl h tt indices.front_saw indices.front_from indices.front_to h.memory (λ f apart x lt. refl) (λ x apart lt. refl) refl refl refl
         (record { arming = λ t. absurd (true≢false (sym t)); armed = λ t. absurd (true≢false (sym t)); may = λ t. refl; woken = λ t. absurd (true≢false (sym t)) })))
 
 -- awake, with no response left that it saw, it reads the producer
 look_goes : (config : Options) (w : World) (g : Flow) (d : Pipeline)
     → w.front.told ≡ None
-    → w.front.asleep ≡ false
-    → (responses_of w.front.ring w.front.seen == 0) ≡ true
+    → w.front.ring.asleep ≡ false
+    → (responses_of w.front.ring.indices w.front.ring.seen == 0) ≡ true
     → Holds config w g d front.Loop w.back.stage
     → LoopGoes config w d None (ask.Read ring_frame 2)
 look_goes config w g d told awake none h = by_new
@@ -88,13 +88,13 @@ look_goes config w g d told awake none h = by_new
     read = let ring = h.ring in ring.responses refl
 
     store : View
-    store = let v : View = w.front in record v { seen = word; stage = front.StoreEvent }
+    store = let v : View = w.front in record v { ring = record v.ring { seen = word }; stage = front.StoreEvent }
 
     stored : Goes config (lines.Move (moves.FrontRead 2 2 word) ∷ front_lines store.told) (record { front = record store { told = None }; back = w.back; under = w.under }) d
     stored =
         let indices = h.indices in
         goes_by {g = record g { front_seen = g.replied }} (said_nothing d (moves.FrontRead 2 2 word) w.front.told told)
-        (rest_kept config w g d front.Loop front.StoreEvent word g.replied w.front.asleep w.under.pages w.under.channels at_loop at_store refl refl h tt read indices.taken_replied (omega arith) h.memory (λ f apart x lt. refl) (λ x apart lt. refl) refl refl refl
+        (rest_kept config w g d front.Loop front.StoreEvent word g.replied w.front.ring.asleep w.under.pages w.under.channels at_loop at_store refl refl h tt read indices.taken_replied (omega arith) h.memory (λ f apart x lt. refl) (λ x apart lt. refl) refl refl refl
         (record { arming = λ t. absurd (true≢false (sym t)); armed = h.front_sleep.armed; may = λ t. awake; woken = h.front_sleep.woken }))
 
     by_new : LoopGoes config w d None (ask.Read ring_frame 2)
@@ -106,31 +106,31 @@ pub response_read : (config : Options) (w : World) (g : Flow) (d : Pipeline) (s 
     → Holds config w g d s w.back.stage
     → slice_get g.replies 0 ≡ Some rep
     → k < 3
-    → word_of w.under.pages (slot_frame w.front.shape w.front.ring.cons k) (slot_word w.front.shape w.front.ring.cons k) ≡ response_word rep k
+    → word_of w.under.pages (slot_frame w.front.shape w.front.ring.indices.cons k) (slot_word w.front.shape w.front.ring.indices.cons k) ≡ response_word rep k
 response_read config w g d s rep k h oldest lt =
     let slots = h.slots in
-    let index : w.front.ring.cons ≡ wrapped g.start (g.taken + 0) = h.indices.taken ∙ ap (wrapped g.start) (omega arith) in
-    ap (λ (x : Shape). slot_of w.under.pages x w.front.ring.cons k) h.shaped.known ∙ (ap (λ (n : ℕ). slot_of w.under.pages g.shape n k) index ∙ slots.responses 0 rep oldest k lt)
+    let index : w.front.ring.indices.cons ≡ wrapped g.start (g.taken + 0) = h.indices.taken ∙ ap (wrapped g.start) (omega arith) in
+    ap (λ (x : Shape). slot_of w.under.pages x w.front.ring.indices.cons k) h.shaped.known ∙ (ap (λ (n : ℕ). slot_of w.under.pages g.shape n k) index ∙ slots.responses 0 rep oldest k lt)
 
 -- a response is there: its first word is read
 take_up_goes : (config : Options) (w : World) (g : Flow) (d : Pipeline)
     → w.front.told ≡ None
-    → (responses_of w.front.ring w.front.seen == 0) ≡ false
+    → (responses_of w.front.ring.indices w.front.ring.seen == 0) ≡ false
     → Holds config w g d front.Loop w.back.stage
-    → w.front.asleep ≡ false
-    → LoopGoes config w d None (ask.Read (slot_frame w.front.shape w.front.ring.cons 0) (slot_word w.front.shape w.front.ring.cons 0))
-take_up_goes config w g d told some h awake = subst (λ (b : Bool). let x : View = (if b then looked w.front word (record w.front { seen = word; stage = front.StoreEvent }) else at (front.ResponseHigh word) w.front) in Goes config (lines.Move (moves.FrontRead (slot_frame w.front.shape w.front.ring.cons 0) (slot_word w.front.shape w.front.ring.cons 0) word) ∷ front_lines x.told) (record { front = record x { told = None }; back = w.back; under = w.under }) d) (sym some)
-    (at_stage_goes config w g d front.Loop (front.ResponseHigh word) (moves.FrontRead (slot_frame w.front.shape w.front.ring.cons 0) (slot_word w.front.shape w.front.ring.cons 0) word) w.under.pages at_loop (at_high word) refl refl told h (taken_up, response_read config w g d front.Loop rep.0 0 h rep.1 (omega arith)) h.memory (λ f apart x lt. refl) (λ x apart lt. refl)
+    → w.front.ring.asleep ≡ false
+    → LoopGoes config w d None (ask.Read (slot_frame w.front.shape w.front.ring.indices.cons 0) (slot_word w.front.shape w.front.ring.indices.cons 0))
+take_up_goes config w g d told some h awake = subst (λ (b : Bool). let x : View = (if b then looked w.front word (record w.front { ring = record w.front.ring { seen = word }; stage = front.StoreEvent }) else at (front.ResponseHigh word) w.front) in Goes config (lines.Move (moves.FrontRead (slot_frame w.front.shape w.front.ring.indices.cons 0) (slot_word w.front.shape w.front.ring.indices.cons 0) word) ∷ front_lines x.told) (record { front = record x { told = None }; back = w.back; under = w.under }) d) (sym some)
+    (at_stage_goes config w g d front.Loop (front.ResponseHigh word) (moves.FrontRead (slot_frame w.front.shape w.front.ring.indices.cons 0) (slot_word w.front.shape w.front.ring.indices.cons 0) word) w.under.pages at_loop (at_high word) refl refl told h (taken_up, response_read config w g d front.Loop rep.0 0 h rep.1 (omega arith)) h.memory (λ f apart x lt. refl) (λ x apart lt. refl)
     (let sleep = h.front_sleep in record { arming = λ t. absurd (true≢false (sym t)); armed = sleep.armed; may = λ t. awake; woken = sleep.woken }))
   where
     word : ℕ
-    word = word_of w.under.pages (slot_frame w.front.shape w.front.ring.cons 0) (slot_word w.front.shape w.front.ring.cons 0)
+    word = word_of w.under.pages (slot_frame w.front.shape w.front.ring.indices.cons 0) (slot_word w.front.shape w.front.ring.indices.cons 0)
 
     seen : g.taken < g.front_seen
     seen =
         let indices = h.indices in
-        let far = distance_at g.start g.taken g.front_seen w.front.ring.cons w.front.seen indices.taken indices.front_saw indices.front_from (omega arith) in
-        let apart : responses_of w.front.ring w.front.seen ≢ 0 = grind (arith, nat_tests) in
+        let far = distance_at g.start g.taken g.front_seen w.front.ring.indices.cons w.front.ring.seen indices.taken indices.front_saw indices.front_from (omega arith) in
+        let apart : responses_of w.front.ring.indices w.front.ring.seen ≢ 0 = grind (arith, nat_tests) in
         omega arith
 
     rep : (x : Reply) × (slice_get g.replies 0 ≡ Some x)
@@ -145,11 +145,11 @@ pub high_goes : (config : Options) (w : World) (g : Flow) (d : Pipeline) (low : 
     → Holds config w g d (front.ResponseHigh low) w.back.stage
     → FrontGoes config w d (front.ResponseHigh low)
 high_goes config w g d low told h =
-    at_stage_goes config w g d (front.ResponseHigh low) (front.ResponseLast low word) (moves.FrontRead (slot_frame w.front.shape w.front.ring.cons 1) (slot_word w.front.shape w.front.ring.cons 1) word) w.under.pages (at_high low) (at_last low word) refl refl told h (place.0, place.1, response_read config w g d (front.ResponseHigh low) place.0.rep 1 h place.0.oldest (omega arith)) h.memory (λ f apart x lt. refl) (λ x apart lt. refl)
+    at_stage_goes config w g d (front.ResponseHigh low) (front.ResponseLast low word) (moves.FrontRead (slot_frame w.front.shape w.front.ring.indices.cons 1) (slot_word w.front.shape w.front.ring.indices.cons 1) word) w.under.pages (at_high low) (at_last low word) refl refl told h (place.0, place.1, response_read config w g d (front.ResponseHigh low) place.0.rep 1 h place.0.oldest (omega arith)) h.memory (λ f apart x lt. refl) (λ x apart lt. refl)
     (let sleep = h.front_sleep in record { arming = λ t. absurd (true≢false (sym t)); armed = sleep.armed; may = λ t. sleep.may refl; woken = sleep.woken })
   where
     word : ℕ
-    word = word_of w.under.pages (slot_frame w.front.shape w.front.ring.cons 1) (slot_word w.front.shape w.front.ring.cons 1)
+    word = word_of w.under.pages (slot_frame w.front.shape w.front.ring.indices.cons 1) (slot_word w.front.shape w.front.ring.indices.cons 1)
 
     place : (t : IsTaken g.taken g.front_seen g.replies) × (low ≡ response_word t.rep 0)
     place = h.front_at
@@ -167,12 +167,12 @@ pub loop_resumes : (config : Options) (w : World) (g : Flow) (d : Pipeline)
     → Holds config w g d front.Loop w.back.stage
     → FrontGoes config w d front.Loop
 loop_resumes config w g d told e none h =
-    subst (λ (n : Option Request). LoopGoes config w d n (loop_ask w.front n)) (sym none) (by_wait (w.front.asleep || is_through w.front) refl)
+    subst (λ (n : Option Request). LoopGoes config w d n (loop_ask w.front n)) (sym none) (by_wait (w.front.ring.asleep || is_through w.front) refl)
   where
-    by_more : w.front.asleep ≡ false → (b : Bool) → (responses_of w.front.ring w.front.seen == 0) ≡ b → LoopGoes config w d None (if b then ask.Read ring_frame 2 else ask.Read (slot_frame w.front.shape w.front.ring.cons 0) (slot_word w.front.shape w.front.ring.cons 0))
+    by_more : w.front.ring.asleep ≡ false → (b : Bool) → (responses_of w.front.ring.indices w.front.ring.seen == 0) ≡ b → LoopGoes config w d None (if b then ask.Read ring_frame 2 else ask.Read (slot_frame w.front.shape w.front.ring.indices.cons 0) (slot_word w.front.shape w.front.ring.indices.cons 0))
     by_more awake true t = look_goes config w g d told awake t h
     by_more awake false t = take_up_goes config w g d told t h awake
 
-    by_wait : (a : Bool) → (w.front.asleep || is_through w.front) ≡ a → LoopGoes config w d None (if a then ask.Wait else (if responses_of w.front.ring w.front.seen == 0 then ask.Read ring_frame 2 else ask.Read (slot_frame w.front.shape w.front.ring.cons 0) (slot_word w.front.shape w.front.ring.cons 0)))
+    by_wait : (a : Bool) → (w.front.ring.asleep || is_through w.front) ≡ a → LoopGoes config w d None (if a then ask.Wait else (if responses_of w.front.ring.indices w.front.ring.seen == 0 then ask.Read ring_frame 2 else ask.Read (slot_frame w.front.shape w.front.ring.indices.cons 0) (slot_word w.front.shape w.front.ring.indices.cons 0)))
     by_wait true t = wait_goes config w g d told e h
-    by_wait false t = by_more (neither w.front.asleep (is_through w.front) t) (responses_of w.front.ring w.front.seen == 0) refl
+    by_wait false t = by_more (neither w.front.ring.asleep (is_through w.front) t) (responses_of w.front.ring.indices w.front.ring.seen == 0) refl

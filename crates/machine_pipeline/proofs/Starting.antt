@@ -71,16 +71,16 @@ none_yet config w g d s unready h = none_of (is_ready s) config.read_only config
 pub starts_on : (config : Options) (w : World) (g : Flow) (d : Pipeline) (s s' : FrontStage) (pages : List ℕ) (channels : ChannelState)
     → is_connected s ≡ false → may_front_sleep s ≡ false → IsBare s → IsBare s'
     → Holds config w g d s w.back.stage
-    → FrontAt g.shape g.start g.pushed g.taken g.front_seen g.submitted g.replies (next_request w.front) w.front.entry w.front.ending s'
+    → FrontAt g.shape g.start g.pushed g.taken g.front_seen g.submitted g.replies (next_request w.front) w.front.ring.entry w.front.ending s'
     → length pages ≡ 1114112
     → SameSlots w.under.pages pages
     → ((f : ℕ) → 18 ≤ f → f < 1018 → SameFrame w.under.pages pages f)
     → AreRingWords g.shape.order g.start g.pushed g.replied pages s' (length w.back.pages)
     → PortsAt g.before (is_connected s') (is_bound_back w.back.stage) channels.made channels.ports
-    → Holds config (rested w s' w.front.seen w.front.asleep pages channels) g d s' w.back.stage
+    → Holds config (rested w s' w.front.ring.seen w.front.ring.asleep pages channels) g d s' w.back.stage
 starts_on config w g d s s' pages channels starting restless i i' h at sized words elsewhere ring ports = record {
   settled = h.settled;
-  indices = indices_room g w.front.ring w.back.ring w.front.seen w.back.seen w.back.fetched w.front.last w.front.waiting (length w.front.requests) (ending_of s) (ending_of s') (let was = h.indices in let room = was.room in let e = i'.none_ends in omega arith) h.indices;
+  indices = indices_room g w.front.ring.indices w.back.ring.indices w.front.ring.seen w.back.ring.seen w.back.fetched w.front.last w.front.waiting (length w.front.requests) (ending_of s) (ending_of s') (let was = h.indices in let room = was.room in let e = i'.none_ends in omega arith) h.indices;
   queue = h.queue;
   pool = subst (ArePooled w.front.pool w.front.requests) (unending s w.front.ending i.none_ends ∙ sym (unending s' w.front.ending i'.none_ends)) h.pool;
   stations = stations_elsewhere config g d (is_ready s') (is_issuing s') (is_fetching w.back.stage) (ending_at s' w.front.ending) (telling_at s') (reply_at w.back.stage) w.front.requests w.back.jobs.works w.under.pages pages w.front.sectors w.front.last h.submitted elsewhere stations;
@@ -98,8 +98,8 @@ starts_on config w g d s s' pages channels starting restless i i' h at sized wor
   entries = nothing.1;
   mapped = h.mapped;
   paged = h.paged;
-  front_sleep = awake_front g.start g.taken g.replied pages w.front.asleep channels.front_pending s' w.back.stage (h.front_sleep.may restless) i'.unarmed;
-  back_sleep = awake_back g.start g.fetched g.pushed pages w.back.asleep channels.back_pending s' w.back.stage (h.back_sleep.may awake.1) awake.0;
+  front_sleep = awake_front g.start g.taken g.replied pages w.front.ring.asleep channels.front_pending s' w.back.stage (h.front_sleep.may restless) i'.unarmed;
+  back_sleep = awake_back g.start g.fetched g.pushed pages w.back.ring.asleep channels.back_pending s' w.back.stage (h.back_sleep.may awake.1) awake.0;
   ports = ports;
 }
   where

@@ -73,10 +73,10 @@ start_stations config = record {
 pub record BeginsEpoch (config : Options) (w : World) : Type 0 where
   pub start : w.front.start ≡ config.start
   pub shape : w.front.shape ≡ shape_of config
-  pub indices : AreFirst config w.front.ring w.back.ring w.front.seen w.back.seen
-  pub front_awake : w.front.asleep ≡ false
+  pub indices : AreFirst config w.front.ring.indices w.back.ring.indices w.front.ring.seen w.back.ring.seen
+  pub front_awake : w.front.ring.asleep ≡ false
   pub fetched : w.back.fetched ≡ 0
-  pub back_awake : w.back.asleep ≡ false
+  pub back_awake : w.back.ring.asleep ≡ false
   pub works : w.back.jobs.works ≡ []
   pub info : w.back.jobs.info ≡ info_of config
   pub unmapped : w.back.pages ≡ []
@@ -98,7 +98,7 @@ pub record AreAllWaiting (config : Options) (w : World) (submitted : List Reques
   pub room : length w.front.requests + ending_of s ≤ entries_of config.order
   pub waiting : w.front.waiting ≡ length w.front.requests
   pub pool : ArePooled w.front.pool w.front.requests (ending_at s w.front.ending)
-  pub front_at : FrontAt (shape_of config) config.start 0 0 0 submitted [] (next_request w.front) w.front.entry w.front.ending s
+  pub front_at : FrontAt (shape_of config) config.start 0 0 0 submitted [] (next_request w.front) w.front.ring.entry w.front.ending s
   pub telling : AreDataWords w.under.pages w.front.words w.front.ending s
   pub stations : AreStations config (begun_flow config w submitted) d false false false (ending_at s w.front.ending) (telling_at s) None w.front.requests [] w.under.pages
 
@@ -113,7 +113,7 @@ epoch_holds config w submitted d s plain i b h = record {
     info = b.info;
     unhalted = b.unhalted;
   };
-  indices = rw (b.fetched, h.waiting) (indices_epoch config w.front.ring w.back.ring w.under.channels.made w.front.seen w.back.seen w.front.last (ending_of s) submitted w.front.requests w.front.closing plain b.indices (let all = h.each in let counted = all.counted in let few = series_few submitted w.front.requests h.series in omega arith) h.few h.room);
+  indices = rw (b.fetched, h.waiting) (indices_epoch config w.front.ring.indices w.back.ring.indices w.under.channels.made w.front.ring.seen w.back.ring.seen w.front.last (ending_of s) submitted w.front.requests w.front.closing plain b.indices (let all = h.each in let counted = all.counted in let few = series_few submitted w.front.requests h.series in omega arith) h.few h.room);
   queue = record {
     ordered = h.series;
     known = all_from (λ (r : Request). slice_get submitted (r.number - 1) ≡ Some r) w.front.requests h.series.known;
@@ -150,8 +150,8 @@ epoch_holds config w submitted d s plain i b h = record {
     gref = λ page lt. absurd (omega arith);
     mode = λ page lt. absurd (omega arith);
   });
-  front_sleep = awake_front config.start 0 0 w.under.pages w.front.asleep w.under.channels.front_pending s back.InitWait b.front_awake i.unarmed;
-  back_sleep = awake_back config.start 0 0 w.under.pages w.back.asleep w.under.channels.back_pending s back.InitWait b.back_awake refl;
+  front_sleep = awake_front config.start 0 0 w.under.pages w.front.ring.asleep w.under.channels.front_pending s back.InitWait b.front_awake i.unarmed;
+  back_sleep = awake_back config.start 0 0 w.under.pages w.back.ring.asleep w.under.channels.back_pending s back.InitWait b.back_awake refl;
   ports = rw i.unconnected (refl, b.ports, refl);
 }
   where

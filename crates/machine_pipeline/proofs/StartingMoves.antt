@@ -36,7 +36,7 @@ makes : (config : Options) (w : World) (g : Flow) (d : Pipeline) (s s' : FrontSt
     → w.front.told ≡ None
     → is_connected s ≡ false → is_connected s' ≡ false → may_front_sleep s ≡ false → IsBare s → IsBare s'
     → Holds config w g d s w.back.stage
-    → FrontAt g.shape g.start g.pushed g.taken g.front_seen g.submitted g.replies (next_request w.front) w.front.entry w.front.ending s'
+    → FrontAt g.shape g.start g.pushed g.taken g.front_seen g.submitted g.replies (next_request w.front) w.front.ring.entry w.front.ending s'
     → length pages ≡ 1114112
     → SameSlots w.under.pages pages
     → ((f : ℕ) → 18 ≤ f → f < 1018 → SameFrame w.under.pages pages f)
@@ -73,7 +73,7 @@ word_goes config w g d k plain told h = by_last (k == 15) refl
             let apart : j ≢ k = grind (arith, nat_tests) in
             other_word w.under.pages 2 k (fresh_word w.front.start k) j apart ∙ h.ring.begun j (omega arith)
 
-    goes_to : (s' : FrontStage) → is_connected s' ≡ false → IsBare s' → FrontAt g.shape g.start g.pushed g.taken g.front_seen g.submitted g.replies (next_request w.front) w.front.entry w.front.ending s' → AreRingWords g.shape.order g.start g.pushed g.replied pages s' (length w.back.pages)
+    goes_to : (s' : FrontStage) → is_connected s' ≡ false → IsBare s' → FrontAt g.shape g.start g.pushed g.taken g.front_seen g.submitted g.replies (next_request w.front) w.front.ring.entry w.front.ending s' → AreRingWords g.shape.order g.start g.pushed g.replied pages s' (length w.back.pages)
         → (let x : View = at s' w.front in Goes config (lines.Move (moves.FrontWrite 2 k (fresh_word w.front.start k)) ∷ front_lines x.told) (record { front = record x { told = None }; back = w.back; under = record w.under { pages = pages } }) d)
     goes_to s' going i' place ring = makes config w g d (front.RingWord k) s' (moves.FrontWrite 2 k (fresh_word w.front.start k)) pages told refl going refl (bare_word k) i' h place sized
         (index_written w.under.pages k (fresh_word w.front.start k) h.front_at)
@@ -185,7 +185,7 @@ flags_goes config w g d page told h = by_last (nat_lt (page + 1) (2 ^ w.front.sh
       | inr apart ↦ (let entry = other_entry w.under.pages (2 + page + 6) (8 + p) 1 (omega (arith, few)) (omega (arith, few)) (omega arith) in entry.flags ∙ h.ring.granted p (omega arith) unmapped)
     ]
 
-    goes_to : (s' : FrontStage) → is_connected s' ≡ false → IsBare s' → FrontAt g.shape g.start g.pushed g.taken g.front_seen g.submitted g.replies (next_request w.front) w.front.entry w.front.ending s' → AreRingWords g.shape.order g.start g.pushed g.replied pages s' (length w.back.pages)
+    goes_to : (s' : FrontStage) → is_connected s' ≡ false → IsBare s' → FrontAt g.shape g.start g.pushed g.taken g.front_seen g.submitted g.replies (next_request w.front) w.front.ring.entry w.front.ending s' → AreRingWords g.shape.order g.start g.pushed g.replied pages s' (length w.back.pages)
         → (let x : View = at s' w.front in Goes config (lines.Move (moves.FrontWrite (entry_frame (ring_page_frame page)) (entry_word (ring_page_frame page)) 1) ∷ front_lines x.told) (record { front = record x { told = None }; back = w.back; under = record w.under { pages = pages } }) d)
     goes_to s' going i' place words = makes config w g d (front.RingFlags page) s' (moves.FrontWrite (entry_frame (ring_page_frame page)) (entry_word (ring_page_frame page)) 1) pages told refl going refl (bare_flags page) i' h place
         (length-set w.under.pages _ 1 ∙ h.memory)

@@ -46,7 +46,7 @@ accepting w wish taken = record { front = accepted w.front wish taken; back = w.
 
 -- where none waits nothing of a request is begun
 idle_now : (config : Options) (w : World) (g : Flow) (d : Pipeline) → Holds config w g d w.front.stage w.back.stage → g.pushed ≡ length g.series → IsIdle w.front.stage
-idle_now config w g d h same = idle_at g.shape g.start g.pushed g.taken g.front_seen g.submitted g.replies (next_request w.front) w.front.entry w.front.ending w.front.stage (none_waits w.front.waiting w.front.requests (let i = h.indices in none_left i.all same)) h.front_at
+idle_now config w g d h same = idle_at g.shape g.start g.pushed g.taken g.front_seen g.submitted g.replies (next_request w.front) w.front.ring.entry w.front.ending w.front.stage (none_waits w.front.waiting w.front.requests (let i = h.indices in none_left i.all same)) h.front_at
   where
     none_left : {last pushed waiting : ℕ} → last ≡ pushed + waiting → pushed ≡ last → waiting ≡ 0
     none_left a b = omega arith
@@ -86,17 +86,17 @@ accepted_on config w g d d' wish taken h ready unspent free may serves limit on_
         info = h.info;
         unhalted = h.unhalted;
       };
-      indices = indices_more g x w.front.ring w.back.ring w.front.seen w.back.seen w.back.fetched w.front.last w.front.waiting (length w.front.requests) _ _ (longer w.front.requests x) unspent free h.indices;
+      indices = indices_more g x w.front.ring.indices w.back.ring.indices w.front.ring.seen w.back.ring.seen w.back.fetched w.front.last w.front.waiting (length w.front.requests) _ _ (longer w.front.requests x) unspent free h.indices;
       queue = queue_more g.submitted g.series g.pushed w.front.sectors w.front.last w.front.requests w.front.waiting x refl (let i = h.indices in i.all) (waiting_few h.indices) h.submitted h.queue;
       pool = pooled.0;
       stations = stations;
       works = works_more g.submitted g.fetched w.back.jobs.works x h.works;
       counted = h.counted;
       replies = replies_grown g.fetched g.taken g.replied g.replies x h.replies;
-      front_at = front_at_more g.shape g.start g.pushed g.taken g.front_seen (g.submitted ++ x ∷ []) g.replies (next_request w.front) (next_request (accepted w.front wish taken)) w.front.entry w.front.ending w.front.stage (λ r e. next_more w.front.requests w.front.waiting x r e)
-          (front_at_grown g.shape g.start g.pushed g.taken g.front_seen g.submitted g.replies (next_request w.front) w.front.entry w.front.ending x w.front.stage h.front_at);
+      front_at = front_at_more g.shape g.start g.pushed g.taken g.front_seen (g.submitted ++ x ∷ []) g.replies (next_request w.front) (next_request (accepted w.front wish taken)) w.front.ring.entry w.front.ending w.front.stage (λ r e. next_more w.front.requests w.front.waiting x r e)
+          (front_at_grown g.shape g.start g.pushed g.taken g.front_seen g.submitted g.replies (next_request w.front) w.front.ring.entry w.front.ending x w.front.stage h.front_at);
       offered = h.offered;
-      back_at = back_at_grown g.shape g.start g.fetched g.back_seen g.replied g.series w.back.jobs.works w.back.entry x w.back.stage h.back_at;
+      back_at = back_at_grown g.shape g.start g.fetched g.back_seen g.replied g.series w.back.jobs.works w.back.ring.entry x w.back.stage h.back_at;
       memory = h.memory;
       ring = h.ring;
       slots = slots_more g.shape g.start g.fetched g.pushed g.taken g.replied g.series g.replies w.under.pages w.front.stage w.back.stage x pushed_few idle h.slots;
@@ -168,7 +168,7 @@ submit_wish config w g d wish offered asks serves counted numbers h =
     stepped : (taken : List ℕ × List Bool) → refusal_now d job ≡ None → Stepped (Some job) IsSame d (lines.Submit (w.front.last + 1) job ∷ []) (λ p. AreStations config (submitted_flow g (request_with w.front wish taken.0)) p (is_ready w.front.stage) (is_issuing w.front.stage) (is_fetching w.back.stage) (ending_at w.front.stage w.front.ending) (telling_at w.front.stage) (reply_at w.back.stage) (w.front.requests ++ request_with w.front wish taken.0 ∷ []) w.back.jobs.works w.under.pages)
     stepped taken same =
         let known : length d.requests ≡ w.front.last = h.stations.known.as_many ∙ h.submitted.counted in
-        submits config g d (is_ready w.front.stage) (is_issuing w.front.stage) (is_fetching w.back.stage) (ending_at w.front.stage w.front.ending) (telling_at w.front.stage) (reply_at w.back.stage) w.front.requests w.back.jobs.works w.under.pages (request_with w.front wish taken.0) (ap (λ (n : ℕ). n + 1) (sym known)) (omega (arith, h.indices.all)) h.indices.fetched_pushed (issuing_waits config w g d h) (fetching_pushed g.shape g.start g.fetched g.back_seen g.replied g.pushed g.series w.back.jobs.works w.back.entry w.back.stage h.indices.back_to h.back_at) same h.stations
+        submits config g d (is_ready w.front.stage) (is_issuing w.front.stage) (is_fetching w.back.stage) (ending_at w.front.stage w.front.ending) (telling_at w.front.stage) (reply_at w.back.stage) w.front.requests w.back.jobs.works w.under.pages (request_with w.front wish taken.0) (ap (λ (n : ℕ). n + 1) (sym known)) (omega (arith, h.indices.all)) h.indices.fetched_pushed (issuing_waits config w g d h) (fetching_pushed g.shape g.start g.fetched g.back_seen g.replied g.pushed g.series w.back.jobs.works w.back.ring.entry w.back.stage h.indices.back_to h.back_at) same h.stations
 
     is_true : (b : Bool) → not b ≡ false → b ≡ true
     is_true true e = refl

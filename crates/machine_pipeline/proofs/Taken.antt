@@ -70,7 +70,7 @@ freed_holds : (config : Options) (w : World) (g : Flow) (d d' : Pipeline) (low h
     → (f : IsFound w g rep.id)
     → ArePooled w.front.pool (remove w.front.requests f.place) (ending_at s ending)
     → AreStations config (taken_flow g) d' (is_ready s) (is_issuing s) (is_fetching w.back.stage) (ending_at s ending) (telling_at s) (reply_at w.back.stage) (remove w.front.requests f.place) w.back.jobs.works w.under.pages
-    → (let v : View = freed w.front f.place in FrontAt g.shape g.start g.pushed (g.taken + 1) g.front_seen g.submitted (drop 1 g.replies) (next_request v) w.front.entry ending s)
+    → (let v : View = freed w.front f.place in FrontAt g.shape g.start g.pushed (g.taken + 1) g.front_seen g.submitted (drop 1 g.replies) (next_request v) w.front.ring.entry ending s)
     → AreRevoked w.under.pages s ending
     → Holds config (freed_at w f.place s ending) (taken_flow g) d' s w.back.stage
 freed_holds config w g d d' low high rep s ending i untold unarmed few h oldest seen f pooled stations at revoked = record {
@@ -107,7 +107,7 @@ freed_holds config w g d d' low high rep s ending i untold unarmed few h oldest 
   mapped = h.mapped;
   paged = h.paged;
   front_sleep = (let was = h.front_sleep in record { arming = λ t. absurd (true≢false (sym t ∙ unarmed)); armed = λ t. absurd (true≢false (sym t ∙ was.may refl)); may = λ t. was.may refl; woken = λ t. absurd (true≢false (sym t ∙ was.may refl)) });
-  back_sleep = back_sleep_rests g.start g.fetched g.pushed w.under.pages w.under.pages w.back.asleep w.under.channels.back_pending w.under.channels.back_pending (front.ResponseLast low high) s w.back.stage refl refl (λ sends. sends) h.back_sleep;
+  back_sleep = back_sleep_rests g.start g.fetched g.pushed w.under.pages w.under.pages w.back.ring.asleep w.under.channels.back_pending w.under.channels.back_pending (front.ResponseLast low high) s w.back.stage refl refl (λ sends. sends) h.back_sleep;
   ports = subst (λ (b : Bool). PortsAt g.before b (is_bound_back w.back.stage) w.under.channels.made w.under.channels.ports) (as_connected (front.ResponseLast low high) s refl i.ready) h.ports;
 }
   where
@@ -117,8 +117,8 @@ freed_holds config w g d d' low high rep s ending i untold unarmed few h oldest 
     entered_none : entered s ≡ 0
     entered_none = i.entered_none
 
-    indices_taken : (let x : View = freed w.front f.place in AreIndices (taken_flow g) x.ring w.back.ring x.seen w.back.seen w.back.fetched x.last x.waiting (length x.requests) (ending_of s))
-    indices_taken = let less = length-remove w.front.requests f.place within in let taken = next_wrapped g.start g.taken w.front.ring.cons h.indices.taken in omega (arith, h.indices, seen)
+    indices_taken : (let x : View = freed w.front f.place in AreIndices (taken_flow g) x.ring.indices w.back.ring.indices x.ring.seen w.back.ring.seen w.back.fetched x.last x.waiting (length x.requests) (ending_of s))
+    indices_taken = let less = length-remove w.front.requests f.place within in let taken = next_wrapped g.start g.taken w.front.ring.indices.cons h.indices.taken in omega (arith, h.indices, seen)
 
 -- the request of the response is a submitted one, and no response that is left names it
 ending_taken : (config : Options) (w : World) (g : Flow) (d : Pipeline) (s : FrontStage) (rep : Reply) → Holds config w g d s w.back.stage → slice_get g.replies 0 ≡ Some rep → (f : IsFound w g rep.id)
@@ -191,10 +191,10 @@ last_goes config w g d low high told h =
     rep = place.0.rep
 
     last : ℕ
-    last = word_of w.under.pages (slot_frame w.front.shape w.front.ring.cons 2) (slot_word w.front.shape w.front.ring.cons 2)
+    last = word_of w.under.pages (slot_frame w.front.shape w.front.ring.indices.cons 2) (slot_word w.front.shape w.front.ring.indices.cons 2)
 
     shown : Shown
-    shown = moves.FrontRead (slot_frame w.front.shape w.front.ring.cons 2) (slot_word w.front.shape w.front.ring.cons 2) last
+    shown = moves.FrontRead (slot_frame w.front.shape w.front.ring.indices.cons 2) (slot_word w.front.shape w.front.ring.indices.cons 2) last
 
     Becomes : View → Type 0
     Becomes x = Goes config (lines.Move shown ∷ front_lines x.told) (record { front = record x { told = None }; back = w.back; under = w.under }) d

@@ -19,10 +19,6 @@ abbrev pub AreApart : List (ℕ × Standing) → Type 0
 AreApart [] = Unit {0}
 AreApart (e ∷ es) = (e.1.number ≡ e.0) × (standing_at es e.0 ≡ None) × AreApart es
 
--- ---- numbers
-not_at : (k n : ℕ) → (n == k) ≡ false → is_at (nat_cmp k) n ≡ false
-not_at k n e = at_number k n ∙ e
-
 same_at : (k n : ℕ) → is_at (nat_cmp k) n ≡ true → n ≡ k
 same_at k n t = let e : (n == k) ≡ true = sym (at_number k n) ∙ t in grind (arith, nat_tests)
 

@@ -83,13 +83,13 @@ word_below s k i = omega arith
 
 entry_read : (v : View) (i : ℕ) → AreAll v → i < entry_words_of v.shape.abi → Names (connected v) (entry_ask v i)
 entry_read v i all inside =
-    let below = slot_within v.shape v.ring.cons i inside in let pages = all.pages in
-    page_read v (slot_word_of v.shape v.ring.cons i).0 (slot_word v.shape v.ring.cons i) (omega arith) (word_below v.shape v.ring.cons i)
+    let below = slot_within v.shape v.ring.indices.cons i inside in let pages = all.pages in
+    page_read v (slot_word_of v.shape v.ring.indices.cons i).0 (slot_word v.shape v.ring.indices.cons i) (omega arith) (word_below v.shape v.ring.indices.cons i)
 
 reply_written : (v : View) (r : Reply) (i : ℕ) → AreAll v → i < 3 → Names (connected v) (reply_ask v r i)
 reply_written v r i all few =
-    let below = slot_within v.shape v.ring.prod i (response_fits v.shape.abi i few) in let pages = all.pages in
-    page_written v (slot_word_of v.shape v.ring.prod i).0 (slot_word v.shape v.ring.prod i) (response_word r i) all.writable (omega arith) (word_below v.shape v.ring.prod i)
+    let below = slot_within v.shape v.ring.indices.prod i (response_fits v.shape.abi i few) in let pages = all.pages in
+    page_written v (slot_word_of v.shape v.ring.indices.prod i).0 (slot_word v.shape v.ring.indices.prod i) (response_word r i) all.writable (omega arith) (word_below v.shape v.ring.indices.prod i)
 
 loop_read : (v : View) (asleep new : Bool) → AreAll v → Names (connected v) (if asleep then ask.Wait else (if new then index_ask v 0 else entry_ask v 0))
 loop_read v true new all = tt
@@ -98,7 +98,7 @@ loop_read v false false all = entry_read v 0 all (response_fits v.shape.abi 0 (o
 
 loop_names : (v : View) (r : Option Reply) → AreAll v → Names (connected v) (loop_ask v r)
 loop_names v (Some r) all = reply_written v r 0 all (omega arith)
-loop_names v None all = loop_read v v.asleep (requests_of v.ring v.seen == 0) all
+loop_names v None all = loop_read v v.ring.asleep (requests_of v.ring.indices v.ring.seen == 0) all
 
 first_named : (works pages : List Mapping) → Names (works ++ pages) (unmap_ask pages)
 first_named works [] = tt
@@ -112,9 +112,9 @@ names_at stage.Loop v fetched kept b = loop_names v (next_reply v) (all_of v b k
 names_at (stage.Fetch k) v fetched kept b = entry_read v k (all_of v b kept) fetched
 names_at (stage.ReplyHigh r) v fetched kept b = reply_written v r 1 (all_of v b kept) (omega arith)
 names_at (stage.ReplyLast r) v fetched kept b = reply_written v r 2 (all_of v b kept) (omega arith)
-names_at (stage.Producer r) v fetched kept b = index_written v 2 (next_of v.ring.prod) (all_of v b kept) (omega arith)
+names_at (stage.Producer r) v fetched kept b = index_written v 2 (next_of v.ring.indices.prod) (all_of v b kept) (omega arith)
 names_at (stage.ResponseEvent old) v fetched kept b = index_read v 3 (all_of v b kept) (omega arith)
-names_at stage.StoreEvent v fetched kept b = index_written v 1 (next_of v.ring.cons) (all_of v b kept) (omega arith)
+names_at stage.StoreEvent v fetched kept b = index_written v 1 (next_of v.ring.indices.cons) (all_of v b kept) (omega arith)
 names_at stage.LookAgain v fetched kept b = index_read v 0 (all_of v b kept) (omega arith)
 names_at (stage.Abort m) v fetched kept b = (0, omega arith, refl)
 names_at stage.UnmapRing v fetched kept b = first_named (hands_in v.jobs.works) v.pages
@@ -162,18 +162,18 @@ abort_kept v all = by_mapping (first_mapping v.jobs.works)
     by_mapping (Some m) = record { fetched = tt; mapped = all.pages; writable = all.writable; jobs = after_jobs v.jobs.works all.jobs }
 
 overrun_kept : (v : View) (word : ℕ) → AreAll v → IsBack (overrun v word)
-overrun_kept v word all = abort_kept (record v { halted = Some (halt.Overrun word v.ring.prod) }) (record { pages = all.pages; writable = all.writable; jobs = all.jobs })
+overrun_kept v word all = abort_kept (record v { halted = Some (halt.Overrun word v.ring.indices.prod) }) (record { pages = all.pages; writable = all.writable; jobs = all.jobs })
 
 looked_kept : (v : View) (word : ℕ) (otherwise : View) → AreAll v → IsBack otherwise → IsBack (looked v word otherwise)
 looked_kept v word otherwise all h =
-    either (overruns v.ring word) (overrun v word) (if word == v.ring.cons then otherwise else record v { seen = word; stage = stage.Loop })
+    either (overruns v.ring.indices word) (overrun v word) (if word == v.ring.indices.cons then otherwise else record v { ring = record v.ring { seen = word }; stage = stage.Loop })
     (λ far. overrun_kept v word all)
-    (λ near. either (word == v.ring.cons) otherwise (record v { seen = word; stage = stage.Loop }) (λ old. h) (λ new. record { fetched = tt; mapped = all.pages; writable = all.writable; jobs = all.jobs }))
+    (λ near. either (word == v.ring.indices.cons) otherwise (record v { ring = record v.ring { seen = word }; stage = stage.Loop }) (λ old. h) (λ new. record { fetched = tt; mapped = all.pages; writable = all.writable; jobs = all.jobs }))
 
 loop_word_kept : (v : View) (word : ℕ) → AreAll v → IsBack (loop_word v word)
 loop_word_kept v word all =
-    either (requests_of v.ring v.seen == 0) (looked v word (record v { seen = word; stage = stage.StoreEvent })) (record v { entry = word ∷ []; stage = stage.Fetch 1 })
-    (λ none. looked_kept v word (record v { seen = word; stage = stage.StoreEvent }) all (record { fetched = tt; mapped = all.pages; writable = all.writable; jobs = all.jobs }))
+    either (requests_of v.ring.indices v.ring.seen == 0) (looked v word (record v { ring = record v.ring { seen = word }; stage = stage.StoreEvent })) (record v { ring = record v.ring { entry = word ∷ [] }; stage = stage.Fetch 1 })
+    (λ none. looked_kept v word (record v { ring = record v.ring { seen = word }; stage = stage.StoreEvent }) all (record { fetched = tt; mapped = all.pages; writable = all.writable; jobs = all.jobs }))
     (λ some. record { fetched = response_fits v.shape.abi 1 (omega arith); mapped = all.pages; writable = all.writable; jobs = all.jobs })
 
 loop_kept : (v : View) (r : Option Reply) (given : BackAnswer) → AreAll v → IsBack v → IsBack (loop_step v r given)
@@ -183,8 +183,8 @@ loop_kept v None given all b = record { fetched = b.fetched; mapped = b.mapped; 
 
 fetch_kept : (v : View) (k word : ℕ) → k < entry_words_of v.shape.abi → AreAll v → IsBack (fetch_step v k word)
 fetch_kept v k word inside all =
-    either (k + 1 == entry_words_of v.shape.abi) (fetched v (v.entry ++ word ∷ [])) (record v { entry = v.entry ++ word ∷ []; stage = stage.Fetch (k + 1) })
-    (λ last. record { fetched = tt; mapped = all.pages; writable = all.writable; jobs = started_jobs v.jobs (next_number v) (request_of v.shape.abi (v.entry ++ word ∷ [])) all.jobs })
+    either (k + 1 == entry_words_of v.shape.abi) (fetched v (v.ring.entry ++ word ∷ [])) (record v { ring = record v.ring { entry = v.ring.entry ++ word ∷ [] }; stage = stage.Fetch (k + 1) })
+    (λ last. record { fetched = tt; mapped = all.pages; writable = all.writable; jobs = started_jobs v.jobs (next_number v) (request_of v.shape.abi (v.ring.entry ++ word ∷ [])) all.jobs })
     (λ more. record { fetched = further k (entry_words_of v.shape.abi) inside more; mapped = all.pages; writable = all.writable; jobs = all.jobs })
   where
     further : (n words : ℕ) → n < words → (n + 1 == words) ≡ false → n + 1 < words
@@ -216,7 +216,7 @@ step_kept (stage.ReplyHigh r) v given fetched kept h b = at_stage (stage.ReplyLa
 step_kept (stage.ReplyLast r) v given fetched kept h b = at_stage (stage.Producer r) v tt kept b.writable b.jobs
 step_kept (stage.Producer r) v given fetched kept h b = record { fetched = tt; mapped = kept; writable = b.writable; jobs = b.jobs }
 step_kept (stage.ProducerFence old) v given fetched kept h b = at_stage (stage.ResponseEvent old) v tt kept b.writable b.jobs
-step_kept (stage.ResponseEvent old) v (answer.Word event) fetched kept h b = sent (notifies old v.ring.prod event)
+step_kept (stage.ResponseEvent old) v (answer.Word event) fetched kept h b = sent (notifies old v.ring.indices.prod event)
   where
     sent : (more : Bool) → IsBack (record v { stage = if more then stage.Send else stage.Loop })
     sent true = at_stage stage.Send v tt kept b.writable b.jobs
@@ -224,7 +224,7 @@ step_kept (stage.ResponseEvent old) v (answer.Word event) fetched kept h b = sen
 step_kept stage.Send v given fetched kept h b = at_stage stage.Loop v tt kept b.writable b.jobs
 step_kept stage.StoreEvent v given fetched kept h b = at_stage stage.EventFence v tt kept b.writable b.jobs
 step_kept stage.EventFence v given fetched kept h b = at_stage stage.LookAgain v tt kept b.writable b.jobs
-step_kept stage.LookAgain v (answer.Word word) fetched kept h b = looked_kept v word (record v { seen = word; stage = stage.Loop; asleep = true }) (all_of v b kept) (record { fetched = tt; mapped = kept; writable = b.writable; jobs = b.jobs })
+step_kept stage.LookAgain v (answer.Word word) fetched kept h b = looked_kept v word (record v { ring = record v.ring { seen = word; asleep = true }; stage = stage.Loop }) (all_of v b kept) (record { fetched = tt; mapped = kept; writable = b.writable; jobs = b.jobs })
 step_kept (stage.Abort m) v given fetched kept h b = abort_kept v (all_of v b kept)
 step_kept stage.UnmapRing v given fetched kept h b = bound_kept (record v { pages = other_pages v.pages }) (others_writable v.pages b.writable) b.jobs
 step_kept stage.ClosePort v given fetched kept h b = at_stage stage.Halted v tt kept b.writable b.jobs

@@ -86,8 +86,8 @@ in_page s page narrow below = let few = few_pages s.order narrow in omega arith
 in_slot : (s : Shape) (index k : ℕ) → s.order ≤ 4 → k < entry_words_of s.abi → (slot_frame s index k < 1018) × (slot_word s index k < 1024)
 in_slot s index k narrow within = (in_page s (slot_word_of s index k).0 narrow (slot_within s index k within), omega arith)
 
-response_in : (v : View) (k : ℕ) → v.shape.order ≤ 4 → k < 3 → (slot_frame v.shape v.ring.cons k < 1018) × (slot_word v.shape v.ring.cons k < 1024)
-response_in v k narrow few = let wide = wide_entries v.shape.abi in in_slot v.shape v.ring.cons k narrow (omega arith)
+response_in : (v : View) (k : ℕ) → v.shape.order ≤ 4 → k < 3 → (slot_frame v.shape v.ring.indices.cons k < 1018) × (slot_word v.shape v.ring.indices.cons k < 1024)
+response_in v k narrow few = let wide = wide_entries v.shape.abi in in_slot v.shape v.ring.indices.cons k narrow (omega arith)
 
 loop_within : (rests new : Bool) (frame word : ℕ) → (frame < 1018) × (word < 1024) → StaysInMemory (if rests then ask.Wait else (if new then ask.Read ring_frame 2 else ask.Read frame word))
 loop_within true new frame word p = tt
@@ -127,8 +127,8 @@ name_within r place shared = entry_within (frame_at r place) (shared_frame r pla
 some_words : (abi : Abi) → 1 < entry_words_of abi
 some_words abi = let wide = wide_entries abi in omega arith
 
-first_word : (v : View) → v.shape.order ≤ 4 → (slot_frame v.shape v.ring.prod 0 < 1018) × (slot_word v.shape v.ring.prod 0 < 1024)
-first_word v narrow = let some = some_words v.shape.abi in in_slot v.shape v.ring.prod 0 narrow (omega arith)
+first_word : (v : View) → v.shape.order ≤ 4 → (slot_frame v.shape v.ring.indices.prod 0 < 1018) × (slot_word v.shape v.ring.indices.prod 0 < 1024)
+first_word v narrow = let some = some_words v.shape.abi in in_slot v.shape v.ring.indices.prod 0 narrow (omega arith)
 
 issue_within : (v : View) (r : Request) (way : Transfer) → v.shape.order ≤ 4 → Shared r → StaysInMemory (issue_ask v r way)
 issue_within v r transfer.Read narrow shared = either_within (is_indirect r.count) (page_ask (Some r) 0) (name_ask (Some r) 0) (page_within r 0 shared) (name_within r 0 shared)
@@ -170,7 +170,7 @@ read_within n (Some e) shared = (shared_frame e.request (n / 1024) shared, omega
 loop_ask_within : (v : View) (r : Option Request) → v.shape.order ≤ 4 → All Shared v.requests → next_request v ≡ r → StaysInMemory (loop_ask v r)
 loop_ask_within v (Some r) narrow all e = issue_within v r r.transfer narrow (next_shared v r all e)
 loop_ask_within v None narrow all e =
-    loop_within (v.asleep || is_through v) (responses_of v.ring v.seen == 0) (slot_frame v.shape v.ring.cons 0) (slot_word v.shape v.ring.cons 0) (response_in v 0 narrow (omega arith))
+    loop_within (v.ring.asleep || is_through v) (responses_of v.ring.indices v.ring.seen == 0) (slot_frame v.shape v.ring.indices.cons 0) (slot_word v.shape v.ring.indices.cons 0) (response_in v 0 narrow (omega arith))
 
 -- the entry of a page's grant
 page_name : (v : View) (page : ℕ) → v.shape.order ≤ 4 → page < 2 ^ v.shape.order → (entry_frame (ring_page_frame page) < 1018) × (entry_word (ring_page_frame page) + 1 < 1024)
@@ -188,7 +188,7 @@ within_at (stage.Data n) v p f = next_data_within v n (next_request v) f.shared 
 within_at (stage.Pages n) v p f = next_page_within v n (next_request v) f.shared refl
 within_at (stage.GrantFrame place) v p f = next_name_within v place (next_request v) f.shared refl
 within_at (stage.GrantFlags place) v p f = next_grant_within v place (next_request v) f.shared refl
-within_at (stage.Slot k) v p f = in_slot v.shape v.ring.prod k f.order p
+within_at (stage.Slot k) v p f = in_slot v.shape v.ring.indices.prod k f.order p
 within_at stage.Producer v p f = (omega arith, omega arith)
 within_at (stage.RequestEvent old) v p f = (omega arith, omega arith)
 within_at (stage.ResponseHigh low) v p f = response_in v 1 f.order (omega arith)
@@ -224,8 +224,8 @@ at_stage s v p f = record { order = f.order; placed = p; shared = f.shared; endi
 
 looked_kept : (v : View) (word : ℕ) (otherwise : View) → IsFront v → IsFront otherwise → IsFront (looked v word otherwise)
 looked_kept v word otherwise f h =
-    either (nat_lt (distance_of v.ring.cons v.ring.prod) (distance_of v.ring.cons word)) (broken word v) (if word == v.ring.cons then otherwise else record v { seen = word; stage = stage.Loop }) (record { order = f.order; placed = tt; shared = f.shared; ending = f.ending; pool = f.pool })
-    (either (word == v.ring.cons) otherwise (record v { seen = word; stage = stage.Loop }) h (record { order = f.order; placed = tt; shared = f.shared; ending = f.ending; pool = f.pool }))
+    either (nat_lt (distance_of v.ring.indices.cons v.ring.indices.prod) (distance_of v.ring.indices.cons word)) (broken word v) (if word == v.ring.indices.cons then otherwise else record v { ring = record v.ring { seen = word }; stage = stage.Loop }) (record { order = f.order; placed = tt; shared = f.shared; ending = f.ending; pool = f.pool })
+    (either (word == v.ring.indices.cons) otherwise (record v { ring = record v.ring { seen = word }; stage = stage.Loop }) h (record { order = f.order; placed = tt; shared = f.shared; ending = f.ending; pool = f.pool }))
 
 -- and at a word of the entry of one of them
 entered_kept : (v : View) (r : Request) (s : Stage) → IsPlaced s v.shape → IsFront v → IsFront (entered v r s)
@@ -241,8 +241,8 @@ begun_kept v r (transfer.Discard sectors) f = entered_kept v r (stage.Slot 1) (s
 loop_kept : (v : View) (r : Option Request) (x : FrontAnswer) → IsFront v → next_request v ≡ r → IsFront (loop_step v r x)
 loop_kept v (Some r) x f e = begun_kept v r r.transfer f
 loop_kept v None (answer.Word word) f e =
-    either (responses_of v.ring v.seen == 0) (looked v word (record v { seen = word; stage = stage.StoreEvent })) (at (stage.ResponseHigh word) v)
-    (looked_kept v word (record v { seen = word; stage = stage.StoreEvent }) f (record { order = f.order; placed = tt; shared = f.shared; ending = f.ending; pool = f.pool })) (at_stage (stage.ResponseHigh word) v tt f)
+    either (responses_of v.ring.indices v.ring.seen == 0) (looked v word (record v { ring = record v.ring { seen = word }; stage = stage.StoreEvent })) (at (stage.ResponseHigh word) v)
+    (looked_kept v word (record v { ring = record v.ring { seen = word }; stage = stage.StoreEvent }) f (record { order = f.order; placed = tt; shared = f.shared; ending = f.ending; pool = f.pool })) (at_stage (stage.ResponseHigh word) v tt f)
 loop_kept v None answer.Event f e = record { order = f.order; placed = f.placed; shared = f.shared; ending = f.ending; pool = f.pool }
 loop_kept v None x f e = f
 
@@ -339,7 +339,7 @@ step_kept (stage.Slot k) v x p f = at_stage _ v (either_stage (k + 1 == entry_wo
     further n words lt other = grind (arith, nat_tests)
 step_kept stage.Producer v x p f = record { order = f.order; placed = tt; shared = f.shared; ending = f.ending; pool = f.pool }
 step_kept (stage.ProducerFence old) v x p f = at_stage _ v tt f
-step_kept (stage.RequestEvent old) v (answer.Word event) p f = at_stage _ v (either_stage (notifies old v.ring.prod event) stage.Send stage.Loop v.shape (λ t. tt) (λ t. tt)) f
+step_kept (stage.RequestEvent old) v (answer.Word event) p f = at_stage _ v (either_stage (notifies old v.ring.indices.prod event) stage.Send stage.Loop v.shape (λ t. tt) (λ t. tt)) f
 step_kept stage.Send v x p f = at_stage _ v tt f
 step_kept (stage.ResponseHigh low) v (answer.Word high) p f = at_stage _ v tt f
 step_kept (stage.ResponseLast low high) v (answer.Word last) p f =
@@ -352,7 +352,7 @@ step_kept (stage.ReadData n) v (answer.Word word) p f = data_kept v v.ending n w
 step_kept (stage.LeftData n) v (answer.Word word) p f = left_kept v v.ending n word f
 step_kept stage.StoreEvent v x p f = at_stage _ v tt f
 step_kept stage.EventFence v x p f = at_stage _ v tt f
-step_kept stage.LookAgain v (answer.Word word) p f = looked_kept v word (record v { seen = word; stage = stage.Loop; asleep = true }) f (record { order = f.order; placed = tt; shared = f.shared; ending = f.ending; pool = f.pool })
+step_kept stage.LookAgain v (answer.Word word) p f = looked_kept v word (record v { ring = record v.ring { seen = word; asleep = true }; stage = stage.Loop }) f (record { order = f.order; placed = tt; shared = f.shared; ending = f.ending; pool = f.pool })
 step_kept (stage.RingRead page) v (answer.Word word) p f =
     either (is_mapped word) (broken word v) (at (stage.RingEnd page word) v) (record { order = f.order; placed = tt; shared = f.shared; ending = f.ending; pool = f.pool }) (at_stage (stage.RingEnd page word) v p f)
 step_kept (stage.RingEnd page before) v (answer.Word word) p f =

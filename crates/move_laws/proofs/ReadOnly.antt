@@ -192,15 +192,15 @@ either false x y p q = q
 
 looked_stays : (v : View) (word : ℕ) (otherwise : View) → Stays v → Stays otherwise → Stays (looked v word otherwise)
 looked_stays v word otherwise o other =
-    either (overruns v.ring word) (overrun v word) (if word == v.ring.cons then otherwise else record v { seen = word; stage = stage.Loop })
+    either (overruns v.ring.indices word) (overrun v word) (if word == v.ring.indices.cons then otherwise else record v { ring = record v.ring { seen = word }; stage = stage.Loop })
     (o.0, after_reads v.jobs.works o.1)
-    (either (word == v.ring.cons) otherwise (record v { seen = word; stage = stage.Loop }) other o)
+    (either (word == v.ring.indices.cons) otherwise (record v { ring = record v.ring { seen = word }; stage = stage.Loop }) other o)
 
 loop_stays : (v : View) (r : Option Reply) (given : BackAnswer) → Stays v → Stays (loop_step v r given)
 loop_stays v (Some r) given o = (o.0, removed_reads v.jobs.works (position (λ (t : Work). is_done t) v.jobs.works) o.1)
 loop_stays v None (answer.Word word) o =
-    either (requests_of v.ring v.seen == 0) (looked v word (record v { seen = word; stage = stage.StoreEvent })) (record v { entry = word ∷ []; stage = stage.Fetch 1 })
-    (looked_stays v word (record v { seen = word; stage = stage.StoreEvent }) o o) o
+    either (requests_of v.ring.indices v.ring.seen == 0) (looked v word (record v { ring = record v.ring { seen = word }; stage = stage.StoreEvent })) (record v { ring = record v.ring { entry = word ∷ [] }; stage = stage.Fetch 1 })
+    (looked_stays v word (record v { ring = record v.ring { seen = word }; stage = stage.StoreEvent }) o o) o
 loop_stays v None given o = o
 
 step_stays : (s : Stage) (v : View) (given : BackAnswer) → Stays v → Stays (step_at s v given)
@@ -210,9 +210,9 @@ step_stays stage.Bind v answer.Done o = o
 step_stays stage.Bind v answer.BindRefused o = o
 step_stays stage.Loop v given o = loop_stays v (next_reply v) given o
 step_stays (stage.Fetch k) v (answer.Word word) o =
-    either (k + 1 == entry_words_of v.shape.abi) (fetched v (v.entry ++ word ∷ [])) (record v { entry = v.entry ++ word ∷ []; stage = stage.Fetch (k + 1) })
-    (started v.jobs (next_number v) (request_of v.shape.abi (v.entry ++ word ∷ [])) o) o
-step_stays stage.LookAgain v (answer.Word word) o = looked_stays v word (record v { seen = word; stage = stage.Loop; asleep = true }) o o
+    either (k + 1 == entry_words_of v.shape.abi) (fetched v (v.ring.entry ++ word ∷ [])) (record v { ring = record v.ring { entry = v.ring.entry ++ word ∷ [] }; stage = stage.Fetch (k + 1) })
+    (started v.jobs (next_number v) (request_of v.shape.abi (v.ring.entry ++ word ∷ [])) o) o
+step_stays stage.LookAgain v (answer.Word word) o = looked_stays v word (record v { ring = record v.ring { seen = word; asleep = true }; stage = stage.Loop }) o o
 step_stays (stage.ResponseEvent old) v (answer.Word event) o = o
 step_stays (stage.Abort m) v given o = (o.0, after_reads v.jobs.works o.1)
 step_stays s v given o = o

@@ -98,7 +98,7 @@ module _ (config : Options) (s : Sight) (asked : List Asked) (v : View) (untold 
 
   -- the producer of responses was read
   looked_goes : (word : ℕ) (other : View) → At true None → Becomes other → Becomes (looked v word other)
-  looked_goes word other h is = either _ (broken word v) _ (broke word true None h) (either (word == v.ring.cons) other (record v { seen = word; stage = stage.Loop }) is (quiet (record v { seen = word; stage = stage.Loop }) untold (h, tt)))
+  looked_goes word other h is = either _ (broken word v) _ (broke word true None h) (either (word == v.ring.indices.cons) other (record v { ring = record v.ring { seen = word }; stage = stage.Loop }) is (quiet (record v { ring = record v.ring { seen = word }; stage = stage.Loop }) untold (h, tt)))
 
   -- a request is begun
   begun_goes : (r : Request) (way : Transfer) → At true None → Becomes (begun v r way)
@@ -110,9 +110,9 @@ module _ (config : Options) (s : Sight) (asked : List Asked) (v : View) (untold 
 
   loop_goes : (next : Option Request) (answer : FrontAnswer) → At true None → Becomes (loop_step v next answer)
   loop_goes (Some r) answer h = begun_goes r r.transfer h
-  loop_goes None (Word word) h = either (responses_of v.ring v.seen == 0) (looked v word (record v { seen = word; stage = stage.StoreEvent })) (at (stage.ResponseHigh word) v)
-      (looked_goes word (record v { seen = word; stage = stage.StoreEvent }) h (quiet (record v { seen = word; stage = stage.StoreEvent }) untold (h, tt))) (to (stage.ResponseHigh word) h tt)
-  loop_goes None Event h = quiet (record v { asleep = false }) untold keeps
+  loop_goes None (Word word) h = either (responses_of v.ring.indices v.ring.seen == 0) (looked v word (record v { ring = record v.ring { seen = word }; stage = stage.StoreEvent })) (at (stage.ResponseHigh word) v)
+      (looked_goes word (record v { ring = record v.ring { seen = word }; stage = stage.StoreEvent }) h (quiet (record v { ring = record v.ring { seen = word }; stage = stage.StoreEvent }) untold (h, tt))) (to (stage.ResponseHigh word) h tt)
+  loop_goes None Event h = quiet (record v { ring = record v.ring { asleep = false } }) untold keeps
   loop_goes None answer h = stays
 
   data_goes : (next : Option Request) (n : ℕ) → At true None → Becomes (at (data_stage next n) v)
@@ -246,7 +246,7 @@ module _ (config : Options) (s : Sight) (asked : List Asked) (v : View) (untold 
   by_stage (stage.Slot k) answer h held = either_to (k + 1 == entry_words_of v.shape.abi) stage.Producer (stage.Slot (k + 1)) (to stage.Producer h tt) (to (stage.Slot (k + 1)) h tt)
   by_stage stage.Producer answer h held = quiet (pushed v) untold (h, tt)
   by_stage (stage.ProducerFence old) answer h held = to (stage.RequestEvent old) h tt
-  by_stage (stage.RequestEvent old) (Word event) h held = either_to (notifies old v.ring.prod event) stage.Send stage.Loop (to stage.Send h tt) (to stage.Loop h tt)
+  by_stage (stage.RequestEvent old) (Word event) h held = either_to (notifies old v.ring.indices.prod event) stage.Send stage.Loop (to stage.Send h tt) (to stage.Loop h tt)
   by_stage stage.Send answer h held = to stage.Loop h tt
   by_stage (stage.ResponseHigh low) (Word high) h held = to (stage.ResponseLast low high) h tt
   by_stage (stage.ResponseLast low high) (Word last) h held = response_goes (response_of (low ∷ high ∷ last ∷ [])) low (issued v (low + high * 2 ^ 32)) (issued_is v (low + high * 2 ^ 32)) h
@@ -258,7 +258,7 @@ module _ (config : Options) (s : Sight) (asked : List Asked) (v : View) (untold 
       subst (λ (o : Option Ending). Becomes (left_step o n word v)) (sym held.1) (left_goes held.0 held.1 n held.3 _ held.2 h (nat_lt (n + 1) (words_in held.0.request)) refl)
   by_stage stage.StoreEvent answer h held = to stage.EventFence h tt
   by_stage stage.EventFence answer h held = to stage.LookAgain h tt
-  by_stage stage.LookAgain (Word word) h held = looked_goes word (record v { seen = word; stage = stage.Loop; asleep = true }) h (quiet (record v { seen = word; stage = stage.Loop; asleep = true }) untold (h, tt))
+  by_stage stage.LookAgain (Word word) h held = looked_goes word (record v { ring = record v.ring { seen = word; asleep = true }; stage = stage.Loop }) h (quiet (record v { ring = record v.ring { seen = word; asleep = true }; stage = stage.Loop }) untold (h, tt))
   by_stage (stage.RingRead page) (Word word) h held = either (is_mapped word) (broken word v) (at (stage.RingEnd page word) v) (broke word false None h) (to (stage.RingEnd page word) h tt)
   by_stage (stage.RingEnd page before) (Word word) h held =
       either (word == before) (at (ring_left v page) v) (broken word v) (either_to _ (stage.RingRead (page + 1)) stage.ClosePort (to (stage.RingRead (page + 1)) h tt) (to stage.ClosePort h tt)) (broke word false None h)

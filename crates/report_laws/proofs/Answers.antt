@@ -73,20 +73,20 @@ told_counted before shown (Some (told.Answer id status)) = sum_by-append (λ (x 
 
 -- what the lines of an epoch tell of the front
 abbrev CountsIn : ℕ → List Line → View → Type 0
-CountsIn start ls v = CountsAt start (told_in ls) v.start v.ring.cons v.stage
+CountsIn start ls v = CountsAt start (told_in ls) v.start v.ring.indices.cons v.stage
 
 front_counts_on : (start : ℕ) (w : World) (ls : List Line) (a : FrontAct) → IsSafe w → CountsIn start ls w.front → CountsIn start (ls ++ front_shows w (Some a)) (let x : World = front_after w (Some a) in x.front)
 front_counts_on start w ls a safe h =
     let v : View = step_of w.front a.answer in
-    subst (λ (n : ℕ). CountsAt start n v.start v.ring.cons v.stage) (sym (told_counted ls a.shown v.told))
+    subst (λ (n : ℕ). CountsAt start n v.start v.ring.indices.cons v.stage) (sym (told_counted ls a.shown v.told))
     (front_counts start (told_in ls) w.front.stage w.front a.answer safe.front_told refl h)
 
 -- what leaves the front where it was, and tells no answer
 same_counts : (start : ℕ) (v v' : View) (before ls : List Line) → AreUnanswered ls → IsUnmoved v v' → CountsIn start before v → CountsIn start (before ++ ls) v'
 same_counts start v v' before ls none same h =
-    subst (λ (n : ℕ). CountsAt start n v'.start v'.ring.cons v'.stage) (sym (answers_more before ls none))
-    (subst (λ (b : ℕ). CountsAt start (told_in before) b v'.ring.cons v'.stage) (sym same.start)
-    (subst (λ (c : ℕ). CountsAt start (told_in before) v.start c v'.stage) (sym same.cons) (subst (CountsAt start (told_in before) v.start v.ring.cons) (sym same.stage) h)))
+    subst (λ (n : ℕ). CountsAt start n v'.start v'.ring.indices.cons v'.stage) (sym (answers_more before ls none))
+    (subst (λ (b : ℕ). CountsAt start (told_in before) b v'.ring.indices.cons v'.stage) (sym same.start)
+    (subst (λ (c : ℕ). CountsAt start (told_in before) v.start c v'.stage) (sym same.cons) (subst (CountsAt start (told_in before) v.start v.ring.indices.cons) (sym same.stage) h)))
 
 -- a front that is led into a state took no response either: it ends no grant of a request's, and isn't broken
 whole_counts : (start n begins cons : ℕ) (s : Stage) → (is_made s || is_bare s) ≡ true → CountsAt start n begins cons s → cons ≡ wrapped start n
@@ -135,12 +135,12 @@ begun_anew : (start n begins cons : ℕ) (s : Stage) → is_unmade s ≡ true �
 begun_anew start n begins cons (stage.RingWord k) unmade h = (h.1 ∙ h.0, refl)
 begun_anew start n begins cons s unmade h = absurd (cc)
 
-entered_count : (start n : ℕ) (s : FrontState) (v : View) → LedFrom s v.stage → CountsAt start n v.start v.ring.cons v.stage → (let x : View = in_state s v in CountsAt start n x.start x.ring.cons x.stage)
-entered_count start n (state.Agreed order) v from h = begun_anew start n v.start v.ring.cons v.stage from h
-entered_count start n (state.Connected offers) v from h = whole_counts start n v.start v.ring.cons v.stage from h
+entered_count : (start n : ℕ) (s : FrontState) (v : View) → LedFrom s v.stage → CountsAt start n v.start v.ring.indices.cons v.stage → (let x : View = in_state s v in CountsAt start n x.start x.ring.indices.cons x.stage)
+entered_count start n (state.Agreed order) v from h = begun_anew start n v.start v.ring.indices.cons v.stage from h
+entered_count start n (state.Connected offers) v from h = whole_counts start n v.start v.ring.indices.cons v.stage from h
 entered_count start n state.Closing v from h = h
-entered_count start n state.Leaving v from h = whole_counts start n v.start v.ring.cons v.stage from h
-entered_count start n state.Closed v from h = whole_counts start n v.start v.ring.cons v.stage from h
+entered_count start n state.Leaving v from h = whole_counts start n v.start v.ring.indices.cons v.stage from h
+entered_count start n state.Closed v from h = whole_counts start n v.start v.ring.indices.cons v.stage from h
 entered_count start n (state.Broken word) v from h = tt
 
 -- a front that was closed or broken before this epoch: no line of it says `ready`
@@ -216,7 +216,7 @@ enters_counts start s v before was =
     by_counts : may_enter s v ≡ true → CountsIn start (this_epoch before) v ⊎ WasOver before v.stage → CountsIn start (this_epoch (before ++ state_lines s)) x ⊎ WasOver (before ++ state_lines s) x.stage
     by_counts may (inl h) =
         inl (counts_on start before (state_lines s) x (state_within s)
-        (subst (λ (n : ℕ). CountsAt start n x.start x.ring.cons x.stage) (sym (answers_more (this_epoch before) (state_lines s) (state_unanswered s))) (entered_count start (told_in (this_epoch before)) s v (led_from s v may) h)))
+        (subst (λ (n : ℕ). CountsAt start n x.start x.ring.indices.cons x.stage) (sym (answers_more (this_epoch before) (state_lines s) (state_unanswered s))) (entered_count start (told_in (this_epoch before)) s v (led_from s v may) h)))
     by_counts may (inr past) = absurd (true≢false (sym (enters_open s v may) ∙ past.over))
 
 -- a suspend: an open front begins its ring anew, and has told nothing in this epoch
@@ -256,7 +256,7 @@ all_count start (h ∷ history) w before fits safe was =
 
 -- so where this epoch says `ready` the front took as many responses as it told answers, but for one whose grants are being ended
 pub report_counts : (config : Options) (detail : Detail) (history : List Happening) → IsPlain config → list_any says_ready (this_epoch (report_of config detail history)) ≡ true
-    → (let w : World = after history (start_of config) in CountsAt config.start (answers_told (report_of config detail history)) w.front.start w.front.ring.cons w.front.stage)
+    → (let w : World = after history (start_of config) in CountsAt config.start (answers_told (report_of config detail history)) w.front.start w.front.ring.indices.cons w.front.stage)
 report_counts config detail history plain ready = by_counts is.counts
   where
     w : World

@@ -78,7 +78,7 @@ aside_within (line ∷ ls) all = (one_within line all.0, aside_within ls all.1)
 pub record IsUnmoved (v x : View) : Type 0 where
   pub stage : x.stage ≡ v.stage
   pub start : x.start ≡ v.start
-  pub cons : x.ring.cons ≡ v.ring.cons
+  pub cons : x.ring.indices.cons ≡ v.ring.indices.cons
 
 unmoved : (v : View) → IsUnmoved v v
 unmoved v = record { stage = refl; start = refl; cons = refl }
@@ -95,7 +95,7 @@ pub record LeavesFront (w w' : World) (ls : List Line) : Type 0 where
   pub lines : AreAside ls
 
 leaves : (w w' : World) (ls : List Line) → w'.front ≡ w.front → AreAside ls → LeavesFront w w' ls
-leaves w w' ls same all = record { front = record { stage = ap (λ (v : View). v.stage) same; start = ap (λ (v : View). v.start) same; cons = ap (λ (v : View). v.ring.cons) same }; lines = all }
+leaves w w' ls same all = record { front = record { stage = ap (λ (v : View). v.stage) same; start = ap (λ (v : View). v.start) same; cons = ap (λ (v : View). v.ring.indices.cons) same }; lines = all }
 
 back_aside : OfBack (λ (line : Line). is_aside line ≡ true)
 back_aside = record { move = λ m. refl; effect = λ id index. refl; effect_read = λ id index words. refl; flushed = λ id. refl; trimmed = λ id. refl; fault = λ id index. refl; reply = λ id status. refl; halt = λ why. refl }

@@ -27,7 +27,7 @@ always_rests config history plain may quiet = record { ring = read; no_job = res
     rest = quiet_rests config w quiet (always_stands config history plain may)
 
     read : w.under.channels.ports ≢ [] → IsReadRing w
-    read port = let ring : IsDrained w.under.pages w.front.ring.cons w.back.ring.cons = rest.ring port in record { served = ring.served; fetched = ring.fetched; read = ring.read }
+    read port = let ring : IsDrained w.under.pages w.front.ring.indices.cons w.back.ring.indices.cons = rest.ring port in record { served = ring.served; fetched = ring.fetched; read = ring.read }
 
 -- a happening shows `quiet` only where the machine is so
 none_quiet : (ls : List Line) → AreUnquiet ls → Contains ls lines.Quiet → ⊥

@@ -50,9 +50,9 @@ unmap_fits (page ∷ pages) = tt
 
 loop_fits : (v : View) (next : Option Reply) → IsNext next → BackFits Back (loop_ask v next)
 loop_fits v (Some r) is = reply_fits r 0 is
-loop_fits v None is = unvalued v.asleep (requests_of v.ring v.seen == 0) (page_of v 0) (slot_page v v.ring.cons 0) 0 (slot_word v.shape v.ring.cons 0)
+loop_fits v None is = unvalued v.ring.asleep (requests_of v.ring.indices v.ring.seen == 0) (page_of v 0) (slot_page v v.ring.indices.cons 0) 0 (slot_word v.shape v.ring.indices.cons 0)
 
-back_at : (s : Stage) (v : View) → HasWords s → AreSaid v.grefs v.port → IsNext (next_reply v) → BackFits Back (ask_at s v)
+back_at : (s : Stage) (v : View) → HasWords s → AreSaid v.grefs v.ring.port → IsNext (next_reply v) → BackFits Back (ask_at s v)
 back_at stage.MapRing v words said next = index_fits v.grefs (length v.pages) said.0
 back_at stage.Bind v words said next = said.1
 back_at stage.Loop v words said next = loop_fits v (next_reply v) next

@@ -349,7 +349,7 @@ pub record AreNumbers (most count prod : ℕ) (works : List Work) (info : DiskIn
   pub why : HaltsWith halted
 
 abbrev pub IsFit : ℕ → View → Type 0
-IsFit most v = AreNumbers most v.fetched v.ring.prod v.jobs.works v.jobs.info v.entry v.grefs v.port v.halted × HasWords v.stage × TellsWords v.told
+IsFit most v = AreNumbers most v.fetched v.ring.indices.prod v.jobs.works v.jobs.info v.ring.entry v.grefs v.ring.port v.halted × HasWords v.stage × TellsWords v.told
 
 -- a new back, of a ring of this first index and of this disk
 pub new_fits : (start : ℕ) (info : DiskInfo) → start < 2 ^ 32 → info.sectors ≤ 2 ^ 64 → IsFit 0 (new_of start info)
@@ -386,8 +386,8 @@ abort_fits most v why halts f = (jobs_now (after_mapping v.jobs.works) why (late
 
 looked_fits : (most : ℕ) (v : View) (word : ℕ) (otherwise : View) → word < 2 ^ 32 → IsFit most v → IsFit most otherwise → IsFit most (looked v word otherwise)
 looked_fits most v word otherwise small f h =
-    either most (overruns v.ring word) (overrun v word) (if word == v.ring.cons then otherwise else record v { seen = word; stage = stage.Loop })
-    (abort_fits most v (Some (halt.Overrun word v.ring.prod)) (good (lines.Halt (halt_line (halt.Overrun word v.ring.prod))) (small, f.0.produced) refl) f) (either most (word == v.ring.cons) otherwise (record v { seen = word; stage = stage.Loop }) h (f.0, tt, f.2))
+    either most (overruns v.ring.indices word) (overrun v word) (if word == v.ring.indices.cons then otherwise else record v { ring = record v.ring { seen = word }; stage = stage.Loop })
+    (abort_fits most v (Some (halt.Overrun word v.ring.indices.prod)) (good (lines.Halt (halt_line (halt.Overrun word v.ring.indices.prod))) (small, f.0.produced) refl) f) (either most (word == v.ring.indices.cons) otherwise (record v { ring = record v.ring { seen = word }; stage = stage.Loop }) h (f.0, tt, f.2))
 
 -- the reply to a job that is done
 abbrev pub IsNext : Option Reply → Type 0
@@ -408,15 +408,15 @@ next_fits most v f = next_at (work_at v.jobs.works (position (λ (t : Work). is_
 loop_fits : (most : ℕ) (v : View) (next : Option Reply) (a : BackAnswer) → IsNext next → IsFit most v → BackTells a → IsFit most (loop_step v next a)
 loop_fits most v (Some r) a is f small = (jobs_now (removed_at v.jobs.works (position (λ (t : Work). is_done t) v.jobs.works)) v.halted (removed_works v.jobs.works (position (λ (t : Work). is_done t) v.jobs.works) f.0.jobs) f.0.why f.0, is, f.2)
 loop_fits most v None (answer.Word word) is f small =
-    either most (requests_of v.ring v.seen == 0) (looked v word (record v { seen = word; stage = stage.StoreEvent })) (record v { entry = word ∷ []; stage = stage.Fetch 1 })
-    (looked_fits most v word (record v { seen = word; stage = stage.StoreEvent }) small f (f.0, tt, f.2))
+    either most (requests_of v.ring.indices v.ring.seen == 0) (looked v word (record v { ring = record v.ring { seen = word }; stage = stage.StoreEvent })) (record v { ring = record v.ring { entry = word ∷ [] }; stage = stage.Fetch 1 })
+    (looked_fits most v word (record v { ring = record v.ring { seen = word }; stage = stage.StoreEvent }) small f (f.0, tt, f.2))
     (entry_now (word ∷ []) (All-from_recursion (λ (n : ℕ). n < 2 ^ 32) (word ∷ []) (small, tt)) f.0, tt, f.2)
 loop_fits most v None a is f small = f
 
 -- a request more is fetched
 fetch_fits : (most : ℕ) (v : View) (k word : ℕ) → v.fetched + 1 ≤ most → most < 2 ^ 64 → word < 2 ^ 32 → IsFit most v → IsFit most (fetch_step v k word)
 fetch_fits most v k word more low small f =
-    either most (k + 1 == entry_words_of v.shape.abi) (fetched v words) (record v { entry = words; stage = stage.Fetch (k + 1) }) (
+    either most (k + 1 == entry_words_of v.shape.abi) (fetched v words) (record v { ring = record v.ring { entry = words }; stage = stage.Fetch (k + 1) }) (
       record {
         few = omega arith;
         produced = f.0.produced;
@@ -431,10 +431,10 @@ fetch_fits most v k word more low small f =
     ) (entry_now words copied f.0, tt, f.2)
   where
     words : List ℕ
-    words = v.entry ++ word ∷ []
+    words = v.ring.entry ++ word ∷ []
 
     copied : AreWords words
-    copied = All-push (λ (n : ℕ). n < 2 ^ 32) v.entry word f.0.copied small
+    copied = All-push (λ (n : ℕ). n < 2 ^ 32) v.ring.entry word f.0.copied small
 
 -- where the pages go one by one
 unbound_words : (pages : List Mapping) → HasWords (unbound pages)
@@ -457,7 +457,7 @@ step_fits most stage.MapRing v (answer.MapRefused status) more low h f small =
     (jobs_now v.jobs.works (Some why) f.0.jobs (good (lines.Halt (halt_line why)) (index_fits v.grefs (length v.pages) f.0.said.0, small) refl) f.0, unbound_words v.pages, f.2)
 step_fits most stage.Bind v answer.Done more low h f small = (f.0, tt, f.2)
 step_fits most stage.Bind v answer.BindRefused more low h f small =
-    (jobs_now v.jobs.works (Some (halt.BadPort v.port)) f.0.jobs (good (lines.Halt (halt_line (halt.BadPort v.port))) f.0.said.1 refl) f.0, unbound_words v.pages, f.2)
+    (jobs_now v.jobs.works (Some (halt.BadPort v.ring.port)) f.0.jobs (good (lines.Halt (halt_line (halt.BadPort v.ring.port))) f.0.said.1 refl) f.0, unbound_words v.pages, f.2)
 step_fits most stage.Loop v a more low h f small = loop_fits most v (next_reply v) a (next_fits most v f) f small
 step_fits most (stage.Fetch k) v (answer.Word word) more low h f small = fetch_fits most v k word more low small f
 step_fits most (stage.ReplyHigh r) v a more low h f small = (f.0, h, f.2)
@@ -465,7 +465,7 @@ step_fits most (stage.ReplyLast r) v a more low h f small = (f.0, h, f.2)
 step_fits most (stage.Producer r) v a more low h f small =
     let k = f.0 in (record { few = k.few; produced = omega arith; jobs = k.jobs; sized = k.sized; copied = k.copied; said = k.said; why = k.why }, tt, h.0)
 step_fits most (stage.ProducerFence old) v a more low h f small = (f.0, tt, f.2)
-step_fits most (stage.ResponseEvent old) v (answer.Word event) more low h f small = (f.0, sent (notifies old v.ring.prod event), f.2)
+step_fits most (stage.ResponseEvent old) v (answer.Word event) more low h f small = (f.0, sent (notifies old v.ring.indices.prod event), f.2)
   where
     sent : (b : Bool) → HasWords (if b then stage.Send else stage.Loop)
     sent true = tt
@@ -473,7 +473,7 @@ step_fits most (stage.ResponseEvent old) v (answer.Word event) more low h f smal
 step_fits most stage.Send v a more low h f small = (f.0, tt, f.2)
 step_fits most stage.StoreEvent v a more low h f small = (f.0, tt, f.2)
 step_fits most stage.EventFence v a more low h f small = (f.0, tt, f.2)
-step_fits most stage.LookAgain v (answer.Word word) more low h f small = looked_fits most v word (record v { seen = word; stage = stage.Loop; asleep = true }) small f (f.0, tt, f.2)
+step_fits most stage.LookAgain v (answer.Word word) more low h f small = looked_fits most v word (record v { ring = record v.ring { seen = word; asleep = true }; stage = stage.Loop }) small f (f.0, tt, f.2)
 step_fits most (stage.Abort m) v a more low h f small = abort_fits most v v.halted f.0.why f
 step_fits most stage.UnmapRing v a more low h f small = (f.0, bound_words (other_pages v.pages), f.2)
 step_fits most stage.ClosePort v a more low h f small = (f.0, tt, f.2)

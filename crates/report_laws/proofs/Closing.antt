@@ -38,8 +38,8 @@ either false v x y p q = q
 
 looked_keeps : (v : View) (word : ℕ) (otherwise : View) → Keeps v otherwise → Keeps v (looked v word otherwise)
 looked_keeps v word otherwise p =
-    either (nat_lt (distance_of v.ring.cons v.ring.prod) (distance_of v.ring.cons word)) v (broken word v) (if word == v.ring.cons then otherwise else record v { seen = word; stage = stage.Loop }) refl
-    (either (word == v.ring.cons) v otherwise (record v { seen = word; stage = stage.Loop }) p refl)
+    either (nat_lt (distance_of v.ring.indices.cons v.ring.indices.prod) (distance_of v.ring.indices.cons word)) v (broken word v) (if word == v.ring.indices.cons then otherwise else record v { ring = record v.ring { seen = word }; stage = stage.Loop }) refl
+    (either (word == v.ring.indices.cons) v otherwise (record v { ring = record v.ring { seen = word }; stage = stage.Loop }) p refl)
 
 granted_keeps : (v : View) (r : Option Request) (place : ℕ) → Keeps v (granted r place v)
 granted_keeps v None place = refl
@@ -55,8 +55,8 @@ begun_keeps v r (transfer.Discard sectors) = refl
 loop_keeps : (v : View) (r : Option Request) (a : FrontAnswer) → Keeps v (loop_step v r a)
 loop_keeps v (Some r) a = begun_keeps v r r.transfer
 loop_keeps v None (answer.Word word) =
-    either (responses_of v.ring v.seen == 0) v (looked v word (record v { seen = word; stage = stage.StoreEvent })) (at (stage.ResponseHigh word) v)
-    (looked_keeps v word (record v { seen = word; stage = stage.StoreEvent }) refl) refl
+    either (responses_of v.ring.indices v.ring.seen == 0) v (looked v word (record v { ring = record v.ring { seen = word }; stage = stage.StoreEvent })) (at (stage.ResponseHigh word) v)
+    (looked_keeps v word (record v { ring = record v.ring { seen = word }; stage = stage.StoreEvent }) refl) refl
 loop_keeps v None answer.Event = refl
 loop_keeps v None a = refl
 
@@ -95,7 +95,7 @@ step_keeps (stage.GrantRead place) v (answer.Word word) = either (is_mapped word
 step_keeps (stage.GrantEnd place before) v (answer.Word word) = either (word == before) v (revoked v.ending place v) (broken word v) (revoked_keeps v v.ending place) refl
 step_keeps (stage.ReadData n) v (answer.Word word) = data_keeps v v.ending n word
 step_keeps (stage.LeftData n) v (answer.Word word) = left_keeps v v.ending n word
-step_keeps stage.LookAgain v (answer.Word word) = looked_keeps v word (record v { seen = word; stage = stage.Loop; asleep = true }) refl
+step_keeps stage.LookAgain v (answer.Word word) = looked_keeps v word (record v { ring = record v.ring { seen = word; asleep = true }; stage = stage.Loop }) refl
 step_keeps (stage.RingRead page) v (answer.Word word) = either (is_mapped word) v (broken word v) (at (stage.RingEnd page word) v) refl refl
 step_keeps (stage.RingEnd page before) v (answer.Word word) = either (word == before) v (at (ring_left v page) v) (broken word v) refl refl
 step_keeps (stage.RequestEvent old) v (answer.Word event) = refl

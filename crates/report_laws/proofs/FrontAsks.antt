@@ -90,7 +90,7 @@ issue_fits h v r (transfer.Discard sectors) shared entry within = each_fits (ent
 loop_fits : (h : Hypervisor) (v : View) (next : Option Request) → AreShared v.requests → IsFit v → next_request v ≡ next → StaysInMemory (loop_ask v next) → FrontFits h (loop_ask v next)
 loop_fits h v (Some r) shared f e within =
     issue_fits h v r r.transfer (next_holds (λ (x : Request). All (λ (frame : ℕ). frame < 1018) x.frames.items) v r shared e) (issued_entry v r f.0.asked shared e) within
-loop_fits h v None shared f e within = unvalued h (v.asleep || is_through v) (responses_of v.ring v.seen == 0) ring_frame 2 (slot_frame v.shape v.ring.cons 0) (slot_word v.shape v.ring.cons 0)
+loop_fits h v None shared f e within = unvalued h (v.ring.asleep || is_through v) (responses_of v.ring.indices v.ring.seen == 0) ring_frame 2 (slot_frame v.shape v.ring.indices.cons 0) (slot_word v.shape v.ring.indices.cons 0)
 
 asks_at : (h : Hypervisor) (s : Stage) (v : View) → AreShared v.requests → IsPorted s h.channels → StaysInMemory (ask_at s v) → HasWords s → IsFit v → FrontFits h (ask_at s v)
 asks_at h (stage.RingWord k) v shared ported within words f = fresh_fits v.start k f.0.begins
@@ -102,7 +102,7 @@ asks_at h (stage.Data n) v shared ported within words f = data_fits h (next_requ
 asks_at h (stage.Pages n) v shared ported within words f = page_fits h (next_request v) n (λ r e. next_holds (λ (x : Request). All (λ (frame : ℕ). frame < 1018) x.frames.items) v r shared e)
 asks_at h (stage.GrantFrame place) v shared ported within words f = name_fits h (next_request v) place within
 asks_at h (stage.GrantFlags place) v shared ported within words f = grant_fits h (next_request v) place
-asks_at h (stage.Slot k) v shared ported within words f = each_fits v.entry f.0.written k
+asks_at h (stage.Slot k) v shared ported within words f = each_fits v.ring.entry f.0.written k
 asks_at h stage.Producer v shared ported within words f = omega arith
 asks_at h (stage.GrantRead place) v shared ported within words f = revoke_fits h v.ending place
 asks_at h (stage.GrantEnd place before) v shared ported within words f = end_fits h v.ending place before words

@@ -214,7 +214,7 @@ TellsWords (Some (told.Sector id index words)) = (id < 2 ^ 64) × (index < 2 ^ 3
 TellsWords (Some (told.Broken word)) = word < 2 ^ 32
 
 abbrev pub IsFit : View → Type 0
-IsFit v = AreNumbers v.sectors v.start v.last v.requests v.ending v.entry v.words × HasWords v.stage × TellsWords v.told
+IsFit v = AreNumbers v.sectors v.start v.last v.requests v.ending v.ring.entry v.words × HasWords v.stage × TellsWords v.told
 
 pub front_start : (config : Options) → AreOptions config → IsFit (start_of config)
 front_start config options = (
@@ -245,8 +245,8 @@ ending_now now ends k = record { begins = k.begins; sized = k.sized; given = k.g
 
 looked_fits : (v : View) (word : ℕ) (otherwise : View) → word < 2 ^ 32 → IsFit v → IsFit otherwise → IsFit (looked v word otherwise)
 looked_fits v word otherwise small f h =
-    either (nat_lt (distance_of v.ring.cons v.ring.prod) (distance_of v.ring.cons word)) (broken word v) (if word == v.ring.cons then otherwise else record v { seen = word; stage = stage.Loop })
-    (λ t. (f.0, tt, small)) (λ t. either (word == v.ring.cons) otherwise (record v { seen = word; stage = stage.Loop }) (λ u. h) (λ u. (f.0, tt, f.2)))
+    either (nat_lt (distance_of v.ring.indices.cons v.ring.indices.prod) (distance_of v.ring.indices.cons word)) (broken word v) (if word == v.ring.indices.cons then otherwise else record v { ring = record v.ring { seen = word }; stage = stage.Loop })
+    (λ t. (f.0, tt, small)) (λ t. either (word == v.ring.indices.cons) otherwise (record v { ring = record v.ring { seen = word }; stage = stage.Loop }) (λ u. h) (λ u. (f.0, tt, f.2)))
 
 data_words : (r : Option Request) (n : ℕ) → HasWords (data_stage r n)
 data_words None n = tt
@@ -288,8 +288,8 @@ begun_fits v r (transfer.Discard sectors) entry f = entered_fits v r (stage.Slot
 loop_fits : (v : View) (r : Option Request) (x : FrontAnswer) → ((y : Request) → r ≡ Some y → AllByRecursion (λ (n : ℕ). n < 2 ^ 32) (entry_of v.shape.abi y)) → IsFit v → FrontTells x → IsFit (loop_step v r x)
 loop_fits v (Some r) x entry f small = begun_fits v r r.transfer (entry r refl) f
 loop_fits v None (answer.Word word) entry f small =
-    either (responses_of v.ring v.seen == 0) (looked v word (record v { seen = word; stage = stage.StoreEvent })) (at (stage.ResponseHigh word) v)
-    (λ t. looked_fits v word (record v { seen = word; stage = stage.StoreEvent }) small f (f.0, tt, f.2)) (λ t. (f.0, small, f.2))
+    either (responses_of v.ring.indices v.ring.seen == 0) (looked v word (record v { ring = record v.ring { seen = word }; stage = stage.StoreEvent })) (at (stage.ResponseHigh word) v)
+    (λ t. looked_fits v word (record v { ring = record v.ring { seen = word }; stage = stage.StoreEvent }) small f (f.0, tt, f.2)) (λ t. (f.0, small, f.2))
 loop_fits v None answer.Event entry f small = f
 loop_fits v None x entry f small = f
 
@@ -340,7 +340,7 @@ told_fits : (v : View) (e : Ending) (n : ℕ) (words : List ℕ) → IsAsked e.r
 told_fits v e n words is below sector f =
     let number = is.number in
     let k = f.0 in
-    let now : AreNumbers v.sectors v.start v.last v.requests v.ending v.entry words = record { begins = k.begins; sized = k.sized; given = k.given; asked = k.asked; ends = k.ends; written = k.written; read = sector } in
+    let now : AreNumbers v.sectors v.start v.last v.requests v.ending v.ring.entry words = record { begins = k.begins; sized = k.sized; given = k.given; asked = k.asked; ends = k.ends; written = k.written; read = sector } in
     either (n % 128 == 127) (record v { words = words; told = Some (told.Sector e.request.number (n / 128) words) }) (record v { words = words })
     (λ t. (now, f.1, (omega arith, omega arith, sector))) (λ t. (now, f.1, f.2))
 
@@ -387,7 +387,7 @@ step_fits (stage.GrantFlags place) v x shared h f small = granted_fits v (next_r
 step_fits (stage.Slot k) v x shared h f small = (f.0, either_stage (k + 1 == entry_words_of v.shape.abi) stage.Producer (stage.Slot (k + 1)) tt tt, f.2)
 step_fits stage.Producer v x shared h f small = (f.0, tt, f.2)
 step_fits (stage.ProducerFence old) v x shared h f small = (f.0, tt, f.2)
-step_fits (stage.RequestEvent old) v (answer.Word event) shared h f small = (f.0, either_stage (notifies old v.ring.prod event) stage.Send stage.Loop tt tt, f.2)
+step_fits (stage.RequestEvent old) v (answer.Word event) shared h f small = (f.0, either_stage (notifies old v.ring.indices.prod event) stage.Send stage.Loop tt tt, f.2)
 step_fits stage.Send v x shared h f small = (f.0, tt, f.2)
 step_fits (stage.ResponseHigh low) v (answer.Word high) shared h f small = (f.0, h, f.2)
 step_fits (stage.ResponseLast low high) v (answer.Word last) shared h f small =
@@ -400,7 +400,7 @@ step_fits (stage.ReadData n) v (answer.Word word) shared h f small = data_fits v
 step_fits (stage.LeftData n) v (answer.Word word) shared h f small = left_fits v v.ending n word h small f.0.ends f
 step_fits stage.StoreEvent v x shared h f small = (f.0, tt, f.2)
 step_fits stage.EventFence v x shared h f small = (f.0, tt, f.2)
-step_fits stage.LookAgain v (answer.Word word) shared h f small = looked_fits v word (record v { seen = word; stage = stage.Loop; asleep = true }) small f (f.0, tt, f.2)
+step_fits stage.LookAgain v (answer.Word word) shared h f small = looked_fits v word (record v { ring = record v.ring { seen = word; asleep = true }; stage = stage.Loop }) small f (f.0, tt, f.2)
 step_fits (stage.RingRead page) v (answer.Word word) shared h f small = either (is_mapped word) (broken word v) (at (stage.RingEnd page word) v) (λ t. (f.0, tt, small)) (λ t. (f.0, small, f.2))
 step_fits (stage.RingEnd page before) v (answer.Word word) shared h f small =
     either (word == before) (at (ring_left v page) v) (broken word v) (λ t. (f.0, either_stage (nat_lt (page + 1) (2 ^ v.shape.order)) (stage.RingRead (page + 1)) stage.ClosePort tt tt, f.2)) (λ t. (f.0, tt, small))

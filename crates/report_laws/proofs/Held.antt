@@ -50,8 +50,8 @@ either_stage false s s' ending p q = q
 
 looked_holds : (v : View) (word : ℕ) (otherwise : View) → Holds otherwise → Holds (looked v word otherwise)
 looked_holds v word otherwise h =
-    either (nat_lt (distance_of v.ring.cons v.ring.prod) (distance_of v.ring.cons word)) (broken word v) (if word == v.ring.cons then otherwise else record v { seen = word; stage = stage.Loop }) refl
-    (either (word == v.ring.cons) otherwise (record v { seen = word; stage = stage.Loop }) h refl)
+    either (nat_lt (distance_of v.ring.indices.cons v.ring.indices.prod) (distance_of v.ring.indices.cons word)) (broken word v) (if word == v.ring.indices.cons then otherwise else record v { ring = record v.ring { seen = word }; stage = stage.Loop }) refl
+    (either (word == v.ring.indices.cons) otherwise (record v { ring = record v.ring { seen = word }; stage = stage.Loop }) h refl)
 
 begun_holds : (v : View) (r : Request) (way : Transfer) → Holds (begun v r way)
 begun_holds v r transfer.Read = either_stage (is_indirect r.count) (stage.Pages 1) (stage.GrantFence 0) v.ending refl refl
@@ -75,8 +75,8 @@ granted_holds v (Some r) place h = either (nat_lt (place + 1) (length r.frames.i
 loop_holds : (v : View) (r : Option Request) (a : FrontAnswer) → Holds v → Holds (loop_step v r a)
 loop_holds v (Some r) a h = begun_holds v r r.transfer
 loop_holds v None (answer.Word word) h =
-    either (responses_of v.ring v.seen == 0) (looked v word (record v { seen = word; stage = stage.StoreEvent })) (at (stage.ResponseHigh word) v)
-    (looked_holds v word (record v { seen = word; stage = stage.StoreEvent }) refl) refl
+    either (responses_of v.ring.indices v.ring.seen == 0) (looked v word (record v { ring = record v.ring { seen = word }; stage = stage.StoreEvent })) (at (stage.ResponseHigh word) v)
+    (looked_holds v word (record v { ring = record v.ring { seen = word }; stage = stage.StoreEvent }) refl) refl
 loop_holds v None answer.Event h = h
 loop_holds v None a h = h
 
@@ -128,7 +128,7 @@ step_holds (stage.GrantFlags place) v a h = granted_holds v (next_request v) pla
 step_holds (stage.Slot k) v a h = either_stage (k + 1 == entry_words_of v.shape.abi) stage.Producer (stage.Slot (k + 1)) v.ending refl refl
 step_holds stage.Producer v a h = refl
 step_holds (stage.ProducerFence old) v a h = refl
-step_holds (stage.RequestEvent old) v (answer.Word event) h = either_stage (notifies old v.ring.prod event) stage.Send stage.Loop v.ending refl refl
+step_holds (stage.RequestEvent old) v (answer.Word event) h = either_stage (notifies old v.ring.indices.prod event) stage.Send stage.Loop v.ending refl refl
 step_holds stage.Send v a h = refl
 step_holds (stage.ResponseHigh low) v (answer.Word high) h = refl
 step_holds (stage.ResponseLast low high) v (answer.Word last) h = response_holds v (response_of (low ∷ high ∷ last ∷ [])) low (issued v (low + high * 2 ^ 32))
@@ -138,7 +138,7 @@ step_holds (stage.ReadData n) v (answer.Word word) h = read_holds v v.ending n w
 step_holds (stage.LeftData n) v (answer.Word word) h = left_holds v v.ending n word refl h
 step_holds stage.StoreEvent v a h = refl
 step_holds stage.EventFence v a h = refl
-step_holds stage.LookAgain v (answer.Word word) h = looked_holds v word (record v { seen = word; stage = stage.Loop; asleep = true }) refl
+step_holds stage.LookAgain v (answer.Word word) h = looked_holds v word (record v { ring = record v.ring { seen = word; asleep = true }; stage = stage.Loop }) refl
 step_holds (stage.RingRead page) v (answer.Word word) h = either (is_mapped word) (broken word v) (at (stage.RingEnd page word) v) refl refl
 step_holds (stage.RingEnd page before) v (answer.Word word) h =
     either (word == before) (at (ring_left v page) v) (broken word v) (either_stage (nat_lt (page + 1) (2 ^ v.shape.order)) (stage.RingRead (page + 1)) stage.ClosePort v.ending refl refl) refl

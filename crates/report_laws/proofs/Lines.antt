@@ -59,10 +59,6 @@ usual_quiet : (line : Line) → is_usual line ≡ true → says_quiet line ≡ f
 usual_quiet lines.Quiet e = absurd (true≢false (sym e))
 usual_quiet line e = refl
 
-pub usual_ready : (line : Line) → is_usual line ≡ true → says_ready line ≡ false
-usual_ready lines.Ready e = absurd (true≢false (sym e))
-usual_ready line e = refl
-
 -- no line says `quiet`
 abbrev pub AreUnquiet : List Line → Type 0
 AreUnquiet ls = AllByRecursion (λ (line : Line). says_quiet line ≡ false) ls

@@ -44,14 +44,14 @@ either_few false u v n p q = q
 
 looked_few : (v : View) (word : ℕ) (otherwise : View) (n : ℕ) → v.fetched ≤ n → otherwise.fetched ≤ n → (looked v word otherwise).fetched ≤ n
 looked_few v word otherwise n p q =
-    either_few (overruns v.ring word) (overrun v word) (if word == v.ring.cons then otherwise else record v { seen = word; stage = stage.Loop }) n p
-    (either_few (word == v.ring.cons) otherwise (record v { seen = word; stage = stage.Loop }) n q p)
+    either_few (overruns v.ring.indices word) (overrun v word) (if word == v.ring.indices.cons then otherwise else record v { ring = record v.ring { seen = word }; stage = stage.Loop }) n p
+    (either_few (word == v.ring.indices.cons) otherwise (record v { ring = record v.ring { seen = word }; stage = stage.Loop }) n q p)
 
 loop_few : (v : View) (r : Option Reply) (x : BackAnswer) → (loop_step v r x).fetched ≤ v.fetched
 loop_few v (Some r) x = omega arith
 loop_few v None (answer.Word word) =
-    either_few (requests_of v.ring v.seen == 0) (looked v word (record v { seen = word; stage = stage.StoreEvent })) (record v { entry = word ∷ []; stage = stage.Fetch 1 }) v.fetched
-    (looked_few v word (record v { seen = word; stage = stage.StoreEvent }) v.fetched (omega arith) (omega arith)) (omega arith)
+    either_few (requests_of v.ring.indices v.ring.seen == 0) (looked v word (record v { ring = record v.ring { seen = word }; stage = stage.StoreEvent })) (record v { ring = record v.ring { entry = word ∷ [] }; stage = stage.Fetch 1 }) v.fetched
+    (looked_few v word (record v { ring = record v.ring { seen = word }; stage = stage.StoreEvent }) v.fetched (omega arith) (omega arith)) (omega arith)
 loop_few v None answer.Event = omega arith
 loop_few v None x = omega arith
 
@@ -62,7 +62,7 @@ step_few stage.Bind v answer.Done = omega arith
 step_few stage.Bind v answer.BindRefused = omega arith
 step_few stage.Loop v x = let few = loop_few v (next_reply v) x in omega arith
 step_few (stage.Fetch k) v (answer.Word word) =
-    either_few (k + 1 == entry_words_of v.shape.abi) (fetched v (v.entry ++ word ∷ [])) (record v { entry = v.entry ++ word ∷ []; stage = stage.Fetch (k + 1) }) (v.fetched + 1) (omega arith) (omega arith)
+    either_few (k + 1 == entry_words_of v.shape.abi) (fetched v (v.ring.entry ++ word ∷ [])) (record v { ring = record v.ring { entry = v.ring.entry ++ word ∷ [] }; stage = stage.Fetch (k + 1) }) (v.fetched + 1) (omega arith) (omega arith)
 step_few (stage.ReplyHigh r) v x = omega arith
 step_few (stage.ReplyLast r) v x = omega arith
 step_few (stage.Producer r) v x = omega arith
@@ -71,7 +71,7 @@ step_few (stage.ResponseEvent old) v (answer.Word event) = omega arith
 step_few stage.Send v x = omega arith
 step_few stage.StoreEvent v x = omega arith
 step_few stage.EventFence v x = omega arith
-step_few stage.LookAgain v (answer.Word word) = looked_few v word (record v { seen = word; stage = stage.Loop; asleep = true }) (v.fetched + 1) (omega arith) (omega arith)
+step_few stage.LookAgain v (answer.Word word) = looked_few v word (record v { ring = record v.ring { seen = word; asleep = true }; stage = stage.Loop }) (v.fetched + 1) (omega arith) (omega arith)
 step_few (stage.Abort m) v x = omega arith
 step_few stage.UnmapRing v x = omega arith
 step_few stage.ClosePort v x = omega arith

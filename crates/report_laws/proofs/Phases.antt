@@ -166,8 +166,8 @@ either_phase false s s' n p q = q
 
 looked_steps : (s : Stage) (v : View) (word : ℕ) (otherwise : View) → phase s ≡ 2 → v.told ≡ None → Steps s otherwise → Steps s (looked v word otherwise)
 looked_steps s v word otherwise on e p =
-    either s (nat_lt (distance_of v.ring.cons v.ring.prod) (distance_of v.ring.cons word)) (broken word v) (if word == v.ring.cons then otherwise else record v { seen = word; stage = stage.Loop }) (breaks s word v)
-    (either s (word == v.ring.cons) otherwise (record v { seen = word; stage = stage.Loop }) p (stays s (record v { seen = word; stage = stage.Loop }) (sym on) e))
+    either s (nat_lt (distance_of v.ring.indices.cons v.ring.indices.prod) (distance_of v.ring.indices.cons word)) (broken word v) (if word == v.ring.indices.cons then otherwise else record v { ring = record v.ring { seen = word }; stage = stage.Loop }) (breaks s word v)
+    (either s (word == v.ring.indices.cons) otherwise (record v { ring = record v.ring { seen = word }; stage = stage.Loop }) p (stays s (record v { ring = record v.ring { seen = word }; stage = stage.Loop }) (sym on) e))
 
 begun_steps : (v : View) (r : Request) (way : Transfer) → v.told ≡ None → Steps stage.Loop (begun v r way)
 begun_steps v r transfer.Read e =
@@ -180,10 +180,10 @@ begun_steps v r (transfer.Discard sectors) e = stays stage.Loop (entered v r (st
 loop_steps : (v : View) (next : Option Request) (a : FrontAnswer) → v.told ≡ None → v.stage ≡ stage.Loop → Steps stage.Loop (loop_step v next a)
 loop_steps v (Some r) a e here = begun_steps v r r.transfer e
 loop_steps v None (answer.Word word) e here =
-    either stage.Loop (responses_of v.ring v.seen == 0) (looked v word (record v { seen = word; stage = stage.StoreEvent })) (at (stage.ResponseHigh word) v)
-    (looked_steps stage.Loop v word (record v { seen = word; stage = stage.StoreEvent }) refl e (stays stage.Loop (record v { seen = word; stage = stage.StoreEvent }) refl e))
+    either stage.Loop (responses_of v.ring.indices v.ring.seen == 0) (looked v word (record v { ring = record v.ring { seen = word }; stage = stage.StoreEvent })) (at (stage.ResponseHigh word) v)
+    (looked_steps stage.Loop v word (record v { ring = record v.ring { seen = word }; stage = stage.StoreEvent }) refl e (stays stage.Loop (record v { ring = record v.ring { seen = word }; stage = stage.StoreEvent }) refl e))
     (stays stage.Loop (at (stage.ResponseHigh word) v) refl e)
-loop_steps v None answer.Event e here = stays stage.Loop (record v { asleep = false }) (ap phase here) e
+loop_steps v None answer.Event e here = stays stage.Loop (record v { ring = record v.ring { asleep = false } }) (ap phase here) e
 loop_steps v None a e here = stays stage.Loop v (ap phase here) e
 
 data_phase : (next : Option Request) (n : ℕ) → phase (data_stage next n) ≡ 2
@@ -258,7 +258,7 @@ front_steps (stage.Slot k) v a e here =
 front_steps stage.Producer v a e here = speaks stage.Producer (step_at stage.Producer v a) refl (silent_of v e)
 front_steps (stage.ProducerFence old) v a e here = stays (stage.ProducerFence old) (at (stage.RequestEvent old) v) refl e
 front_steps (stage.RequestEvent old) v (answer.Word event) e here =
-    stays (stage.RequestEvent old) (at (if notifies old v.ring.prod event then stage.Send else stage.Loop) v) (either_phase (notifies old v.ring.prod event) stage.Send stage.Loop 2 refl refl) e
+    stays (stage.RequestEvent old) (at (if notifies old v.ring.indices.prod event then stage.Send else stage.Loop) v) (either_phase (notifies old v.ring.indices.prod event) stage.Send stage.Loop 2 refl refl) e
 front_steps stage.Send v a e here = stays stage.Send (at stage.Loop v) refl e
 front_steps (stage.ResponseHigh low) v (answer.Word high) e here = stays (stage.ResponseHigh low) (at (stage.ResponseLast low high) v) refl e
 front_steps (stage.ResponseLast low high) v (answer.Word last) e here = response_steps (stage.ResponseLast low high) v (response_of (low ∷ high ∷ last ∷ [])) low (issued v (low + high * 2 ^ 32)) refl e
@@ -271,7 +271,7 @@ front_steps (stage.LeftData n) v (answer.Word word) e here = left_steps v v.endi
 front_steps stage.StoreEvent v a e here = stays stage.StoreEvent (at stage.EventFence v) refl e
 front_steps stage.EventFence v a e here = stays stage.EventFence (at stage.LookAgain v) refl e
 front_steps stage.LookAgain v (answer.Word word) e here =
-    let x : View = record v { seen = word; stage = stage.Loop; asleep = true } in
+    let x : View = record v { ring = record v.ring { seen = word; asleep = true }; stage = stage.Loop } in
     looked_steps stage.LookAgain v word x refl e (stays stage.LookAgain x refl e)
 front_steps (stage.RingRead page) v (answer.Word word) e here =
     either (stage.RingRead page) (is_mapped word) (broken word v) (at (stage.RingEnd page word) v) (breaks (stage.RingRead page) word v) (stays (stage.RingRead page) (at (stage.RingEnd page word) v) refl e)

@@ -75,11 +75,11 @@ served_where_quiet config history plain may quiet ready = record {
     idle : IsIdleRing w
     idle = quiet_rests config w quiet (always_stands config history plain may)
 
-    rest : IsDrained w.under.pages w.front.ring.cons w.back.ring.cons
+    rest : IsDrained w.under.pages w.front.ring.indices.cons w.back.ring.indices.cons
     rest = idle.ring (report_port config Moves history ready)
 
-    taken : w.front.ring.cons ≡ wrapped config.start (answers_told report)
-    taken = taken_at config.start (answers_told report) w.front.start w.front.ring.cons w.front.stage idle.front_at (report_counts config Moves history plain ready)
+    taken : w.front.ring.indices.cons ≡ wrapped config.start (answers_told report)
+    taken = taken_at config.start (answers_told report) w.front.start w.front.ring.indices.cons w.front.stage idle.front_at (report_counts config Moves history plain ready)
 
 quiet_free : SpeaksOfQuiet IsQuietRingAt
 quiet_free before lines.Quiet e = absurd (true≢false e)

@@ -6,8 +6,8 @@ use Rattle.split_model.specs.World.{World}
 -- each request that was pushed was fetched and has its response, and each response was read
 pub record IsReadRing (w : World) : Type 0 where
   pub served : word_of w.under.pages 2 0 ≡ word_of w.under.pages 2 2
-  pub fetched : w.back.ring.cons ≡ word_of w.under.pages 2 0
-  pub read : w.front.ring.cons ≡ word_of w.under.pages 2 2
+  pub fetched : w.back.ring.indices.cons ≡ word_of w.under.pages 2 0
+  pub read : w.front.ring.indices.cons ≡ word_of w.under.pages 2 2
 
 -- so it is where the front made its port in this epoch, and so a ring before it; no job is held, and no request that was accepted is left
 pub record IsAtRest (w : World) : Type 0 where

@@ -109,7 +109,7 @@ map_goes before h v x (Ok frame) earlier m shows stands told = by_last (nat_lt (
     told_pages : List Standing
     told_pages = x.pages ++ record { number = h.grants.made + 1; gref = gref; mode = ReadWrite; frame = frame } ∷ []
 
-    w : Waits x v.ring v.seen v.halted v.fetched
+    w : Waits x v.ring.indices v.ring.seen v.halted v.fetched
     w = m.waits
 
     now : Shows (before ++ lines.Move shown ∷ []) (record x { pages = told_pages })
@@ -166,33 +166,33 @@ map_goes before h v x (Ok frame) earlier m shows stands told = by_last (nat_lt (
           count = 0;
           words = w.words ∙ omega arith;
           within = some_words v.shape.abi;
-          consumed = λ small. begun v.ring.cons v.ring.prod x.start m.consumed w.begins small;
+          consumed = λ small. begun v.ring.indices.cons v.ring.indices.prod x.start m.consumed w.begins small;
           long = ap (λ (vs : List ℕ). length vs) w.values ∙ sym w.words;
           numbered = w.numbered;
           copied = λ some. absurd (omega arith);
           copied_last = λ none some. absurd (omega arith);
         }) line
 map_goes before h v x (Err refusal) earlier m shows stands told =
-    let w : Waits x v.ring v.seen v.halted v.fetched = m.waits in
+    let w : Waits x v.ring.indices v.ring.seen v.halted v.fetched = m.waits in
     let why : Halt = halt.MapRefused (next_gref v) (status_of refusal) in
     let whole : IsWhole x = none_whole x w.words in
     let new : View = record v { halted = Some (halt.MapRefused (next_gref v) (status_of refusal)); stage = unbound v.pages } in
     halts_by before v new _ (moves.MapRefused back.Back (next_gref v) ReadWrite (status_of refusal)) x why w.running told refl refl (unbound_knows v.pages x new (record { over = refl; whole = whole })) whole refl refl shows stands
 
-bind_refused : (before : List Line) (v : View) (x : Sight) → Serves 0 x v → Shows before x → ObeysRing before x.start (is_some v.halted) → v.told ≡ None → BackGoes x.start x.values before v (step_at stage.Bind v answers.BindRefused) answers.BindRefused (moves.BindRefused v.port)
+bind_refused : (before : List Line) (v : View) (x : Sight) → Serves 0 x v → Shows before x → ObeysRing before x.start (is_some v.halted) → v.told ≡ None → BackGoes x.start x.values before v (step_at stage.Bind v answers.BindRefused) answers.BindRefused (moves.BindRefused v.ring.port)
 bind_refused before v x s shows stands told =
     let whole : IsWhole x = served_whole x v s in
-    let new : View = record v { halted = Some (halt.BadPort v.port); stage = unbound v.pages } in
-    halts_by before v new answers.BindRefused (moves.BindRefused v.port) x (halt.BadPort v.port) s.running told refl refl (unbound_knows v.pages x new (record { over = refl; whole = whole })) whole refl refl shows stands
+    let new : View = record v { halted = Some (halt.BadPort v.ring.port); stage = unbound v.pages } in
+    halts_by before v new answers.BindRefused (moves.BindRefused v.ring.port) x (halt.BadPort v.ring.port) s.running told refl refl (unbound_knows v.pages x new (record { over = refl; whole = whole })) whole refl refl shows stands
 
-pub bind_goes : (before : List Line) (h : Hypervisor) (v : View) (x : Sight) (state : PortState) → Serves 0 x v → Shows before x → ObeysRing before x.start (is_some v.halted) → v.told ≡ None → Goes x.start x.values before stage.Bind v (bind_act h v.port state)
-bind_goes before h v x port.Unbound s shows stands told = serve_other before v _ _ (moves.Bind v.port) x s shows stands refl refl told refl s
+pub bind_goes : (before : List Line) (h : Hypervisor) (v : View) (x : Sight) (state : PortState) → Serves 0 x v → Shows before x → ObeysRing before x.start (is_some v.halted) → v.told ≡ None → Goes x.start x.values before stage.Bind v (bind_act h v.ring.port state)
+bind_goes before h v x port.Unbound s shows stands told = serve_other before v _ _ (moves.Bind v.ring.port) x s shows stands refl refl told refl s
 bind_goes before h v x port.Closed s shows stands told = bind_refused before v x s shows stands told
 bind_goes before h v x port.Bound s shows stands told = bind_refused before v x s shows stands told
 
 -- one word more of an entry was read
 read_on : (k word : ℕ) (x : Sight) (v : View) (now : List ℕ) → k + 1 < entry_words_of v.shape.abi → (s : Serves k x v) → now ≡ drop (entry_words_of v.shape.abi * s.count) (x.values ++ word ∷ [])
-    → Serves (k + 1) (record x { words = x.words + 1; values = x.values ++ word ∷ [] }) (record v { entry = now })
+    → Serves (k + 1) (record x { words = x.words + 1; values = x.values ++ word ∷ [] }) (record v { ring = record v.ring { entry = now } })
 read_on k word x v now more s is = record {
   narrow = s.narrow;
   layout = s.layout;
@@ -223,7 +223,7 @@ first_word word x v s =
     rw long (sym (drop-append_seam x.values (word ∷ [])))
 
 -- and a later one
-next_word : (k word : ℕ) (x : Sight) (v : View) (s : Serves k x v) → 0 < k → v.entry ++ word ∷ [] ≡ drop (entry_words_of v.shape.abi * s.count) (x.values ++ word ∷ [])
+next_word : (k word : ℕ) (x : Sight) (v : View) (s : Serves k x v) → 0 < k → v.ring.entry ++ word ∷ [] ≡ drop (entry_words_of v.shape.abi * s.count) (x.values ++ word ∷ [])
 next_word k word x v s some =
     let long = s.long in let words = s.words in
     let within : entry_words_of v.shape.abi * s.count ≤ length x.values = omega arith in
@@ -231,12 +231,12 @@ next_word k word x v s some =
 
 -- the last word was read
 read_all : (k word : ℕ) (x : Sight) (v : View) → k + 1 ≡ entry_words_of v.shape.abi → 1 ≤ k → Serves k x v
-    → Serves 0 (record x { words = x.words + 1; values = x.values ++ word ∷ [] }) (record v { ring = record v.ring { cons = next_of v.ring.cons }; entry = v.entry ++ word ∷ []; fetched = (v.fetched + 1) % 2 ^ 64 })
+    → Serves 0 (record x { words = x.words + 1; values = x.values ++ word ∷ [] }) (record v { ring = record v.ring { indices = record v.ring.indices { cons = next_of v.ring.indices.cons }; entry = v.ring.entry ++ word ∷ [] }; fetched = (v.fetched + 1) % 2 ^ 64 })
 read_all k word x v last some s =
     let size : ℕ = entry_words_of v.shape.abi in
     let long : length (x.values ++ word ∷ []) ≡ x.words + 1 = length-append x.values (word ∷ []) ∙ ap (λ (n : ℕ). n + 1) s.long in
     let words = s.words in
-    let here : v.entry ++ word ∷ [] ≡ drop (entry_words_of v.shape.abi * s.count) (x.values ++ word ∷ []) = next_word k word x v s some in
+    let here : v.ring.entry ++ word ∷ [] ≡ drop (entry_words_of v.shape.abi * s.count) (x.values ++ word ∷ []) = next_word k word x v s some in
     let dropped = length-drop (entry_words_of v.shape.abi * s.count) (x.values ++ word ∷ []) in
     let short : length (drop (entry_words_of v.shape.abi * s.count) (x.values ++ word ∷ [])) ≤ entry_words_of v.shape.abi = omega arith in
     let at : s.count ≡ s.count + 1 - 1 = omega arith in
@@ -253,7 +253,7 @@ read_all k word x v last some s =
       count = s.count + 1;
       words = full v.shape.abi x.words s.count s.words last;
       within = omega arith;
-      consumed = λ small. next x.start s.count v.ring.cons (s.consumed small);
+      consumed = λ small. next x.start s.count v.ring.indices.cons (s.consumed small);
       long = long;
       numbered = next_number v.fetched s.count s.numbered;
       copied = λ some. absurd (omega arith);
@@ -271,28 +271,28 @@ read_all k word x v last some s =
     next_number n count e = omega arith
 
 pub fetch_goes : (before : List Line) (v : View) (frame k word : ℕ) (answer : BackAnswer) (x : Sight) (last : Bool) → (k + 1 == entry_words_of v.shape.abi) ≡ last → 1 ≤ k → Serves k x v → Shows before x → ObeysRing before x.start (is_some v.halted) → v.told ≡ None
-    → (let page : Mapping = slot_page v v.ring.cons k in BackGoes x.start x.values before v (if last then fetched v (v.entry ++ word ∷ []) else record v { entry = v.entry ++ word ∷ []; stage = stage.Fetch (k + 1) }) answer (moves.Read back.Back page.number frame (slot_word v.shape v.ring.cons k) word))
+    → (let page : Mapping = slot_page v v.ring.indices.cons k in BackGoes x.start x.values before v (if last then fetched v (v.ring.entry ++ word ∷ []) else record v { ring = record v.ring { entry = v.ring.entry ++ word ∷ [] }; stage = stage.Fetch (k + 1) }) answer (moves.Read back.Back page.number frame (slot_word v.shape v.ring.indices.cons k) word))
 fetch_goes before v frame k word answer x true e begun s shows stands told =
     let is : k + 1 ≡ entry_words_of v.shape.abi = grind (arith, nat_tests) in
-    serve_entry before v (fetched v (v.entry ++ word ∷ [])) answer frame k word x s shows stands (λ none. absurd (omega arith)) told refl
+    serve_entry before v (fetched v (v.ring.entry ++ word ∷ [])) answer frame k word x s shows stands (λ none. absurd (omega arith)) told refl
     (read_all k word x v is begun s)
 fetch_goes before v frame k word answer x false e begun s shows stands told =
     let more : k + 1 < entry_words_of v.shape.abi = further (entry_words_of v.shape.abi) k s.within e in
-    serve_entry before v (record v { entry = v.entry ++ word ∷ []; stage = stage.Fetch (k + 1) }) answer frame k word x s shows stands (λ none. absurd (omega arith)) told refl
-    (omega arith, read_on k word x v (v.entry ++ word ∷ []) more s (next_word k word x v s begun))
+    serve_entry before v (record v { ring = record v.ring { entry = v.ring.entry ++ word ∷ [] }; stage = stage.Fetch (k + 1) }) answer frame k word x s shows stands (λ none. absurd (omega arith)) told refl
+    (omega arith, read_on k word x v (v.ring.entry ++ word ∷ []) more s (next_word k word x v s begun))
   where
     further : (size n : ℕ) → n < size → (n + 1 == size) ≡ false → n + 1 < size
     further size n lt other = grind (arith, nat_tests)
 
 -- in the loop: a look at the producer, or the first word of the next entry
-pub word_goes : (before : List Line) (v : View) (frame word : ℕ) (answer : BackAnswer) (x : Sight) → (requests_of v.ring v.seen == 0) ≡ false → Serves 0 x v → Shows before x → ObeysRing before x.start (is_some v.halted) → v.told ≡ None
-    → (let page : Mapping = slot_page v v.ring.cons 0 in BackGoes x.start x.values before v (loop_word v word) answer (moves.Read back.Back page.number frame (slot_word v.shape v.ring.cons 0) word))
+pub word_goes : (before : List Line) (v : View) (frame word : ℕ) (answer : BackAnswer) (x : Sight) → (requests_of v.ring.indices v.ring.seen == 0) ≡ false → Serves 0 x v → Shows before x → ObeysRing before x.start (is_some v.halted) → v.told ≡ None
+    → (let page : Mapping = slot_page v v.ring.indices.cons 0 in BackGoes x.start x.values before v (loop_word v word) answer (moves.Read back.Back page.number frame (slot_word v.shape v.ring.indices.cons 0) word))
 word_goes before v frame word answer x some s shows stands told =
-    let new : View = record v { entry = word ∷ []; stage = stage.Fetch 1 } in
-    let is : new ≡ loop_word v word = sym (ap (λ (b : Bool). if b then looked v word (record v { seen = word; stage = stage.StoreEvent }) else record v { entry = word ∷ []; stage = stage.Fetch 1 }) some) in
-    let page : Mapping = slot_page v v.ring.cons 0 in
-    subst (λ (w : View). BackGoes x.start x.values before v w answer (moves.Read back.Back page.number frame (slot_word v.shape v.ring.cons 0) word)) is
-    (serve_entry before v (record v { entry = word ∷ []; stage = stage.Fetch 1 }) answer frame 0 word x s shows stands (λ none. above (requests_of v.ring v.seen) some) told refl
+    let new : View = record v { ring = record v.ring { entry = word ∷ [] }; stage = stage.Fetch 1 } in
+    let is : new ≡ loop_word v word = sym (ap (λ (b : Bool). if b then looked v word (record v { ring = record v.ring { seen = word }; stage = stage.StoreEvent }) else record v { ring = record v.ring { entry = word ∷ [] }; stage = stage.Fetch 1 }) some) in
+    let page : Mapping = slot_page v v.ring.indices.cons 0 in
+    subst (λ (w : View). BackGoes x.start x.values before v w answer (moves.Read back.Back page.number frame (slot_word v.shape v.ring.indices.cons 0) word)) is
+    (serve_entry before v (record v { ring = record v.ring { entry = word ∷ [] }; stage = stage.Fetch 1 }) answer frame 0 word x s shows stands (λ none. above (requests_of v.ring.indices v.ring.seen) some) told refl
     (omega arith, read_on 0 word x v (word ∷ []) (two_words v.shape.abi) s (first_word word x v s)))
   where
     two_words : (abi : Abi) → 0 + 1 < entry_words_of abi
@@ -302,10 +302,10 @@ word_goes before v frame word answer x some s shows stands told =
     above : (n : ℕ) → (n == 0) ≡ false → 0 < n
     above n other = grind (arith, nat_tests)
 
-pub look_goes : (before : List Line) (v : View) (frame word : ℕ) (answer : BackAnswer) (x : Sight) → (requests_of v.ring v.seen == 0) ≡ true → Serves 0 x v → Shows before x → ObeysRing before x.start (is_some v.halted) → v.told ≡ None
+pub look_goes : (before : List Line) (v : View) (frame word : ℕ) (answer : BackAnswer) (x : Sight) → (requests_of v.ring.indices v.ring.seen == 0) ≡ true → Serves 0 x v → Shows before x → ObeysRing before x.start (is_some v.halted) → v.told ≡ None
     → (let page : Mapping = page_of v 0 in BackGoes x.start x.values before v (loop_word v word) answer (moves.Read back.Back page.number frame 0 word))
 look_goes before v frame word answer x none s shows stands told =
-    let is : looked v word (record v { seen = word; stage = stage.StoreEvent }) ≡ loop_word v word = sym (ap (λ (b : Bool). if b then looked v word (record v { seen = word; stage = stage.StoreEvent }) else record v { entry = word ∷ []; stage = stage.Fetch 1 }) none) in
+    let is : looked v word (record v { ring = record v.ring { seen = word }; stage = stage.StoreEvent }) ≡ loop_word v word = sym (ap (λ (b : Bool). if b then looked v word (record v { ring = record v.ring { seen = word }; stage = stage.StoreEvent }) else record v { ring = record v.ring { entry = word ∷ [] }; stage = stage.Fetch 1 }) none) in
     let page : Mapping = page_of v 0 in
     subst (λ (w : View). BackGoes x.start x.values before v w answer (moves.Read back.Back page.number frame 0 word)) is
-    (looked_goes before v (record v { seen = word; stage = stage.StoreEvent }) answer frame word x s shows stands told told refl (seen_producer word x v s))
+    (looked_goes before v (record v { ring = record v.ring { seen = word }; stage = stage.StoreEvent }) answer frame word x s shows stands told told refl (seen_producer word x v s))

@@ -53,7 +53,7 @@ pub data Change (words : ℕ) (old new : View) : Type 0 where
   kept : new.jobs.works ≡ old.jobs.works → new.fetched ≡ old.fetched → Change words old new
   replies : new.jobs.works ≡ removed_at old.jobs.works (position (λ (t : Work). is_done t) old.jobs.works) → new.fetched ≡ old.fetched → Change words old new
   halts : is_some new.halted ≡ true → new.fetched ≡ old.fetched → Change words old new
-  fetches : (let h = start_job old.jobs (next_number old) (request_of old.shape.abi new.entry) in new.jobs.works ≡ h.works) → new.fetched ≡ next_number old → new.stage ≡ stage.Loop → 1 ≤ words → Change words old new
+  fetches : (let h = start_job old.jobs (next_number old) (request_of old.shape.abi new.ring.entry) in new.jobs.works ≡ h.works) → new.fetched ≡ next_number old → new.stage ≡ stage.Loop → 1 ≤ words → Change words old new
 
 -- the back tells of replies alone
 abbrev pub IsBackTold : Option BackTold → Type 0
@@ -79,24 +79,24 @@ either_stage words old b p q t = changed words old (at (if b then p else q) old)
 
 looked_change : (words : ℕ) (v : View) (word : ℕ) (otherwise : View) → IsBackTold v.told → Changed words v otherwise → Changed words v (looked v word otherwise)
 looked_change words v word otherwise t c =
-    either words v (overruns v.ring word) (overrun v word) (if word == v.ring.cons then otherwise else record v { seen = word; stage = stage.Loop })
+    either words v (overruns v.ring.indices word) (overrun v word) (if word == v.ring.indices.cons then otherwise else record v { ring = record v.ring { seen = word }; stage = stage.Loop })
     (record { change = halts refl refl; info = refl; tells = t; running = λ r. absurd (cc) })
-    (either words v (word == v.ring.cons) otherwise (record v { seen = word; stage = stage.Loop }) c (changed words v (record v { seen = word; stage = stage.Loop }) refl refl refl t (λ r. r)))
+    (either words v (word == v.ring.indices.cons) otherwise (record v { ring = record v.ring { seen = word }; stage = stage.Loop }) c (changed words v (record v { ring = record v.ring { seen = word }; stage = stage.Loop }) refl refl refl t (λ r. r)))
 
 loop_change : (words : ℕ) (v : View) (r : Option Reply) (a : BackAnswer) → IsBackTold v.told → Changed words v (loop_step v r a)
 loop_change words v (Some r) a t = record { change = replies refl refl; info = refl; tells = t; running = λ r. r }
 loop_change words v None (answers.Word word) t =
-    either words v (requests_of v.ring v.seen == 0) (looked v word (record v { seen = word; stage = stage.StoreEvent })) (record v { entry = word ∷ []; stage = stage.Fetch 1 })
-    (looked_change words v word (record v { seen = word; stage = stage.StoreEvent }) t (changed words v (record v { seen = word; stage = stage.StoreEvent }) refl refl refl t (λ r. r)))
-    (changed words v (record v { entry = word ∷ []; stage = stage.Fetch 1 }) refl refl refl t (λ r. r))
-loop_change words v None answers.Event t = changed words v (record v { asleep = false }) refl refl refl t (λ r. r)
+    either words v (requests_of v.ring.indices v.ring.seen == 0) (looked v word (record v { ring = record v.ring { seen = word }; stage = stage.StoreEvent })) (record v { ring = record v.ring { entry = word ∷ [] }; stage = stage.Fetch 1 })
+    (looked_change words v word (record v { ring = record v.ring { seen = word }; stage = stage.StoreEvent }) t (changed words v (record v { ring = record v.ring { seen = word }; stage = stage.StoreEvent }) refl refl refl t (λ r. r)))
+    (changed words v (record v { ring = record v.ring { entry = word ∷ [] }; stage = stage.Fetch 1 }) refl refl refl t (λ r. r))
+loop_change words v None answers.Event t = changed words v (record v { ring = record v.ring { asleep = false } }) refl refl refl t (λ r. r)
 loop_change words v None a t = changed words v v refl refl refl t (λ r. r)
 
 fetch_change : (words : ℕ) (v : View) (k word : ℕ) → 1 ≤ words → IsBackTold v.told → Changed words v (fetch_step v k word)
 fetch_change words v k word some t =
-    either words v (k + 1 == entry_words_of v.shape.abi) (fetched v (v.entry ++ word ∷ [])) (record v { entry = v.entry ++ word ∷ []; stage = stage.Fetch (k + 1) })
+    either words v (k + 1 == entry_words_of v.shape.abi) (fetched v (v.ring.entry ++ word ∷ [])) (record v { ring = record v.ring { entry = v.ring.entry ++ word ∷ [] }; stage = stage.Fetch (k + 1) })
     (record { change = fetches refl refl refl some; info = refl; tells = t; running = λ r. r })
-    (changed words v (record v { entry = v.entry ++ word ∷ []; stage = stage.Fetch (k + 1) }) refl refl refl t (λ r. r))
+    (changed words v (record v { ring = record v.ring { entry = v.ring.entry ++ word ∷ [] }; stage = stage.Fetch (k + 1) }) refl refl refl t (λ r. r))
 
 begun_words : (k : ℕ) (x : Sight) (v : View) → 1 ≤ k → Serves k x v → 1 ≤ length x.values
 begun_words k x v some s = let long = s.long in let words = s.words in omega arith
@@ -112,20 +112,16 @@ change_at (stage.ReplyHigh r) v x a k t = changed (length x.values) v (at (stage
 change_at (stage.ReplyLast r) v x a k t = changed (length x.values) v (at (stage.Producer r) v) refl refl refl t (λ r. r)
 change_at (stage.Producer r) v x a k t = changed (length x.values) v (replied v r) refl refl refl tt (λ r. r)
 change_at (stage.ProducerFence old) v x a k t = changed (length x.values) v (at (stage.ResponseEvent old) v) refl refl refl t (λ r. r)
-change_at (stage.ResponseEvent old) v x (answers.Word event) k t = either_stage (length x.values) v (notifies old v.ring.prod event) stage.Send stage.Loop t
+change_at (stage.ResponseEvent old) v x (answers.Word event) k t = either_stage (length x.values) v (notifies old v.ring.indices.prod event) stage.Send stage.Loop t
 change_at stage.Send v x a k t = changed (length x.values) v (at stage.Loop v) refl refl refl t (λ r. r)
 change_at stage.StoreEvent v x a k t = changed (length x.values) v (at stage.EventFence v) refl refl refl t (λ r. r)
 change_at stage.EventFence v x a k t = changed (length x.values) v (at stage.LookAgain v) refl refl refl t (λ r. r)
-change_at stage.LookAgain v x (answers.Word word) k t = looked_change (length x.values) v word (record v { seen = word; stage = stage.Loop; asleep = true }) t (changed (length x.values) v (record v { seen = word; stage = stage.Loop; asleep = true }) refl refl refl t (λ r. r))
+change_at stage.LookAgain v x (answers.Word word) k t = looked_change (length x.values) v word (record v { ring = record v.ring { seen = word; asleep = true }; stage = stage.Loop }) t (changed (length x.values) v (record v { ring = record v.ring { seen = word; asleep = true }; stage = stage.Loop }) refl refl refl t (λ r. r))
 change_at (stage.Abort m) v x a k t = record { change = halts k.over refl; info = refl; tells = t; running = λ r. r }
 change_at stage.UnmapRing v x a k t = changed (length x.values) v (unmapped_bound v) refl refl refl t (λ r. r)
 change_at stage.ClosePort v x a k t = changed (length x.values) v (at stage.Halted v) refl refl refl t (λ r. r)
 change_at stage.UnmapUnbound v x a k t = changed (length x.values) v (unmapped_unbound v) refl refl refl t (λ r. r)
 change_at s v x a k t = changed (length x.values) v v refl refl refl t (λ r. r)
-
--- the lines of the back and of the front are no job's
-pub bystander : (line : Line) → IsBystander line → AreBystanders (line ∷ [])
-bystander line b = (b, tt)
 
 -- and the back sets no key as it serves
 abbrev BackBy : BackAct → Type 0
@@ -219,7 +215,7 @@ bind_reads before h ready v p port.Unbound = blindly before v.shape.abi _ refl
 bind_reads before h ready v p port.Closed = blindly before v.shape.abi _ refl
 bind_reads before h ready v p port.Bound = blindly before v.shape.abi _ refl
 
-loop_reads : (before : List Line) (h : Hypervisor) (ready : Bool) (v : View) (o : Outcome) (a : BackAct) (r : Option Reply) (asleep none : Bool) → v.asleep ≡ asleep → (requests_of v.ring v.seen == 0) ≡ none → ready ≡ true → ring_shape before ≡ Some v.shape → back_act h back.Back (loop_ask v r) o ≡ Some a → Looks before ready v a
+loop_reads : (before : List Line) (h : Hypervisor) (ready : Bool) (v : View) (o : Outcome) (a : BackAct) (r : Option Reply) (asleep none : Bool) → v.ring.asleep ≡ asleep → (requests_of v.ring.indices v.ring.seen == 0) ≡ none → ready ≡ true → ring_shape before ≡ Some v.shape → back_act h back.Back (loop_ask v r) o ≡ Some a → Looks before ready v a
 loop_reads before h ready v o a (Some r) asleep none p q goes shape e = of_back (Looks before ready v) _ a (shaped goes v.shape shape refl refl) e
 loop_reads before h ready v o a None true none p q goes shape e = back_wait (Looks before ready v) h back.Back a (blindly before v.shape.abi _ refl) (λ path. blindly before v.shape.abi _ refl) (rw p at e)
 loop_reads before h ready v o a None false true p q goes shape e = of_back (Looks before ready v) _ a (shaped goes v.shape shape refl refl) (rw (p, q) at e)
@@ -232,8 +228,8 @@ runs halted none = ap (λ (h : Option Halt). not (is_some h)) none
 pub back_reads : (before : List Line) (h : Hypervisor) (s : Stage) (v : View) (o : Outcome) (a : BackAct) (x : Sight) → KnowsAt s x v → Shows before x → back_act h back.Back (ask_at s v) o ≡ Some a → Looks before (is_ready s v.halted) v a
 back_reads before h stage.InitWait v o a x k shows e = back_wait (Looks before (is_ready stage.InitWait v.halted) v) h back.Back a (blindly before v.shape.abi _ refl) (λ path. blindly before v.shape.abi _ refl) e
 back_reads before h stage.MapRing v o a x k shows e = of_back (Looks before (is_ready stage.MapRing v.halted) v) _ a (map_reads before h (is_ready stage.MapRing v.halted) v x (next_gref v) ReadWrite (verdict_at h.pages (next_gref v) ReadWrite) k.waits.untouched shows) e
-back_reads before h stage.Bind v o a x k shows e = of_back (Looks before (is_ready stage.Bind v.halted) v) _ a (bind_reads before h (is_ready stage.Bind v.halted) v v.port (state_of h.channels v.port)) e
-back_reads before h stage.Loop v o a x k shows e = loop_reads before h (is_ready stage.Loop v.halted) v o a (next_reply v) v.asleep (requests_of v.ring v.seen == 0) refl refl (runs v.halted k.running) (shape_is before 0 x v shows k) e
+back_reads before h stage.Bind v o a x k shows e = of_back (Looks before (is_ready stage.Bind v.halted) v) _ a (bind_reads before h (is_ready stage.Bind v.halted) v v.ring.port (state_of h.channels v.ring.port)) e
+back_reads before h stage.Loop v o a x k shows e = loop_reads before h (is_ready stage.Loop v.halted) v o a (next_reply v) v.ring.asleep (requests_of v.ring.indices v.ring.seen == 0) refl refl (runs v.halted k.running) (shape_is before 0 x v shows k) e
 back_reads before h (stage.Fetch n) v o a x k shows e = of_back (Looks before (is_ready (stage.Fetch n) v.halted) v) _ a (shaped (let serves : Serves n x v = k.1 in runs v.halted serves.running) v.shape (shape_is before n x v shows k.1) refl refl) e
 back_reads before h (stage.Abort m) v o a x k shows e = of_back (Looks before (is_ready (stage.Abort m) v.halted) v) _ a (blindly before v.shape.abi _ refl) e
 back_reads before h stage.UnmapRing v o a x k shows e = unmap_reads before h (is_ready stage.UnmapRing v.halted) v o a v.pages e

@@ -67,7 +67,7 @@ pub record IsLast (abi : Abi) (values : List ℕ) (entry : List ℕ) (fetched : 
   pub entry_is : 0 < fetched → entry ≡ take (entry_words_of abi) (drop ((fetched - 1) * entry_words_of abi) values)
   pub some : 1 ≤ length values → 0 < fetched
 
-last_entry : (x : Sight) (v : View) → Serves 0 x v → length x.values < 2 ^ 64 → IsLast v.shape.abi x.values v.entry v.fetched
+last_entry : (x : Sight) (v : View) → Serves 0 x v → length x.values < 2 ^ 64 → IsLast v.shape.abi x.values v.ring.entry v.fetched
 last_entry x v s few =
     let size : ℕ = entry_words_of v.shape.abi in
     let all = facts v.shape.abi (length x.values) s.count v.fetched (s.long ∙ s.words) few s.numbered in
@@ -108,9 +108,9 @@ changed_jobs config x y epoch now old new room (replies works fetched) shape inf
 changed_jobs config x y epoch now old new room (halts over fetched) shape info small running knows few more unseen jobs = absurd (cc)
 changed_jobs config x y epoch now old new room (fetches works fetched at_loop some) shape info small running knows few more unseen jobs =
     let serves : Serves 0 y new = subst (λ (s : Stage). KnowsAt s y new) at_loop knows in
-    let last : IsLast old.shape.abi y.values new.entry new.fetched = subst (λ (s : Shape). IsLast s.abi y.values new.entry new.fetched) shape (last_entry y new serves few) in
+    let last : IsLast old.shape.abi y.values new.ring.entry new.fetched = subst (λ (s : Shape). IsLast s.abi y.values new.ring.entry new.fetched) shape (last_entry y new serves few) in
     same_jobs (terms_of config old) y.values y.values now now new.fetched new.fetched _ new.jobs.works refl refl refl (sym works)
-    (fetched_jobs (terms_of config old) y.values now old new.entry new.fetched old.jobs.info room refl info small fetched last (last.some (omega arith)) (unseen (old.fetched + 1) (omega arith)) jobs)
+    (fetched_jobs (terms_of config old) y.values now old new.ring.entry new.fetched old.jobs.info room refl info small fetched last (last.some (omega arith)) (unseen (old.fetched + 1) (omega arith)) jobs)
 
 -- the number of fetched entries never falls
 grows : (x y : Sight) (old new : View) → Change (length x.values) old new → (is_some new.halted ≡ false → old.fetched < 2 ^ 64) → Knows y new → length y.values < 2 ^ 64 → length x.values ≤ length y.values → old.fetched ≤ new.fetched
@@ -119,7 +119,7 @@ grows x y old new (replies works fetched) small knows few more = omega arith
 grows x y old new (halts over fetched) small knows few more = omega arith
 grows x y old new (fetches works fetched at_loop some) small knows few more =
     let serves : Serves 0 y new = subst (λ (s : Stage). KnowsAt s y new) at_loop knows in
-    let last : IsLast new.shape.abi y.values new.entry new.fetched = last_entry y new serves few in
+    let last : IsLast new.shape.abi y.values new.ring.entry new.fetched = last_entry y new serves few in
     let runs : is_some new.halted ≡ false = ap (λ (h : Option Halt). is_some h) serves.running in
     above old.fetched new.fetched (small runs) fetched (last.some (omega arith))
   where

@@ -79,47 +79,47 @@ rest_words X64 words count k e within = omega arith
 rest_words X32 words count k e within = omega arith
 
 -- the index of the entry is the back's consumer
-next_is : (before : List Line) (k : ℕ) (x : Sight) (v : View) → Serves k x v → Shows before x → x.start < 2 ^ 32 → next_index before v.shape ≡ v.ring.cons
+next_is : (before : List Line) (k : ℕ) (x : Sight) (v : View) → Serves k x v → Shows before x → x.start < 2 ^ 32 → next_index before v.shape ≡ v.ring.indices.cons
 next_is before k x v s shows small =
     let read : words_read before / entry_words_of v.shape.abi ≡ s.count = whole_entries v.shape.abi (words_read before) s.count k (shows.words ∙ s.words) s.within in
     ap (λ (n : ℕ). (n + words_read before / entry_words_of v.shape.abi) % 2 ^ 32) shows.start ∙ (ap (λ (n : ℕ). (x.start + n) % 2 ^ 32) read ∙ sym (s.consumed small))
 
-pub entry_stretch : (before : List Line) (frame k value : ℕ) (x : Sight) (v : View) → Serves k x v → Shows before x → (k ≡ 0 → 0 < requests_of v.ring v.seen) → x.start < 2 ^ 32
-    → (let page : Mapping = slot_page v v.ring.cons k in IsStretchAt before (lines.Move (moves.Read back.Back page.number frame (slot_word v.shape v.ring.cons k) value)))
+pub entry_stretch : (before : List Line) (frame k value : ℕ) (x : Sight) (v : View) → Serves k x v → Shows before x → (k ≡ 0 → 0 < requests_of v.ring.indices v.ring.seen) → x.start < 2 ^ 32
+    → (let page : Mapping = slot_page v v.ring.indices.cons k in IsStretchAt before (lines.Move (moves.Read back.Back page.number frame (slot_word v.shape v.ring.indices.cons k) value)))
 entry_stretch before frame k value x v s shows more small = record {
   next = subst (λ (w : Option ℕ). IfSome w (λ word. IsSomeAnd (ring_shape before) (IsNextWord before word))) (sym read)
       (subst (λ (o : Option Shape). IsSomeAnd o (IsNextWord before at)) (sym (shape_is before k x v shows s)) next_word);
   whole = λ own none. absurd (no_both none);
-  inside = word_inside before page.number (slot_word v.shape v.ring.cons k) (low_slot v.shape v.ring.cons k);
+  inside = word_inside before page.number (slot_word v.shape v.ring.indices.cons k) (low_slot v.shape v.ring.indices.cons k);
 }
   where
     page : Mapping
-    page = slot_page v v.ring.cons k
+    page = slot_page v v.ring.indices.cons k
 
     at : ℕ
-    at = 1024 * (slot_word_of v.shape v.ring.cons k).0 + slot_word v.shape v.ring.cons k
+    at = 1024 * (slot_word_of v.shape v.ring.indices.cons k).0 + slot_word v.shape v.ring.indices.cons k
 
-    read : entry_word_read before (lines.Move (moves.Read back.Back page.number frame (slot_word v.shape v.ring.cons k) value)) ≡ Some at
-    read = high_word before x page.number (slot_word_of v.shape v.ring.cons k).0 frame (slot_word v.shape v.ring.cons k) value (high_slot v.shape v.ring.cons k) shows (slot_is k v.ring.cons k x v s s.within)
+    read : entry_word_read before (lines.Move (moves.Read back.Back page.number frame (slot_word v.shape v.ring.indices.cons k) value)) ≡ Some at
+    read = high_word before x page.number (slot_word_of v.shape v.ring.indices.cons k).0 frame (slot_word v.shape v.ring.indices.cons k) value (high_slot v.shape v.ring.indices.cons k) shows (slot_is k v.ring.indices.cons k x v s s.within)
 
-    no_both : entry_word_read before (lines.Move (moves.Read back.Back page.number frame (slot_word v.shape v.ring.cons k) value)) ≡ None → ⊥
+    no_both : entry_word_read before (lines.Move (moves.Read back.Back page.number frame (slot_word v.shape v.ring.indices.cons k) value)) ≡ None → ⊥
     no_both none = let some = read in cc
 
-    index : next_index before v.shape ≡ v.ring.cons
+    index : next_index before v.shape ≡ v.ring.indices.cons
     index = next_is before k x v s shows small
 
     rest : words_within before v.shape ≡ k
     rest = rest_words v.shape.abi (words_read before) s.count k (shows.words ∙ s.words) s.within
 
-    asked : requests_of (record { entries = entries_of v.shape.order; prod = replied_before before; cons = next_index before v.shape }) (produced_before before) ≡ requests_of v.ring v.seen
+    asked : requests_of (record { entries = entries_of v.shape.order; prod = replied_before before; cons = next_index before v.shape }) (produced_before before) ≡ requests_of v.ring.indices v.ring.seen
     asked =
         ap (λ (n : ℕ). requests_of (record { entries = entries_of v.shape.order; prod = n; cons = next_index before v.shape }) (produced_before before)) (shows.replied ∙ s.replied)
-        ∙ (ap (λ (n : ℕ). requests_of (record { entries = entries_of v.shape.order; prod = v.ring.prod; cons = n }) (produced_before before)) index
-        ∙ (ap (λ (n : ℕ). requests_of (record { entries = entries_of v.shape.order; prod = v.ring.prod; cons = v.ring.cons }) n) (shows.produced ∙ s.produced)
-        ∙ ap (λ (n : ℕ). requests_of (record { entries = n; prod = v.ring.prod; cons = v.ring.cons }) v.seen) (sym s.entries)))
+        ∙ (ap (λ (n : ℕ). requests_of (record { entries = entries_of v.shape.order; prod = v.ring.indices.prod; cons = n }) (produced_before before)) index
+        ∙ (ap (λ (n : ℕ). requests_of (record { entries = entries_of v.shape.order; prod = v.ring.indices.prod; cons = v.ring.indices.cons }) n) (shows.produced ∙ s.produced)
+        ∙ ap (λ (n : ℕ). requests_of (record { entries = n; prod = v.ring.indices.prod; cons = v.ring.indices.cons }) v.ring.seen) (sym s.entries)))
 
     next_word : IsNextWord before at v.shape
     next_word = record {
-      place = slot_at v.shape v.ring.cons k ∙ (ap (λ (n : ℕ). ring_word_of v.shape n k) (sym index) ∙ ap (λ (n : ℕ). ring_word_of v.shape (next_index before v.shape) n) (sym rest));
+      place = slot_at v.shape v.ring.indices.cons k ∙ (ap (λ (n : ℕ). ring_word_of v.shape n k) (sym index) ∙ ap (λ (n : ℕ). ring_word_of v.shape (next_index before v.shape) n) (sym rest));
       unconsumed = λ none. subst (λ (n : ℕ). 0 < n) (sym asked) (more (sym rest ∙ none));
     }

@@ -78,7 +78,7 @@ pub record ServesBy (k : ℕ) (x : Sight) (shape : Shape) (ring : Ring) (pages :
   pub copied_last : k ≡ 0 → 0 < count → entry ≡ take (entry_words_of shape.abi) (drop (entry_words_of shape.abi * (count - 1)) x.values)
 
 abbrev pub Serves : ℕ → Sight → View → Type 0
-Serves k x v = ServesBy k x v.shape v.ring v.pages v.seen v.halted v.entry v.fetched
+Serves k x v = ServesBy k x v.shape v.ring.indices v.pages v.ring.seen v.halted v.ring.entry v.fetched
 
 -- between two entries
 whole : (abi : Abi) (words count : ℕ) → words ≡ entry_words_of abi * count + 0 → words % entry_words_of abi ≡ 0
@@ -94,8 +94,8 @@ pub record IsOver (x : Sight) (halted : Option Halt) : Type 0 where
   pub whole : IsWhole x
 
 abbrev pub KnowsAt : Stage → Sight → View → Type 0
-KnowsAt stage.InitWait x v = Untold x v.ring v.pages v.seen v.halted v.fetched
-KnowsAt stage.MapRing x v = Maps x v.shape v.ring v.grefs v.pages v.seen v.halted v.fetched
+KnowsAt stage.InitWait x v = Untold x v.ring.indices v.pages v.ring.seen v.halted v.fetched
+KnowsAt stage.MapRing x v = Maps x v.shape v.ring.indices v.grefs v.pages v.ring.seen v.halted v.fetched
 KnowsAt (stage.Fetch k) x v = (1 ≤ k) × Serves k x v
 KnowsAt (stage.Abort m) x v = IsOver x v.halted
 KnowsAt stage.UnmapRing x v = IsOver x v.halted
@@ -105,7 +105,7 @@ KnowsAt stage.Halted x v = IsOver x v.halted
 KnowsAt s x v = Serves 0 x v
 
 -- its jobs, what it tells and whether it sleeps are nothing to it
-pub knows_still : (s : Stage) (x : Sight) (v : View) (asleep : Bool) (jobs : Held) (told : Option BackTold) → KnowsAt s x v → KnowsAt s x (record v { asleep = asleep; jobs = jobs; told = told })
+pub knows_still : (s : Stage) (x : Sight) (v : View) (asleep : Bool) (jobs : Held) (told : Option BackTold) → KnowsAt s x v → KnowsAt s x (record v { ring = record v.ring { asleep = asleep }; jobs = jobs; told = told })
 knows_still stage.InitWait x v asleep jobs told knows = knows
 knows_still s x v asleep jobs told knows = knows
 

@@ -201,7 +201,7 @@ back_does h (ask.Trim sector count) o a own e = absurd own
 -- a back that serves asks for no unmap
 loop_asks : (v : View) (r : Option Reply) → is_unmap (loop_ask v r) ≡ false
 loop_asks v (Some r) = refl
-loop_asks v None = by_tests v.asleep (requests_of v.ring v.seen == 0)
+loop_asks v None = by_tests v.ring.asleep (requests_of v.ring.indices v.ring.seen == 0)
   where
     by_tests : (asleep none : Bool) → is_unmap (if asleep then ask.Wait else (if none then index_ask v 0 else entry_ask v 0)) ≡ false
     by_tests true none = refl

@@ -102,9 +102,9 @@ changed_hands words epoch old new (kept works fetched) runs small none first all
 changed_hands words epoch old new (replies works fetched) runs small none first all = subst (λ (ws : List Work). AllByRecursion (IsMadeBy epoch) ws) (sym works) (removed_place (IsMadeBy epoch) old.jobs.works _ all)
 changed_hands words epoch old new (halts over fetched) runs small none first all = absurd (cc)
 changed_hands words epoch old new (fetches works fetched at some) runs small none first all =
-    let t : Work = begun ((old.fetched + 1) % 2 ^ 64) (request_of old.shape.abi new.entry) old.jobs.info.sectors (verdict_of (request_of old.shape.abi new.entry) old.jobs.info) in
+    let t : Work = begun ((old.fetched + 1) % 2 ^ 64) (request_of old.shape.abi new.ring.entry) old.jobs.info.sectors (verdict_of (request_of old.shape.abi new.ring.entry) old.jobs.info) in
     let firsts : AllByRecursion (λ (u : Work). 1 ≤ u.number) (old.jobs.works ++ t ∷ []) = subst (λ (ws : List Work). AllByRecursion (λ (u : Work). 1 ≤ u.number) ws) works first in
-    let request : RawRequest = request_of old.shape.abi new.entry in
+    let request : RawRequest = request_of old.shape.abi new.ring.entry in
     let number = begun_number ((old.fetched + 1) % 2 ^ 64) old.jobs.info.sectors request (verdict_of request old.jobs.info) in
     let empty = begun_empty ((old.fetched + 1) % 2 ^ 64) request old.jobs.info.sectors (verdict_of request old.jobs.info) in
     let made : IsMadeBy epoch t = begun_made epoch old.fetched t number empty small (all_second (λ (u : Work). 1 ≤ u.number) old.jobs.works (t ∷ []) firsts).0 none in

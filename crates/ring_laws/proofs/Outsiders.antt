@@ -183,7 +183,7 @@ outsider_stretch s false before line x is whole o shows = foreign_stretch before
 -- the layout that it may name is nothing to what the back knows
 named_knows : (s : Stage) (x : Sight) (v : View) (line : Line) → (is_led s ≡ false → reads_protocol line ≡ false) → KnowsAt s x v → KnowsAt s (record x { abi = abi_after x.abi line }) v
 named_knows stage.InitWait x v line unnamed n =
-    let w : Waits x v.ring v.seen v.halted v.fetched = n.waits in
+    let w : Waits x v.ring.indices v.ring.seen v.halted v.fetched = n.waits in
     record { waits = record { running = w.running; untouched = w.untouched; begins = w.begins; replied = w.replied; produced = w.produced; words = w.words; values = w.values; numbered = w.numbered }; untold = n.untold; none = n.none }
 named_knows s x v line unnamed knows = subst (λ (abi : Option Abi). KnowsAt s (record x { abi = abi }) v) (sym (same_abi x.abi line (unnamed refl))) knows
 

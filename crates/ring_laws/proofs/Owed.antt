@@ -88,17 +88,6 @@ owes_fetched terms values epoch fetched works owed t is low o =
     below : (n : ℕ) → n ≤ fetched → n < t.number
     below n le = omega arith
 
--- some of the jobs are held no longer
-pub owes_fewer : (terms : Terms) (values : List ℕ) (epoch : List Line) (fetched : ℕ) (works : List Work) (owed : List Answered) (place : ℕ) (t : Work) → slice_get works place ≡ Some t
-    → Owes terms values epoch fetched works owed → Owes terms values epoch fetched (remove works place) owed
-owes_fewer terms values epoch fetched works owed place t found o =
-    let among : IsAmong works place t = place_among works place t found in
-    let split : numbers works ≡ numbers among.front ++ t.number ∷ numbers among.rest = numbers_of works among.front among.rest t among.is in
-    let joined : jobs_of owed ++ numbers works ≡ (jobs_of owed ++ numbers among.front) ++ t.number ∷ numbers among.rest = ap (λ (ns : List ℕ). jobs_of owed ++ ns) split ∙ sym (append_assoc (jobs_of owed) (numbers among.front) (t.number ∷ numbers among.rest)) in
-    let apart : AreApart ((jobs_of owed ++ numbers among.front) ++ numbers among.rest) = apart_without (jobs_of owed ++ numbers among.front) (numbers among.rest) t.number (subst AreApart joined o.apart) in
-    let left : (jobs_of owed ++ numbers among.front) ++ numbers among.rest ≡ jobs_of owed ++ numbers (remove works place) = append_assoc (jobs_of owed) (numbers among.front) (numbers among.rest) ∙ ap (λ (ns : List ℕ). jobs_of owed ++ ns) (sym (map-append number_of among.front among.rest) ∙ ap numbers (sym among.removed)) in
-    record { each = o.each; apart = subst AreApart left apart; low = o.low }
-
 -- before a word was read no job was answered, whatever the terms
 pub owes_anew : (terms next : Terms) (values : List ℕ) (epoch : List Line) (fetched : ℕ) (works : List Work) (owed : List Answered) → values ≡ [] → Owes terms values epoch fetched works owed → Owes next values epoch fetched works owed
 owes_anew terms next values epoch fetched works owed none o = record { each = all_more (IsOwed terms values epoch) (IsOwed next values epoch) owed (λ a over. absurd (none_read terms.abi a.job values none over.first over.read)) o.each; apart = o.apart; low = o.low }

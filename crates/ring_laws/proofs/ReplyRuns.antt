@@ -184,17 +184,17 @@ back_replies config w before o (Some a) e s stand made r =
     let finds = λ (runs : is_some v.halted ≡ false). finds_of config before (lines_of_back w.back a) gone.more w.back (back_step.step_of w.back a.answer) f.sight (back_shape w.back a.answer) f.knows all grown go.epoch runs t (record { tale = past.tale; quiet = past.quiet; info = past.info; room = past.room; jobs = past.jobs; unseen = past.unseen }) made in
     let owes = λ (runs : is_some v.halted ≡ false). same_owes terms (entry_values before ++ gone.more) (entry_values (before ++ lines_of_back w.back a)) (this_epoch before ++ lines_of_back w.back a) (this_epoch (before ++ lines_of_back w.back a)) v.fetched v.jobs.works (r.answered ++ pending_at v.stage r.job) grown (sym go.epoch)
     (owes_aside terms (entry_values before) gone.more (this_epoch before) (lines_of_back w.back a) v.fetched v.jobs.works _ (λ k. bystanders_aside k (lines_of_back w.back a) all) (r.owes runs)) in
-    let next : OwesThen terms (entry_values (before ++ lines_of_back w.back a)) (this_epoch (before ++ lines_of_back w.back a)) (answered_then v.stage r.answered r.job v.ring.prod) (back_step.step_of w.back a.answer) = owes_at terms (entry_values (before ++ lines_of_back w.back a)) (this_epoch (before ++ lines_of_back w.back a)) r.answered r.job v.stage w.back f.sight a.answer refl f.knows finds owes in
+    let next : OwesThen terms (entry_values (before ++ lines_of_back w.back a)) (this_epoch (before ++ lines_of_back w.back a)) (answered_then v.stage r.answered r.job v.ring.indices.prod) (back_step.step_of w.back a.answer) = owes_at terms (entry_values (before ++ lines_of_back w.back a)) (this_epoch (before ++ lines_of_back w.back a)) r.answered r.job v.stage w.back f.sight a.answer refl f.knows finds owes in
     let held = λ (none : v.halted ≡ None). same_owes terms (entry_values before) f.sight.values (this_epoch before) (this_epoch before) v.fetched v.jobs.works (r.answered ++ pending_at v.stage r.job) f.shows.values refl (r.owes (runs_on none)) in
     let done = λ (none : v.halted ≡ None) (q : Reply) (d : IsReplyOf v.jobs.works q). subst (λ (vs : List ℕ). IsOwed terms vs (this_epoch before) (let u : Work = d.job in pending u.number q)) f.shows.values (done_owed config before w.back q d (runs_on none) t made) in
-    let goes : MoveWrites before (answered_then v.stage r.answered r.job v.ring.prod) v.stage w.back a.answer a.shown (back_step.step_of w.back a.answer) =
+    let goes : MoveWrites before (answered_then v.stage r.answered r.job v.ring.indices.prod) v.stage w.back a.answer a.shown (back_step.step_of w.back a.answer) =
     back_writes before w.under w.back o a f.sight r.answered r.job f.knows f.shows s.ring.told r.writes (next_has terms before f.sight v.stage w.back r.answered r.job f.knows f.shows.values s.fetched r.chosen done held) (producer_op terms f.sight.values (this_epoch before) r.answered r.job v.stage w.back f.sight f.knows held) e in
     record {
-      answered = answered_then v.stage r.answered r.job v.ring.prod;
+      answered = answered_then v.stage r.answered r.job v.ring.indices.prod;
       job = next.job;
       writes = goes.writes;
-      owes = subst (λ (s : Shape). IsOwing (record { config = config; abi = s.abi }) (entry_values (before ++ lines_of_back w.back a)) (this_epoch (before ++ lines_of_back w.back a)) (answered_then v.stage r.answered r.job v.ring.prod) next.job (back_step.step_of w.back a.answer)) (sym (back_shape w.back a.answer)) next.owes;
-      chosen = chosen_goes before (lines_of_back w.back a) v.stage new.stage r.answered r.job v.ring.prod goes.row (bystanders_on config before (lines_of_back w.back a) all go.epoch) (bystanders_idle before (lines_of_back w.back a) all) r.chosen;
+      owes = subst (λ (s : Shape). IsOwing (record { config = config; abi = s.abi }) (entry_values (before ++ lines_of_back w.back a)) (this_epoch (before ++ lines_of_back w.back a)) (answered_then v.stage r.answered r.job v.ring.indices.prod) next.job (back_step.step_of w.back a.answer)) (sym (back_shape w.back a.answer)) next.owes;
+      chosen = chosen_goes before (lines_of_back w.back a) v.stage new.stage r.answered r.job v.ring.indices.prod goes.row (bystanders_on config before (lines_of_back w.back a) all go.epoch) (bystanders_idle before (lines_of_back w.back a) all) r.chosen;
     }
 
 -- a job moved: those that were answered are others

@@ -85,8 +85,8 @@ IsResting terms values epoch answered v = is_some v.halted ≡ false → Owes te
 -- the producer was read
 looked_owes : (terms : Terms) (values : List ℕ) (epoch : List Line) (answered : List Answered) (k : ℕ) (v : View) (word : ℕ) (otherwise : View) → IsResting terms values epoch answered v → IsOwing terms values epoch answered k otherwise → IsOwing terms values epoch answered k (looked v word otherwise)
 looked_owes terms values epoch answered k v word otherwise o p =
-    either terms values epoch answered k (overruns v.ring word) _ _ (λ runs. over true refl runs)
-    (either terms values epoch answered k (word == v.ring.cons) _ _ p (λ runs. o runs))
+    either terms values epoch answered k (overruns v.ring.indices word) _ _ (λ runs. over true refl runs)
+    (either terms values epoch answered k (word == v.ring.indices.cons) _ _ p (λ runs. o runs))
 
 -- what a move of the back finds, as long as it hasn't halted: the lines after it tell the jobs that it held, of low numbers, and those that it holds then; and the job whose reply begins is over
 pub record Finds (terms : Terms) (values : List ℕ) (epoch : List Line) (v : View) (new : View) : Type 0 where
@@ -143,14 +143,14 @@ loop_owes : (terms : Terms) (values : List ℕ) (epoch : List Line) (answered : 
 loop_owes terms values epoch answered k v (Some r) a here e finds o = replies terms values epoch answered v r a e finds o
 loop_owes terms values epoch answered k v None (answers.Word word) here e finds o =
     stays terms values epoch answered k _
-    (either terms values epoch answered k (requests_of v.ring v.seen == 0) (looked v word (record v { seen = word; stage = stage.StoreEvent })) (record v { entry = word ∷ []; stage = stage.Fetch 1 })
-    (looked_owes terms values epoch answered k v word (record v { seen = word; stage = stage.StoreEvent }) o (λ runs. o runs)) (λ runs. o runs))
-loop_owes terms values epoch answered k v None answers.Event here e finds o = stays terms values epoch answered k (record v { asleep = false }) (λ runs. as_it_was terms values epoch answered k stage.Loop v here (o runs))
+    (either terms values epoch answered k (requests_of v.ring.indices v.ring.seen == 0) (looked v word (record v { ring = record v.ring { seen = word }; stage = stage.StoreEvent })) (record v { ring = record v.ring { entry = word ∷ [] }; stage = stage.Fetch 1 })
+    (looked_owes terms values epoch answered k v word (record v { ring = record v.ring { seen = word }; stage = stage.StoreEvent }) o (λ runs. o runs)) (λ runs. o runs))
+loop_owes terms values epoch answered k v None answers.Event here e finds o = stays terms values epoch answered k (record v { ring = record v.ring { asleep = false } }) (λ runs. as_it_was terms values epoch answered k stage.Loop v here (o runs))
 loop_owes terms values epoch answered k v None a here e finds o = stays terms values epoch answered k v (λ runs. as_it_was terms values epoch answered k stage.Loop v here (o runs))
 
-fetch_owes : (terms : Terms) (values : List ℕ) (epoch : List Line) (answered : List Answered) (k n word : ℕ) (v : View) (last : Bool) → (is_some v.halted ≡ false → Finds terms values epoch v (if last then fetched v (v.entry ++ word ∷ []) else record v { entry = v.entry ++ word ∷ []; stage = stage.Fetch (n + 1) }))
-    → IsResting terms values epoch answered v → IsOwing terms values epoch answered k (if last then fetched v (v.entry ++ word ∷ []) else record v { entry = v.entry ++ word ∷ []; stage = stage.Fetch (n + 1) })
-fetch_owes terms values epoch answered k n word v true finds o = begins terms values epoch answered k v (v.entry ++ word ∷ []) finds o
+fetch_owes : (terms : Terms) (values : List ℕ) (epoch : List Line) (answered : List Answered) (k n word : ℕ) (v : View) (last : Bool) → (is_some v.halted ≡ false → Finds terms values epoch v (if last then fetched v (v.ring.entry ++ word ∷ []) else record v { ring = record v.ring { entry = v.ring.entry ++ word ∷ [] }; stage = stage.Fetch (n + 1) }))
+    → IsResting terms values epoch answered v → IsOwing terms values epoch answered k (if last then fetched v (v.ring.entry ++ word ∷ []) else record v { ring = record v.ring { entry = v.ring.entry ++ word ∷ [] }; stage = stage.Fetch (n + 1) })
+fetch_owes terms values epoch answered k n word v true finds o = begins terms values epoch answered k v (v.ring.entry ++ word ∷ []) finds o
 fetch_owes terms values epoch answered k n word v false finds o = λ runs. o runs
 
 -- the reply is pushed: it is told with the producer after it
@@ -167,7 +167,7 @@ pushed terms values epoch answered k producer fetched works r o =
     }
 
 pub owes_at : (terms : Terms) (values : List ℕ) (epoch : List Line) (answered : List Answered) (k : ℕ) (s : Stage) (v : View) (x : Sight) (a : BackAnswer) → v.stage ≡ s → KnowsAt s x v → (is_some v.halted ≡ false → Finds terms values epoch v (step_at s v a))
-    → (is_some v.halted ≡ false → Owes terms values epoch v.fetched v.jobs.works (answered ++ pending_at s k)) → OwesThen terms values epoch (answered_then s answered k v.ring.prod) (step_at s v a)
+    → (is_some v.halted ≡ false → Owes terms values epoch v.fetched v.jobs.works (answered ++ pending_at s k)) → OwesThen terms values epoch (answered_then s answered k v.ring.indices.prod) (step_at s v a)
 owes_at terms values epoch answered k stage.MapRing v x (answers.Mapped m) here knows finds o = stays terms values epoch answered k _ (either_stage (nat_lt (length v.pages + 1) (length v.grefs)))
   where
     either_stage : (b : Bool) → IsOwing terms values epoch answered k (record v { pages = v.pages ++ m ∷ []; stage = if b then stage.MapRing else stage.Bind })
@@ -182,7 +182,7 @@ owes_at terms values epoch answered k (stage.ReplyHigh r) v x a here knows finds
 owes_at terms values epoch answered k (stage.ReplyLast r) v x a here knows finds o = stays terms values epoch answered k _ (λ runs. o runs)
 owes_at terms values epoch answered k (stage.Producer r) v x a here knows finds o = stays terms values epoch _ k _ (λ runs. pushed terms values epoch answered k _ v.fetched v.jobs.works r (o runs))
 owes_at terms values epoch answered k (stage.ProducerFence old) v x a here knows finds o = stays terms values epoch answered k _ (λ runs. o runs)
-owes_at terms values epoch answered k (stage.ResponseEvent old) v x (answers.Word event) here knows finds o = stays terms values epoch answered k _ (either_stage (notifies old v.ring.prod event))
+owes_at terms values epoch answered k (stage.ResponseEvent old) v x (answers.Word event) here knows finds o = stays terms values epoch answered k _ (either_stage (notifies old v.ring.indices.prod event))
   where
     either_stage : (b : Bool) → IsOwing terms values epoch answered k (at (if b then stage.Send else stage.Loop) v)
     either_stage true = λ runs. o runs
@@ -190,7 +190,7 @@ owes_at terms values epoch answered k (stage.ResponseEvent old) v x (answers.Wor
 owes_at terms values epoch answered k stage.Send v x a here knows finds o = stays terms values epoch answered k _ (λ runs. o runs)
 owes_at terms values epoch answered k stage.StoreEvent v x a here knows finds o = stays terms values epoch answered k _ (λ runs. o runs)
 owes_at terms values epoch answered k stage.EventFence v x a here knows finds o = stays terms values epoch answered k _ (λ runs. o runs)
-owes_at terms values epoch answered k stage.LookAgain v x (answers.Word word) here knows finds o = stays terms values epoch answered k _ (looked_owes terms values epoch answered k v word (record v { seen = word; stage = stage.Loop; asleep = true }) o (λ runs. o runs))
+owes_at terms values epoch answered k stage.LookAgain v x (answers.Word word) here knows finds o = stays terms values epoch answered k _ (looked_owes terms values epoch answered k v word (record v { ring = record v.ring { seen = word; asleep = true }; stage = stage.Loop }) o (λ runs. o runs))
 owes_at terms values epoch answered k (stage.Abort m) v x a here knows finds o = stays terms values epoch answered k _ (λ runs. over _ knows.over runs)
 owes_at terms values epoch answered k stage.UnmapRing v x a here knows finds o = stays terms values epoch answered k _ (λ runs. over _ knows.over runs)
 owes_at terms values epoch answered k stage.ClosePort v x a here knows finds o = stays terms values epoch answered k _ (λ runs. over _ knows.over runs)

@@ -63,7 +63,7 @@ pub record FollowsTo (start : ℕ) (before : List Line) (w : World) : Type 0 whe
 
 -- only what it tells differs
 retold : (start : ℕ) (before : List Line) (v : back.View) → Follows start [] before v → Follows start [] before (record v { told = None })
-retold start before v f = record { sight = f.sight; begun = f.begun; more = f.more; grown = f.grown; shows = f.shows; knows = knows_still v.stage f.sight v v.asleep v.jobs None f.knows; stands = f.stands }
+retold start before v f = record { sight = f.sight; begun = f.begun; more = f.more; grown = f.grown; shows = f.shows; knows = knows_still v.stage f.sight v v.ring.asleep v.jobs None f.knows; stands = f.stands }
 
 no_lines : (start : ℕ) (before : List Line) (w : World) → FollowsTo start before w → FollowsTo start (before ++ []) w
 no_lines start before w f = subst (λ (ls : List Line). FollowsTo start ls w) (sym (append-nil before)) f
@@ -94,7 +94,7 @@ job_follows start w before k o None f e = no_lines start before w f
 job_follows start w before k o (Some a) f e =
     let running : is_some w.back.halted ≡ false = job_running (is_some w.back.halted) w.under k (ask_job w.back.jobs k) o a e in
     let all : Follows start [] (before ++ job_shows w k (Some a)) w.back = follow_all start [] _ before w.back (job_free (is_some w.back.halted) w.under k (back_step.job_ask_of w.back k) o a running (jobs_of w.back k) e, free_told (is_some w.back.halted) _ a.answer running) f.follows in
-    record { follows = record { sight = all.sight; begun = all.begun; more = all.more; grown = all.grown; shows = all.shows; knows = knows_still w.back.stage all.sight w.back w.back.asleep (complete_job w.back.jobs k a.answer) None all.knows; stands = all.stands }; told = refl; begins = f.begins }
+    record { follows = record { sight = all.sight; begun = all.begun; more = all.more; grown = all.grown; shows = all.shows; knows = knows_still w.back.stage all.sight w.back w.back.ring.asleep (complete_job w.back.jobs k a.answer) None all.knows; stands = all.stands }; told = refl; begins = f.begins }
 
 -- the lines of a back whose negotiation has it halt
 halted_follows : (start : ℕ) (w : World) (before : List Line) (why : Halt) → FollowsTo start before w → FollowsTo start (before ++ lines_at w (BackHalts why)) (happens w (BackHalts why))
@@ -128,7 +128,7 @@ waited start w before shape grefs f may = let g : Follows start [] before w.back
 pub unread : (start : ℕ) (w : World) (before : List Line) (shape : Shape) (grefs : List ℕ) → FollowsTo start before w → may_attach shape grefs w.back ≡ true → entry_values before ≡ []
 unread start w before shape grefs f may =
     let g : Follows start [] before w.back = f.follows in
-    let n : Untold g.sight w.back.ring w.back.pages w.back.seen w.back.halted w.back.fetched = waited start w before shape grefs f may in
+    let n : Untold g.sight w.back.ring.indices w.back.pages w.back.ring.seen w.back.halted w.back.fetched = waited start w before shape grefs f may in
     g.shows.values ∙ n.waits.values
 
 -- the terms of its front are taken with the read of the layout
@@ -141,13 +141,13 @@ attached_follows start w before shape grefs port f =
 
     takes : may_attach shape grefs w.back ≡ true → is_layout shape.abi (layout_text w) ≡ true → SaysServed w → FollowsTo start (before ++ lines.Move (layout_read w) ∷ []) (record { front = w.front; back = attached shape grefs port w.back; under = w.under })
     takes may layout says =
-        let n : Untold x w.back.ring w.back.pages w.back.seen w.back.halted w.back.fetched = waited start w before shape grefs f may in
-        let waits : Waits x w.back.ring w.back.seen w.back.halted w.back.fetched = n.waits in
+        let n : Untold x w.back.ring.indices w.back.pages w.back.ring.seen w.back.halted w.back.fetched = waited start w before shape grefs f may in
+        let waits : Waits x w.back.ring.indices w.back.ring.seen w.back.halted w.back.fetched = n.waits in
         let line : Line = lines.Move (layout_read w) in
         let whole : IsWhole x = none_whole x waits.words in
         let few : length w.back.pages ≡ 0 = ap (λ (ps : List Mapping). length ps) n.none in
         let some = pow_pos shape.order in
-        let knows : Maps (record x { abi = Some shape.abi }) shape (record { entries = entries_of shape.order; prod = w.back.ring.prod; cons = w.back.ring.prod }) grefs w.back.pages w.back.seen w.back.halted w.back.fetched = record {
+        let knows : Maps (record x { abi = Some shape.abi }) shape (record { entries = entries_of shape.order; prod = w.back.ring.indices.prod; cons = w.back.ring.indices.prod }) grefs w.back.pages w.back.ring.seen w.back.halted w.back.fetched = record {
           waits = record { running = waits.running; untouched = waits.untouched; begins = waits.begins; replied = waits.replied; produced = waits.produced; words = waits.words; values = waits.values; numbered = waits.numbered };
           narrow = attaches_order shape grefs w.back may;
           layout = refl;

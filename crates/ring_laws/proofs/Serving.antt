@@ -102,16 +102,16 @@ serve_index before old new answer frame word value x s shows stands other low to
     (λ small. between before shown x old s shows (low_word before x page.number 0 frame word value low shows is) (word_inside before page.number word (omega arith))))
 
 -- a word of an entry is read
-pub serve_entry : (before : List Line) (old new : View) (answer : BackAnswer) (frame k value : ℕ) (x : Sight) → Serves k x old → Shows before x → ObeysRing before x.start (is_some old.halted) → (k ≡ 0 → 0 < requests_of old.ring old.seen)
+pub serve_entry : (before : List Line) (old new : View) (answer : BackAnswer) (frame k value : ℕ) (x : Sight) → Serves k x old → Shows before x → ObeysRing before x.start (is_some old.halted) → (k ≡ 0 → 0 < requests_of old.ring.indices old.ring.seen)
     → new.told ≡ None → new.halted ≡ old.halted → Knows (record x { words = x.words + 1; values = x.values ++ value ∷ [] }) new
-    → (let page : Mapping = slot_page old old.ring.cons k in BackGoes x.start x.values before old new answer (moves.Read back.Back page.number frame (slot_word old.shape old.ring.cons k) value))
+    → (let page : Mapping = slot_page old old.ring.indices.cons k in BackGoes x.start x.values before old new answer (moves.Read back.Back page.number frame (slot_word old.shape old.ring.indices.cons k) value))
 serve_entry before old new answer frame k value x s shows stands more told halted knows =
-    let page : Mapping = slot_page old old.ring.cons k in
-    let place : ℕ = (slot_word_of old.shape old.ring.cons k).0 in
-    let word : ℕ = slot_word old.shape old.ring.cons k in
-    let high : 16 ≤ 1024 * place + word = high_slot old.shape old.ring.cons k in
-    let is : IsPage page.number place x = slot_is k old.ring.cons k x old s s.within in
-    let shown : Move = moves.Read back.Back page.number frame (slot_word old.shape old.ring.cons k) value in
+    let page : Mapping = slot_page old old.ring.indices.cons k in
+    let place : ℕ = (slot_word_of old.shape old.ring.indices.cons k).0 in
+    let word : ℕ = slot_word old.shape old.ring.indices.cons k in
+    let high : 16 ≤ 1024 * place + word = high_slot old.shape old.ring.indices.cons k in
+    let is : IsPage page.number place x = slot_is k old.ring.indices.cons k x old s s.within in
+    let shown : Move = moves.Read back.Back page.number frame (slot_word old.shape old.ring.indices.cons k) value in
     go_on before old new answer shown x (record x { words = x.words + 1; values = x.values ++ value ∷ [] }) (value ∷ []) told halted refl refl (shows_entry before x page.number place frame word value high is shows) knows
     (served_line before x old.halted shown s.running stands (shows_none before (lines.Move shown) (produced_not before x page.number place frame word value (not_zero (1024 * place + word) high) shows is)) refl
     (λ small. entry_stretch before frame k value x old s shows more small))

@@ -47,9 +47,6 @@ same a b e = grind (arith, nat_tests)
 below : (a b : ℕ) → a < b → nat_lt a b ≡ true
 below a b h = grind (arith, nat_tests)
 
-not_below : (a b : ℕ) → b ≤ a → nat_lt a b ≡ false
-not_below a b h = grind (arith, nat_tests)
-
 either_step : {X : Type 0} (b : Bool) (x y : X) → is_none (if b then Some x else Some y) ≡ false
 either_step true x y = refl
 either_step false x y = refl

@@ -77,7 +77,7 @@ small_number s v x = by_stage s
     both : {A : Type 0} → is_some v.halted ≡ true → is_some v.halted ≡ false → A
     both p q = absurd (cc)
 
-    waits : Waits x v.ring v.seen v.halted v.fetched → v.fetched < 2 ^ 64
+    waits : Waits x v.ring.indices v.ring.seen v.halted v.fetched → v.fetched < 2 ^ 64
     waits w = let e = w.numbered in omega arith
 
     by_stage : (s : Stage) → KnowsAt s x v → is_some v.halted ≡ false → v.fetched < 2 ^ 64

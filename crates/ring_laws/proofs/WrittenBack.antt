@@ -96,7 +96,7 @@ two_stages false = refl
 
 -- an act of a back at a stage
 abbrev BackWrites : List Line → Stage → List Answered → ℕ → View → BackAct → Type 0
-BackWrites before s answered k v a = MoveWrites before (answered_then s answered k v.ring.prod) s v a.answer a.shown (step_at s v a.answer)
+BackWrites before s answered k v a = MoveWrites before (answered_then s answered k v.ring.indices.prod) s v a.answer a.shown (step_at s v a.answer)
 
 -- and of one in its loop, by what it replies
 abbrev Loops : List Line → List Answered → Option Reply → View → BackAct → Type 0
@@ -127,10 +127,10 @@ map_writes before h v x answered k (Ok frame) none shows told w =
 map_writes before h v x answered k (Err refusal) none shows told w =
     quiet before answered stage.MapRing v _ (moves.MapRefused back.Back (next_gref v) ReadWrite (status_of refusal)) _ w refl (own_passes (lines.Move (moves.MapRefused back.Back (next_gref v) ReadWrite (status_of refusal))) refl refl) told (unbound_nothing v.pages)
 
-bind_writes : (before : List Line) (h : Hypervisor) (v : View) (answered : List Answered) (k : ℕ) (state : PortState) → v.told ≡ None → Writes before stage.Bind answered → BackWrites before stage.Bind answered k v (bind_act h v.port state)
-bind_writes before h v answered k port.Unbound told w = quiet before answered stage.Bind v _ (moves.Bind v.port) _ w refl (own_passes (lines.Move (moves.Bind v.port)) refl refl) told refl
-bind_writes before h v answered k port.Closed told w = quiet before answered stage.Bind v _ (moves.BindRefused v.port) _ w refl (own_passes (lines.Move (moves.BindRefused v.port)) refl refl) told (unbound_nothing v.pages)
-bind_writes before h v answered k port.Bound told w = quiet before answered stage.Bind v _ (moves.BindRefused v.port) _ w refl (own_passes (lines.Move (moves.BindRefused v.port)) refl refl) told (unbound_nothing v.pages)
+bind_writes : (before : List Line) (h : Hypervisor) (v : View) (answered : List Answered) (k : ℕ) (state : PortState) → v.told ≡ None → Writes before stage.Bind answered → BackWrites before stage.Bind answered k v (bind_act h v.ring.port state)
+bind_writes before h v answered k port.Unbound told w = quiet before answered stage.Bind v _ (moves.Bind v.ring.port) _ w refl (own_passes (lines.Move (moves.Bind v.ring.port)) refl refl) told refl
+bind_writes before h v answered k port.Closed told w = quiet before answered stage.Bind v _ (moves.BindRefused v.ring.port) _ w refl (own_passes (lines.Move (moves.BindRefused v.ring.port)) refl refl) told (unbound_nothing v.pages)
+bind_writes before h v answered k port.Bound told w = quiet before answered stage.Bind v _ (moves.BindRefused v.ring.port) _ w refl (own_passes (lines.Move (moves.BindRefused v.ring.port)) refl refl) told (unbound_nothing v.pages)
 
 -- a word is read, whatever the back makes of it
 read_writes : (before : List Line) (answered : List Answered) (s : Stage) (old : View) (answer : BackAnswer) (number frame word value : ℕ) (new : View) → Writes before s answered → under_way s ≡ [] → new.told ≡ None → under_way new.stage ≡ [] → MoveWrites before answered s old answer (moves.Read back.Back number frame word value) new
@@ -139,23 +139,23 @@ read_writes before answered s old answer number frame word value new w none told
 looked_writes : (before : List Line) (answered : List Answered) (s : Stage) (v otherwise : View) (answer : BackAnswer) (number frame place word : ℕ) → Writes before s answered → under_way s ≡ [] → v.told ≡ None → otherwise.told ≡ None → under_way otherwise.stage ≡ [] → MoveWrites before answered s v answer (moves.Read back.Back number frame place word) (looked v word otherwise)
 looked_writes before answered s v otherwise answer number frame place word w none told other still =
     let P : View → Type 0 = λ (new : View). MoveWrites before answered s v answer (moves.Read back.Back number frame place word) new in
-    either_view P (overruns v.ring word) (overrun v word) _
+    either_view P (overruns v.ring.indices word) (overrun v word) _
     (read_writes before answered s v answer number frame place word (overrun v word) w none told (giving_nothing (first_mapping v.jobs.works)))
-    (either_view P (word == v.ring.cons) otherwise (record v { seen = word; stage = stage.Loop })
+    (either_view P (word == v.ring.indices.cons) otherwise (record v { ring = record v.ring { seen = word }; stage = stage.Loop })
     (read_writes before answered s v answer number frame place word otherwise w none other still)
-    (read_writes before answered s v answer number frame place word (record v { seen = word; stage = stage.Loop }) w none told refl))
+    (read_writes before answered s v answer number frame place word (record v { ring = record v.ring { seen = word }; stage = stage.Loop }) w none told refl))
 
 loop_word_writes : (before : List Line) (answered : List Answered) (v : View) (answer : BackAnswer) (number frame place word : ℕ) → Writes before stage.Loop answered → v.told ≡ None → MoveWrites before answered stage.Loop v answer (moves.Read back.Back number frame place word) (loop_word v word)
 loop_word_writes before answered v answer number frame place word w told =
-    either_view (λ (new : View). MoveWrites before answered stage.Loop v answer (moves.Read back.Back number frame place word) new) (requests_of v.ring v.seen == 0) (looked v word (record v { seen = word; stage = stage.StoreEvent })) (record v { entry = word ∷ []; stage = stage.Fetch 1 })
-    (looked_writes before answered stage.Loop v (record v { seen = word; stage = stage.StoreEvent }) answer number frame place word w refl told told refl)
-    (read_writes before answered stage.Loop v answer number frame place word (record v { entry = word ∷ []; stage = stage.Fetch 1 }) w refl told refl)
+    either_view (λ (new : View). MoveWrites before answered stage.Loop v answer (moves.Read back.Back number frame place word) new) (requests_of v.ring.indices v.ring.seen == 0) (looked v word (record v { ring = record v.ring { seen = word }; stage = stage.StoreEvent })) (record v { ring = record v.ring { entry = word ∷ [] }; stage = stage.Fetch 1 })
+    (looked_writes before answered stage.Loop v (record v { ring = record v.ring { seen = word }; stage = stage.StoreEvent }) answer number frame place word w refl told told refl)
+    (read_writes before answered stage.Loop v answer number frame place word (record v { ring = record v.ring { entry = word ∷ [] }; stage = stage.Fetch 1 }) w refl told refl)
 
 fetch_writes : (before : List Line) (answered : List Answered) (n : ℕ) (v : View) (answer : BackAnswer) (number frame place word : ℕ) → Writes before (stage.Fetch n) answered → v.told ≡ None → MoveWrites before answered (stage.Fetch n) v answer (moves.Read back.Back number frame place word) (fetch_step v n word)
 fetch_writes before answered n v answer number frame place word w told =
-    either_view (λ (new : View). MoveWrites before answered (stage.Fetch n) v answer (moves.Read back.Back number frame place word) new) (n + 1 == entry_words_of v.shape.abi) (fetched v (v.entry ++ word ∷ [])) (record v { entry = v.entry ++ word ∷ []; stage = stage.Fetch (n + 1) })
-    (read_writes before answered (stage.Fetch n) v answer number frame place word (fetched v (v.entry ++ word ∷ [])) w refl told refl)
-    (read_writes before answered (stage.Fetch n) v answer number frame place word (record v { entry = v.entry ++ word ∷ []; stage = stage.Fetch (n + 1) }) w refl told refl)
+    either_view (λ (new : View). MoveWrites before answered (stage.Fetch n) v answer (moves.Read back.Back number frame place word) new) (n + 1 == entry_words_of v.shape.abi) (fetched v (v.ring.entry ++ word ∷ [])) (record v { ring = record v.ring { entry = v.ring.entry ++ word ∷ [] }; stage = stage.Fetch (n + 1) })
+    (read_writes before answered (stage.Fetch n) v answer number frame place word (fetched v (v.ring.entry ++ word ∷ [])) w refl told refl)
+    (read_writes before answered (stage.Fetch n) v answer number frame place word (record v { ring = record v.ring { entry = v.ring.entry ++ word ∷ [] }; stage = stage.Fetch (n + 1) }) w refl told refl)
 
 -- the back waits; its stage stays
 wait_writes : (before : List Line) (answered : List Answered) (s : Stage) (old new : View) (answer : BackAnswer) → Writes before s answered → under_way s ≡ [] → new.told ≡ None → under_way new.stage ≡ under_way s → MoveWrites before answered s old answer (moves.Event mover.Back) new
@@ -167,27 +167,27 @@ watch_writes before answered s old new answer path w none told same = quiet befo
 
 idle_writes : (before : List Line) (h : Hypervisor) (v : View) (o : Outcome) (a : BackAct) (answered : List Answered) (asleep none : Bool) → under_way v.stage ≡ [] → v.told ≡ None → Writes before stage.Loop answered
     → back_act h back.Back (if asleep then ask.Wait else (if none then index_ask v 0 else entry_ask v 0)) o ≡ Some a → Loops before answered None v a
-idle_writes before h v o a answered true none same told w e = back_wait (Loops before answered None v) h back.Back a (wait_writes before answered stage.Loop v (record v { asleep = false }) answers.Event w refl told same) (λ path. watch_writes before answered stage.Loop v v (answers.Watched path) path w refl told same) e
+idle_writes before h v o a answered true none same told w e = back_wait (Loops before answered None v) h back.Back a (wait_writes before answered stage.Loop v (record v { ring = record v.ring { asleep = false } }) answers.Event w refl told same) (λ path. watch_writes before answered stage.Loop v v (answers.Watched path) path w refl told same) e
 idle_writes before h v o a answered false true same told w e = of_back (Loops before answered None v) _ a (loop_word_writes before answered v _ _ (frame_of h.grants (page_of v 0)) 0 _ w told) e
-idle_writes before h v o a answered false false same told w e = of_back (Loops before answered None v) _ a (loop_word_writes before answered v _ _ (frame_of h.grants (slot_page v v.ring.cons 0)) (slot_word v.shape v.ring.cons 0) _ w told) e
+idle_writes before h v o a answered false false same told w e = of_back (Loops before answered None v) _ a (loop_word_writes before answered v _ _ (frame_of h.grants (slot_page v v.ring.indices.cons 0)) (slot_word v.shape v.ring.indices.cons 0) _ w told) e
 
 -- a word of a response is written: the row has it
 slot_goes : (before : List Line) (x : Sight) (v : View) (frame i w : ℕ) (r : Reply) (s t : Stage) → Serves 0 x v → Shows before x → length (under_way s) < 3 → Candidate before (length (under_way s)) (response_in r) → row_at t ≡ Some r → length (under_way t) ≡ length (under_way s) + 1
-    → ((answered : List Answered) (k p : ℕ) → answered_then s answered k p ≡ answered) → i < 3 → (let page : Mapping = slot_page v v.ring.prod i in RowGoes before (lines.Move (moves.Write back.Back page.number frame (slot_word v.shape v.ring.prod i) w) ∷ []) s t)
+    → ((answered : List Answered) (k p : ℕ) → answered_then s answered k p ≡ answered) → i < 3 → (let page : Mapping = slot_page v v.ring.indices.prod i in RowGoes before (lines.Move (moves.Write back.Back page.number frame (slot_word v.shape v.ring.indices.prod i) w) ∷ []) s t)
 slot_goes before x v frame i w r s t k shows small c at long same within =
-    let page : Mapping = slot_page v v.ring.prod i in
-    let line : Line = lines.Move (moves.Write back.Back page.number frame (slot_word v.shape v.ring.prod i) w) in
+    let page : Mapping = slot_page v v.ring.indices.prod i in
+    let line : Line = lines.Move (moves.Write back.Back page.number frame (slot_word v.shape v.ring.indices.prod i) w) in
     grows r c at long
-    (slot_lines before x page.number (slot_word_of v.shape v.ring.prod i).0 frame (slot_word v.shape v.ring.prod i) w (length (under_way s)) (not_one _ (high_slot v.shape v.ring.prod i)) (slot_is 0 v.ring.prod i x v k (response_fits v.shape.abi i within)) shows)
+    (slot_lines before x page.number (slot_word_of v.shape v.ring.indices.prod i).0 frame (slot_word v.shape v.ring.indices.prod i) w (length (under_way s)) (not_one _ (high_slot v.shape v.ring.indices.prod i)) (slot_is 0 v.ring.indices.prod i x v k (response_fits v.shape.abi i within)) shows)
     (answered_one before line refl refl) same
 
 -- one of the three words, and the stage that follows
 word_writes : (before : List Line) (h : Hypervisor) (x : Sight) (v new : View) (answer : BackAnswer) (i : ℕ) (r : Reply) (s t : Stage) (answered : List Answered) → Serves 0 x v → Shows before x → new.told ≡ None → new.halted ≡ v.halted → new.stage ≡ t → Writes before s answered → length (under_way s) ≡ i → i < 3 → under_way s ++ response_word r i ∷ [] ≡ under_way t
     → ((words : List ℕ) → are_alike i (row_of (under_way s ++ response_word r i ∷ []) 0) words ≡ are_alike i (response_words_of (response_in r)) words) → Candidate before i (response_in r) → row_at t ≡ Some r → ((l : List Answered) (n m : ℕ) → answered_then s l n m ≡ l)
-    → (let page : Mapping = slot_page v v.ring.prod i in MoveWrites before answered s v answer (moves.Write back.Back page.number (frame_of h.grants page) (slot_word v.shape v.ring.prod i) (response_word r i)) new)
+    → (let page : Mapping = slot_page v v.ring.indices.prod i in MoveWrites before answered s v answer (moves.Write back.Back page.number (frame_of h.grants page) (slot_word v.shape v.ring.indices.prod i) (response_word r i)) new)
 word_writes before h x v new answer i r s t answered k shows told halted here w long small same alike job at still =
-    let page : Mapping = slot_page v v.ring.prod i in
-    let shown : Move = moves.Write back.Back page.number (frame_of h.grants page) (slot_word v.shape v.ring.prod i) (response_word r i) in
+    let page : Mapping = slot_page v v.ring.indices.prod i in
+    let shown : Move = moves.Write back.Back page.number (frame_of h.grants page) (slot_word v.shape v.ring.indices.prod i) (response_word r i) in
     let longer : length (under_way t) ≡ length (under_way s) + 1 = ap (λ (u : List ℕ). length u) (sym same) ∙ length-append (under_way s) (response_word r i ∷ []) in
     alone before answered s v answer shown new told halted
     (subst (λ (q : Stage). Writes (before ++ lines.Move shown ∷ []) q answered) (sym here) (slot_writes before x v (frame_of h.grants page) i (response_word r i) (response_in r) s t answered k shows w long small same alike job))
@@ -198,7 +198,7 @@ loop_writes : (before : List Line) (h : Hypervisor) (v : View) (o : Outcome) (a 
     → IfSome (next_word r) (λ (p : Reply × ℕ). Candidate before p.1 (response_in p.0)) → back_act h back.Back (loop_ask v r) o ≡ Some a → Loops before answered r v a
 loop_writes before h v o a x answered (Some r) k shows same told w job e =
     of_back (Loops before answered (Some r) v) _ a (word_writes before h x v _ answers.Done 0 r stage.Loop (stage.ReplyHigh r) answered k shows told refl refl w refl (omega arith) refl (λ words. refl) job refl (λ l n m. refl)) e
-loop_writes before h v o a x answered None k shows same told w job e = idle_writes before h v o a answered v.asleep (requests_of v.ring v.seen == 0) same told w e
+loop_writes before h v o a x answered None k shows same told w job e = idle_writes before h v o a answered v.ring.asleep (requests_of v.ring.indices v.ring.seen == 0) same told w e
 
 -- req_event is no word of a reply
 event_writes : (before : List Line) (x : Sight) (v : View) (frame value : ℕ) (answered : List Answered) → Serves 0 x v → Shows before x → v.told ≡ None → Writes before stage.StoreEvent answered → (let page : Mapping = page_of v 0 in MoveWrites before answered stage.StoreEvent v answers.Done (moves.Write back.Back page.number frame 1 value) (at stage.EventFence v))
@@ -214,15 +214,15 @@ event_writes before x v frame value answered k shows told w =
 
 -- the producer is raised, and the reply told
 raised_writes : (before : List Line) (x : Sight) (v : View) (frame k : ℕ) (r : Reply) (answered : List Answered) → Serves 0 x v → Shows before x → r.op < 2 ^ 8 → Writes before (stage.Producer r) answered → Candidate before 3 (response_in r)
-    → (let page : Mapping = page_of v 0 in MoveWrites before (answered ++ record { job = k; response = response_in r; producer = next_of v.ring.prod } ∷ []) (stage.Producer r) v answers.Done (moves.Write back.Back page.number frame 2 (next_of v.ring.prod)) (replied v r))
+    → (let page : Mapping = page_of v 0 in MoveWrites before (answered ++ record { job = k; response = response_in r; producer = next_of v.ring.indices.prod } ∷ []) (stage.Producer r) v answers.Done (moves.Write back.Back page.number frame 2 (next_of v.ring.indices.prod)) (replied v r))
 raised_writes before x v frame k r answered s shows small w c =
     let page : Mapping = page_of v 0 in
-    let all = answered ++ record { job = k; response = response_in r; producer = next_of v.ring.prod } ∷ [] in
-    let line : Line = lines.Move (moves.Write back.Back page.number frame 2 (next_of v.ring.prod)) in
-    let up : IsRaised before (lines.Move (moves.Write back.Back page.number frame 2 (next_of v.ring.prod)) ∷ lines.Reply r.id r.status ∷ []) v.ring.prod k r answered = producer_writes before x v frame k r answered s shows small w c in
+    let all = answered ++ record { job = k; response = response_in r; producer = next_of v.ring.indices.prod } ∷ [] in
+    let line : Line = lines.Move (moves.Write back.Back page.number frame 2 (next_of v.ring.indices.prod)) in
+    let up : IsRaised before (lines.Move (moves.Write back.Back page.number frame 2 (next_of v.ring.indices.prod)) ∷ lines.Reply r.id r.status ∷ []) v.ring.indices.prod k r answered = producer_writes before x v frame k r answered s shows small w c in
     record {
-      writes = subst (λ (ls : List Line). Writes (before ++ line ∷ lines.Reply r.id r.status ∷ ls) (stage.ProducerFence v.ring.prod) all) (sym (unhalted v.halted)) up.writes;
-      row = subst (λ (ls : List Line). RowGoes before (line ∷ lines.Reply r.id r.status ∷ ls) (stage.Producer r) (stage.ProducerFence v.ring.prod)) (sym (unhalted v.halted)) (ends r up.chosen refl refl up.due up.told);
+      writes = subst (λ (ls : List Line). Writes (before ++ line ∷ lines.Reply r.id r.status ∷ ls) (stage.ProducerFence v.ring.indices.prod) all) (sym (unhalted v.halted)) up.writes;
+      row = subst (λ (ls : List Line). RowGoes before (line ∷ lines.Reply r.id r.status ∷ ls) (stage.Producer r) (stage.ProducerFence v.ring.indices.prod)) (sym (unhalted v.halted)) (ends r up.chosen refl refl up.due up.told);
     }
 
 -- the first page that is left is unmapped, or the back waits
@@ -239,9 +239,9 @@ writes_at before h stage.InitWait v o a x answered k n shows same told w job sma
     back_wait (BackWrites before stage.InitWait answered k v) h back.Back a (wait_writes before answered stage.InitWait v v _ w refl told same) (λ path. watch_writes before answered stage.InitWait v v _ path w refl told same) e
 writes_at before h stage.MapRing v o a x answered k n shows same told w job small e =
     of_back (BackWrites before stage.MapRing answered k v) _ a (map_writes before h v x answered k (verdict_at h.pages (next_gref v) ReadWrite) n.waits.untouched shows told w) e
-writes_at before h stage.Bind v o a x answered k n shows same told w job small e = of_back (BackWrites before stage.Bind answered k v) _ a (bind_writes before h v answered k (state_of h.channels v.port) told w) e
+writes_at before h stage.Bind v o a x answered k n shows same told w job small e = of_back (BackWrites before stage.Bind answered k v) _ a (bind_writes before h v answered k (state_of h.channels v.ring.port) told w) e
 writes_at before h stage.Loop v o a x answered k n shows same told w job small e = loop_writes before h v o a x answered (next_reply v) n shows same told w job e
-writes_at before h (stage.Fetch i) v o a x answered k n shows same told w job small e = of_back (BackWrites before (stage.Fetch i) answered k v) _ a (fetch_writes before answered i v _ _ (frame_of h.grants (slot_page v v.ring.cons i)) (slot_word v.shape v.ring.cons i) _ w told) e
+writes_at before h (stage.Fetch i) v o a x answered k n shows same told w job small e = of_back (BackWrites before (stage.Fetch i) answered k v) _ a (fetch_writes before answered i v _ _ (frame_of h.grants (slot_page v v.ring.indices.cons i)) (slot_word v.shape v.ring.indices.cons i) _ w told) e
 writes_at before h (stage.ReplyHigh r) v o a x answered k n shows same told w job small e =
     of_back (BackWrites before (stage.ReplyHigh r) answered k v) _ a (word_writes before h x v _ answers.Done 1 r (stage.ReplyHigh r) (stage.ReplyLast r) answered n shows told refl refl w refl (omega arith) refl (λ words. refl) job refl (λ l i m. refl)) e
 writes_at before h (stage.ReplyLast r) v o a x answered k n shows same told w job small e =
@@ -250,12 +250,12 @@ writes_at before h (stage.Producer r) v o a x answered k n shows same told w job
 writes_at before h (stage.ProducerFence old) v o a x answered k n shows same told w job small e = of_back (BackWrites before (stage.ProducerFence old) answered k v) _ a (quiet before answered (stage.ProducerFence old) v _ (moves.Fence mover.Back) _ w refl (own_passes (lines.Move (moves.Fence mover.Back)) refl refl) told refl) e
 writes_at before h (stage.ResponseEvent old) v o a x answered k n shows same told w job small e =
     of_back (BackWrites before (stage.ResponseEvent old) answered k v) _ a
-    (read_writes before answered (stage.ResponseEvent old) v _ _ (frame_of h.grants (page_of v 0)) 3 _ (at (if notifies old v.ring.prod _ then stage.Send else stage.Loop) v) w refl told (two_stages (notifies old v.ring.prod _))) e
+    (read_writes before answered (stage.ResponseEvent old) v _ _ (frame_of h.grants (page_of v 0)) 3 _ (at (if notifies old v.ring.indices.prod _ then stage.Send else stage.Loop) v) w refl told (two_stages (notifies old v.ring.indices.prod _))) e
 writes_at before h stage.Send v o a x answered k n shows same told w job small e = of_back (BackWrites before stage.Send answered k v) _ a (quiet before answered stage.Send v _ (moves.Send mover.Back) _ w refl (own_passes (lines.Move (moves.Send mover.Back)) refl refl) told refl) e
-writes_at before h stage.StoreEvent v o a x answered k n shows same told w job small e = of_back (BackWrites before stage.StoreEvent answered k v) _ a (event_writes before x v (frame_of h.grants (page_of v 0)) (next_of v.ring.cons) answered n shows told w) e
+writes_at before h stage.StoreEvent v o a x answered k n shows same told w job small e = of_back (BackWrites before stage.StoreEvent answered k v) _ a (event_writes before x v (frame_of h.grants (page_of v 0)) (next_of v.ring.indices.cons) answered n shows told w) e
 writes_at before h stage.EventFence v o a x answered k n shows same told w job small e = of_back (BackWrites before stage.EventFence answered k v) _ a (quiet before answered stage.EventFence v _ (moves.Fence mover.Back) _ w refl (own_passes (lines.Move (moves.Fence mover.Back)) refl refl) told refl) e
 writes_at before h stage.LookAgain v o a x answered k n shows same told w job small e =
-    of_back (BackWrites before stage.LookAgain answered k v) _ a (looked_writes before answered stage.LookAgain v (record v { seen = _; stage = stage.Loop; asleep = true }) _ _ (frame_of h.grants (page_of v 0)) 0 _ w refl told told refl) e
+    of_back (BackWrites before stage.LookAgain answered k v) _ a (looked_writes before answered stage.LookAgain v (record v { ring = record v.ring { seen = _; asleep = true }; stage = stage.Loop }) _ _ (frame_of h.grants (page_of v 0)) 0 _ w refl told told refl) e
 writes_at before h (stage.Abort m) v o a x answered k n shows same told w job small e = of_back (BackWrites before (stage.Abort m) answered k v) _ a (quiet before answered (stage.Abort m) v _ (moves.Unmap back.Back m.number) (abort v) w refl (own_passes (lines.Move (moves.Unmap back.Back m.number)) refl refl) told (giving_nothing (first_mapping v.jobs.works))) e
 writes_at before h stage.UnmapRing v o a x answered k n shows same told w job small e = unmap_writes before h stage.UnmapRing v (unmapped_bound v) o a answered v.pages w refl told (bound_nothing (other_pages v.pages)) e
 writes_at before h stage.ClosePort v o a x answered k n shows same told w job small e = of_back (BackWrites before stage.ClosePort answered k v) _ a (quiet before answered stage.ClosePort v _ (moves.ClosePort mover.Back) _ w refl (own_passes (lines.Move (moves.ClosePort mover.Back)) refl refl) told refl) e
@@ -266,5 +266,5 @@ writes_at before h stage.Halted v o a x answered k n shows same told w job small
 pub back_writes : (before : List Line) (h : Hypervisor) (v : View) (o : Outcome) (a : BackAct) (x : Sight) (answered : List Answered) (k : ℕ) → KnowsAt v.stage x v → Shows before x → v.told ≡ None → Writes before v.stage answered
     → IfSome (replying v.stage v) (λ (p : Reply × ℕ). Candidate before p.1 (response_in p.0)) → ((r : Reply) → v.stage ≡ stage.Producer r → r.op < 2 ^ 8)
     → back_act h back.Back (ask_of v) o ≡ Some a
-    → MoveWrites before (answered_then v.stage answered k v.ring.prod) v.stage v a.answer a.shown (step_of v a.answer)
+    → MoveWrites before (answered_then v.stage answered k v.ring.indices.prod) v.stage v a.answer a.shown (step_of v a.answer)
 back_writes before h v o a x answered k knows shows told w job small e = writes_at before h v.stage v o a x answered k knows shows refl told w job small e

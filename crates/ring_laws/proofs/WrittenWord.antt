@@ -120,21 +120,21 @@ amid before line answered u e small some =
 pub slot_writes : (before : List Line) (x : Sight) (v : View) (frame i w : ℕ) (r : Response) (s t : Stage) (answered : List Answered) → Serves 0 x v → Shows before x → Writes before s answered
     → length (under_way s) ≡ i → i < 3 → under_way s ++ w ∷ [] ≡ under_way t
     → ((words : List ℕ) → are_alike i (row_of (under_way s ++ w ∷ []) 0) words ≡ are_alike i (response_words_of r) words)
-    → Candidate before i r → (let page : Mapping = slot_page v v.ring.prod i in Writes (before ++ lines.Move (moves.Write back.Back page.number frame (slot_word v.shape v.ring.prod i) w) ∷ []) t answered)
+    → Candidate before i r → (let page : Mapping = slot_page v v.ring.indices.prod i in Writes (before ++ lines.Move (moves.Write back.Back page.number frame (slot_word v.shape v.ring.indices.prod i) w) ∷ []) t answered)
 slot_writes before x v frame i w r s t answered k shows writes long small same alike job =
-    let page : Mapping = slot_page v v.ring.prod i in
+    let page : Mapping = slot_page v v.ring.indices.prod i in
     let number : ℕ = page.number in
-    let place : ℕ = (slot_word_of v.shape v.ring.prod i).0 in
-    let word : ℕ = slot_word v.shape v.ring.prod i in
-    let is : IsPage number place x = slot_is 0 v.ring.prod i x v k (response_fits v.shape.abi i small) in
-    let other : (1024 * place + word == 1) ≡ false = not_one (1024 * place + word) (high_slot v.shape v.ring.prod i) in
+    let place : ℕ = (slot_word_of v.shape v.ring.indices.prod i).0 in
+    let word : ℕ = slot_word v.shape v.ring.indices.prod i in
+    let is : IsPage number place x = slot_is 0 v.ring.indices.prod i x v k (response_fits v.shape.abi i small) in
+    let other : (1024 * place + word == 1) ≡ false = not_one (1024 * place + word) (high_slot v.shape v.ring.indices.prod i) in
     let within : within_reply before ≡ i = within_is (values_written before) answered (under_way s) writes.words (omega arith) ∙ long in
     let line : Line = lines.Move (moves.Write back.Back number frame word w) in
     let words : values_written (before ++ line ∷ []) ≡ rows_of answered ++ (under_way s ++ w ∷ []) = words_with before x number place frame word w answered (under_way s) other is shows writes.words in
     let longer : length (under_way s ++ w ∷ []) ≡ i + 1 = length-append (under_way s) (w ∷ []) ∙ ap (λ (n : ℕ). n + 1) long in
     record {
       obeys = obeys_more IsReplyAt before line writes.obeys
-          (word_allowed before x number place frame word w v.shape other is shows (shape_is before 0 x v shows k) writes.pushed (slot_at v.shape v.ring.prod i ∙ slot_place before v.shape v.ring.prod i within small (shows.replied ∙ k.replied))
+          (word_allowed before x number place frame word w v.shape other is shows (shape_is before 0 x v shows k) writes.pushed (slot_at v.shape v.ring.indices.prod i ∙ slot_place before v.shape v.ring.indices.prod i within small (shows.replied ∙ k.replied))
           (due_word before answered (under_way s) i w r writes.words long small alike job));
       words = words ∙ ap (λ (u : List ℕ). rows_of answered ++ u) same;
       pushed = amid before line answered (under_way s ++ w ∷ []) words (omega arith) (not_none (length (under_way s ++ w ∷ [])) i longer);
@@ -159,11 +159,11 @@ pub record IsRaised (before : List Line) (lines : List Line) (prod k : ℕ) (r :
   pub told : answered_in (before ++ lines) ≡ answered_in before ++ chosen ∷ []
 
 pub producer_writes : (before : List Line) (x : Sight) (v : View) (frame k : ℕ) (r : Reply) (answered : List Answered) → Serves 0 x v → Shows before x → r.op < 2 ^ 8 → Writes before (stage.Producer r) answered → Candidate before 3 (response_in r)
-    → (let page : Mapping = page_of v 0 in IsRaised before (lines.Move (moves.Write back.Back page.number frame 2 (next_of v.ring.prod)) ∷ lines.Reply r.id r.status ∷ []) v.ring.prod k r answered)
+    → (let page : Mapping = page_of v 0 in IsRaised before (lines.Move (moves.Write back.Back page.number frame 2 (next_of v.ring.indices.prod)) ∷ lines.Reply r.id r.status ∷ []) v.ring.indices.prod k r answered)
 producer_writes before x v frame k r answered s shows small writes c =
     let page : Mapping = page_of v 0 in
     let number : ℕ = page.number in
-    let prod : ℕ = v.ring.prod in
+    let prod : ℕ = v.ring.indices.prod in
     let is : IsPage number 0 x = first_is 0 x v s in
     let line : Line = lines.Move (moves.Write back.Back number frame 2 (next_of prod)) in
     let reply : Line = lines.Reply r.id r.status in

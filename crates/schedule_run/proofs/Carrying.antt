@@ -311,9 +311,6 @@ fed byte s t (Err why) feed u h = feed_stopped byte s why t.at feed u h
 pub carries_more : (piece : List ℕ) (i : ℕ) (s t u : ReadSoFar) → i < length piece → Carries (take i piece) s t → Carries (get_or piece i 0 ∷ []) t u → Carries (take (i + 1) piece) s u
 carries_more piece i s t u lt a b = subst (λ (p : List ℕ). Carries p s u) (sym (take_more piece i 0 lt)) (carries_on (take i piece) (get_or piece i 0 ∷ []) s t u a b)
 
-pub carries_whole : (piece : List ℕ) (i : ℕ) (s t : ReadSoFar) → length piece ≤ i → Carries (take i piece) s t → Carries piece s t
-carries_whole piece i s t le h = subst (λ (p : List ℕ). Carries p s t) (take_all i piece le) h
-
 pub halts_in : (piece : List ℕ) (i : ℕ) (s t : ReadSoFar) (why : RunStop) (new : Moment) → i < length piece → Carries (take i piece) s t → Halts (get_or piece i 0 ∷ []) t why new → Halts piece s why new
 halts_in piece i s t why new lt carried h =
     let so_far : Halts (take i piece ++ get_or piece i 0 ∷ []) s why new = halts_on (take i piece) (get_or piece i 0 ∷ []) s t why new carried h in

@@ -133,9 +133,6 @@ stopped_then config limit a b stop.TooLong old disk r s h t = record { before = 
 stopped_then config limit a b stop.Sink old disk r s h t = inl (record { before = r; stands = h; handed_on = t })
 stopped_then config limit a b stop.OutOfMemory old disk r s h t = record { before = r; stands = h; handed_on = t }
 
-pub stopped_unsent : (config : Options) (limit : ℕ) (a b : SourceSeen) (why : RunStop) (old : Outside) (disk : DiskSeen) (r s : RecorderSeen) → StandsAtStop config limit a b why old (outside disk r) → FailsHandingOn r s → FailsWith config limit a b why old (outside disk s)
-stopped_unsent config limit a b why old disk r s h failed = stopped_then config limit a b why old disk r s h (tries {E = Unit {0}} (Err tt) r s failed)
-
 -- a run was done, and then all was handed on
 pub handed_done : (config : Options) (limit : ℕ) (ended : Result (Unit {0}) RunStop) (a b : SourceSeen) (old : Outside) (disk : DiskSeen) (r s : RecorderSeen) → RunsTo config limit ended a b old (outside disk r) → HandsOnLines {E = Unit {0}} (Ok tt) r s → Runs config limit ended a b old (outside disk s)
 handed_done config limit (Ok done) a b old disk r s h same = done_as config limit a b old disk r s h same

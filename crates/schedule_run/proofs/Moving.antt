@@ -285,10 +285,6 @@ back_fit w ask seen x b u c d fit said =
     let happened = back_happened w ask seen x b u c d fit said in
     subst IsFit (sym happened.0) (fit_happens w BackMoves fit)
 
--- the line of a halt, by what was asked before and after
-pub halts_as : (w : World) (x b : back_view.View) (before after : Option Halt) → b ≡ back_view.heard x → before ≡ w.rings.back.halted → after ≡ b.ring.halted → halt_lines before after ≡ halt_lines w.rings.back.halted x.ring.halted
-halts_as w x b before after taken first last = rw (first, last, taken) refl
-
 pub back_goes_as : (w : World) (ask : BackAsk) (seen : BackAnswer × Shown) (x b : back_view.View) (u : Hypervisor) (c d : DiskSeen) (lines : List Line) (r s : RecorderSeen) (result : Result (Unit {0}) RecordStop) → IsFit w → BackSaid w ask seen x b u c d → lines ≡ back_lines x.ring.told seen.0 ++ halt_lines w.rings.back.halted x.ring.halted → Adds (Move seen.1 ∷ lines) result r s → Goes (Is (BackMoves ∷ [])) (Is (BackMoves ∷ [])) 41 result (moment w c r) (moment (back_moved w b u) d s)
 back_goes_as w ask seen x b u c d lines r s result fit said same shown =
     let happened = back_happened w ask seen x b u c d fit said in
@@ -436,9 +432,3 @@ front_close_goes w x f c r s result fit asked taken shown =
 
 pub back_close_fit : (w : World) (b : back_view.View) → IsFit w → b ≡ back_step.closes (backend_of w) → IsFit (back_moved w b w.rings.under)
 back_close_fit w b fit asked = subst (λ (v : back_view.View). IsFit (back_moved w v w.rings.under)) (sym asked) (fit_happens w (Closes end.Back) fit)
-
-pub back_close_goes : (w : World) (b : back_view.View) (c : DiskSeen) (r : RecorderSeen) → IsFit w → b ≡ back_step.closes (backend_of w) → Goes (Is (Closes end.Back ∷ [])) (Is (Closes end.Back ∷ [])) 0 (Ok tt) (moment w c r) (moment (back_moved w b w.rings.under) c r)
-back_close_goes w b c r fit asked =
-    let is = close_is w end.Back fit in
-    rw asked (goes_here (Is (Closes end.Back ∷ [])) (Is (Closes end.Back ∷ [])) 0 (Closes end.Back) w (back_moved w (back_step.closes (backend_of w)) w.rings.under) c c r r (Ok tt) refl refl
-    (sym is.world) (omega arith) refl (is.disk c) (subst (λ (l : List Line). Gained l r r) (sym is.lines) (gained_none r)))

@@ -167,9 +167,9 @@ stays s v here = (refl, λ short. short, rw here (omega arith), refl, omega arit
 
 looked_owed : (n : ℕ) (v : View) (word : ℕ) (otherwise : View) → Owed n v otherwise → Owed n v (looked v word otherwise)
 looked_owed n v word otherwise h =
-    either (nat_lt (distance_of v.ring.cons v.ring.prod) (distance_of v.ring.cons word)) n v (broken word v) (if word == v.ring.cons then otherwise else record v { seen = word; stage = stage.Loop })
+    either (nat_lt (distance_of v.ring.indices.cons v.ring.indices.prod) (distance_of v.ring.indices.cons word)) n v (broken word v) (if word == v.ring.indices.cons then otherwise else record v { ring = record v.ring { seen = word }; stage = stage.Loop })
     (refl, λ short. short, omega arith, refl, omega arith)
-    (either (word == v.ring.cons) n v otherwise (record v { seen = word; stage = stage.Loop }) h (refl, λ short. short, omega arith, refl, omega arith))
+    (either (word == v.ring.indices.cons) n v otherwise (record v { ring = record v.ring { seen = word }; stage = stage.Loop }) h (refl, λ short. short, omega arith, refl, omega arith))
 
 begun_owed : (v : View) (r : Request) (way : Transfer) → Owed 0 v (begun v r way)
 begun_owed v r transfer.Read = goes_to 0 v (if is_indirect r.count then stage.Pages 1 else stage.GrantFence 0) (either_stage (is_indirect r.count) (stage.Pages 1) (stage.GrantFence 0) 0 (omega arith) (omega arith))
@@ -194,8 +194,8 @@ granted_owed v (Some r) place here = either (nat_lt (place + 1) (length r.frames
 loop_owed : (v : View) (r : Option Request) (x : FrontAnswer) → v.stage ≡ stage.Loop → Owed 0 v (loop_step v r x)
 loop_owed v (Some r) x here = begun_owed v r r.transfer
 loop_owed v None (answer.Word word) here =
-    either (responses_of v.ring v.seen == 0) 0 v (looked v word (record v { seen = word; stage = stage.StoreEvent })) (at (stage.ResponseHigh word) v)
-    (looked_owed 0 v word (record v { seen = word; stage = stage.StoreEvent }) (refl, λ short. short, omega arith, refl, omega arith)) (goes_to 0 v (stage.ResponseHigh word) (omega arith))
+    either (responses_of v.ring.indices v.ring.seen == 0) 0 v (looked v word (record v { ring = record v.ring { seen = word }; stage = stage.StoreEvent })) (at (stage.ResponseHigh word) v)
+    (looked_owed 0 v word (record v { ring = record v.ring { seen = word }; stage = stage.StoreEvent }) (refl, λ short. short, omega arith, refl, omega arith)) (goes_to 0 v (stage.ResponseHigh word) (omega arith))
 loop_owed v None answer.Event here = (refl, λ short. short, rw here (omega arith), refl, omega arith)
 loop_owed v None x here = stays stage.Loop v here
 
@@ -297,7 +297,7 @@ step_owed (stage.GrantFlags place) v x here takes = granted_owed v (next_request
 step_owed (stage.Slot k) v x here takes = (refl, λ short. short, either_stage (k + 1 == entry_words_of v.shape.abi) stage.Producer (stage.Slot (k + 1)) 0 (omega arith) (omega arith), refl, omega arith)
 step_owed stage.Producer v x here takes = (refl, λ short. short, omega arith, refl, omega arith)
 step_owed (stage.ProducerFence old) v x here takes = goes_to 0 v (stage.RequestEvent old) (omega arith)
-step_owed (stage.RequestEvent old) v (answer.Word event) here takes = (refl, λ short. short, either_stage (notifies old v.ring.prod event) stage.Send stage.Loop 0 (omega arith) (omega arith), refl, omega arith)
+step_owed (stage.RequestEvent old) v (answer.Word event) here takes = (refl, λ short. short, either_stage (notifies old v.ring.indices.prod event) stage.Send stage.Loop 0 (omega arith) (omega arith), refl, omega arith)
 step_owed stage.Send v x here takes = goes_to 0 v stage.Loop (omega arith)
 step_owed (stage.ResponseHigh low) v (answer.Word high) here takes = goes_to 0 v (stage.ResponseLast low high) (omega arith)
 step_owed (stage.ResponseLast low high) v (answer.Word last) here takes = absurd (takes low high last refl refl)
@@ -309,7 +309,7 @@ step_owed (stage.ReadData n) v (answer.Word word) here takes = data_owed v v.end
 step_owed (stage.LeftData n) v (answer.Word word) here takes = left_owed v v.ending n word here refl
 step_owed stage.StoreEvent v x here takes = goes_to 0 v stage.EventFence (omega arith)
 step_owed stage.EventFence v x here takes = goes_to 0 v stage.LookAgain (omega arith)
-step_owed stage.LookAgain v (answer.Word word) here takes = looked_owed 0 v word (record v { seen = word; stage = stage.Loop; asleep = true }) (refl, λ short. short, omega arith, refl, omega arith)
+step_owed stage.LookAgain v (answer.Word word) here takes = looked_owed 0 v word (record v { ring = record v.ring { seen = word; asleep = true }; stage = stage.Loop }) (refl, λ short. short, omega arith, refl, omega arith)
 step_owed (stage.RingRead page) v (answer.Word word) here takes =
     either (is_mapped word) 0 v (broken word v) (at (stage.RingEnd page word) v) (refl, λ short. short, omega arith, refl, omega arith) (goes_to 0 v (stage.RingEnd page word) (omega arith))
 step_owed (stage.RingEnd page before) v (answer.Word word) here takes =

@@ -39,10 +39,10 @@ IsRoomAt stage.Halted works waiting = works ≤ 512
 IsRoomAt s works waiting = (works ≤ waiting) × (waiting ≤ 512)
 
 pub record HasRoom (v : View) : Type 0 where
-  pub entries : v.ring.entries ≤ 512
-  pub prod : v.ring.prod < 2 ^ 32
-  pub cons : v.ring.cons < 2 ^ 32
-  pub room : IsRoomAt v.stage (length v.jobs.works) (distance_of v.ring.prod v.ring.cons)
+  pub entries : v.ring.indices.entries ≤ 512
+  pub prod : v.ring.indices.prod < 2 ^ 32
+  pub cons : v.ring.indices.cons < 2 ^ 32
+  pub room : IsRoomAt v.stage (length v.jobs.works) (distance_of v.ring.indices.prod v.ring.indices.cons)
 
 -- at most 512 jobs are held
 room_few : (s : Stage) (works waiting : ℕ) → IsRoomAt s works waiting → works ≤ 512
@@ -59,7 +59,7 @@ room_few stage.Halted works waiting r = r
 room_few s works waiting r = omega (arith, r.0, r.1)
 
 pub few_jobs : (v : View) → HasRoom v → length v.jobs.works ≤ 512
-few_jobs v h = room_few v.stage (length v.jobs.works) (distance_of v.ring.prod v.ring.cons) h.room
+few_jobs v h = room_few v.stage (length v.jobs.works) (distance_of v.ring.indices.prod v.ring.indices.cons) h.room
 
 -- indices go up by one
 next_below : (n : ℕ) → next_of n < 2 ^ 32
@@ -72,7 +72,7 @@ one_nearer : (a b : ℕ) → a < 2 ^ 32 → b < 2 ^ 32 → 1 ≤ distance_of a b
 one_nearer a b low high some = omega (arith, low, high, some)
 
 -- only the stage is another one
-moves_on : (v : View) (s : Stage) → IsRoomAt s (length v.jobs.works) (distance_of v.ring.prod v.ring.cons) → HasRoom v → HasRoom (at s v)
+moves_on : (v : View) (s : Stage) → IsRoomAt s (length v.jobs.works) (distance_of v.ring.indices.prod v.ring.indices.cons) → HasRoom v → HasRoom (at s v)
 moves_on v s r h = record { entries = h.entries; prod = h.prod; cons = h.cons; room = r }
 
 -- the jobs that are left after some are aborted
@@ -88,12 +88,12 @@ aborted : (m : Option Mapping) (works waiting : ℕ) → works ≤ 512 → IsRoo
 aborted None works waiting few = few
 aborted (Some m) works waiting few = few
 
-abort_room : (v : View) → length v.jobs.works ≤ 512 → v.ring.entries ≤ 512 → v.ring.prod < 2 ^ 32 → v.ring.cons < 2 ^ 32 → HasRoom (abort v)
+abort_room : (v : View) → length v.jobs.works ≤ 512 → v.ring.indices.entries ≤ 512 → v.ring.indices.prod < 2 ^ 32 → v.ring.indices.cons < 2 ^ 32 → HasRoom (abort v)
 abort_room v few entries prod cons = record {
   entries = entries;
   prod = prod;
   cons = cons;
-  room = let fewer = after_fewer v.jobs.works in aborted (first_mapping v.jobs.works) (length (after_mapping v.jobs.works)) (distance_of v.ring.prod v.ring.cons) (omega arith);
+  room = let fewer = after_fewer v.jobs.works in aborted (first_mapping v.jobs.works) (length (after_mapping v.jobs.works)) (distance_of v.ring.indices.prod v.ring.indices.cons) (omega arith);
 }
 
 either : (b : Bool) (x y : View) → HasRoom x → HasRoom y → HasRoom (if b then x else y)
@@ -102,13 +102,13 @@ either false x y p q = q
 
 -- in the loop, at rest or at a look, as many jobs as requests
 abbrev IsUsual : View → Type 0
-IsUsual v = (v.ring.entries ≤ 512) × (v.ring.prod < 2 ^ 32) × (v.ring.cons < 2 ^ 32) × (length v.jobs.works ≤ distance_of v.ring.prod v.ring.cons) × (distance_of v.ring.prod v.ring.cons ≤ 512)
+IsUsual v = (v.ring.indices.entries ≤ 512) × (v.ring.indices.prod < 2 ^ 32) × (v.ring.indices.cons < 2 ^ 32) × (length v.jobs.works ≤ distance_of v.ring.indices.prod v.ring.indices.cons) × (distance_of v.ring.indices.prod v.ring.indices.cons ≤ 512)
 
 looked_room : (v : View) (word : ℕ) (otherwise : View) → IsUsual v → HasRoom otherwise → HasRoom (looked v word otherwise)
 looked_room v word otherwise u h =
-    either (overruns v.ring word) (overrun v word) _
-    (abort_room (record v { halted = Some (halt.Overrun word v.ring.prod) }) (omega (arith, u.3, u.4)) u.0 u.1 u.2)
-    (either (word == v.ring.cons) otherwise (record v { seen = word; stage = stage.Loop }) h (record { entries = u.0; prod = u.1; cons = u.2; room = (u.3, u.4) }))
+    either (overruns v.ring.indices word) (overrun v word) _
+    (abort_room (record v { halted = Some (halt.Overrun word v.ring.indices.prod) }) (omega (arith, u.3, u.4)) u.0 u.1 u.2)
+    (either (word == v.ring.indices.cons) otherwise (record v { ring = record v.ring { seen = word }; stage = stage.Loop }) h (record { entries = u.0; prod = u.1; cons = u.2; room = (u.3, u.4) }))
 
 -- a reply takes one job
 reply_fewer : (works : List Work) (rep : Reply) (place : Option ℕ) → position (λ (t : Work). is_done t) works ≡ place
@@ -120,49 +120,49 @@ reply_fewer (t ∷ works) rep (Some n) p e =
     let shorter = length-remove (t ∷ works) n within in
     omega arith
 
-usual_at : (v : View) (s : Stage) → v.stage ≡ s → (IsRoomAt s (length v.jobs.works) (distance_of v.ring.prod v.ring.cons) → (length v.jobs.works ≤ distance_of v.ring.prod v.ring.cons) × (distance_of v.ring.prod v.ring.cons ≤ 512)) → HasRoom v → IsUsual v
+usual_at : (v : View) (s : Stage) → v.stage ≡ s → (IsRoomAt s (length v.jobs.works) (distance_of v.ring.indices.prod v.ring.indices.cons) → (length v.jobs.works ≤ distance_of v.ring.indices.prod v.ring.indices.cons) × (distance_of v.ring.indices.prod v.ring.indices.cons ≤ 512)) → HasRoom v → IsUsual v
 usual_at v s here usual h =
-    let room = usual (subst (λ (x : Stage). IsRoomAt x (length v.jobs.works) (distance_of v.ring.prod v.ring.cons)) here h.room) in
+    let room = usual (subst (λ (x : Stage). IsRoomAt x (length v.jobs.works) (distance_of v.ring.indices.prod v.ring.indices.cons)) here h.room) in
     (h.entries, h.prod, h.cons, room.0, room.1)
 
 loop_room : (v : View) (reply : Option Reply) (x : BackAnswer) → next_reply v ≡ reply → v.stage ≡ stage.Loop → IsUsual v → HasRoom (loop_step v reply x)
 loop_room v (Some r) x e here u =
     let fewer = reply_fewer v.jobs.works r (position (λ (t : Work). is_done t) v.jobs.works) refl e in
     record { entries = u.0; prod = u.1; cons = u.2; room = (let low = u.3 in omega arith, u.4) }
-loop_room v None (answer.Word word) e here u = by_test (requests_of v.ring v.seen == 0) refl
+loop_room v None (answer.Word word) e here u = by_test (requests_of v.ring.indices v.ring.seen == 0) refl
   where
-    by_test : (b : Bool) → (requests_of v.ring v.seen == 0) ≡ b → HasRoom (if b then looked v word (record v { seen = word; stage = stage.StoreEvent }) else record v { entry = word ∷ []; stage = stage.Fetch 1 })
-    by_test true t = looked_room v word (record v { seen = word; stage = stage.StoreEvent }) u (record { entries = u.0; prod = u.1; cons = u.2; room = (u.3, u.4) })
+    by_test : (b : Bool) → (requests_of v.ring.indices v.ring.seen == 0) ≡ b → HasRoom (if b then looked v word (record v { ring = record v.ring { seen = word }; stage = stage.StoreEvent }) else record v { ring = record v.ring { entry = word ∷ [] }; stage = stage.Fetch 1 })
+    by_test true t = looked_room v word (record v { ring = record v.ring { seen = word }; stage = stage.StoreEvent }) u (record { entries = u.0; prod = u.1; cons = u.2; room = (u.3, u.4) })
     by_test false t =
-        let some : requests_of v.ring v.seen ≢ 0 = grind (arith, nat_tests) in
+        let some : requests_of v.ring.indices v.ring.seen ≢ 0 = grind (arith, nat_tests) in
         let entries = u.0 in
         record { entries = u.0; prod = u.1; cons = u.2; room = (u.3, omega arith) }
 loop_room v None x e here u = record { entries = u.0; prod = u.1; cons = u.2; room = rw here (u.3, u.4) }
 
 -- the room of a stage, from where it stands
-room_at : (v : View) (s : Stage) → v.stage ≡ s → HasRoom v → IsRoomAt s (length v.jobs.works) (distance_of v.ring.prod v.ring.cons)
-room_at v s here h = subst (λ (x : Stage). IsRoomAt x (length v.jobs.works) (distance_of v.ring.prod v.ring.cons)) here h.room
+room_at : (v : View) (s : Stage) → v.stage ≡ s → HasRoom v → IsRoomAt s (length v.jobs.works) (distance_of v.ring.indices.prod v.ring.indices.cons)
+room_at v s here h = subst (λ (x : Stage). IsRoomAt x (length v.jobs.works) (distance_of v.ring.indices.prod v.ring.indices.cons)) here h.room
 
-one_more : (v : View) (words : List ℕ) (waiting : ℕ) → length v.jobs.works ≤ waiting → distance_of v.ring.prod (next_of v.ring.cons) ≡ waiting + 1
-    → length (fetched v words).jobs.works ≤ distance_of v.ring.prod (next_of v.ring.cons)
+one_more : (v : View) (words : List ℕ) (waiting : ℕ) → length v.jobs.works ≤ waiting → distance_of v.ring.indices.prod (next_of v.ring.indices.cons) ≡ waiting + 1
+    → length (fetched v words).jobs.works ≤ distance_of v.ring.indices.prod (next_of v.ring.indices.cons)
 one_more v words waiting low further = let longer : length (fetched v words).jobs.works ≡ length v.jobs.works + 1 = length-append v.jobs.works (_ ∷ []) in omega (arith, longer, low, further)
 
 fetch_room : (v : View) (k word : ℕ) → v.stage ≡ stage.Fetch k → HasRoom v → HasRoom (fetch_step v k word)
 fetch_room v k word here h = by_last (k + 1 == entry_words_of v.shape.abi)
   where
-    room : IsRoomAt (stage.Fetch k) (length v.jobs.works) (distance_of v.ring.prod v.ring.cons)
+    room : IsRoomAt (stage.Fetch k) (length v.jobs.works) (distance_of v.ring.indices.prod v.ring.indices.cons)
     room = room_at v (stage.Fetch k) here h
 
-    by_last : (b : Bool) → HasRoom (if b then fetched v (v.entry ++ word ∷ []) else record v { entry = v.entry ++ word ∷ []; stage = stage.Fetch (k + 1) })
+    by_last : (b : Bool) → HasRoom (if b then fetched v (v.ring.entry ++ word ∷ []) else record v { ring = record v.ring { entry = v.ring.entry ++ word ∷ [] }; stage = stage.Fetch (k + 1) })
     by_last true =
-        let further = one_further v.ring.prod v.ring.cons h.prod h.cons room.1 in
+        let further = one_further v.ring.indices.prod v.ring.indices.cons h.prod h.cons room.1 in
         let low = room.0 in
         let below = room.1 in
         record {
           entries = h.entries;
           prod = h.prod;
-          cons = next_below v.ring.cons;
-          room = (one_more v (v.entry ++ word ∷ []) (distance_of v.ring.prod v.ring.cons) low further, omega (arith, further, below));
+          cons = next_below v.ring.indices.cons;
+          room = (one_more v (v.ring.entry ++ word ∷ []) (distance_of v.ring.indices.prod v.ring.indices.cons) low further, omega (arith, further, below));
         }
     by_last false = record { entries = h.entries; prod = h.prod; cons = h.cons; room = room }
 
@@ -171,8 +171,8 @@ replied_room v r here h =
     let room = room_at v (stage.Producer r) here h in
     let low = room.0 in
     let high = room.1 in
-    let nearer = one_nearer v.ring.prod v.ring.cons h.prod h.cons (omega arith) in
-    record { entries = h.entries; prod = next_below v.ring.prod; cons = h.cons; room = (omega arith, omega arith) }
+    let nearer = one_nearer v.ring.indices.prod v.ring.indices.cons h.prod h.cons (omega arith) in
+    record { entries = h.entries; prod = next_below v.ring.indices.prod; cons = h.cons; room = (omega arith, omega arith) }
 
 -- pages that are left to unmap, or none
 unbound_room : (pages : List Mapping) (works waiting : ℕ) → works ≤ 512 → IsRoomAt (unbound pages) works waiting
@@ -199,7 +199,7 @@ step_room (stage.ReplyHigh r) v x here h = moves_on v (stage.ReplyLast r) (room_
 step_room (stage.ReplyLast r) v x here h = moves_on v (stage.Producer r) (room_at v (stage.ReplyLast r) here h) h
 step_room (stage.Producer r) v x here h = replied_room v r here h
 step_room (stage.ProducerFence old) v x here h = moves_on v (stage.ResponseEvent old) (room_at v (stage.ProducerFence old) here h) h
-step_room (stage.ResponseEvent old) v (answer.Word event) here h = sent (notifies old v.ring.prod event)
+step_room (stage.ResponseEvent old) v (answer.Word event) here h = sent (notifies old v.ring.indices.prod event)
   where
     sent : (b : Bool) → HasRoom (at (if b then stage.Send else stage.Loop) v)
     sent true = moves_on v stage.Send (room_at v (stage.ResponseEvent old) here h) h
@@ -209,7 +209,7 @@ step_room stage.StoreEvent v x here h = moves_on v stage.EventFence (room_at v s
 step_room stage.EventFence v x here h = moves_on v stage.LookAgain (room_at v stage.EventFence here h) h
 step_room stage.LookAgain v (answer.Word word) here h =
     let u = usual_at v stage.LookAgain here (λ r. r) h in
-    looked_room v word (record v { seen = word; stage = stage.Loop; asleep = true }) u (record { entries = u.0; prod = u.1; cons = u.2; room = (u.3, u.4) })
+    looked_room v word (record v { ring = record v.ring { seen = word; asleep = true }; stage = stage.Loop }) u (record { entries = u.0; prod = u.1; cons = u.2; room = (u.3, u.4) })
 step_room (stage.Abort m) v x here h = abort_room v (few_jobs v h) h.entries h.prod h.cons
 step_room stage.UnmapRing v x here h = record { entries = h.entries; prod = h.prod; cons = h.cons; room = bound_room (other_pages v.pages) _ _ (few_jobs v h) }
 step_room stage.ClosePort v x here h = moves_on v stage.Halted (few_jobs v h) h
@@ -228,7 +228,7 @@ halted_room why v h =
 -- and whatever terms it takes
 pub attached_room : (shape : Shape) (grefs : List ℕ) (port : ℕ) (v : View) → may_attach shape grefs v ≡ true → HasRoom v → HasRoom (attached shape grefs port v)
 attached_room shape grefs port v may h =
-    let none : IsRoomAt stage.InitWait (length v.jobs.works) (distance_of v.ring.prod v.ring.cons) = room_at v stage.InitWait (attaches_waiting shape grefs v may) h in
+    let none : IsRoomAt stage.InitWait (length v.jobs.works) (distance_of v.ring.indices.prod v.ring.indices.cons) = room_at v stage.InitWait (attaches_waiting shape grefs v may) h in
     let prod = h.prod in
     record { entries = few_entries shape.order (attaches_order shape grefs v may); prod = h.prod; cons = h.prod; room = (omega arith, omega arith) }
 
@@ -243,5 +243,5 @@ job_room v number x h = record {
   entries = h.entries;
   prod = h.prod;
   cons = h.cons;
-  room = subst (λ (n : ℕ). IsRoomAt v.stage n (distance_of v.ring.prod v.ring.cons)) (sym (told_as_many v.jobs.works (place_of v.jobs.works number) (work_of v.jobs.works number) x)) h.room;
+  room = subst (λ (n : ℕ). IsRoomAt v.stage n (distance_of v.ring.indices.prod v.ring.indices.cons)) (sym (told_as_many v.jobs.works (place_of v.jobs.works number) (work_of v.jobs.works number) x)) h.room;
 }

@@ -64,7 +64,7 @@ issue_fronts c v r (transfer.Discard sectors) = tt
 
 loop_fronts : (c : ChannelState) (v : front.View) (r : Option Request) → IsFronts c (front_ends.loop_ask v r)
 loop_fronts c v (Some r) = issue_fronts c v r r.transfer
-loop_fronts c v None = either_fronts c (v.asleep || front_ends.is_through v) front_ask.Wait _ tt (either_fronts c (responses_of v.ring v.seen == 0) (front_ask.Read front.ring_frame 2) (front_ask.Read (front.slot_frame v.shape v.ring.cons 0) (front.slot_word v.shape v.ring.cons 0)) tt tt)
+loop_fronts c v None = either_fronts c (v.ring.asleep || front_ends.is_through v) front_ask.Wait _ tt (either_fronts c (responses_of v.ring.indices v.ring.seen == 0) (front_ask.Read front.ring_frame 2) (front_ask.Read (front.slot_frame v.shape v.ring.indices.cons 0) (front.slot_word v.shape v.ring.indices.cons 0)) tt tt)
 
 issue_data_fronts : (c : ChannelState) (r : Option Request) (n : ℕ) → IsFronts c (front_ends.data_ask r n)
 issue_data_fronts c None n = tt
@@ -193,7 +193,7 @@ either_backs false x y p q = q
 
 loop_backs : (v : back.View) (r : Option Reply) → IsBacks (back_ends.loop_ask v r)
 loop_backs v (Some r) = tt
-loop_backs v None = either_backs v.asleep back_ask.Wait _ tt (either_backs (requests_of v.ring v.seen == 0) (back_ends.index_ask v 0) (back_ends.entry_ask v 0) tt tt)
+loop_backs v None = either_backs v.ring.asleep back_ask.Wait _ tt (either_backs (requests_of v.ring.indices v.ring.seen == 0) (back_ends.index_ask v 0) (back_ends.entry_ask v 0) tt tt)
 
 unmap_backs : (pages : List Mapping) → IsBacks (back_ends.unmap_ask pages)
 unmap_backs [] = tt

@@ -71,8 +71,8 @@ stays s v c here ported = (rw here ported, refl, refl)
 
 looked_fits : (v : View) (word : ℕ) (otherwise : View) (c : ChannelState) → Fits v c otherwise → Fits v c (looked v word otherwise)
 looked_fits v word otherwise c h =
-    either (nat_lt (distance_of v.ring.cons v.ring.prod) (distance_of v.ring.cons word)) (broken word v) (if word == v.ring.cons then otherwise else record v { seen = word; stage = stage.Loop }) v c (tt, refl, refl)
-    (either (word == v.ring.cons) otherwise (record v { seen = word; stage = stage.Loop }) v c h (tt, refl, refl))
+    either (nat_lt (distance_of v.ring.indices.cons v.ring.indices.prod) (distance_of v.ring.indices.cons word)) (broken word v) (if word == v.ring.indices.cons then otherwise else record v { ring = record v.ring { seen = word }; stage = stage.Loop }) v c (tt, refl, refl)
+    (either (word == v.ring.indices.cons) otherwise (record v { ring = record v.ring { seen = word }; stage = stage.Loop }) v c h (tt, refl, refl))
 
 begun_fits : (v : View) (r : Request) (way : Transfer) (c : ChannelState) → Fits v c (begun v r way)
 begun_fits v r transfer.Read c = (either_stage (is_indirect r.count) (stage.Pages 1) (stage.GrantFence 0) c tt tt, refl, refl)
@@ -96,9 +96,9 @@ granted_fits v (Some r) place c here = either (nat_lt (place + 1) (length r.fram
 loop_fits : (v : View) (r : Option Request) (x : FrontAnswer) (c : ChannelState) → v.stage ≡ stage.Loop → Fits v c (loop_step v r x)
 loop_fits v (Some r) x c here = begun_fits v r r.transfer c
 loop_fits v None (answer.Word word) c here =
-    either (responses_of v.ring v.seen == 0) (looked v word (record v { seen = word; stage = stage.StoreEvent })) (at (stage.ResponseHigh word) v) v c
-    (looked_fits v word (record v { seen = word; stage = stage.StoreEvent }) c (tt, refl, refl)) (tt, refl, refl)
-loop_fits v None answer.Event c here = stays stage.Loop (record v { asleep = false }) c here tt
+    either (responses_of v.ring.indices v.ring.seen == 0) (looked v word (record v { ring = record v.ring { seen = word }; stage = stage.StoreEvent })) (at (stage.ResponseHigh word) v) v c
+    (looked_fits v word (record v { ring = record v.ring { seen = word }; stage = stage.StoreEvent }) c (tt, refl, refl)) (tt, refl, refl)
+loop_fits v None answer.Event c here = stays stage.Loop (record v { ring = record v.ring { asleep = false } }) c here tt
 loop_fits v None x c here = stays stage.Loop v c here tt
 
 response_fits : (v : View) (response : Result Response ℕ) (low : ℕ) (found : Option (ℕ × Request)) (c : ChannelState) → Fits v c (response_at v response low found)
@@ -151,7 +151,7 @@ step_fits_at (stage.GrantFlags place) v x c here p = granted_fits v (next_reques
 step_fits_at (stage.Slot k) v x c here p = (either_stage (k + 1 == entry_words_of v.shape.abi) stage.Producer (stage.Slot (k + 1)) c tt tt, refl, refl)
 step_fits_at stage.Producer v x c here p = (tt, refl, refl)
 step_fits_at (stage.ProducerFence old) v x c here p = (tt, refl, refl)
-step_fits_at (stage.RequestEvent old) v (answer.Word event) c here p = (either_stage (notifies old v.ring.prod event) stage.Send stage.Loop c tt tt, refl, refl)
+step_fits_at (stage.RequestEvent old) v (answer.Word event) c here p = (either_stage (notifies old v.ring.indices.prod event) stage.Send stage.Loop c tt tt, refl, refl)
 step_fits_at stage.Send v x c here p = (tt, refl, refl)
 step_fits_at (stage.ResponseHigh low) v (answer.Word high) c here p = (tt, refl, refl)
 step_fits_at (stage.ResponseLast low high) v (answer.Word last) c here p = response_fits v (response_of (low ∷ high ∷ last ∷ [])) low (issued v (low + high * 2 ^ 32)) c
@@ -162,7 +162,7 @@ step_fits_at (stage.LeftData n) v (answer.Word word) c here p = left_fits v v.en
 step_fits_at (stage.LeftData n) v x c here p = stays (stage.LeftData n) v c here p
 step_fits_at stage.StoreEvent v x c here p = (tt, refl, refl)
 step_fits_at stage.EventFence v x c here p = (tt, refl, refl)
-step_fits_at stage.LookAgain v (answer.Word word) c here p = looked_fits v word (record v { seen = word; stage = stage.Loop; asleep = true }) c (tt, refl, refl)
+step_fits_at stage.LookAgain v (answer.Word word) c here p = looked_fits v word (record v { ring = record v.ring { seen = word; asleep = true }; stage = stage.Loop }) c (tt, refl, refl)
 step_fits_at (stage.RingRead page) v (answer.Word word) c here p = either (is_mapped word) (broken word v) (at (stage.RingEnd page word) v) v c (tt, refl, refl) (tt, refl, refl)
 step_fits_at (stage.RingEnd page before) v (answer.Word word) c here p = either (word == before) (at (ring_left v page) v) (broken word v) v c (either_stage (nat_lt (page + 1) (2 ^ v.shape.order)) (stage.RingRead (page + 1)) stage.ClosePort c tt tt, refl, refl) (tt, refl, refl)
 step_fits_at stage.ClosePort v x c here p = (tt, refl, refl)

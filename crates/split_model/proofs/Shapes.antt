@@ -38,8 +38,8 @@ either false x y s p q = q
 
 looked_shape : (v : View) (word : ℕ) (otherwise : View) → otherwise.shape ≡ v.shape → (looked v word otherwise).shape ≡ v.shape
 looked_shape v word otherwise h =
-    either (nat_lt (distance_of v.ring.cons v.ring.prod) (distance_of v.ring.cons word)) (broken word v) (if word == v.ring.cons then otherwise else record v { seen = word; stage = stage.Loop }) v.shape refl
-    (either (word == v.ring.cons) otherwise (record v { seen = word; stage = stage.Loop }) v.shape h refl)
+    either (nat_lt (distance_of v.ring.indices.cons v.ring.indices.prod) (distance_of v.ring.indices.cons word)) (broken word v) (if word == v.ring.indices.cons then otherwise else record v { ring = record v.ring { seen = word }; stage = stage.Loop }) v.shape refl
+    (either (word == v.ring.indices.cons) otherwise (record v { ring = record v.ring { seen = word }; stage = stage.Loop }) v.shape h refl)
 
 begun_shape : (v : View) (r : Request) (way : Transfer) → (begun v r way).shape ≡ v.shape
 begun_shape v r transfer.Read = refl
@@ -51,8 +51,8 @@ begun_shape v r (transfer.Discard sectors) = refl
 loop_shape : (v : View) (r : Option Request) (x : FrontAnswer) → (loop_step v r x).shape ≡ v.shape
 loop_shape v (Some r) x = begun_shape v r r.transfer
 loop_shape v None (answer.Word word) =
-    either (responses_of v.ring v.seen == 0) (looked v word (record v { seen = word; stage = stage.StoreEvent })) (at (stage.ResponseHigh word) v) v.shape
-    (looked_shape v word (record v { seen = word; stage = stage.StoreEvent }) refl) refl
+    either (responses_of v.ring.indices v.ring.seen == 0) (looked v word (record v { ring = record v.ring { seen = word }; stage = stage.StoreEvent })) (at (stage.ResponseHigh word) v) v.shape
+    (looked_shape v word (record v { ring = record v.ring { seen = word }; stage = stage.StoreEvent }) refl) refl
 loop_shape v None answer.Event = refl
 loop_shape v None x = refl
 
@@ -93,7 +93,7 @@ front_shape (stage.GrantRead place) v (answer.Word word) = either (is_mapped wor
 front_shape (stage.GrantEnd place before) v (answer.Word word) = either (word == before) (revoked v.ending place v) (broken word v) v.shape (revoked_shape v v.ending place) refl
 front_shape (stage.ReadData n) v (answer.Word word) = data_shape v v.ending n word
 front_shape (stage.LeftData n) v (answer.Word word) = left_shape v v.ending n word
-front_shape stage.LookAgain v (answer.Word word) = looked_shape v word (record v { seen = word; stage = stage.Loop; asleep = true }) refl
+front_shape stage.LookAgain v (answer.Word word) = looked_shape v word (record v { ring = record v.ring { seen = word; asleep = true }; stage = stage.Loop }) refl
 front_shape (stage.RingRead page) v (answer.Word word) = either (is_mapped word) (broken word v) (at (stage.RingEnd page word) v) v.shape refl refl
 front_shape (stage.RingEnd page before) v (answer.Word word) = either (word == before) (at (ring_left v page) v) (broken word v) v.shape refl refl
 front_shape (stage.RingWord k) v x = refl
@@ -145,10 +145,6 @@ entered_order state.Leaving v may = omega arith
 entered_order state.Closed v may = omega arith
 entered_order (state.Broken word) v may = omega arith
 
--- a ring of an order that is agreed has an entry for each request
-pub agreed_room : (order : ℕ) (v : View) → may_enter (state.Agreed order) v ≡ true → length v.requests ≤ entries_of order
-agreed_room order v may = is_low (length v.requests) (entries_of order) (third_of (is_unmade v.stage) (nat_le order v.shape.order) (nat_le (length v.requests) (entries_of order)) may)
-
 -- a ring has at most 512 entries
 pub few_entries : (order : ℕ) → order ≤ 4 → entries_of order ≤ 512
 few_entries order narrow = let few : 2 ^ order ≤ 2 ^ 4 = pow-le-pow_right (omega arith) narrow in omega arith
@@ -159,14 +155,14 @@ either_back false x y s p q = q
 
 looked_back : (v : back.View) (word : ℕ) (otherwise : back.View) → otherwise.shape ≡ v.shape → (back_step.looked v word otherwise).shape ≡ v.shape
 looked_back v word otherwise h =
-    either_back (overruns v.ring word) (back_step.overrun v word) (if word == v.ring.cons then otherwise else record v { seen = word; stage = back_stage.Loop }) v.shape refl
-    (either_back (word == v.ring.cons) otherwise (record v { seen = word; stage = back_stage.Loop }) v.shape h refl)
+    either_back (overruns v.ring.indices word) (back_step.overrun v word) (if word == v.ring.indices.cons then otherwise else record v { ring = record v.ring { seen = word }; stage = back_stage.Loop }) v.shape refl
+    (either_back (word == v.ring.indices.cons) otherwise (record v { ring = record v.ring { seen = word }; stage = back_stage.Loop }) v.shape h refl)
 
 loop_back : (v : back.View) (r : Option Reply) (x : BackAnswer) → (back_step.loop_step v r x).shape ≡ v.shape
 loop_back v (Some r) x = refl
 loop_back v None (back_answer.Word word) =
-    either_back (requests_of v.ring v.seen == 0) (back_step.looked v word (record v { seen = word; stage = back_stage.StoreEvent })) (record v { entry = word ∷ []; stage = back_stage.Fetch 1 }) v.shape
-    (looked_back v word (record v { seen = word; stage = back_stage.StoreEvent }) refl) refl
+    either_back (requests_of v.ring.indices v.ring.seen == 0) (back_step.looked v word (record v { ring = record v.ring { seen = word }; stage = back_stage.StoreEvent })) (record v { ring = record v.ring { entry = word ∷ [] }; stage = back_stage.Fetch 1 }) v.shape
+    (looked_back v word (record v { ring = record v.ring { seen = word }; stage = back_stage.StoreEvent }) refl) refl
 loop_back v None back_answer.Event = refl
 loop_back v None x = refl
 
@@ -176,9 +172,9 @@ back_shape_at back_stage.MapRing v (back_answer.MapRefused status) = refl
 back_shape_at back_stage.Bind v back_answer.Done = refl
 back_shape_at back_stage.Bind v back_answer.BindRefused = refl
 back_shape_at back_stage.Loop v x = loop_back v (next_reply v) x
-back_shape_at (back_stage.Fetch k) v (back_answer.Word word) = either_back (k + 1 == entry_words_of v.shape.abi) (back_step.fetched v (v.entry ++ word ∷ [])) (record v { entry = v.entry ++ word ∷ []; stage = back_stage.Fetch (k + 1) }) v.shape refl refl
+back_shape_at (back_stage.Fetch k) v (back_answer.Word word) = either_back (k + 1 == entry_words_of v.shape.abi) (back_step.fetched v (v.ring.entry ++ word ∷ [])) (record v { ring = record v.ring { entry = v.ring.entry ++ word ∷ [] }; stage = back_stage.Fetch (k + 1) }) v.shape refl refl
 back_shape_at (back_stage.ResponseEvent old) v (back_answer.Word event) = refl
-back_shape_at back_stage.LookAgain v (back_answer.Word word) = looked_back v word (record v { seen = word; stage = back_stage.Loop; asleep = true }) refl
+back_shape_at back_stage.LookAgain v (back_answer.Word word) = looked_back v word (record v { ring = record v.ring { seen = word; asleep = true }; stage = back_stage.Loop }) refl
 back_shape_at (back_stage.ReplyHigh r) v x = refl
 back_shape_at (back_stage.ReplyLast r) v x = refl
 back_shape_at (back_stage.Producer r) v x = refl

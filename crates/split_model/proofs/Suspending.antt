@@ -93,22 +93,5 @@ suspended_info w = back_cases (λ (b : back.View). b.jobs.info ≡ w.back.jobs.i
 pub suspended_told : (w : World) → (let v : World = suspended w in v.back.told) ≡ None
 suspended_told w = back_cases (λ (b : back.View). b.told ≡ None) w refl refl
 
--- no mapping and no port is there, and their numbers go on
-pub suspended_live : (w : World) → (let v : World = suspended w in v.under.grants.live) ≡ []
-suspended_live w = refl
-
-pub suspended_mappings : (w : World) → (let v : World = suspended w in v.under.grants.made) ≡ w.under.grants.made
-suspended_mappings w = refl
-
-pub suspended_ports : (w : World) → (let v : World = suspended w in v.under.channels.ports) ≡ []
-suspended_ports w = refl
-
 pub suspended_made : (w : World) → (let v : World = suspended w in v.under.channels.made) ≡ w.under.channels.made
 suspended_made w = refl
-
--- the guest's grant table, the frames 0 and 1, is cleared, and every other word stays
-pub suspended_table : (w : World) (frame word : ℕ) → frame < 2 → word < 1024 → word_of (let v : World = suspended w in v.under.pages) frame word ≡ 0
-suspended_table w frame word table within = cleared_word w.under.pages frame word table within
-
-pub suspended_word : (w : World) (frame word : ℕ) → 2 ≤ frame → word_of (let v : World = suspended w in v.under.pages) frame word ≡ word_of w.under.pages frame word
-suspended_word w frame word other = kept_word w.under.pages frame word other

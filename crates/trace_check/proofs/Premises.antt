@@ -49,9 +49,6 @@ from_refuse = rule.Refuse ∷ from_effect
 abbrev pub from_submit : List Rule
 from_submit = rule.Submit ∷ from_refuse
 
-abbrev pub from_state : List Rule
-from_state = rule.State ∷ from_submit
-
 abbrev pub from_overrun : List Rule
 from_overrun = rule.Overrun ∷ []
 
@@ -60,9 +57,6 @@ from_fetch = rule.Fetch ∷ from_overrun
 
 abbrev pub from_touch : List Rule
 from_touch = rule.Touch ∷ from_fetch
-
-abbrev pub from_coherent : List Rule
-from_coherent = rule.Coherent ∷ from_touch
 
 -- ---- at a line
 

@@ -49,15 +49,15 @@ unbound_open (page ∷ pages) = refl
 
 looked_open : (v : ring.View) (word : ℕ) (otherwise : ring.View) → is_open otherwise.stage ≡ true → is_open (looked v word otherwise).stage ≡ true
 looked_open v word otherwise h =
-    either (overruns v.ring word) (overrun v word) (if word == v.ring.cons then otherwise else record v { seen = word; stage = stage.Loop })
+    either (overruns v.ring.indices word) (overrun v word) (if word == v.ring.indices.cons then otherwise else record v { ring = record v.ring { seen = word }; stage = stage.Loop })
     (giving_open (first_mapping v.jobs.works))
-    (either (word == v.ring.cons) otherwise (record v { seen = word; stage = stage.Loop }) h refl)
+    (either (word == v.ring.indices.cons) otherwise (record v { ring = record v.ring { seen = word }; stage = stage.Loop }) h refl)
 
 loop_open : (v : ring.View) (r : Option Reply) (given : BackAnswer) → is_open v.stage ≡ true → is_open (loop_step v r given).stage ≡ true
 loop_open v (Some r) given h = refl
 loop_open v None (answer.Word word) h =
-    either (requests_of v.ring v.seen == 0) (looked v word (record v { seen = word; stage = stage.StoreEvent })) (record v { entry = word ∷ []; stage = stage.Fetch 1 })
-    (looked_open v word (record v { seen = word; stage = stage.StoreEvent }) refl)
+    either (requests_of v.ring.indices v.ring.seen == 0) (looked v word (record v { ring = record v.ring { seen = word }; stage = stage.StoreEvent })) (record v { ring = record v.ring { entry = word ∷ [] }; stage = stage.Fetch 1 })
+    (looked_open v word (record v { ring = record v.ring { seen = word }; stage = stage.StoreEvent }) refl)
     refl
 loop_open v None given h = h
 
@@ -66,11 +66,11 @@ opened stage.InitWait v given o h = absurd (cc)
 opened stage.MapRing v given o h = absurd (cc)
 opened stage.Bind v given o h = absurd (cc)
 opened stage.Loop v given o h = loop_open v (next_reply v) given o
-opened (stage.Fetch k) v (answer.Word word) o h = either (k + 1 == entry_words_of v.shape.abi) (fetched v (v.entry ++ word ∷ [])) (record v { entry = v.entry ++ word ∷ []; stage = stage.Fetch (k + 1) }) refl refl
+opened (stage.Fetch k) v (answer.Word word) o h = either (k + 1 == entry_words_of v.shape.abi) (fetched v (v.ring.entry ++ word ∷ [])) (record v { ring = record v.ring { entry = v.ring.entry ++ word ∷ [] }; stage = stage.Fetch (k + 1) }) refl refl
 opened (stage.Fetch k) v given o h = o
-opened (stage.ResponseEvent old) v (answer.Word event) o h = either_stage (notifies old v.ring.prod event) stage.Send stage.Loop refl refl
+opened (stage.ResponseEvent old) v (answer.Word event) o h = either_stage (notifies old v.ring.indices.prod event) stage.Send stage.Loop refl refl
 opened (stage.ResponseEvent old) v given o h = o
-opened stage.LookAgain v (answer.Word word) o h = looked_open v word (record v { seen = word; stage = stage.Loop; asleep = true }) refl
+opened stage.LookAgain v (answer.Word word) o h = looked_open v word (record v { ring = record v.ring { seen = word; asleep = true }; stage = stage.Loop }) refl
 opened stage.LookAgain v given o h = o
 opened (stage.Abort m) v given o h = giving_open (first_mapping v.jobs.works)
 opened stage.UnmapRing v given o h = bound_open (other_pages v.pages)

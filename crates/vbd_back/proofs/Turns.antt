@@ -59,8 +59,8 @@ either_none false x y p q = q
 loop_none : (v : ring.View) (r : Option Reply) → names_none (ring_ask.loop_ask v r) ≡ true
 loop_none v (Some r) = refl
 loop_none v None =
-    either_none v.asleep ask.Wait (if requests_of v.ring v.seen == 0 then ring_ask.index_ask v 0 else ring_ask.entry_ask v 0) refl
-    (either_none (requests_of v.ring v.seen == 0) (ring_ask.index_ask v 0) (ring_ask.entry_ask v 0) refl refl)
+    either_none v.ring.asleep ask.Wait (if requests_of v.ring.indices v.ring.seen == 0 then ring_ask.index_ask v 0 else ring_ask.entry_ask v 0) refl
+    (either_none (requests_of v.ring.indices v.ring.seen == 0) (ring_ask.index_ask v 0) (ring_ask.entry_ask v 0) refl refl)
 
 unmap_none : (pages : List Mapping) → names_none (ring_ask.unmap_ask pages) ≡ true
 unmap_none [] = refl

@@ -33,8 +33,8 @@ staged false s s' p q = q
 
 looked_stays : (v : View) (word : ℕ) (otherwise : View) → IsMade otherwise → IsMade (looked v word otherwise)
 looked_stays v word otherwise p =
-    either (nat_lt (distance_of v.ring.cons v.ring.prod) (distance_of v.ring.cons word)) (broken word v) (if word == v.ring.cons then otherwise else record v { seen = word; stage = stage.Loop }) refl
-    (either (word == v.ring.cons) otherwise (record v { seen = word; stage = stage.Loop }) p refl)
+    either (nat_lt (distance_of v.ring.indices.cons v.ring.indices.prod) (distance_of v.ring.indices.cons word)) (broken word v) (if word == v.ring.indices.cons then otherwise else record v { ring = record v.ring { seen = word }; stage = stage.Loop }) refl
+    (either (word == v.ring.indices.cons) otherwise (record v { ring = record v.ring { seen = word }; stage = stage.Loop }) p refl)
 
 begun_stays : (v : View) (r : Request) (way : Transfer) → IsMade (begun v r way)
 begun_stays v r transfer.Read = staged (is_indirect r.count) (stage.Pages 1) (stage.GrantFence 0) refl refl
@@ -46,8 +46,8 @@ begun_stays v r (transfer.Discard sectors) = refl
 loop_stays : (v : View) (next : Option Request) (a : FrontAnswer) → IsMade v → IsMade (loop_step v next a)
 loop_stays v (Some r) a h = begun_stays v r r.transfer
 loop_stays v None (answer.Word word) h =
-    either (responses_of v.ring v.seen == 0) (looked v word (record v { seen = word; stage = stage.StoreEvent })) (at (stage.ResponseHigh word) v)
-    (looked_stays v word (record v { seen = word; stage = stage.StoreEvent }) refl) refl
+    either (responses_of v.ring.indices v.ring.seen == 0) (looked v word (record v { ring = record v.ring { seen = word }; stage = stage.StoreEvent })) (at (stage.ResponseHigh word) v)
+    (looked_stays v word (record v { ring = record v.ring { seen = word }; stage = stage.StoreEvent }) refl) refl
 loop_stays v None a h = h
 
 response_stays : (v : View) (response : Result Response ℕ) (low : ℕ) (found : Option (ℕ × Request)) → IsMade (response_at v response low found)
@@ -92,7 +92,7 @@ stays (stage.Data n) v a h c = data_stage_stays (next_request v) n
 stays (stage.Pages n) v a h c = page_stage_stays (next_request v) n
 stays (stage.GrantFlags place) v a h c = granted_stays v (next_request v) place h
 stays (stage.Slot k) v a h c = staged (k + 1 == entry_words_of v.shape.abi) stage.Producer (stage.Slot (k + 1)) refl refl
-stays (stage.RequestEvent old) v (answer.Word event) h c = staged (notifies old v.ring.prod event) stage.Send stage.Loop refl refl
+stays (stage.RequestEvent old) v (answer.Word event) h c = staged (notifies old v.ring.indices.prod event) stage.Send stage.Loop refl refl
 stays (stage.RequestEvent old) v a h c = h
 stays (stage.ResponseHigh low) v (answer.Word high) h c = refl
 stays (stage.ResponseHigh low) v a h c = h
@@ -104,7 +104,7 @@ stays (stage.GrantEnd place before) v (answer.Word word) h c = either (word == b
 stays (stage.GrantEnd place before) v a h c = h
 stays (stage.ReadData n) v (answer.Word word) h c = data_stays v v.ending n word h
 stays (stage.ReadData n) v a h c = h
-stays stage.LookAgain v (answer.Word word) h c = looked_stays v word (record v { seen = word; stage = stage.Loop; asleep = true }) refl
+stays stage.LookAgain v (answer.Word word) h c = looked_stays v word (record v { ring = record v.ring { seen = word; asleep = true }; stage = stage.Loop }) refl
 stays stage.LookAgain v a h c = h
 stays (stage.RingRead page) v (answer.Word word) h c = either (is_mapped word) (broken word v) (at (stage.RingEnd page word) v) refl refl
 stays (stage.RingRead page) v a h c = h

@@ -101,8 +101,8 @@ issue_of_ring v r (transfer.Discard sectors) = tt
 loop_of_ring : (v : Ring) (next : Option Request) → IsOfRing (ring.loop_ask v next)
 loop_of_ring v (Some r) = issue_of_ring v r r.transfer
 loop_of_ring v None =
-    let read = if responses_of v.ring v.seen == 0 then ask.Read ring_frame 2 else ask.Read (slot_frame v.shape v.ring.cons 0) (slot_word v.shape v.ring.cons 0) in
-    either (v.asleep || ring.is_through v) ask.Wait read tt (either (responses_of v.ring v.seen == 0) (ask.Read ring_frame 2) (ask.Read (slot_frame v.shape v.ring.cons 0) (slot_word v.shape v.ring.cons 0)) tt tt)
+    let read = if responses_of v.ring.indices v.ring.seen == 0 then ask.Read ring_frame 2 else ask.Read (slot_frame v.shape v.ring.indices.cons 0) (slot_word v.shape v.ring.indices.cons 0) in
+    either (v.ring.asleep || ring.is_through v) ask.Wait read tt (either (responses_of v.ring.indices v.ring.seen == 0) (ask.Read ring_frame 2) (ask.Read (slot_frame v.shape v.ring.indices.cons 0) (slot_word v.shape v.ring.indices.cons 0)) tt tt)
 
 of_ring : (s : Stage) (v : Ring) → IsOfRing (ring.ask_at s v)
 of_ring stage.Loop v = loop_of_ring v (next_request v)

@@ -85,7 +85,7 @@ use Rattle.vbd_laws.proofs.Fit.{fit_start, fit_happens}
 
 -- where the front reads a response it has read its first words; it reads a key of its stage; and the back has the order that it read last
 record Knows (before : List Line) (w : World) : Type 0 where
-  reads : HasRead w.rings.front.stage w.rings.front.shape w.rings.front.ring.cons (words_read before)
+  reads : HasRead w.rings.front.stage w.rings.front.shape w.rings.front.ring.indices.cons (words_read before)
   placed : IsPlaced w.front.stage
   order : order_read before ≡ w.back.terms.order
 
@@ -97,9 +97,9 @@ record Goes (before : List Line) (w : World) (h : Happening) : Type 0 where
 record IsSame (v x : front.View) : Type 0 where
   stage : x.stage ≡ v.stage
   shape : x.shape ≡ v.shape
-  cons : x.ring.cons ≡ v.ring.cons
+  cons : x.ring.indices.cons ≡ v.ring.indices.cons
 
-knows_on : (before ls : List Line) (v x : front.View) → words_read ls ≡ [] → IsSame v x → HasRead v.stage v.shape v.ring.cons (words_read before) → HasRead x.stage x.shape x.ring.cons (words_read (before ++ ls))
+knows_on : (before ls : List Line) (v x : front.View) → words_read ls ≡ [] → IsSame v x → HasRead v.stage v.shape v.ring.indices.cons (words_read before) → HasRead x.stage x.shape x.ring.indices.cons (words_read (before ++ ls))
 knows_on before ls v x none same has = rw (words_same before ls none, same.stage, same.shape, same.cons) has
 
 -- what each negotiation knows stays
@@ -277,8 +277,8 @@ front_one w before (Some a) fit has e =
     let same : words_read (before ++ lines.Move a.shown ∷ more) ≡ words_read (before ++ lines.Move a.shown ∷ []) =
     ap words_read (sym (append_assoc before (lines.Move a.shown ∷ []) more))
     ∙ words_same (before ++ lines.Move a.shown ∷ []) more (both_none (front_lines v.ring.told) (news_lines v.news) (front_words v.ring.told) (news_words v.news)) in
-    let reads : HasRead v.ring.stage v.ring.shape v.ring.ring.cons (words_read (before ++ lines.Move a.shown ∷ more)) =
-    subst (λ (l : List Move). HasRead v.ring.stage v.ring.shape v.ring.ring.cons l) (sym same) goes.reads in
+    let reads : HasRead v.ring.stage v.ring.shape v.ring.ring.indices.cons (words_read (before ++ lines.Move a.shown ∷ more)) =
+    subst (λ (l : List Move). HasRead v.ring.stage v.ring.shape v.ring.ring.indices.cons l) (sym same) goes.reads in
     record {
       caused = subst (λ (ls : List Line). AreCausedFrom before ls) (sym is.lines) (tt, goes.caused);
       knows = subst (λ (ls : List Line). Knows (before ++ ls) (happens w FrontMoves)) (sym is.lines) (subst (λ (x : World). Knows (before ++ lines.Move a.shown ∷ more) x) (sym is.world) (record {
@@ -299,8 +299,8 @@ back_one w before (Some a) fit has e =
     let none : words_read (lines.Move a.shown ∷ (told ++ halts)) ≡ [] =
     both_none (lines.Move a.shown ∷ []) (told ++ halts) (plain_words (lines.Move a.shown ∷ []) (back_plain w.rings.under back_mover.Back (back.ask_of (backend_of w)) Took a e, tt))
     (both_none told halts (plain_words told (told_plain v.ring.told a.answer)) (halt_words w.rings.back.halted v.ring.halted)) in
-    let reads : HasRead w.rings.front.stage w.rings.front.shape w.rings.front.ring.cons (words_read (before ++ lines.Move a.shown ∷ (told ++ halts))) =
-    subst (λ (l : List Move). HasRead w.rings.front.stage w.rings.front.shape w.rings.front.ring.cons l) (sym (words_same before (lines.Move a.shown ∷ (told ++ halts)) none)) has.reads in
+    let reads : HasRead w.rings.front.stage w.rings.front.shape w.rings.front.ring.indices.cons (words_read (before ++ lines.Move a.shown ∷ (told ++ halts))) =
+    subst (λ (l : List Move). HasRead w.rings.front.stage w.rings.front.shape w.rings.front.ring.indices.cons l) (sym (words_same before (lines.Move a.shown ∷ (told ++ halts)) none)) has.reads in
     record {
       caused = subst (λ (ls : List Line). AreCausedFrom before ls) (sym is.lines) (tt, back_caused w before a fit has.order e);
       knows = subst (λ (ls : List Line). Knows (before ++ ls) (happens w BackMoves)) (sym is.lines) (subst (λ (x : World). Knows (before ++ lines.Move a.shown ∷ (told ++ halts)) x) (sym is.world) (record {
@@ -324,25 +324,25 @@ job_front w k None = record { stage = refl; shape = refl; cons = refl }
 job_front w k (Some a) = record { stage = refl; shape = refl; cons = refl }
 
 -- a submission
-either_cons : (b : Bool) (n : ℕ) (x y : Result ℕ Refusal × front.View) → x.1.ring.cons ≡ n → y.1.ring.cons ≡ n → (if b then x else y).1.ring.cons ≡ n
+either_cons : (b : Bool) (n : ℕ) (x y : Result ℕ Refusal × front.View) → x.1.ring.indices.cons ≡ n → y.1.ring.indices.cons ≡ n → (if b then x else y).1.ring.indices.cons ≡ n
 either_cons true n x y p q = p
 either_cons false n x y p q = q
 
-cons_with : (v : front.View) (wish : Wish) (taken : Option (List ℕ × List Bool)) → (submit_with v wish taken).1.ring.cons ≡ v.ring.cons
+cons_with : (v : front.View) (wish : Wish) (taken : Option (List ℕ × List Bool)) → (submit_with v wish taken).1.ring.indices.cons ≡ v.ring.indices.cons
 cons_with v wish None = refl
 cons_with v wish (Some taken) = refl
 
-cons_one : (v : front.View) (wish : Option Wish) → (submit_one v wish).1.ring.cons ≡ v.ring.cons
+cons_one : (v : front.View) (wish : Option Wish) → (submit_one v wish).1.ring.indices.cons ≡ v.ring.indices.cons
 cons_one v None = refl
 cons_one v (Some wish) =
-    either_cons (is_write wish.transfer && v.read_only) v.ring.cons _ _ refl
-    (either_cons (nat_lt v.sectors (wish.sector + named_of wish.transfer wish.count)) v.ring.cons _ _ refl
-    (either_cons (nat_lt (most_segments v.offers wish.transfer) (frames_for wish.count)) v.ring.cons _ _ refl
-    (either_cons (nat_le (entries_of v.shape.order) (unfinished v)) v.ring.cons _ _ refl (cons_with v wish (taking (frames_taken wish.count) v.pool [])))))
+    either_cons (is_write wish.transfer && v.read_only) v.ring.indices.cons _ _ refl
+    (either_cons (nat_lt v.sectors (wish.sector + named_of wish.transfer wish.count)) v.ring.indices.cons _ _ refl
+    (either_cons (nat_lt (most_segments v.offers wish.transfer) (frames_for wish.count)) v.ring.indices.cons _ _ refl
+    (either_cons (nat_le (entries_of v.shape.order) (unfinished v)) v.ring.indices.cons _ _ refl (cons_with v wish (taking (frames_taken wish.count) v.pool [])))))
 
-cons_submit : (v : front.View) (job : Job) → (submit_of v job).1.ring.cons ≡ v.ring.cons
+cons_submit : (v : front.View) (job : Job) → (submit_of v job).1.ring.indices.cons ≡ v.ring.indices.cons
 cons_submit v job =
-    either_cons (v.last == 4294967295) v.ring.cons _ _ refl (either_cons v.closing v.ring.cons _ _ refl (either_cons (not (is_ready v.stage)) v.ring.cons _ _ refl (cons_one v (wish_of v.offers job))))
+    either_cons (v.last == 4294967295) v.ring.indices.cons _ _ refl (either_cons v.closing v.ring.indices.cons _ _ refl (either_cons (not (is_ready v.stage)) v.ring.indices.cons _ _ refl (cons_one v (wish_of v.offers job))))
 
 submit_plain : (job : Job) (r : Result ℕ Refusal) → AreIdle (ring.submit_line job r ∷ [])
 submit_plain job (Ok number) = (refl, tt)
@@ -373,7 +373,7 @@ front_closes w before fit has =
     let is : IsClose w end.Front = close_is w end.Front fit in
     let plain : ArePlain (close_lines w end.Front) = closing_lines (may_enter enter.Closing w.rings.front) in
     let reads : HasRead _ _ _ (words_read (before ++ close_lines w end.Front)) =
-    entered_read enter.Closing w.rings.front _ (subst (λ (l : List Move). HasRead w.rings.front.stage w.rings.front.shape w.rings.front.ring.cons l) (sym (words_same before (close_lines w end.Front) (plain_words (close_lines w end.Front) plain))) has.reads) in
+    entered_read enter.Closing w.rings.front _ (subst (λ (l : List Move). HasRead w.rings.front.stage w.rings.front.shape w.rings.front.ring.indices.cons l) (sym (words_same before (close_lines w end.Front) (plain_words (close_lines w end.Front) plain))) has.reads) in
     record {
       caused = subst (λ (ls : List Line). AreCausedFrom before ls) (sym is.lines) (plain_caused before (close_lines w end.Front) plain);
       knows = subst (λ (ls : List Line). Knows (before ++ ls) (happens w (Closes end.Front))) (sym is.lines) (subst (λ (x : World). Knows (before ++ close_lines w end.Front) x) (sym is.world) (record {
@@ -397,9 +397,9 @@ suspends_to w before has = by_may (rings.may_suspend w.rings)
     same : words_read anew ≡ words_read before
     same = words_same before (lines.Epoch ∷ []) refl
 
-    reads_anew : (opened : Bool) → (let v : front.View = (if opened then resumed w.rings.front else w.rings.front) in HasRead v.stage v.shape v.ring.cons (words_read anew))
+    reads_anew : (opened : Bool) → (let v : front.View = (if opened then resumed w.rings.front else w.rings.front) in HasRead v.stage v.shape v.ring.indices.cons (words_read anew))
     reads_anew true = resumed_read w.rings.front (words_read anew)
-    reads_anew false = subst (λ (l : List Move). HasRead w.rings.front.stage w.rings.front.shape w.rings.front.ring.cons l) (sym same) has.reads
+    reads_anew false = subst (λ (l : List Move). HasRead w.rings.front.stage w.rings.front.shape w.rings.front.ring.indices.cons l) (sym same) has.reads
 
     placed_anew : (opened : Bool) → (let v : FrontView = (if opened then front_suspended w.front else w.front) in IsPlaced v.stage)
     placed_anew true = suspended_placed w.front has.placed

@@ -181,28 +181,28 @@ led_halts before None false b r shown quiet running cause = goes_on before shown
 -- a producer was read
 looked_halts : (before : List Line) (number frame word : ℕ) (v otherwise : View) → v.halted ≡ None → v.told ≡ None → otherwise.halted ≡ None → Halts before (moves.Read back_mover.Back number frame 0 word) (looked v word otherwise)
 looked_halts before number frame word v otherwise running quiet same =
-    either before (overruns v.ring word) _ (overrun v word) (if word == v.ring.cons then otherwise else record v { seen = word; stage = stage.Loop })
-    (halts_for before _ (overrun v word) (halt.Overrun word v.ring.prod) refl quiet (refl, refl))
-    (either before (word == v.ring.cons) _ otherwise (record v { seen = word; stage = stage.Loop }) (goes_on before _ otherwise same) (goes_on before _ (record v { seen = word; stage = stage.Loop }) running))
+    either before (overruns v.ring.indices word) _ (overrun v word) (if word == v.ring.indices.cons then otherwise else record v { ring = record v.ring { seen = word }; stage = stage.Loop })
+    (halts_for before _ (overrun v word) (halt.Overrun word v.ring.indices.prod) refl quiet (refl, refl))
+    (either before (word == v.ring.indices.cons) _ otherwise (record v { ring = record v.ring { seen = word }; stage = stage.Loop }) (goes_on before _ otherwise same) (goes_on before _ (record v { ring = record v.ring { seen = word }; stage = stage.Loop }) running))
 
 -- in the loop
-look_halts : (before : List Line) (number frame word : ℕ) (v : View) → (requests_of v.ring v.seen == 0) ≡ true → v.halted ≡ None → v.told ≡ None → Halts before (moves.Read back_mover.Back number frame 0 word) (loop_word v word)
+look_halts : (before : List Line) (number frame word : ℕ) (v : View) → (requests_of v.ring.indices v.ring.seen == 0) ≡ true → v.halted ≡ None → v.told ≡ None → Halts before (moves.Read back_mover.Back number frame 0 word) (loop_word v word)
 look_halts before number frame word v none running quiet =
-    subst (λ (b : Bool). Halts before (moves.Read back_mover.Back number frame 0 word) (if b then looked v word (record v { seen = word; stage = stage.StoreEvent }) else record v { entry = word ∷ []; stage = stage.Fetch 1 })) (sym none)
-    (looked_halts before number frame word v (record v { seen = word; stage = stage.StoreEvent }) running quiet running)
+    subst (λ (b : Bool). Halts before (moves.Read back_mover.Back number frame 0 word) (if b then looked v word (record v { ring = record v.ring { seen = word }; stage = stage.StoreEvent }) else record v { ring = record v.ring { entry = word ∷ [] }; stage = stage.Fetch 1 })) (sym none)
+    (looked_halts before number frame word v (record v { ring = record v.ring { seen = word }; stage = stage.StoreEvent }) running quiet running)
 
-first_halts : (before : List Line) (shown : Move) (word : ℕ) (v : View) → (requests_of v.ring v.seen == 0) ≡ false → v.halted ≡ None → Halts before shown (loop_word v word)
+first_halts : (before : List Line) (shown : Move) (word : ℕ) (v : View) → (requests_of v.ring.indices v.ring.seen == 0) ≡ false → v.halted ≡ None → Halts before shown (loop_word v word)
 first_halts before shown word v some running =
-    subst (λ (b : Bool). Halts before shown (if b then looked v word (record v { seen = word; stage = stage.StoreEvent }) else record v { entry = word ∷ []; stage = stage.Fetch 1 })) (sym some)
-    (goes_on before shown (record v { entry = word ∷ []; stage = stage.Fetch 1 }) running)
+    subst (λ (b : Bool). Halts before shown (if b then looked v word (record v { ring = record v.ring { seen = word }; stage = stage.StoreEvent }) else record v { ring = record v.ring { entry = word ∷ [] }; stage = stage.Fetch 1 })) (sym some)
+    (goes_on before shown (record v { ring = record v.ring { entry = word ∷ [] }; stage = stage.Fetch 1 }) running)
 
 loop_halts : (before : List Line) (v : View) (r : Option Reply) (h : Hypervisor) (a : BackAct) → v.halted ≡ None → v.told ≡ None → back_act h back_mover.Back (loop_ask v r) Took ≡ Some a → Halts before a.shown (loop_step v r a.answer)
 loop_halts before v (Some r) h a running quiet e = goes_on before a.shown (loop_step v (Some r) a.answer) running
-loop_halts before v None h a running quiet e = by_test v.asleep (requests_of v.ring v.seen == 0) refl e
+loop_halts before v None h a running quiet e = by_test v.ring.asleep (requests_of v.ring.indices v.ring.seen == 0) refl e
   where
-    by_test : (b c : Bool) → (requests_of v.ring v.seen == 0) ≡ c → back_act h back_mover.Back (if b then back_ask.Wait else (if c then index_ask v 0 else entry_ask v 0)) Took ≡ Some a → Halts before a.shown (loop_step v None a.answer)
+    by_test : (b c : Bool) → (requests_of v.ring.indices v.ring.seen == 0) ≡ c → back_act h back_mover.Back (if b then back_ask.Wait else (if c then index_ask v 0 else entry_ask v 0)) Took ≡ Some a → Halts before a.shown (loop_step v None a.answer)
     by_test true c is acts =
-        back_wait (λ (x : BackAct). Halts before x.shown (loop_step v None x.answer)) h back_mover.Back a (goes_on before _ (record v { asleep = false }) running) (λ path. goes_on before _ v running) acts
+        back_wait (λ (x : BackAct). Halts before x.shown (loop_step v None x.answer)) h back_mover.Back a (goes_on before _ (record v { ring = record v.ring { asleep = false } }) running) (λ path. goes_on before _ v running) acts
     by_test false true is acts = of_back (λ (x : BackAct). Halts before x.shown (loop_step v None x.answer)) _ a (look_halts before _ _ _ v is running quiet) acts
     by_test false false is acts = of_back (λ (x : BackAct). Halts before x.shown (loop_step v None x.answer)) _ a (first_halts before _ _ v is running) acts
 
@@ -211,14 +211,14 @@ map_halts : (before : List Line) (v : View) (h : Hypervisor) (gref : ℕ) (r : R
 map_halts before v h gref (Ok frame) is running quiet = goes_on before _ (step_at stage.MapRing v (answer.Mapped (next_mapping h.grants gref ReadWrite))) running
 map_halts before v h gref (Err refusal) is running quiet = halts_for before _ (step_at stage.MapRing v (answer.MapRefused (status_of refusal))) (halt.MapRefused (next_gref v) (status_of refusal)) refl quiet (sym is, refl)
 
-bind_halts : (before : List Line) (v : View) (h : Hypervisor) (s : PortState) → v.halted ≡ None → v.told ≡ None → (let x : BackAct = bind_act h v.port s in Halts before x.shown (step_at stage.Bind v x.answer))
+bind_halts : (before : List Line) (v : View) (h : Hypervisor) (s : PortState) → v.halted ≡ None → v.told ≡ None → (let x : BackAct = bind_act h v.ring.port s in Halts before x.shown (step_at stage.Bind v x.answer))
 bind_halts before v h port.Unbound running quiet = goes_on before _ (step_at stage.Bind v answer.Done) running
-bind_halts before v h s running quiet = halts_for before _ (step_at stage.Bind v answer.BindRefused) (halt.BadPort v.port) refl quiet refl
+bind_halts before v h s running quiet = halts_for before _ (step_at stage.Bind v answer.BindRefused) (halt.BadPort v.ring.port) refl quiet refl
 
 fetch_halts : (before : List Line) (v : View) (k : ℕ) (x : BackAnswer) (shown : Move) → v.halted ≡ None → Halts before shown (step_at (stage.Fetch k) v x)
 fetch_halts before v k (answer.Word word) shown running =
-    either before (k + 1 == entry_words_of v.shape.abi) shown (fetched v (v.entry ++ word ∷ [])) (record v { entry = v.entry ++ word ∷ []; stage = stage.Fetch (k + 1) }) (goes_on before shown (fetched v (v.entry ++ word ∷ [])) running)
-    (goes_on before shown (record v { entry = v.entry ++ word ∷ []; stage = stage.Fetch (k + 1) }) running)
+    either before (k + 1 == entry_words_of v.shape.abi) shown (fetched v (v.ring.entry ++ word ∷ [])) (record v { ring = record v.ring { entry = v.ring.entry ++ word ∷ [] }; stage = stage.Fetch (k + 1) }) (goes_on before shown (fetched v (v.ring.entry ++ word ∷ [])) running)
+    (goes_on before shown (record v { ring = record v.ring { entry = v.ring.entry ++ word ∷ [] }; stage = stage.Fetch (k + 1) }) running)
 fetch_halts before v k x shown running = goes_on before shown v running
 
 event_halts : (before : List Line) (v : View) (old : ℕ) (x : BackAnswer) (shown : Move) → v.halted ≡ None → Halts before shown (step_at (stage.ResponseEvent old) v x)
@@ -229,7 +229,7 @@ event_halts before v old x shown running = goes_on before shown v running
 ring_halts : (before : List Line) (s : Stage) (v : View) (h : Hypervisor) (a : BackAct) → v.halted ≡ None → v.told ≡ None → back_act h back_mover.Back (ask_at s v) Took ≡ Some a → Halts before a.shown (step_at s v a.answer)
 ring_halts before stage.MapRing v h a running quiet e =
     of_back (λ (x : BackAct). Halts before x.shown (step_at stage.MapRing v x.answer)) _ a (map_halts before v h (next_gref v) (verdict_at h.pages (next_gref v) ReadWrite) refl running quiet) e
-ring_halts before stage.Bind v h a running quiet e = of_back (λ (x : BackAct). Halts before x.shown (step_at stage.Bind v x.answer)) _ a (bind_halts before v h (state_of h.channels v.port) running quiet) e
+ring_halts before stage.Bind v h a running quiet e = of_back (λ (x : BackAct). Halts before x.shown (step_at stage.Bind v x.answer)) _ a (bind_halts before v h (state_of h.channels v.ring.port) running quiet) e
 ring_halts before stage.Loop v h a running quiet e = loop_halts before v (next_reply v) h a running quiet e
 ring_halts before stage.LookAgain v h a running quiet e = of_back (λ (x : BackAct). Halts before x.shown (step_at stage.LookAgain v x.answer)) _ a (looked_halts before _ _ _ v _ running quiet running) e
 ring_halts before (stage.Fetch k) v h a running quiet e = fetch_halts before v k a.answer a.shown running

@@ -88,7 +88,7 @@ unmade (stage.ResponseLast low high) e = absurd (true≢false (sym e))
 unmade s e = refl
 
 abbrev Read : ring.View → List Move → Type 0
-Read f reads = HasRead f.stage f.shape f.ring.cons reads
+Read f reads = HasRead f.stage f.shape f.ring.indices.cons reads
 
 in_state_read : (s : FrontState) (f : ring.View) (reads : List Move) → may_enter s f ≡ true → Read f reads → Read (in_state s f) reads
 in_state_read (enter.Agreed order) f reads may has = unread f.stage _ _ reads (unmade f.stage (both_true (is_unmade f.stage) (nat_le order f.shape.order) (both_true _ _ may).0).0)
@@ -202,7 +202,7 @@ key_breaks h s v idle a word before placed e = λ n. absurd (none-some _ n)
 -- what holds of the front after its move
 pub record FrontGoes (before : List Line) (a : FrontAct) (v : front_view.View) : Type 0 where
   pub caused : AreCausedFrom (before ++ lines.Move a.shown ∷ []) (front_lines v.ring.told ++ news_lines v.news)
-  pub reads : HasRead v.ring.stage v.ring.shape v.ring.ring.cons (words_read (before ++ lines.Move a.shown ∷ []))
+  pub reads : HasRead v.ring.stage v.ring.shape v.ring.ring.indices.cons (words_read (before ++ lines.Move a.shown ∷ []))
   pub placed : IsPlaced v.bus.stage
 
 abbrev FrontOf : World → List Line → FrontAct → List ring_happens.Happening → FrontAsk → (FrontAnswer → front_view.View) → Type 0
@@ -233,7 +233,7 @@ news_caused before offers (Some n) f cause = by_test (may_enter (front_step.stat
     by_test false = tt
 
 -- the negotiation speaks
-tells : (w : World) (before : List Line) (a : FrontAct) → IsFit w → HasRead w.rings.front.stage w.rings.front.shape w.rings.front.ring.cons (words_read before) → IsPlaced w.front.stage
+tells : (w : World) (before : List Line) (a : FrontAct) → IsFit w → HasRead w.rings.front.stage w.rings.front.shape w.rings.front.ring.indices.cons (words_read before) → IsPlaced w.front.stage
     → front.speaks (bus_asks.ask_of w.front (front_view.is_unoccupied w.rings.front)) ≡ true → front_act w.rings.under (front.key_ask (bus_asks.ask_of w.front (front_view.is_unoccupied w.rings.front))) ≡ Some a
     → FrontGoes before a (front_step.spoken (frontend_of w) a.answer)
 tells w before a fit has placed speaks e =
@@ -252,21 +252,21 @@ tells w before a fit has placed speaks e =
       placed = told_placed w.front idle a.answer placed;
     }
 
-says : (w : World) (before : List Line) (a : FrontAct) → IsFit w → HasRead w.rings.front.stage w.rings.front.shape w.rings.front.ring.cons (words_read before) → IsPlaced w.front.stage → front.speaks (front_asks w) ≡ true
+says : (w : World) (before : List Line) (a : FrontAct) → IsFit w → HasRead w.rings.front.stage w.rings.front.shape w.rings.front.ring.indices.cons (words_read before) → IsPlaced w.front.stage → front.speaks (front_asks w) ≡ true
     → front_act w.rings.under (front.key_ask (front_asks w)) ≡ Some a → FrontGoes before a (front_step.spoken (frontend_of w) a.answer)
 says w before a fit has placed =
     asks_cases (λ (b : FrontBusAsk). front.speaks b ≡ true → front_act w.rings.under (front.key_ask b) ≡ Some a → FrontGoes before a (front_step.spoken (frontend_of w) a.answer)) w
     (λ left speaks e. absurd (true≢false (sym speaks))) (λ none speaks e. tells w before a fit has placed speaks e)
 
 -- its end of the ring moves
-moved : (w : World) (before : List Line) (a : FrontAct) → IsFit w → HasRead w.rings.front.stage w.rings.front.shape w.rings.front.ring.cons (words_read before) → IsPlaced w.front.stage
+moved : (w : World) (before : List Line) (a : FrontAct) → IsFit w → HasRead w.rings.front.stage w.rings.front.shape w.rings.front.ring.indices.cons (words_read before) → IsPlaced w.front.stage
     → front_act w.rings.under (front_ring.ask_of w.rings.front) ≡ Some a → FrontGoes before a (front_step.ring_step true (front_asks w) (frontend_of w) a.answer)
 moved w before a fit has placed e =
     let goes : RingGoes before a.shown _ = ring_goes w.rings.front.stage w.rings.front w.rings.under a before refl fit.safe.front_told has e in
     record { caused = told_caused (before ++ lines.Move a.shown ∷ []) _ (λ word is. breaks_after before a.shown word (goes.breaks word is)); reads = goes.reads; placed = followed_placed (front_asks w) _ w.front (front_view.is_unoccupied w.rings.front) a.answer placed }
 
 -- both wait
-waits : (w : World) (before : List Line) (a : FrontAct) → IsFit w → HasRead w.rings.front.stage w.rings.front.shape w.rings.front.ring.cons (words_read before) → IsPlaced w.front.stage
+waits : (w : World) (before : List Line) (a : FrontAct) → IsFit w → HasRead w.rings.front.stage w.rings.front.shape w.rings.front.ring.indices.cons (words_read before) → IsPlaced w.front.stage
     → front_act w.rings.under front_ask.Wait ≡ Some a → FrontGoes before a (front_step.ring_step false (front_asks w) (frontend_of w) a.answer)
 waits w before a fit has placed e =
     let none : word_read (lines.Move a.shown) ≡ [] = front_wait (λ (x : FrontAct). word_read (lines.Move x.shown) ≡ []) w.rings.under a refl (λ path. refl) e in
@@ -278,7 +278,7 @@ waits w before a fit has placed e =
       placed = waited_placed (front_asks w) w.front (front_view.is_unoccupied w.rings.front) a.answer placed;
     }
 
-pub front_goes : (w : World) (before : List Line) (a : FrontAct) → IsFit w → HasRead w.rings.front.stage w.rings.front.shape w.rings.front.ring.cons (words_read before) → IsPlaced w.front.stage → front_turn w ≡ Some a
+pub front_goes : (w : World) (before : List Line) (a : FrontAct) → IsFit w → HasRead w.rings.front.stage w.rings.front.shape w.rings.front.ring.indices.cons (words_read before) → IsPlaced w.front.stage → front_turn w ≡ Some a
     → FrontGoes before a (front_step.step_of (frontend_of w) a.answer)
 front_goes w before a fit has placed turn =
     front_cases (FrontOf w before a) w (λ speaks e. says w before a fit has placed speaks e) (λ quiet does e. moved w before a fit has placed e) (λ quiet still e. waits w before a fit has placed e) turn

@@ -56,6 +56,3 @@ plain_word line plain = refl
 pub plain_words : (ls : List Line) → ArePlain ls → words_read ls ≡ []
 plain_words [] all = refl
 plain_words (line ∷ ls) all = ap (λ (l : List Move). l ++ words_read ls) (plain_word line all.0) ∙ plain_words ls all.1
-
-pub plain_nil : (ls : List Line) → ArePlain ls → ArePlain (ls ++ [])
-plain_nil ls all = subst (λ (l : List Line). ArePlain l) (sym (append-nil ls)) all

@@ -63,7 +63,7 @@ resumed_read v reads = unread (stage_after v.stage) v.shape v.start reads (still
 
 -- the end of the ring after its move
 pub record RingGoes (before : List Line) (shown : Move) (x : View) : Type 0 where
-  pub reads : HasRead x.stage x.shape x.ring.cons (words_read (before ++ lines.Move shown ∷ []))
+  pub reads : HasRead x.stage x.shape x.ring.indices.cons (words_read (before ++ lines.Move shown ∷ []))
   pub breaks : (word : ℕ) → x.told ≡ Some (told.Broken word) → CausesBreak before word shown
 
 abbrev is_calm : Option Told → Bool
@@ -73,7 +73,7 @@ is_calm t = true
 -- it reads no response, and isn't broken
 calm : (before : List Line) (shown : Move) (x : View) → is_reading_on x.stage ≡ false → is_calm x.told ≡ true → RingGoes before shown x
 calm before shown x still quiet = record {
-  reads = unread x.stage x.shape x.ring.cons (words_read (before ++ lines.Move shown ∷ [])) still;
+  reads = unread x.stage x.shape x.ring.indices.cons (words_read (before ++ lines.Move shown ∷ [])) still;
   breaks = λ word e. absurd (true≢false (sym quiet ∙ ap is_calm e));
 }
 
@@ -103,9 +103,9 @@ stays before shown v s here quiet still = calm before shown v (ap is_reading_on 
 
 looked_goes : (before : List Line) (v : View) (word : ℕ) (otherwise : View) → v.told ≡ None → RingGoes before (moves.FrontRead 2 2 word) otherwise → RingGoes before (moves.FrontRead 2 2 word) (looked v word otherwise)
 looked_goes before v word otherwise quiet h =
-    either (nat_lt (distance_of v.ring.cons v.ring.prod) (distance_of v.ring.cons word)) before _ (broken word v) (if word == v.ring.cons then otherwise else record v { seen = word; stage = stage.Loop })
+    either (nat_lt (distance_of v.ring.indices.cons v.ring.indices.prod) (distance_of v.ring.indices.cons word)) before _ (broken word v) (if word == v.ring.indices.cons then otherwise else record v { ring = record v.ring { seen = word }; stage = stage.Loop })
     (λ far. breaks_with before _ v word (inl (refl, refl, refl)))
-    (λ near. either (word == v.ring.cons) before _ otherwise (record v { seen = word; stage = stage.Loop }) (λ same. h) (λ new. calm before _ _ refl (ap is_calm quiet)))
+    (λ near. either (word == v.ring.indices.cons) before _ otherwise (record v { ring = record v.ring { seen = word }; stage = stage.Loop }) (λ same. h) (λ new. calm before _ _ refl (ap is_calm quiet)))
 
 begun_still : (v : View) (r : Request) (way : Transfer) → is_reading_on (begun v r way).stage ≡ false
 begun_still v r transfer.Read = either_stage (is_indirect r.count) (stage.Pages 1) (stage.GrantFence 0) refl refl
@@ -135,23 +135,23 @@ granted_goes before shown v (Some r) place here quiet =
     either (nat_lt (place + 1) (length r.frames.items)) before shown _ _ (λ more. calm before shown _ refl (ap is_calm quiet)) (λ none. calm before shown _ refl (ap is_calm quiet))
 
 -- in the loop it looks for responses, or reads the first word of the next
-look_goes : (before : List Line) (v : View) (word : ℕ) → (responses_of v.ring v.seen == 0) ≡ true → v.told ≡ None → RingGoes before (moves.FrontRead 2 2 word) (loop_word v word)
+look_goes : (before : List Line) (v : View) (word : ℕ) → (responses_of v.ring.indices v.ring.seen == 0) ≡ true → v.told ≡ None → RingGoes before (moves.FrontRead 2 2 word) (loop_word v word)
 look_goes before v word none quiet =
-    subst (λ (b : Bool). RingGoes before (moves.FrontRead 2 2 word) (if b then looked v word (record v { seen = word; stage = stage.StoreEvent }) else at (stage.ResponseHigh word) v)) (sym none)
-    (looked_goes before v word (record v { seen = word; stage = stage.StoreEvent }) quiet (calm before _ _ refl (ap is_calm quiet)))
+    subst (λ (b : Bool). RingGoes before (moves.FrontRead 2 2 word) (if b then looked v word (record v { ring = record v.ring { seen = word }; stage = stage.StoreEvent }) else at (stage.ResponseHigh word) v)) (sym none)
+    (looked_goes before v word (record v { ring = record v.ring { seen = word }; stage = stage.StoreEvent }) quiet (calm before _ _ refl (ap is_calm quiet)))
 
-first_goes : (before : List Line) (v : View) (word : ℕ) → (responses_of v.ring v.seen == 0) ≡ false → v.told ≡ None → RingGoes before (entry_read v.shape v.ring.cons 0 word) (loop_word v word)
+first_goes : (before : List Line) (v : View) (word : ℕ) → (responses_of v.ring.indices v.ring.seen == 0) ≡ false → v.told ≡ None → RingGoes before (entry_read v.shape v.ring.indices.cons 0 word) (loop_word v word)
 first_goes before v word some quiet =
-    subst (λ (b : Bool). RingGoes before (entry_read v.shape v.ring.cons 0 word) (if b then looked v word (record v { seen = word; stage = stage.StoreEvent }) else at (stage.ResponseHigh word) v)) (sym some)
+    subst (λ (b : Bool). RingGoes before (entry_read v.shape v.ring.indices.cons 0 word) (if b then looked v word (record v { ring = record v.ring { seen = word }; stage = stage.StoreEvent }) else at (stage.ResponseHigh word) v)) (sym some)
     (record {
-      reads = (words_read before, words_one before (lines.Move (entry_read v.shape v.ring.cons 0 word)));
+      reads = (words_read before, words_one before (lines.Move (entry_read v.shape v.ring.indices.cons 0 word)));
       breaks = λ other e. absurd (true≢false (sym (ap is_calm quiet) ∙ ap is_calm e));
     })
 
-second_goes : (before : List Line) (v : View) (low word : ℕ) → v.told ≡ None → HasRead (stage.ResponseHigh low) v.shape v.ring.cons (words_read before) → RingGoes before (entry_read v.shape v.ring.cons 1 word) (at (stage.ResponseLast low word) v)
+second_goes : (before : List Line) (v : View) (low word : ℕ) → v.told ≡ None → HasRead (stage.ResponseHigh low) v.shape v.ring.indices.cons (words_read before) → RingGoes before (entry_read v.shape v.ring.indices.cons 1 word) (at (stage.ResponseLast low word) v)
 second_goes before v low word quiet has =
-    let first : Move = entry_read v.shape v.ring.cons 0 low in
-    let second : Move = entry_read v.shape v.ring.cons 1 word in
+    let first : Move = entry_read v.shape v.ring.indices.cons 0 low in
+    let second : Move = entry_read v.shape v.ring.indices.cons 1 word in
     record {
       reads = (has.0, words_one before (lines.Move second) ∙ (ap (λ (l : List Move). l ++ second ∷ []) has.1 ∙ append_assoc has.0 (first ∷ []) (second ∷ [])));
       breaks = λ other e. absurd (true≢false (sym (ap is_calm quiet) ∙ ap is_calm e));
@@ -159,25 +159,25 @@ second_goes before v low word quiet has =
 
 loop_goes : (before : List Line) (v : View) (r : Option Request) (h : Hypervisor) (a : FrontAct) → v.stage ≡ stage.Loop → v.told ≡ None → front_act h (loop_ask v r) ≡ Some a → RingGoes before a.shown (loop_step v r a.answer)
 loop_goes before v (Some r) h a here quiet e = calm before a.shown _ (begun_still v r r.transfer) (ap is_calm (begun_told v r r.transfer ∙ quiet))
-loop_goes before v None h a here quiet e = by_test (v.asleep || is_through v) (responses_of v.ring v.seen == 0) refl e
+loop_goes before v None h a here quiet e = by_test (v.ring.asleep || is_through v) (responses_of v.ring.indices v.ring.seen == 0) refl e
   where
-    by_test : (b c : Bool) → (responses_of v.ring v.seen == 0) ≡ c
-        → front_act h (if b then front_ask.Wait else (if c then front_ask.Read ring_frame 2 else front_ask.Read (slot_frame v.shape v.ring.cons 0) (slot_word v.shape v.ring.cons 0))) ≡ Some a
+    by_test : (b c : Bool) → (responses_of v.ring.indices v.ring.seen == 0) ≡ c
+        → front_act h (if b then front_ask.Wait else (if c then front_ask.Read ring_frame 2 else front_ask.Read (slot_frame v.shape v.ring.indices.cons 0) (slot_word v.shape v.ring.indices.cons 0))) ≡ Some a
         → RingGoes before a.shown (loop_step v None a.answer)
     by_test true c is acts =
-        front_wait (λ (x : FrontAct). RingGoes before x.shown (loop_step v None x.answer)) h a (stays before _ (record v { asleep = false }) stage.Loop here quiet refl) (λ path. stays before _ v stage.Loop here quiet refl) acts
+        front_wait (λ (x : FrontAct). RingGoes before x.shown (loop_step v None x.answer)) h a (stays before _ (record v { ring = record v.ring { asleep = false } }) stage.Loop here quiet refl) (λ path. stays before _ v stage.Loop here quiet refl) acts
     by_test false true is acts = of_front (λ (x : FrontAct). RingGoes before x.shown (loop_step v None x.answer)) _ a (look_goes before v (word_of h.pages ring_frame 2) is quiet) acts
     by_test false false is acts =
-        of_front (λ (x : FrontAct). RingGoes before x.shown (loop_step v None x.answer)) _ a (first_goes before v (word_of h.pages (slot_frame v.shape v.ring.cons 0) (slot_word v.shape v.ring.cons 0)) is quiet) acts
+        of_front (λ (x : FrontAct). RingGoes before x.shown (loop_step v None x.answer)) _ a (first_goes before v (word_of h.pages (slot_frame v.shape v.ring.indices.cons 0) (slot_word v.shape v.ring.indices.cons 0)) is quiet) acts
 
 -- a response was read whole
-response_goes : (before : List Line) (v : View) (low high last : ℕ) (bits : Option Status) (found : Option (ℕ × Request)) → v.told ≡ None → HasRead (stage.ResponseLast low high) v.shape v.ring.cons (words_read before)
+response_goes : (before : List Line) (v : View) (low high last : ℕ) (bits : Option Status) (found : Option (ℕ × Request)) → v.told ≡ None → HasRead (stage.ResponseLast low high) v.shape v.ring.indices.cons (words_read before)
     → status_of (last / 2 ^ 16) ≡ bits
-    → RingGoes before (entry_read v.shape v.ring.cons 2 last) (response_at v (response_with (low ∷ high ∷ last ∷ []) bits) low found)
+    → RingGoes before (entry_read v.shape v.ring.indices.cons 2 last) (response_at v (response_with (low ∷ high ∷ last ∷ []) bits) low found)
 response_goes before v low high last bits None quiet has is =
-    breaks_with before _ v low (inr (inr (inl (record { shape = v.shape; index = v.ring.cons; high = high; last = last; rest = has.0; third = refl; others = has.1 }))))
+    breaks_with before _ v low (inr (inr (inl (record { shape = v.shape; index = v.ring.indices.cons; high = high; last = last; rest = has.0; third = refl; others = has.1 }))))
 response_goes before v low high last None (Some found) quiet has is =
-    breaks_with before _ v last (inr (inl (record { shape = v.shape; index = v.ring.cons; third = refl; none = is })))
+    breaks_with before _ v last (inr (inl (record { shape = v.shape; index = v.ring.indices.cons; third = refl; none = is })))
 response_goes before v low high last (Some status) (Some found) quiet has is =
     either (length found.1.frames.items == 0) before _ _ _ (λ bare. calm before _ _ refl refl) (λ framed. calm before _ _ refl (ap is_calm quiet))
 
@@ -246,7 +246,7 @@ left_read_goes before v n (answer.Word word) shown here quiet = left_goes before
 left_read_goes before v n x shown here quiet = stays before shown v (stage.LeftData n) here quiet refl
 
 -- a move of the front's end of the ring
-pub ring_goes : (s : Stage) (v : View) (h : Hypervisor) (a : FrontAct) (before : List Line) → v.stage ≡ s → v.told ≡ None → HasRead s v.shape v.ring.cons (words_read before) → front_act h (ask_at s v) ≡ Some a
+pub ring_goes : (s : Stage) (v : View) (h : Hypervisor) (a : FrontAct) (before : List Line) → v.stage ≡ s → v.told ≡ None → HasRead s v.shape v.ring.indices.cons (words_read before) → front_act h (ask_at s v) ≡ Some a
     → RingGoes before a.shown (step_at s v a.answer)
 ring_goes (stage.RingWord k) v h a before here quiet has e = goes_to before a.shown v _ quiet (either_stage (k == 15) (stage.RingFrame 0) (stage.RingWord (k + 1)) refl refl)
 ring_goes (stage.RingFrame page) v h a before here quiet has e = goes_to before a.shown v _ quiet refl
@@ -263,12 +263,12 @@ ring_goes (stage.Slot k) v h a before here quiet has e = goes_to before a.shown 
 ring_goes stage.Producer v h a before here quiet has e = calm before a.shown _ refl (ap is_calm quiet)
 ring_goes (stage.ProducerFence old) v h a before here quiet has e = goes_to before a.shown v _ quiet refl
 ring_goes (stage.RequestEvent old) v h a before here quiet has e =
-    of_front (λ (x : FrontAct). RingGoes before x.shown (step_at (stage.RequestEvent old) v x.answer)) _ a (goes_to before _ v _ quiet (either_stage (notifies old v.ring.prod _) stage.Send stage.Loop refl refl)) e
+    of_front (λ (x : FrontAct). RingGoes before x.shown (step_at (stage.RequestEvent old) v x.answer)) _ a (goes_to before _ v _ quiet (either_stage (notifies old v.ring.indices.prod _) stage.Send stage.Loop refl refl)) e
 ring_goes stage.Send v h a before here quiet has e = goes_to before a.shown v _ quiet refl
 ring_goes (stage.ResponseHigh low) v h a before here quiet has e =
-    of_front (λ (x : FrontAct). RingGoes before x.shown (step_at (stage.ResponseHigh low) v x.answer)) _ a (second_goes before v low (word_of h.pages (slot_frame v.shape v.ring.cons 1) (slot_word v.shape v.ring.cons 1)) quiet has) e
+    of_front (λ (x : FrontAct). RingGoes before x.shown (step_at (stage.ResponseHigh low) v x.answer)) _ a (second_goes before v low (word_of h.pages (slot_frame v.shape v.ring.indices.cons 1) (slot_word v.shape v.ring.indices.cons 1)) quiet has) e
 ring_goes (stage.ResponseLast low high) v h a before here quiet has e =
-    let last : ℕ = word_of h.pages (slot_frame v.shape v.ring.cons 2) (slot_word v.shape v.ring.cons 2) in
+    let last : ℕ = word_of h.pages (slot_frame v.shape v.ring.indices.cons 2) (slot_word v.shape v.ring.indices.cons 2) in
     of_front (λ (x : FrontAct). RingGoes before x.shown (step_at (stage.ResponseLast low high) v x.answer)) _ a (response_goes before v low high last (status_of (last / 2 ^ 16)) (issued v (low + high * 2 ^ 32)) quiet has refl) e
 ring_goes (stage.GrantRead place) v h a before here quiet has e = revoke_goes before v v.ending place h a here quiet e
 ring_goes (stage.GrantEnd place old) v h a before here quiet has e = end_goes before v v.ending place old h a here quiet e

@@ -222,12 +222,6 @@ facts_moved moves b x a = ring_is (HasFacts (facts_in x.bus)) (facts_told (facts
 pub facts_stepped : (x : View) (a : BackAnswer) → (let y : View = back_step.step_of x a in facts_in y.bus) ≡ facts_in x.bus
 facts_stepped x a = step_is (HasFacts (facts_in x.bus)) (facts_told (facts_in x.bus)) (facts_stopped (facts_in x.bus)) x a refl
 
-pub past_settled : (s : BackRing) (v : BackView) (x : BackAnswer) → is_publishing v.stage ≡ false → (let u : BackView = back_step.settled s (step_of v x) in is_publishing u.stage) ≡ false
-past_settled s v x past = settled_is IsPast past_told past_stopped (let u : BackView = step_of v x in u.stage) s (step_of v x) (past_told v x past)
-
-pub past_moved : (moves : Bool) (b : BackBusAsk) (x : View) (a : BackAnswer) → is_publishing x.bus.stage ≡ false → (let y : View = back_step.ring_step moves b x a in is_publishing y.bus.stage) ≡ false
-past_moved moves b x a past = ring_is IsPast past_told past_stopped moves b x a past
-
 pub said_settled : (said : Type 0) (s : BackRing) (v : BackView) (x : BackAnswer) → HasSaid said v → HasSaid said (back_step.settled s (step_of v x))
 said_settled said s v x has = settled_is (HasSaid said) (said_told said) (said_stopped said) (let u : BackView = step_of v x in u.stage) s (step_of v x) (said_told said v x has)
 

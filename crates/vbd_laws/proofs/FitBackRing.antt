@@ -42,19 +42,19 @@ given (Some m) = refl
 
 looked_serves : (v : View) (word : ℕ) (otherwise : View) → Serves v otherwise → Serves v (looked v word otherwise)
 looked_serves v word otherwise h =
-    either (overruns v.ring word) v (overrun v word) (if word == v.ring.cons then otherwise else record v { seen = word; stage = stage.Loop }) (inr (given (first_mapping v.jobs.works), refl))
-    (either (word == v.ring.cons) v otherwise (record v { seen = word; stage = stage.Loop }) h (inl (refl, refl)))
+    either (overruns v.ring.indices word) v (overrun v word) (if word == v.ring.indices.cons then otherwise else record v { ring = record v.ring { seen = word }; stage = stage.Loop }) (inr (given (first_mapping v.jobs.works), refl))
+    (either (word == v.ring.indices.cons) v otherwise (record v { ring = record v.ring { seen = word }; stage = stage.Loop }) h (inl (refl, refl)))
 
 loop_serves : (v : View) (r : Option Reply) (x : BackAnswer) → v.stage ≡ stage.Loop → Serves v (loop_step v r x)
 loop_serves v (Some r) x here = inl (refl, refl)
 loop_serves v None (answer.Word word) here =
-    either (requests_of v.ring v.seen == 0) v (looked v word (record v { seen = word; stage = stage.StoreEvent })) (record v { entry = word ∷ []; stage = stage.Fetch 1 })
-    (looked_serves v word (record v { seen = word; stage = stage.StoreEvent }) (inl (refl, refl))) (inl (refl, refl))
+    either (requests_of v.ring.indices v.ring.seen == 0) v (looked v word (record v { ring = record v.ring { seen = word }; stage = stage.StoreEvent })) (record v { ring = record v.ring { entry = word ∷ [] }; stage = stage.Fetch 1 })
+    (looked_serves v word (record v { ring = record v.ring { seen = word }; stage = stage.StoreEvent }) (inl (refl, refl))) (inl (refl, refl))
 loop_serves v None answer.Event here = inl (ap is_serving here, refl)
 loop_serves v None x here = inl (ap is_serving here, refl)
 
 fetch_serves : (v : View) (k word : ℕ) → Serves v (fetch_step v k word)
-fetch_serves v k word = either (k + 1 == entry_words_of v.shape.abi) v (fetched v (v.entry ++ word ∷ [])) (record v { entry = v.entry ++ word ∷ []; stage = stage.Fetch (k + 1) }) (inl (refl, refl)) (inl (refl, refl))
+fetch_serves v k word = either (k + 1 == entry_words_of v.shape.abi) v (fetched v (v.ring.entry ++ word ∷ [])) (record v { ring = record v.ring { entry = v.ring.entry ++ word ∷ [] }; stage = stage.Fetch (k + 1) }) (inl (refl, refl)) (inl (refl, refl))
 
 notified_serves : (b : Bool) → is_serving (if b then stage.Send else stage.Loop) ≡ true
 notified_serves true = refl
@@ -67,11 +67,11 @@ serves_at (stage.ReplyHigh r) v x here p = inl (refl, refl)
 serves_at (stage.ReplyLast r) v x here p = inl (refl, refl)
 serves_at (stage.Producer r) v x here p = inl (refl, refl)
 serves_at (stage.ProducerFence old) v x here p = inl (refl, refl)
-serves_at (stage.ResponseEvent old) v (answer.Word event) here p = inl (notified_serves (notifies old v.ring.prod event), refl)
+serves_at (stage.ResponseEvent old) v (answer.Word event) here p = inl (notified_serves (notifies old v.ring.indices.prod event), refl)
 serves_at stage.Send v x here p = inl (refl, refl)
 serves_at stage.StoreEvent v x here p = inl (refl, refl)
 serves_at stage.EventFence v x here p = inl (refl, refl)
-serves_at stage.LookAgain v (answer.Word word) here p = looked_serves v word (record v { seen = word; stage = stage.Loop; asleep = true }) (inl (refl, refl))
+serves_at stage.LookAgain v (answer.Word word) here p = looked_serves v word (record v { ring = record v.ring { seen = word; asleep = true }; stage = stage.Loop }) (inl (refl, refl))
 serves_at stage.InitWait v x here p = absurd (true≢false (sym p))
 serves_at stage.MapRing v x here p = absurd (true≢false (sym p))
 serves_at stage.Bind v x here p = absurd (true≢false (sym p))

@@ -48,7 +48,7 @@ abbrev pub Terms : Type 0
 Terms = Shape × List ℕ × ℕ × List Mapping
 
 abbrev pub terms_in : ends.View → Terms
-terms_in r = (r.shape, r.grefs, r.port, r.pages)
+terms_in r = (r.shape, r.grefs, r.ring.port, r.pages)
 
 either : (b : Bool) (x y : ends.View) (t : Terms) → terms_in x ≡ t → terms_in y ≡ t → terms_in (if b then x else y) ≡ t
 either true x y t p q = p
@@ -56,14 +56,14 @@ either false x y t p q = q
 
 looked_terms : (v : ends.View) (word : ℕ) (otherwise : ends.View) → terms_in otherwise ≡ terms_in v → terms_in (ring_step.looked v word otherwise) ≡ terms_in v
 looked_terms v word otherwise h =
-    either (overruns v.ring word) (ring_step.overrun v word) (if word == v.ring.cons then otherwise else record v { seen = word; stage = ring.Loop }) (terms_in v) refl
-    (either (word == v.ring.cons) otherwise (record v { seen = word; stage = ring.Loop }) (terms_in v) h refl)
+    either (overruns v.ring.indices word) (ring_step.overrun v word) (if word == v.ring.indices.cons then otherwise else record v { ring = record v.ring { seen = word }; stage = ring.Loop }) (terms_in v) refl
+    (either (word == v.ring.indices.cons) otherwise (record v { ring = record v.ring { seen = word }; stage = ring.Loop }) (terms_in v) h refl)
 
 loop_terms : (v : ends.View) (r : Option Reply) (x : BackAnswer) → terms_in (ring_step.loop_step v r x) ≡ terms_in v
 loop_terms v (Some r) x = refl
 loop_terms v None (answer.Word word) =
-    either (requests_of v.ring v.seen == 0) (ring_step.looked v word (record v { seen = word; stage = ring.StoreEvent })) (record v { entry = word ∷ []; stage = ring.Fetch 1 }) (terms_in v)
-    (looked_terms v word (record v { seen = word; stage = ring.StoreEvent }) refl) refl
+    either (requests_of v.ring.indices v.ring.seen == 0) (ring_step.looked v word (record v { ring = record v.ring { seen = word }; stage = ring.StoreEvent })) (record v { ring = record v.ring { entry = word ∷ [] }; stage = ring.Fetch 1 }) (terms_in v)
+    (looked_terms v word (record v { ring = record v.ring { seen = word }; stage = ring.StoreEvent }) refl) refl
 loop_terms v None answer.Event = refl
 loop_terms v None x = refl
 
@@ -81,9 +81,9 @@ step_all ring.UnmapUnbound v x still = absurd (true≢false still)
 step_all ring.Bind v answer.Done still = refl
 step_all ring.Bind v answer.BindRefused still = refl
 step_all ring.Loop v x still = loop_terms v (next_reply v) x
-step_all (ring.Fetch k) v (answer.Word word) still = either (k + 1 == entry_words_of v.shape.abi) (ring_step.fetched v (v.entry ++ word ∷ [])) (record v { entry = v.entry ++ word ∷ []; stage = ring.Fetch (k + 1) }) (terms_in v) refl refl
+step_all (ring.Fetch k) v (answer.Word word) still = either (k + 1 == entry_words_of v.shape.abi) (ring_step.fetched v (v.ring.entry ++ word ∷ [])) (record v { ring = record v.ring { entry = v.ring.entry ++ word ∷ [] }; stage = ring.Fetch (k + 1) }) (terms_in v) refl refl
 step_all (ring.ResponseEvent old) v (answer.Word event) still = refl
-step_all ring.LookAgain v (answer.Word word) still = looked_terms v word (record v { seen = word; stage = ring.Loop; asleep = true }) refl
+step_all ring.LookAgain v (answer.Word word) still = looked_terms v word (record v { ring = record v.ring { seen = word; asleep = true }; stage = ring.Loop }) refl
 step_all (ring.ReplyHigh r) v x still = refl
 step_all (ring.ReplyLast r) v x still = refl
 step_all (ring.Producer r) v x still = refl
@@ -97,7 +97,7 @@ step_all s v x still = refl
 
 -- the terms alone
 abbrev of_front : ends.View → Shape × List ℕ × ℕ
-of_front r = (r.shape, r.grefs, r.port)
+of_front r = (r.shape, r.grefs, r.ring.port)
 
 step_terms : (s : Ring) (v : ends.View) (x : BackAnswer) → of_front (ring_step.step_at s v x) ≡ of_front v
 step_terms ring.MapRing v (answer.Mapped m) = refl

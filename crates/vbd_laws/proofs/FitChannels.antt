@@ -173,7 +173,7 @@ unbound_at stage.InitWait v h o a here was e =
 unbound_at stage.MapRing v h o a here was e =
     of_back (λ (x : BackAct). IsUnbound (step_at stage.MapRing v x.answer).stage x.under.channels) _ a (map_unbound v h (next_gref v) (verdict_at h.pages (next_gref v) ReadWrite) was) e
 unbound_at stage.Bind v h o a here was e =
-    of_back (λ (x : BackAct). IsUnbound (step_at stage.Bind v x.answer).stage x.under.channels) _ a (bind_unbound v h v.port (state_of h.channels v.port)) e
+    of_back (λ (x : BackAct). IsUnbound (step_at stage.Bind v x.answer).stage x.under.channels) _ a (bind_unbound v h v.ring.port (state_of h.channels v.ring.port)) e
 unbound_at s v h o a here was e =
     past_unbound (step_at s v a.answer).stage a.under.channels (subst (λ (t : Stage). is_past (step_at t v a.answer).stage ≡ true) here (past_step v a.answer (ap is_past here)))
 

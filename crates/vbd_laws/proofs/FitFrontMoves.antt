@@ -172,7 +172,7 @@ closed_follows v idle f x e own agreed allowed = absurd allowed
 -- a front that is through waits in its loop
 through_loops : (f : ends.View) (r : Option Request) (x : FrontAnswer) → is_through f ≡ true → f.stage ≡ ring.Loop → r ≡ None → IsAnswer (loop_ask f r) x → (loop_step f r x).stage ≡ ring.Loop
 through_loops f (Some r) x through here none allowed = absurd (cc)
-through_loops f None x through here none allowed = by_answer x (waits (f.asleep || is_through f) _ (asleep f.asleep) allowed)
+through_loops f None x through here none allowed = by_answer x (waits (f.ring.asleep || is_through f) _ (asleep f.ring.asleep) allowed)
   where
     asleep : (b : Bool) → (b || is_through f) ≡ true
     asleep true = refl

@@ -70,8 +70,8 @@ makes s v next before ends = (refl, λ none. none, λ up. absurd (true≢false (
 
 looked_steps : (s : Stage) (v : View) (word : ℕ) (otherwise : View) → Steps s v otherwise → Steps s v (looked v word otherwise)
 looked_steps s v word otherwise h =
-    either (nat_lt (distance_of v.ring.cons v.ring.prod) (distance_of v.ring.cons word)) s v (broken word v) (if word == v.ring.cons then otherwise else record v { seen = word; stage = stage.Loop }) (broken_steps s v word)
-    (either (word == v.ring.cons) s v otherwise (record v { seen = word; stage = stage.Loop }) h (refl, λ none. none, λ up. refl, omega arith))
+    either (nat_lt (distance_of v.ring.indices.cons v.ring.indices.prod) (distance_of v.ring.indices.cons word)) s v (broken word v) (if word == v.ring.indices.cons then otherwise else record v { ring = record v.ring { seen = word }; stage = stage.Loop }) (broken_steps s v word)
+    (either (word == v.ring.indices.cons) s v otherwise (record v { ring = record v.ring { seen = word }; stage = stage.Loop }) h (refl, λ none. none, λ up. refl, omega arith))
 
 begun_steps : (v : View) (r : Request) (way : Transfer) → Steps stage.Loop v (begun v r way)
 begun_steps v r transfer.Read = goes_to stage.Loop v (if is_indirect r.count then stage.Pages 1 else stage.GrantFence 0) (either_on (is_indirect r.count) (stage.Pages 1) (stage.GrantFence 0) (refl, refl) (refl, refl))
@@ -97,8 +97,8 @@ granted_steps v (Some r) place here =
 loop_steps : (v : View) (r : Option Request) (x : FrontAnswer) → v.stage ≡ stage.Loop → Steps stage.Loop v (loop_step v r x)
 loop_steps v (Some r) x here = begun_steps v r r.transfer
 loop_steps v None (answer.Word word) here =
-    either (responses_of v.ring v.seen == 0) stage.Loop v (looked v word (record v { seen = word; stage = stage.StoreEvent })) (at (stage.ResponseHigh word) v)
-    (looked_steps stage.Loop v word (record v { seen = word; stage = stage.StoreEvent }) (refl, λ none. none, λ up. refl, omega arith)) (refl, λ none. none, λ up. refl, omega arith)
+    either (responses_of v.ring.indices v.ring.seen == 0) stage.Loop v (looked v word (record v { ring = record v.ring { seen = word }; stage = stage.StoreEvent })) (at (stage.ResponseHigh word) v)
+    (looked_steps stage.Loop v word (record v { ring = record v.ring { seen = word }; stage = stage.StoreEvent }) (refl, λ none. none, λ up. refl, omega arith)) (refl, λ none. none, λ up. refl, omega arith)
 loop_steps v None answer.Event here = (refl, λ none. none, λ up. ap is_up here, let same = ap ending_of here in omega arith)
 loop_steps v None x here = stays stage.Loop v here
 
@@ -171,7 +171,7 @@ steps_at (stage.Slot k) v x here =
 steps_at stage.Producer v x here = (refl, λ none. none, λ up. refl, omega arith)
 steps_at (stage.ProducerFence old) v x here = (refl, λ none. none, λ up. refl, omega arith)
 steps_at (stage.RequestEvent old) v (answer.Word event) here =
-    goes_to (stage.RequestEvent old) v (if notifies old v.ring.prod event then stage.Send else stage.Loop) (either_on (notifies old v.ring.prod event) stage.Send stage.Loop (refl, refl) (refl, refl))
+    goes_to (stage.RequestEvent old) v (if notifies old v.ring.indices.prod event then stage.Send else stage.Loop) (either_on (notifies old v.ring.indices.prod event) stage.Send stage.Loop (refl, refl) (refl, refl))
 steps_at stage.Send v x here = (refl, λ none. none, λ up. refl, omega arith)
 steps_at (stage.ResponseHigh low) v (answer.Word high) here = (refl, λ none. none, λ up. refl, omega arith)
 steps_at (stage.ResponseLast low high) v (answer.Word last) here =
@@ -184,7 +184,7 @@ steps_at (stage.ReadData n) v (answer.Word word) here = data_steps v v.ending n 
 steps_at (stage.LeftData n) v (answer.Word word) here = left_steps v v.ending n word here
 steps_at stage.StoreEvent v x here = (refl, λ none. none, λ up. refl, omega arith)
 steps_at stage.EventFence v x here = (refl, λ none. none, λ up. refl, omega arith)
-steps_at stage.LookAgain v (answer.Word word) here = looked_steps stage.LookAgain v word (record v { seen = word; stage = stage.Loop; asleep = true }) (refl, λ none. none, λ up. refl, omega arith)
+steps_at stage.LookAgain v (answer.Word word) here = looked_steps stage.LookAgain v word (record v { ring = record v.ring { seen = word; asleep = true }; stage = stage.Loop }) (refl, λ none. none, λ up. refl, omega arith)
 steps_at (stage.RingRead page) v (answer.Word word) here =
     either (is_mapped word) (stage.RingRead page) v (broken word v) (at (stage.RingEnd page word) v) (broken_steps (stage.RingRead page) v word) (makes (stage.RingRead page) v (stage.RingEnd page word) refl refl)
 steps_at (stage.RingEnd page before) v (answer.Word word) here =

@@ -49,11 +49,6 @@ either : (P : Directory → Type 0) (b : Bool) (x y : Directory) → P x → P y
 either P true x y p q = p
 either P false x y p q = q
 
--- a watch is no key
-pub watched_says : (f : Features) (disk : DiskFacts) (k : BackKey) (d : Directory) (at : End) (w : Watches) → SaysKey d f disk k → SaysKey (with_watches d at w) f disk k
-watched_says f disk k d end.Front w says = says
-watched_says f disk k d end.Back w says = says
-
 -- it sets a key to what it has to say
 abbrev IsOwn : Features → DiskFacts → BackBusAsk → Type 0
 IsOwn f disk (back_ask.SetKey name value) = value ≡ back_value f disk name

@@ -201,7 +201,7 @@ module _ (P : Negotiation → Type 0) (keeps : (n : Negotiation) (page : Mapping
       → back_act h back_mover.Back (ring_ask.ask_at s r) Took ≡ Some a → Follows b a
   ring_follows r a bus_ask.Wait s asks here quiet moves some own e = λ given. waits_holds a asks (quiet_act h (ring_ask.ask_at s r) a own e)
   ring_follows r a (bus_ask.Map gref) ring_stage.MapRing asks here quiet moves some own e = of_back (Follows (bus_ask.Map gref)) _ a (map_follows gref (ring_ask.next_gref r) (verdict_at h.pages (ring_ask.next_gref r) ReadWrite) asks) e
-  ring_follows r a (bus_ask.Bind p) ring_stage.Bind asks here quiet moves some own e = of_back (Follows (bus_ask.Bind p)) _ a (bind_follows p r.port (state_of h.channels r.port) asks) e
+  ring_follows r a (bus_ask.Bind p) ring_stage.Bind asks here quiet moves some own e = of_back (Follows (bus_ask.Bind p)) _ a (bind_follows p r.ring.port (state_of h.channels r.ring.port) asks) e
   ring_follows r a (bus_ask.Unmap m) ring_stage.UnmapRing asks here quiet moves some own e = unmaps_follow m r.pages a asks (some tt) e
   ring_follows r a (bus_ask.Unmap m) ring_stage.UnmapUnbound asks here quiet moves some own e = unmaps_follow m r.pages a asks (some tt) e
   ring_follows r a bus_ask.ClosePort ring_stage.ClosePort asks here quiet moves some own e = of_back (Follows bus_ask.ClosePort) _ a (λ given. told_done bus_ask.ClosePort a_page answer.Done asks refl refl) e

@@ -372,7 +372,7 @@ module _ (config : Options) (w : World) (honest : Honest config w) (going : Goin
 loop_refuses : (v : ring_view.View) (r : Option Reply) (x : BackAnswer) → ring_ask.IsAnswer (ring_ask.loop_ask v r) x → IsGiven x
 loop_refuses v (Some r) answer.Done is = tt
 loop_refuses v (Some r) x is = absurd is
-loop_refuses v None x is = by_sleep v.asleep is
+loop_refuses v None x is = by_sleep v.ring.asleep is
   where
     read : (b : Bool) (m n : Mapping) (i j : ℕ) (y : BackAnswer) → ring_ask.IsAnswer (if b then back_ask.Read m i else back_ask.Read n j) y → IsGiven y
     read true m n i j (answer.Word word) is = tt
@@ -385,9 +385,9 @@ loop_refuses v None x is = by_sleep v.asleep is
     wait (answer.Watched path) is = tt
     wait y is = absurd is
 
-    by_sleep : (b : Bool) → ring_ask.IsAnswer (if b then back_ask.Wait else (if requests_of v.ring v.seen == 0 then ring_ask.index_ask v 0 else ring_ask.entry_ask v 0)) x → IsGiven x
+    by_sleep : (b : Bool) → ring_ask.IsAnswer (if b then back_ask.Wait else (if requests_of v.ring.indices v.ring.seen == 0 then ring_ask.index_ask v 0 else ring_ask.entry_ask v 0)) x → IsGiven x
     by_sleep true is = wait x is
-    by_sleep false is = read (requests_of v.ring v.seen == 0) (ring_view.page_of v 0) (ring_view.slot_page v v.ring.cons 0) 0 (ring_view.slot_word v.shape v.ring.cons 0) x is
+    by_sleep false is = read (requests_of v.ring.indices v.ring.seen == 0) (ring_view.page_of v 0) (ring_view.slot_page v v.ring.indices.cons 0) 0 (ring_view.slot_word v.shape v.ring.indices.cons 0) x is
 
 unmap_given : (pages : List Mapping) (x : BackAnswer) → ring_ask.IsAnswer (ring_ask.unmap_ask pages) x → IsGiven x
 unmap_given [] answer.Event is = tt

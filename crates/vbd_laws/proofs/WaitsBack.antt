@@ -60,14 +60,14 @@ led None false b r c is = is
 
 abbrev Goes : World → Check → BackAct → List ring.Happening → BackAsk → (BackAnswer → back_view.View) → Type 0
 Goes w c a does ask step =
-    back_act w.rings.under back_mover.Back ask Took ≡ Some a → (let v : back_view.View = step a.answer in Stands v.ring (back_checks (page_of w.rings.back 0) w.rings.back.ring.cons ask a.answer c))
+    back_act w.rings.under back_mover.Back ask Took ≡ Some a → (let v : back_view.View = step a.answer in Stands v.ring (back_checks (page_of w.rings.back 0) w.rings.back.ring.indices.cons ask a.answer c))
 
 says_goes : (w : World) (c : Check) (a : BackAct) (does : List ring.Happening) → Knows w c → back.bus_moves (back_asks w) w.rings.back.stage ≡ true
     → Goes w c a does (back.key_ask (back_asks w)) (λ x. back_step.spoken (backend_of w) x)
 says_goes w c a does k moves e =
     let v : back_view.View = back_step.spoken (backend_of w) a.answer in
     let says : back.speaks (back_asks w) ≡ true = (both_true (back.speaks (back_asks w)) (back.is_between w.rings.back.stage) moves).0 in
-    subst (λ (d : Check). Stands v.ring d) (sym (keys_check (back_asks w) (page_of w.rings.back 0) w.rings.back.ring.cons a.answer c says))
+    subst (λ (d : Check). Stands v.ring d) (sym (keys_check (back_asks w) (page_of w.rings.back 0) w.rings.back.ring.indices.cons a.answer c says))
     (led (back_step.halt_of (backend_of w) a.answer) (back_step.reads_layout (back_asks w)) (step_of w.back a.answer) w.rings.back c k.ring)
 
 moves_goes : (w : World) (c : Check) (a : BackAct) → Knows w c → Goes w c a (ring.BackMoves ∷ []) (back_ring.ask_of w.rings.back) (λ x. back_step.ring_step true (back_asks w) (backend_of w) x)
@@ -80,9 +80,9 @@ waits_goes w c a k quiet still e =
     by_watch (watch_next w.rings.under end.Back)
     (subst (λ (b : Bool). (if b then Some (back_event w.rings.under) else back_watched w.rings.under (watch_next w.rings.under end.Back)) ≡ Some a) (back_waits w k.fit quiet still).0 e)
   where
-    by_watch : (next : Option (List ℕ)) → back_watched w.rings.under next ≡ Some a → Stands w.rings.back (back_checks (page_of w.rings.back 0) w.rings.back.ring.cons back_ask.Wait a.answer c)
+    by_watch : (next : Option (List ℕ)) → back_watched w.rings.under next ≡ Some a → Stands w.rings.back (back_checks (page_of w.rings.back 0) w.rings.back.ring.indices.cons back_ask.Wait a.answer c)
     by_watch None e = absurd (none-some a e)
-    by_watch (Some path) e = of_back (λ (x : BackAct). Stands w.rings.back (back_checks (page_of w.rings.back 0) w.rings.back.ring.cons back_ask.Wait x.answer c)) _ a k.ring e
+    by_watch (Some path) e = of_back (λ (x : BackAct). Stands w.rings.back (back_checks (page_of w.rings.back 0) w.rings.back.ring.indices.cons back_ask.Wait x.answer c)) _ a k.ring e
 
 goes : (w : World) (c : Check) (a : BackAct) → Knows w c → Goes w c a (back_does w) (back.ask_of (backend_of w)) (λ x. back_step.step_of (backend_of w) x)
 goes w c a k =

@@ -97,17 +97,17 @@ bus_waits b e = by_test (bus.says_closing b) refl e
     by_test false says e = by_stage b.stage refl says e
 
 -- a back that serves waits in its loop alone
-loop_waits : (f : ends.View) → back_ring.loop_ask f (back_ring.next_reply f) ≡ back_ask.Wait → (back_ring.next_reply f ≡ None) × (f.asleep ≡ true)
+loop_waits : (f : ends.View) → back_ring.loop_ask f (back_ring.next_reply f) ≡ back_ask.Wait → (back_ring.next_reply f ≡ None) × (f.ring.asleep ≡ true)
 loop_waits f e = by_next (back_ring.next_reply f) refl e
   where
-    by_none : (waits none : Bool) → f.asleep ≡ waits → (if waits then back_ask.Wait else (if none then back_ring.index_ask f 0 else back_ring.entry_ask f 0)) ≡ back_ask.Wait → f.asleep ≡ true
+    by_none : (waits none : Bool) → f.ring.asleep ≡ waits → (if waits then back_ask.Wait else (if none then back_ring.index_ask f 0 else back_ring.entry_ask f 0)) ≡ back_ask.Wait → f.ring.asleep ≡ true
     by_none true none t e = t
     by_none false true t e = asks_on _ refl e
     by_none false false t e = asks_on _ refl e
 
-    by_next : (next : Option Reply) → back_ring.next_reply f ≡ next → back_ring.loop_ask f next ≡ back_ask.Wait → (back_ring.next_reply f ≡ None) × (f.asleep ≡ true)
+    by_next : (next : Option Reply) → back_ring.next_reply f ≡ next → back_ring.loop_ask f next ≡ back_ask.Wait → (back_ring.next_reply f ≡ None) × (f.ring.asleep ≡ true)
     by_next (Some r) n e = asks_on (back_ring.reply_ask f r 0) refl e
-    by_next None n e = (n, by_none f.asleep (requests_of f.ring f.seen == 0) refl e)
+    by_next None n e = (n, by_none f.ring.asleep (requests_of f.ring.indices f.ring.seen == 0) refl e)
 
 serving_waits : (s : Stage) (f : ends.View) → serves_ring s ≡ true → back_ring.ask_at s f ≡ back_ask.Wait → s ≡ ring_stage.Loop
 serving_waits ring_stage.Loop f serves e = refl
@@ -281,7 +281,7 @@ module _ (w : World) (c : Check) (k : Knows w c) where
       let asks : back_ring.ask_at r w.rings.back ≡ back_ask.Wait = sym (ap (λ (b : BackBusAsk). back.ask_at b v) rests ∙ ring_asks bus_ask.Wait r true refl refl (serving_moves r ring)) ∙ e in
       let here : r ≡ ring_stage.Loop = serving_waits r w.rings.back ring asks in
       let looped = loop_waits w.rings.back (sym (ap (λ (t : Stage). back_ring.ask_at t w.rings.back) here) ∙ asks) in
-      let sees = subst (λ (t : Stage). Sees t c w.rings.back.asleep) here k.ring in
+      let sees = subst (λ (t : Stage). Sees t c w.rings.back.ring.asleep) here k.ring in
       inr (inl (record { serves = serves; rests = rests; nothing_found = asleep_is c (sees.0 ∙ looped.1); none_done = looped.0; none_begun = ap back.is_between here }))
 
   pub unmaps_some : {A : Type 0} → w.back.stage ≡ stage.UnmapPage → w.back.pages ≡ [] → A
@@ -359,16 +359,16 @@ module _ (w : World) (c : Check) (k : Knows w c) where
 
   asleep_waits : back_asks w ≡ bus_ask.Wait → c ≡ Asleep → back_ring.next_reply w.rings.back ≡ None → r ≡ ring_stage.Loop → back.ask_of v ≡ back_ask.Wait
   asleep_waits rests found none here =
-      let sees = subst (λ (t : Stage). Sees t c w.rings.back.asleep) here k.ring in
-      let asleep : w.rings.back.asleep ≡ true = sym sees.0 ∙ ap sleeps found in
+      let sees = subst (λ (t : Stage). Sees t c w.rings.back.ring.asleep) here k.ring in
+      let asleep : w.rings.back.ring.asleep ≡ true = sym sees.0 ∙ ap sleeps found in
       ap (λ (b : BackBusAsk). back.ask_at b v) rests
-      ∙ (ring_asks bus_ask.Wait ring_stage.Loop true here refl refl ∙ (ap (λ (next : Option Reply). back_ring.loop_ask w.rings.back next) none ∙ sleeping w.rings.back.asleep asleep))
+      ∙ (ring_asks bus_ask.Wait ring_stage.Loop true here refl refl ∙ (ap (λ (next : Option Reply). back_ring.loop_ask w.rings.back next) none ∙ sleeping w.rings.back.ring.asleep asleep))
     where
-      sleeping : (a : Bool) → a ≡ true → (if a then back_ask.Wait else (if requests_of w.rings.back.ring w.rings.back.seen == 0 then back_ring.index_ask w.rings.back 0 else back_ring.entry_ask w.rings.back 0)) ≡ back_ask.Wait
+      sleeping : (a : Bool) → a ≡ true → (if a then back_ask.Wait else (if requests_of w.rings.back.ring.indices w.rings.back.ring.seen == 0 then back_ring.index_ask w.rings.back 0 else back_ring.entry_ask w.rings.back 0)) ≡ back_ask.Wait
       sleeping true is = refl
       sleeping false is = absurd (true≢false (sym is))
 
   pub waits : MayWait w c → back.ask_of v ≡ back_ask.Wait
   waits (inl may) = early_waits may.0 may.1 (bus_waits w.back may.1)
-  waits (inr (inl may)) = asleep_waits may.rests may.nothing_found may.none_done (loops r c w.rings.back.asleep (serves_at may.serves (bus_waits w.back may.rests)) may.none_begun may.nothing_found k.ring)
+  waits (inr (inl may)) = asleep_waits may.rests may.nothing_found may.none_done (loops r c w.rings.back.ring.asleep (serves_at may.serves (bus_waits w.back may.rests)) may.none_begun may.nothing_found k.ring)
   waits (inr (inr own)) = closed_at w.back.stage refl k.fit.back k.fit.sound.placed own

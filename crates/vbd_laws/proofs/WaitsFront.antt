@@ -81,12 +81,12 @@ keys_check (bus_ask.SetKey key value) consumer x c says = refl
 keys_check b consumer x c says = absurd (true≢false (sym says))
 
 abbrev Goes : World → Check → FrontAct → List ring.Happening → FrontAsk → (FrontAnswer → front_view.View) → Type 0
-Goes w c a does ask step = front_act w.rings.under ask ≡ Some a → (let v : front_view.View = step a.answer in Stands v.ring (front_checks w.rings.front.ring.cons ask a.answer c))
+Goes w c a does ask step = front_act w.rings.under ask ≡ Some a → (let v : front_view.View = step a.answer in Stands v.ring (front_checks w.rings.front.ring.indices.cons ask a.answer c))
 
 says_goes : (w : World) (c : Check) (a : FrontAct) → Knows w c → front.speaks (front_asks w) ≡ true
     → Goes w c a (front_says w (entered_at w (front_turn w))) (front.key_ask (front_asks w)) (λ x. front_step.spoken (frontend_of w) x)
 says_goes w c a k says e =
-    subst (λ (d : Check). Stands (front_step.all_entered (front_step.states_after (frontend_of w) a.answer) w.rings.front) d) (sym (keys_check (front_asks w) w.rings.front.ring.cons a.answer c says))
+    subst (λ (d : Check). Stands (front_step.all_entered (front_step.states_after (frontend_of w) a.answer) w.rings.front) d) (sym (keys_check (front_asks w) w.rings.front.ring.indices.cons a.answer c says))
     (all_enter (front_step.states_after (frontend_of w) a.answer) w.rings.front c k.ring)
 
 moves_goes : (w : World) (c : Check) (a : FrontAct) → Knows w c → Goes w c a (ring.FrontMoves ∷ []) (front_ring.ask_of w.rings.front) (λ x. front_step.ring_step true (front_asks w) (frontend_of w) x)
@@ -99,9 +99,9 @@ waits_goes w c a k quiet still e =
     by_watch (watch_next w.rings.under end.Front)
     (subst (λ (b : Bool). (if b then Some (front_event w.rings.under) else front_watched w.rings.under (watch_next w.rings.under end.Front)) ≡ Some a) (front_waits w k.fit quiet still) e)
   where
-    by_watch : (next : Option (List ℕ)) → front_watched w.rings.under next ≡ Some a → Stands w.rings.front (front_checks w.rings.front.ring.cons front_ask.Wait a.answer c)
+    by_watch : (next : Option (List ℕ)) → front_watched w.rings.under next ≡ Some a → Stands w.rings.front (front_checks w.rings.front.ring.indices.cons front_ask.Wait a.answer c)
     by_watch None e = absurd (none-some a e)
-    by_watch (Some path) e = of_front (λ (x : FrontAct). Stands w.rings.front (front_checks w.rings.front.ring.cons front_ask.Wait x.answer c)) _ a k.ring e
+    by_watch (Some path) e = of_front (λ (x : FrontAct). Stands w.rings.front (front_checks w.rings.front.ring.indices.cons front_ask.Wait x.answer c)) _ a k.ring e
 
 goes : (w : World) (c : Check) (a : FrontAct) → Knows w c → Goes w c a (front_does w) (front.ask_of (frontend_of w)) (λ x. front_step.step_of (frontend_of w) x)
 goes w c a k = front_cases (Goes w c a) w (says_goes w c a k) (λ quiet moves. moves_goes w c a k) (waits_goes w c a k)
@@ -202,7 +202,7 @@ bus_waits v idle e = by_stage v.stage refl e
     by_stage stage.ClosePort here e = bus_asks_on bus_ask.ClosePort refl e
 
 -- a connected front's end of the ring waits in its loop alone
-pub loop_waits : (f : ends.View) → front_ring.loop_ask f (ends.next_request f) ≡ front_ask.Wait → (ends.next_request f ≡ None) × ((f.asleep || front_ring.is_through f) ≡ true)
+pub loop_waits : (f : ends.View) → front_ring.loop_ask f (ends.next_request f) ≡ front_ask.Wait → (ends.next_request f ≡ None) × ((f.ring.asleep || front_ring.is_through f) ≡ true)
 loop_waits f e = by_next (ends.next_request f) refl e
   where
     begins : (r : Request) (way : Transfer) → is_wait (front_ring.issue_ask f r way) ≡ false
@@ -216,15 +216,15 @@ loop_waits f e = by_next (ends.next_request f) refl e
         by_test true = refl
         by_test false = refl
 
-    by_none : (waits none : Bool) → (f.asleep || front_ring.is_through f) ≡ waits
-        → (if waits then front_ask.Wait else (if none then front_ask.Read ends.ring_frame 2 else front_ask.Read (ends.slot_frame f.shape f.ring.cons 0) (ends.slot_word f.shape f.ring.cons 0))) ≡ front_ask.Wait → (f.asleep || front_ring.is_through f) ≡ true
+    by_none : (waits none : Bool) → (f.ring.asleep || front_ring.is_through f) ≡ waits
+        → (if waits then front_ask.Wait else (if none then front_ask.Read ends.ring_frame 2 else front_ask.Read (ends.slot_frame f.shape f.ring.indices.cons 0) (ends.slot_word f.shape f.ring.indices.cons 0))) ≡ front_ask.Wait → (f.ring.asleep || front_ring.is_through f) ≡ true
     by_none true none t e = t
     by_none false true t e = asks_on _ refl e
     by_none false false t e = asks_on _ refl e
 
-    by_next : (next : Option Request) → ends.next_request f ≡ next → front_ring.loop_ask f next ≡ front_ask.Wait → (ends.next_request f ≡ None) × ((f.asleep || front_ring.is_through f) ≡ true)
+    by_next : (next : Option Request) → ends.next_request f ≡ next → front_ring.loop_ask f next ≡ front_ask.Wait → (ends.next_request f ≡ None) × ((f.ring.asleep || front_ring.is_through f) ≡ true)
     by_next (Some r) n e = asks_on (front_ring.issue_ask f r r.transfer) (begins r r.transfer) e
-    by_next None n e = (n, by_none (f.asleep || front_ring.is_through f) (responses_of f.ring f.seen == 0) refl e)
+    by_next None n e = (n, by_none (f.ring.asleep || front_ring.is_through f) (responses_of f.ring.indices f.ring.seen == 0) refl e)
 
 pub ready_waits : (s : Stage) (f : ends.View) (c : Check) → is_ready s ≡ true → StandsAt s f c → front_ring.ask_at s f ≡ front_ask.Wait → s ≡ ring_stage.Loop
 ready_waits ring_stage.Loop f c ready is e = refl

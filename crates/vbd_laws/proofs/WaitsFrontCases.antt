@@ -187,10 +187,10 @@ module _ (w : World) (c : Check) (k : Knows w c) where
       inr (inl (record { connected = own; rests = rests; nothing_found = asleep_is c (stands.0.0 ∙ slept here looped.1); none_waits = looped.0; none_begun = ap front_view.is_still here }))
     where
       -- a front that is through closes, and its negotiation with it
-      slept : r ≡ ring_stage.Loop → (w.rings.front.asleep || front_ring.is_through w.rings.front) ≡ true → w.rings.front.asleep ≡ true
-      slept here is = by_asleep w.rings.front.asleep refl is
+      slept : r ≡ ring_stage.Loop → (w.rings.front.ring.asleep || front_ring.is_through w.rings.front) ≡ true → w.rings.front.ring.asleep ≡ true
+      slept here is = by_asleep w.rings.front.ring.asleep refl is
         where
-          by_asleep : (a : Bool) → w.rings.front.asleep ≡ a → (a || front_ring.is_through w.rings.front) ≡ true → a ≡ true
+          by_asleep : (a : Bool) → w.rings.front.ring.asleep ≡ a → (a || front_ring.is_through w.rings.front) ≡ true → a ≡ true
           by_asleep true a is = refl
           by_asleep false a is =
               let both = both_true w.rings.front.closing (length w.rings.front.requests == 0) is in
@@ -325,7 +325,7 @@ module _ (w : World) (c : Check) (k : Knows w c) where
       let through : front_ring.is_through w.rings.front ≡ true = k.fit.through own (ap front_view.is_broken here) in
       let none = (both_true w.rings.front.closing (length w.rings.front.requests == 0) through).1 in
       ring_asks bus_ask.Wait ring_stage.Loop true here refl refl
-      ∙ (ap (λ (next : Option Request). front_ring.loop_ask w.rings.front next) (none_next w.rings.front none) ∙ sleeping w.rings.front.asleep (front_ring.is_through w.rings.front) _ through)
+      ∙ (ap (λ (next : Option Request). front_ring.loop_ask w.rings.front next) (none_next w.rings.front none) ∙ sleeping w.rings.front.ring.asleep (front_ring.is_through w.rings.front) _ through)
     where
       sleeping : (a b : Bool) (other : FrontAsk) → b ≡ true → (if a || b then front_ask.Wait else other) ≡ front_ask.Wait
       sleeping true b other is = refl
@@ -338,11 +338,11 @@ module _ (w : World) (c : Check) (k : Knows w c) where
   asleep_waits : bus_asks w ≡ bus_ask.Wait → c ≡ Asleep → ends.next_request w.rings.front ≡ None → r ≡ ring_stage.Loop → front.ask_at (bus_asks w) v ≡ front_ask.Wait
   asleep_waits rests found none here =
       let stands = subst (λ (t : Stage). StandsAt t w.rings.front c) here k.ring in
-      let asleep : w.rings.front.asleep ≡ true = sym stands.0.0 ∙ ap sleeps found in
+      let asleep : w.rings.front.ring.asleep ≡ true = sym stands.0.0 ∙ ap sleeps found in
       ap (λ (b : FrontBusAsk). front.ask_at b v) rests
-      ∙ (ring_asks bus_ask.Wait ring_stage.Loop true here refl refl ∙ (ap (λ (next : Option Request). front_ring.loop_ask w.rings.front next) none ∙ sleeping w.rings.front.asleep asleep))
+      ∙ (ring_asks bus_ask.Wait ring_stage.Loop true here refl refl ∙ (ap (λ (next : Option Request). front_ring.loop_ask w.rings.front next) none ∙ sleeping w.rings.front.ring.asleep asleep))
     where
-      sleeping : (a : Bool) → a ≡ true → (if a || front_ring.is_through w.rings.front then front_ask.Wait else (if responses_of w.rings.front.ring w.rings.front.seen == 0 then front_ask.Read ends.ring_frame 2 else front_ask.Read (ends.slot_frame w.rings.front.shape w.rings.front.ring.cons 0) (ends.slot_word w.rings.front.shape w.rings.front.ring.cons 0))) ≡ front_ask.Wait
+      sleeping : (a : Bool) → a ≡ true → (if a || front_ring.is_through w.rings.front then front_ask.Wait else (if responses_of w.rings.front.ring.indices w.rings.front.ring.seen == 0 then front_ask.Read ends.ring_frame 2 else front_ask.Read (ends.slot_frame w.rings.front.shape w.rings.front.ring.indices.cons 0) (ends.slot_word w.rings.front.shape w.rings.front.ring.indices.cons 0))) ≡ front_ask.Wait
       sleeping true is = refl
       sleeping false is = absurd (true≢false (sym is))
 

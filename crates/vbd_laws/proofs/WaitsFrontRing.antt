@@ -132,7 +132,7 @@ Has (stage.LeftData n) v = IsSome v.ending
 Has s v = Unit {0}
 
 abbrev pub StandsAt : Stage → View → Check → Type 0
-StandsAt s v c = Sees s c v.asleep × Has s v
+StandsAt s v c = Sees s c v.ring.asleep × Has s v
 
 abbrev pub Stands : View → Check → Type 0
 Stands v c = StandsAt v.stage v c
@@ -147,10 +147,10 @@ either_at false x y v c p q = q
 
 -- the check goes on as this move asks
 abbrev Goes : View → View → FrontAsk → FrontAnswer → Check → Type 0
-Goes v u a x c = Stands u (front_checks v.ring.cons a x c)
+Goes v u a x c = Stands u (front_checks v.ring.indices.cons a x c)
 
 -- a request is begun
-issue_goes : (v : View) (r : Request) (way : Transfer) (x : FrontAnswer) (c : Check) → IsTold c v.asleep → next_request v ≡ Some r → Goes v (begun v r way) (issue_ask v r way) x c
+issue_goes : (v : View) (r : Request) (way : Transfer) (x : FrontAnswer) (c : Check) → IsTold c v.ring.asleep → next_request v ≡ Some r → Goes v (begun v r way) (issue_ask v r way) x c
 issue_goes v r (transfer.Write tag) x c is e = (writes_sleep _ c ∙ is, rw e refl)
 issue_goes v r (transfer.Barrier tag) x c is e = (writes_sleep _ c ∙ is, rw e refl)
 issue_goes v r transfer.Flush x c is e = (writes_sleep _ c ∙ is, tt)
@@ -162,95 +162,95 @@ issue_goes v r transfer.Read x c is e = by_test (is_indirect r.count)
     by_test false = (writes_sleep _ c ∙ is, rw e refl)
 
 -- the responses' producer was read
-looked_goes : (v : View) (word : ℕ) (otherwise : View) (c : Check) → v.asleep ≡ false → sleeps c ≡ false → is_fenced c ≡ false → Stands otherwise c → Stands (looked v word otherwise) c
+looked_goes : (v : View) (word : ℕ) (otherwise : View) (c : Check) → v.ring.asleep ≡ false → sleeps c ≡ false → is_fenced c ≡ false → Stands otherwise c → Stands (looked v word otherwise) c
 looked_goes v word otherwise c awake sees unfenced h =
-    either (nat_lt (distance_of v.ring.cons v.ring.prod) (distance_of v.ring.cons word)) (broken word v) (if word == v.ring.cons then otherwise else record v { seen = word; stage = stage.Loop }) c (tt, tt)
-    (either (word == v.ring.cons) otherwise (record v { seen = word; stage = stage.Loop }) c h ((sees ∙ sym awake, unfenced), tt))
+    either (nat_lt (distance_of v.ring.indices.cons v.ring.indices.prod) (distance_of v.ring.indices.cons word)) (broken word v) (if word == v.ring.indices.cons then otherwise else record v { ring = record v.ring { seen = word }; stage = stage.Loop }) c (tt, tt)
+    (either (word == v.ring.indices.cons) otherwise (record v { ring = record v.ring { seen = word }; stage = stage.Loop }) c h ((sees ∙ sym awake, unfenced), tt))
 
 -- in the loop
-loop_goes : (v : View) (r : Option Request) (x : FrontAnswer) (c : Check) → v.stage ≡ stage.Loop → next_request v ≡ r → IsTold c v.asleep → is_fenced c ≡ false → IsAnswer (loop_ask v r) x
+loop_goes : (v : View) (r : Option Request) (x : FrontAnswer) (c : Check) → v.stage ≡ stage.Loop → next_request v ≡ r → IsTold c v.ring.asleep → is_fenced c ≡ false → IsAnswer (loop_ask v r) x
     → Goes v (loop_step v r x) (loop_ask v r) x c
 loop_goes v (Some r) x c here e is unfenced allowed = issue_goes v r r.transfer x c is e
-loop_goes v None x c here e is unfenced allowed = by_test (v.asleep || is_through v) (responses_of v.ring v.seen == 0) refl refl x allowed
+loop_goes v None x c here e is unfenced allowed = by_test (v.ring.asleep || is_through v) (responses_of v.ring.indices v.ring.seen == 0) refl refl x allowed
   where
-    kept : (d : Check) → IsTold d v.asleep → is_fenced d ≡ false → Stands v d
+    kept : (d : Check) → IsTold d v.ring.asleep → is_fenced d ≡ false → Stands v d
     kept d told un = subst (λ (s : Stage). StandsAt s v d) (sym here) ((told, un), tt)
 
-    by_test : (waits none : Bool) → (v.asleep || is_through v) ≡ waits → (responses_of v.ring v.seen == 0) ≡ none → (x : FrontAnswer)
-        → IsAnswer (if waits then ask.Wait else (if none then ask.Read ring_frame 2 else ask.Read (slot_frame v.shape v.ring.cons 0) (slot_word v.shape v.ring.cons 0))) x
-        → Goes v (loop_step v None x) (if waits then ask.Wait else (if none then ask.Read ring_frame 2 else ask.Read (slot_frame v.shape v.ring.cons 0) (slot_word v.shape v.ring.cons 0))) x c
-    by_test true none w n answer.Event allowed = subst (λ (s : Stage). StandsAt s (record v { asleep = false }) Awake) (sym here) ((refl, refl), tt)
+    by_test : (waits none : Bool) → (v.ring.asleep || is_through v) ≡ waits → (responses_of v.ring.indices v.ring.seen == 0) ≡ none → (x : FrontAnswer)
+        → IsAnswer (if waits then ask.Wait else (if none then ask.Read ring_frame 2 else ask.Read (slot_frame v.shape v.ring.indices.cons 0) (slot_word v.shape v.ring.indices.cons 0))) x
+        → Goes v (loop_step v None x) (if waits then ask.Wait else (if none then ask.Read ring_frame 2 else ask.Read (slot_frame v.shape v.ring.indices.cons 0) (slot_word v.shape v.ring.indices.cons 0))) x c
+    by_test true none w n answer.Event allowed = subst (λ (s : Stage). StandsAt s (record v { ring = record v.ring { asleep = false } }) Awake) (sym here) ((refl, refl), tt)
     by_test true none w n (answer.Watched path) allowed = kept c is unfenced
     by_test true none w n x allowed = absurd allowed
     by_test false true w n (answer.Word word) allowed =
-        let awake : v.asleep ≡ false = (or_parts v.asleep (is_through v) w).0 in
-        let last : looks c (word == v.ring.cons) ≡ Awake = looks_awake c (word == v.ring.cons) unfenced in
+        let awake : v.ring.asleep ≡ false = (or_parts v.ring.asleep (is_through v) w).0 in
+        let last : looks c (word == v.ring.indices.cons) ≡ Awake = looks_awake c (word == v.ring.indices.cons) unfenced in
         subst (λ (d : Check). Stands (loop_word v word) d) (sym last)
-        (subst (λ (b : Bool). Stands (if b then looked v word (record v { seen = word; stage = stage.StoreEvent }) else at (stage.ResponseHigh word) v) Awake) (sym n)
-        (looked_goes v word (record v { seen = word; stage = stage.StoreEvent }) Awake awake refl refl ((awake, refl), tt)))
+        (subst (λ (b : Bool). Stands (if b then looked v word (record v { ring = record v.ring { seen = word }; stage = stage.StoreEvent }) else at (stage.ResponseHigh word) v) Awake) (sym n)
+        (looked_goes v word (record v { ring = record v.ring { seen = word }; stage = stage.StoreEvent }) Awake awake refl refl ((awake, refl), tt)))
     by_test false false w n (answer.Word word) allowed =
-        let awake : v.asleep ≡ false = (or_parts v.asleep (is_through v) w).0 in
-        let d : Check = front_checks v.ring.cons (ask.Read (slot_frame v.shape v.ring.cons 0) (slot_word v.shape v.ring.cons 0)) (answer.Word word) c in
-        subst (λ (b : Bool). Stands (if b then looked v word (record v { seen = word; stage = stage.StoreEvent }) else at (stage.ResponseHigh word) v) d) (sym n)
+        let awake : v.ring.asleep ≡ false = (or_parts v.ring.asleep (is_through v) w).0 in
+        let d : Check = front_checks v.ring.indices.cons (ask.Read (slot_frame v.shape v.ring.indices.cons 0) (slot_word v.shape v.ring.indices.cons 0)) (answer.Word word) c in
+        subst (λ (b : Bool). Stands (if b then looked v word (record v { ring = record v.ring { seen = word }; stage = stage.StoreEvent }) else at (stage.ResponseHigh word) v) d) (sym n)
         ((awake, reads_awake _ _ c (is ∙ awake) unfenced, reads_unfenced _ _ c unfenced), tt)
     by_test false none w n x allowed = absurd allowed
 
 -- while a request is issued
-data_goes : (v : View) (r : Option Request) (n : ℕ) (x : FrontAnswer) (c : Check) → next_request v ≡ r → IsSome r → IsTold c v.asleep → Goes v (at (data_stage r n) v) (data_ask r n) x c
+data_goes : (v : View) (r : Option Request) (n : ℕ) (x : FrontAnswer) (c : Check) → next_request v ≡ r → IsSome r → IsTold c v.ring.asleep → Goes v (at (data_stage r n) v) (data_ask r n) x c
 data_goes v None n x c e some is = absurd (true≢false (sym some))
 data_goes v (Some r) n x c e some is =
-    let d : Check = front_checks v.ring.cons (data_ask (Some r) n) x c in
-    let told : IsTold d v.asleep = writes_sleep _ c ∙ is in
+    let d : Check = front_checks v.ring.indices.cons (data_ask (Some r) n) x c in
+    let told : IsTold d v.ring.asleep = writes_sleep _ c ∙ is in
     either_at (nat_lt (n + 1) (words_in r)) (stage.Data (n + 1)) (after_data r) v d (told, rw e refl) (either_at (is_indirect r.count) (stage.Pages 0) (stage.GrantFrame 0) v d (told, rw e refl) (told, rw e refl))
 
-pages_go : (v : View) (r : Option Request) (n : ℕ) (x : FrontAnswer) (c : Check) → next_request v ≡ r → IsSome r → IsTold c v.asleep → Goes v (at (page_stage r n) v) (page_ask r n) x c
+pages_go : (v : View) (r : Option Request) (n : ℕ) (x : FrontAnswer) (c : Check) → next_request v ≡ r → IsSome r → IsTold c v.ring.asleep → Goes v (at (page_stage r n) v) (page_ask r n) x c
 pages_go v None n x c e some is = absurd (true≢false (sym some))
 pages_go v (Some r) n x c e some is =
-    let d : Check = front_checks v.ring.cons (page_ask (Some r) n) x c in
-    let told : IsTold d v.asleep = writes_sleep _ c ∙ is in
+    let d : Check = front_checks v.ring.indices.cons (page_ask (Some r) n) x c in
+    let told : IsTold d v.ring.asleep = writes_sleep _ c ∙ is in
     either_at (nat_lt (n + 1) (naming_words r)) (stage.Pages (n + 1)) (stage.GrantFrame 0) v d (told, rw e refl) (told, rw e refl)
 
-names_go : (v : View) (r : Option Request) (place : ℕ) (x : FrontAnswer) (c : Check) → next_request v ≡ r → IsSome r → IsTold c v.asleep → Goes v (at (stage.GrantFence place) v) (name_ask r place) x c
+names_go : (v : View) (r : Option Request) (place : ℕ) (x : FrontAnswer) (c : Check) → next_request v ≡ r → IsSome r → IsTold c v.ring.asleep → Goes v (at (stage.GrantFence place) v) (name_ask r place) x c
 names_go v None place x c e some is = absurd (true≢false (sym some))
 names_go v (Some r) place x c e some is = (writes_sleep _ c ∙ is, rw e refl)
 
-grants_go : (v : View) (r : Option Request) (place : ℕ) (x : FrontAnswer) (c : Check) → next_request v ≡ r → IsSome r → IsTold c v.asleep → Goes v (granted r place v) (grant_ask r place) x c
+grants_go : (v : View) (r : Option Request) (place : ℕ) (x : FrontAnswer) (c : Check) → next_request v ≡ r → IsSome r → IsTold c v.ring.asleep → Goes v (granted r place v) (grant_ask r place) x c
 grants_go v None place x c e some is = absurd (true≢false (sym some))
 grants_go v (Some r) place x c e some is =
-    either (nat_lt (place + 1) (length r.frames.items)) _ _ (front_checks v.ring.cons (grant_ask (Some r) place) x c) (writes_sleep _ c ∙ is, rw e refl) (writes_sleep _ c ∙ is, tt)
+    either (nat_lt (place + 1) (length r.frames.items)) _ _ (front_checks v.ring.indices.cons (grant_ask (Some r) place) x c) (writes_sleep _ c ∙ is, rw e refl) (writes_sleep _ c ∙ is, tt)
 
 -- a response was read whole
-taken_goes : (v : View) (place : ℕ) (r : Request) (status : Status) (c : Check) → IsAlert c v.asleep → Stands (taken v place r status) c
+taken_goes : (v : View) (place : ℕ) (r : Request) (status : Status) (c : Check) → IsAlert c v.ring.asleep → Stands (taken v place r status) c
 taken_goes v place r status c is = either (length r.frames.items == 0) _ _ c ((is.1 ∙ sym is.0, is.2), tt) (is, refl)
 
-response_goes : (v : View) (response : Result Response ℕ) (low : ℕ) (found : Option (ℕ × Request)) (c : Check) → IsAlert c v.asleep → Stands (response_at v response low found) c
+response_goes : (v : View) (response : Result Response ℕ) (low : ℕ) (found : Option (ℕ × Request)) (c : Check) → IsAlert c v.ring.asleep → Stands (response_at v response low found) c
 response_goes v response low None c is = (tt, tt)
 response_goes v (Err word) low (Some found) c is = (tt, tt)
 response_goes v (Ok response) low (Some found) c is = taken_goes v found.0 found.1 response.status c is
 
 -- its request's grants are ended, and its data read
-revoke_goes : (v : View) (e : Option Ending) (place : ℕ) (x : FrontAnswer) (c : Check) → v.ending ≡ e → IsSome e → IsAlert c v.asleep → IsAnswer (revoke_ask e place) x
+revoke_goes : (v : View) (e : Option Ending) (place : ℕ) (x : FrontAnswer) (c : Check) → v.ending ≡ e → IsSome e → IsAlert c v.ring.asleep → IsAnswer (revoke_ask e place) x
     → Goes v (step_at (stage.GrantRead place) v x) (revoke_ask e place) x c
 revoke_goes v None place x c same some is allowed = absurd (true≢false (sym some))
 revoke_goes v (Some e) place (answer.Word word) c same some is allowed =
     either (is_mapped word) (broken word v) (at (stage.GrantEnd place word) v) _ (tt, tt) ((is.0, reads_awake _ _ c is.1 is.2, reads_unfenced _ _ c is.2), rw same refl)
 revoke_goes v (Some e) place x c same some is allowed = absurd allowed
 
-ended_goes : (v : View) (e : Ending) (c : Check) → v.ending ≡ Some e → IsAlert c v.asleep → Stands (ended e v) c
+ended_goes : (v : View) (e : Ending) (c : Check) → v.ending ≡ Some e → IsAlert c v.ring.asleep → Stands (ended e v) c
 ended_goes v e c same is = either (has_data e.request.transfer e.status) _ _ c (is, rw same refl) ((is.1 ∙ sym is.0, is.2), tt)
 
-end_goes : (v : View) (e : Option Ending) (place before : ℕ) (x : FrontAnswer) (c : Check) → v.ending ≡ e → IsSome e → IsAlert c v.asleep → IsAnswer (end_ask e place before) x
+end_goes : (v : View) (e : Option Ending) (place before : ℕ) (x : FrontAnswer) (c : Check) → v.ending ≡ e → IsSome e → IsAlert c v.ring.asleep → IsAnswer (end_ask e place before) x
     → Goes v (step_at (stage.GrantEnd place before) v x) (end_ask e place before) x c
 end_goes v None place before x c same some is allowed = absurd (true≢false (sym some))
 end_goes v (Some e) place before (answer.Word word) c same some is allowed =
     let d : Check = others c in
-    let alert : IsAlert d v.asleep = (is.0, others_sleep c ∙ is.1, others_unfenced c) in
+    let alert : IsAlert d v.ring.asleep = (is.0, others_sleep c ∙ is.1, others_unfenced c) in
     either (word == before) (revoked v.ending place v) (broken word v) d
     (subst (λ (o : Option Ending). Stands (revoked o place v) d) (sym same)
     (either (nat_lt (place + 1) (length e.request.frames.items)) (at (stage.GrantRead (place + 1)) v) (ended e v) d (alert, rw same refl) (ended_goes v e d same alert))) (tt, tt)
 end_goes v (Some e) place before x c same some is allowed = absurd allowed
 
-read_goes : (v : View) (e : Option Ending) (n : ℕ) (x : FrontAnswer) (c : Check) → v.ending ≡ e → IsSome e → IsAlert c v.asleep → IsAnswer (read_ask e n) x
+read_goes : (v : View) (e : Option Ending) (n : ℕ) (x : FrontAnswer) (c : Check) → v.ending ≡ e → IsSome e → IsAlert c v.ring.asleep → IsAnswer (read_ask e n) x
     → Goes v (step_at (stage.ReadData n) v x) (read_ask e n) x c
 read_goes v None n x c same some is allowed = absurd (true≢false (sym some))
 read_goes v (Some e) n (answer.Word word) c same some is allowed =
@@ -258,9 +258,9 @@ read_goes v (Some e) n (answer.Word word) c same some is allowed =
     (either (nat_lt (n + 1) (words_in e.request)) _ _ d (more (n % 128 == 127) (slice_set v.words (n % 128) word)) (all (n % 128 == 127) (slice_set v.words (n % 128) word)))
   where
     d : Check
-    d = front_checks v.ring.cons (read_ask (Some e) n) (answer.Word word) c
+    d = front_checks v.ring.indices.cons (read_ask (Some e) n) (answer.Word word) c
 
-    alert : IsAlert d v.asleep
+    alert : IsAlert d v.ring.asleep
     alert = (is.0, reads_awake _ _ c is.1 is.2, reads_unfenced _ _ c is.2)
 
     more : (b : Bool) (words : List ℕ) → Stands (at (stage.ReadData (n + 1)) (if b then record v { words = words; told = Some (told.Sector e.request.number (n / 128) words) } else record v { words = words })) d
@@ -273,7 +273,7 @@ read_goes v (Some e) n (answer.Word word) c same some is allowed =
 read_goes v (Some e) n x c same some is allowed = absurd allowed
 
 -- data that are left after a suspend
-left_goes : (v : View) (e : Option Ending) (n : ℕ) (x : FrontAnswer) (c : Check) → v.ending ≡ e → IsSome e → IsAlert c v.asleep → IsAnswer (read_ask e n) x
+left_goes : (v : View) (e : Option Ending) (n : ℕ) (x : FrontAnswer) (c : Check) → v.ending ≡ e → IsSome e → IsAlert c v.ring.asleep → IsAnswer (read_ask e n) x
     → Goes v (step_at (stage.LeftData n) v x) (read_ask e n) x c
 left_goes v None n x c same some is allowed = absurd (true≢false (sym some))
 left_goes v (Some e) n (answer.Word word) c same some is allowed =
@@ -281,9 +281,9 @@ left_goes v (Some e) n (answer.Word word) c same some is allowed =
     (either (nat_lt (n + 1) (words_in e.request)) _ _ d (more (n % 128 == 127) (slice_set v.words (n % 128) word)) (all (n % 128 == 127) (slice_set v.words (n % 128) word)))
   where
     d : Check
-    d = front_checks v.ring.cons (read_ask (Some e) n) (answer.Word word) c
+    d = front_checks v.ring.indices.cons (read_ask (Some e) n) (answer.Word word) c
 
-    alert : IsAlert d v.asleep
+    alert : IsAlert d v.ring.asleep
     alert = (is.0, reads_awake _ _ c is.1 is.2, reads_unfenced _ _ c is.2)
 
     more : (b : Bool) (words : List ℕ) → Stands (at (stage.LeftData (n + 1)) (if b then record v { words = words; told = Some (told.Sector e.request.number (n / 128) words) } else record v { words = words })) d
@@ -296,12 +296,12 @@ left_goes v (Some e) n (answer.Word word) c same some is allowed =
 left_goes v (Some e) n x c same some is allowed = absurd allowed
 
 -- it looks for the last time
-last_goes : (v : View) (word : ℕ) (c : Check) → v.asleep ≡ false → c ≡ Fenced → Stands (looked v word (record v { seen = word; stage = stage.Loop; asleep = true })) (looks c (word == v.ring.cons))
+last_goes : (v : View) (word : ℕ) (c : Check) → v.ring.asleep ≡ false → c ≡ Fenced → Stands (looked v word (record v { ring = record v.ring { seen = word; asleep = true }; stage = stage.Loop })) (looks c (word == v.ring.indices.cons))
 last_goes v word c awake is =
-    subst (λ (d : Check). Stands (looked v word (record v { seen = word; stage = stage.Loop; asleep = true })) (looks d (word == v.ring.cons))) (sym is)
-    (either (nat_lt (distance_of v.ring.cons v.ring.prod) (distance_of v.ring.cons word)) (broken word v) _ _ (tt, tt) (by_same (word == v.ring.cons)))
+    subst (λ (d : Check). Stands (looked v word (record v { ring = record v.ring { seen = word; asleep = true }; stage = stage.Loop })) (looks d (word == v.ring.indices.cons))) (sym is)
+    (either (nat_lt (distance_of v.ring.indices.cons v.ring.indices.prod) (distance_of v.ring.indices.cons word)) (broken word v) _ _ (tt, tt) (by_same (word == v.ring.indices.cons)))
   where
-    by_same : (same : Bool) → Stands (if same then record v { seen = word; stage = stage.Loop; asleep = true } else record v { seen = word; stage = stage.Loop }) (looks Fenced same)
+    by_same : (same : Bool) → Stands (if same then record v { ring = record v.ring { seen = word; asleep = true }; stage = stage.Loop } else record v { ring = record v.ring { seen = word }; stage = stage.Loop }) (looks Fenced same)
     by_same true = ((refl, refl), tt)
     by_same false = ((sym awake, refl), tt)
 
@@ -317,14 +317,14 @@ waits_initialised v x c here is allowed = absurd allowed
 stands_at : (s : Stage) (v : View) (x : FrontAnswer) (c : Check) → v.stage ≡ s → StandsAt s v c → IsAnswer (ask_at s v) x → Goes v (step_at s v x) (ask_at s v) x c
 stands_at (stage.RingWord k) v x c here is allowed =
     let known = is.0 in
-    let up : IsAwake (writes (is_ring_word ring_frame k 3) c) v.asleep = (known.0, writes_sleep _ c ∙ known.1) in
+    let up : IsAwake (writes (is_ring_word ring_frame k 3) c) v.ring.asleep = (known.0, writes_sleep _ c ∙ known.1) in
     either_at (k == 15) (stage.RingFrame 0) (stage.RingWord (k + 1)) v (writes (is_ring_word ring_frame k 3) c) (up, is.1) (up, is.1)
 stands_at (stage.RingFrame page) v x c here is allowed = let known = is.0 in ((known.0, writes_sleep _ c ∙ known.1), is.1)
 stands_at (stage.RingFence page) v x c here is allowed = let known = is.0 in ((known.0, fences_sleep c ∙ known.1), is.1)
 stands_at (stage.RingFlags page) v x c here is allowed =
     let known = is.0 in
-    let d : Check = front_checks v.ring.cons (ask_at (stage.RingFlags page) v) x c in
-    let up : IsAwake d v.asleep = (known.0, writes_sleep _ c ∙ known.1) in
+    let d : Check = front_checks v.ring.indices.cons (ask_at (stage.RingFlags page) v) x c in
+    let up : IsAwake d v.ring.asleep = (known.0, writes_sleep _ c ∙ known.1) in
     either_at (nat_lt (page + 1) (2 ^ v.shape.order)) (stage.RingFrame (page + 1)) stage.NewPort v d (up, is.1) (up, is.1)
 stands_at stage.NewPort v x c here is allowed = let known = is.0 in ((known.0, others_sleep c ∙ known.1, others_unfenced c), is.1)
 stands_at stage.Initialised v x c here is allowed = waits_initialised v x c here is allowed
@@ -335,13 +335,13 @@ stands_at (stage.GrantFrame place) v x c here is allowed = names_go v (next_requ
 stands_at (stage.GrantFence place) v x c here is allowed = (fences_sleep c ∙ is.0, is.1)
 stands_at (stage.GrantFlags place) v x c here is allowed = grants_go v (next_request v) place x c refl is.1 is.0
 stands_at (stage.Slot k) v x c here is allowed =
-    let d : Check = front_checks v.ring.cons (ask_at (stage.Slot k) v) x c in
-    let told : IsTold d v.asleep = writes_sleep _ c ∙ is.0 in
+    let d : Check = front_checks v.ring.indices.cons (ask_at (stage.Slot k) v) x c in
+    let told : IsTold d v.ring.asleep = writes_sleep _ c ∙ is.0 in
     either_at (k + 1 == entry_words_of v.shape.abi) stage.Producer (stage.Slot (k + 1)) v d (told, tt) (told, tt)
 stands_at stage.Producer v x c here is allowed = (others_sleep c ∙ is.0, tt)
 stands_at (stage.ProducerFence old) v x c here is allowed = (fences_sleep c ∙ is.0, tt)
 stands_at (stage.RequestEvent old) v (answer.Word event) c here is allowed =
-    either_at (notifies old v.ring.prod event) stage.Send stage.Loop v (others c) (others_sleep c ∙ is.0, tt) ((others_sleep c ∙ is.0, others_unfenced c), tt)
+    either_at (notifies old v.ring.indices.prod event) stage.Send stage.Loop v (others c) (others_sleep c ∙ is.0, tt) ((others_sleep c ∙ is.0, others_unfenced c), tt)
 stands_at stage.Send v x c here is allowed = ((others_sleep c ∙ is.0, others_unfenced c), tt)
 stands_at (stage.ResponseHigh low) v (answer.Word high) c here is allowed = let known = is.0 in ((known.0, reads_awake _ _ c known.1 known.2, reads_unfenced _ _ c known.2), tt)
 stands_at (stage.ResponseLast low high) v (answer.Word last) c here is allowed =
@@ -364,15 +364,15 @@ stands_at (stage.Broken word) v x c here is allowed = stays (stage.Broken word) 
 stands_at s v x c here is allowed = absurd allowed
 
 -- a move of the ring's end
-pub stands_step : (v : View) (x : FrontAnswer) (c : Check) → Stands v c → IsAnswer (ask_at v.stage v) x → Stands (step_of v x) (front_checks v.ring.cons (ask_at v.stage v) x c)
+pub stands_step : (v : View) (x : FrontAnswer) (c : Check) → Stands v c → IsAnswer (ask_at v.stage v) x → Stands (step_of v x) (front_checks v.ring.indices.cons (ask_at v.stage v) x c)
 stands_step v x c is allowed = stands_at v.stage v x c refl is allowed
 
 -- a state that it enters
-agrees_at : (s : Stage) (v : View) (u : View) (c : Check) → is_unmade s ≡ true → u.asleep ≡ v.asleep → StandsAt s v c → StandsAt s u c
+agrees_at : (s : Stage) (v : View) (u : View) (c : Check) → is_unmade s ≡ true → u.ring.asleep ≡ v.ring.asleep → StandsAt s v c → StandsAt s u c
 agrees_at (stage.RingWord k) v u c may asleep is = let known = is.0 in ((asleep ∙ known.0, known.1), tt)
 agrees_at s v u c may asleep is = absurd (true≢false (sym may))
 
-connects_at : (s : Stage) (v : View) (c : Check) → is_initialised s ≡ true → StandsAt s v c → (IsTold c v.asleep) × (is_fenced c ≡ false)
+connects_at : (s : Stage) (v : View) (c : Check) → is_initialised s ≡ true → StandsAt s v c → (IsTold c v.ring.asleep) × (is_fenced c ≡ false)
 connects_at stage.Initialised v c may is = let known = is.0 in (known.1 ∙ sym known.0, known.2)
 connects_at s v c may is = absurd (true≢false (sym may))
 

@@ -51,21 +51,21 @@ either false x y p q = q
 
 looked_supplies : (v : ends.View) (word : ℕ) (otherwise : ends.View) → Supplies v → Supplies otherwise → Supplies (looked v word otherwise)
 looked_supplies v word otherwise all h =
-    either (overruns v.ring word) (overrun v word) (if word == v.ring.cons then otherwise else record v { seen = word; stage = stage.Loop }) (supplied_after v.jobs.works all)
-    (either (word == v.ring.cons) otherwise (record v { seen = word; stage = stage.Loop }) h all)
+    either (overruns v.ring.indices word) (overrun v word) (if word == v.ring.indices.cons then otherwise else record v { ring = record v.ring { seen = word }; stage = stage.Loop }) (supplied_after v.jobs.works all)
+    (either (word == v.ring.indices.cons) otherwise (record v { ring = record v.ring { seen = word }; stage = stage.Loop }) h all)
 
 loop_supplies : (v : ends.View) (r : Option Reply) (x : BackAnswer) → Supplies v → Supplies (loop_step v r x)
 loop_supplies v (Some r) x all = supplied_without v.jobs all
 loop_supplies v None (answer.Word word) all =
-    either (requests_of v.ring v.seen == 0) (looked v word (record v { seen = word; stage = stage.StoreEvent })) (record v { entry = word ∷ []; stage = stage.Fetch 1 })
-    (looked_supplies v word (record v { seen = word; stage = stage.StoreEvent }) all all) all
+    either (requests_of v.ring.indices v.ring.seen == 0) (looked v word (record v { ring = record v.ring { seen = word }; stage = stage.StoreEvent })) (record v { ring = record v.ring { entry = word ∷ [] }; stage = stage.Fetch 1 })
+    (looked_supplies v word (record v { ring = record v.ring { seen = word }; stage = stage.StoreEvent }) all all) all
 loop_supplies v None answer.Event all = all
 loop_supplies v None x all = all
 
 fetch_supplies : (v : ends.View) (k word : ℕ) → Supplies v → Supplies (fetch_step v k word)
 fetch_supplies v k word all =
-    either (k + 1 == entry_words_of v.shape.abi) (fetched v (v.entry ++ word ∷ [])) (record v { entry = v.entry ++ word ∷ []; stage = stage.Fetch (k + 1) })
-    (supplied_started v.jobs (next_number v) v.shape.abi (v.entry ++ word ∷ []) all) all
+    either (k + 1 == entry_words_of v.shape.abi) (fetched v (v.ring.entry ++ word ∷ [])) (record v { ring = record v.ring { entry = v.ring.entry ++ word ∷ [] }; stage = stage.Fetch (k + 1) })
+    (supplied_started v.jobs (next_number v) v.shape.abi (v.ring.entry ++ word ∷ []) all) all
 
 -- a move of the ring's end
 supplies_at : (s : Stage) (v : ends.View) (x : BackAnswer) → Supplies v → Supplies (step_at s v x)
@@ -76,7 +76,7 @@ supplies_at stage.Bind v answer.BindRefused all = all
 supplies_at stage.Loop v x all = loop_supplies v (next_reply v) x all
 supplies_at (stage.Fetch k) v (answer.Word word) all = fetch_supplies v k word all
 supplies_at (stage.ResponseEvent old) v (answer.Word event) all = all
-supplies_at stage.LookAgain v (answer.Word word) all = looked_supplies v word (record v { seen = word; stage = stage.Loop; asleep = true }) all all
+supplies_at stage.LookAgain v (answer.Word word) all = looked_supplies v word (record v { ring = record v.ring { seen = word; asleep = true }; stage = stage.Loop }) all all
 supplies_at (stage.Abort m) v x all = supplied_after v.jobs.works all
 supplies_at s v x all = all
 

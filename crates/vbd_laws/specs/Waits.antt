@@ -82,7 +82,7 @@ front_checks consumer ask a c = c
 -- after a move, after something that happens, and after all this
 abbrev pub front_check_by : World → Option FrontAct → Check → Check
 front_check_by w None c = c
-front_check_by w (Some a) c = front_checks w.rings.front.ring.cons (front.ask_of (frontend_of w)) a.answer c
+front_check_by w (Some a) c = front_checks w.rings.front.ring.indices.cons (front.ask_of (frontend_of w)) a.answer c
 
 -- a front that is neither closed nor broken begins anew as its domain is suspended
 abbrev pub front_begins : World → Bool
@@ -192,7 +192,7 @@ back_checks page consumer ask a c = others c
 -- after a move, after something that happens, and after all this
 abbrev pub back_check_by : World → Option BackAct → Check → Check
 back_check_by w None c = c
-back_check_by w (Some a) c = back_checks (page_of w.rings.back 0) w.rings.back.ring.cons (back.ask_of (backend_of w)) a.answer c
+back_check_by w (Some a) c = back_checks (page_of w.rings.back 0) w.rings.back.ring.indices.cons (back.ask_of (backend_of w)) a.answer c
 
 abbrev pub back_check_in : World → Happening → Check → Check
 back_check_in w BackMoves c = back_check_by w (back_turn w) c

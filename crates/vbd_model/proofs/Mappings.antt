@@ -304,15 +304,15 @@ either_few false u v n p q = q
 
 looked_few : (v : View) (word : ℕ) (otherwise : View) (n : ℕ) → all_left v.jobs.works ≤ n → due otherwise ≤ n → due (looked v word otherwise) ≤ n
 looked_few v word otherwise n p q =
-    either_few (overruns v.ring word) (overrun v word) (if word == v.ring.cons then otherwise else record v { seen = word; stage = stage.Loop }) n
-    (let less = abort_due (record v { halted = Some (halt.Overrun word v.ring.prod) }) in omega arith)
-    (either_few (word == v.ring.cons) otherwise (record v { seen = word; stage = stage.Loop }) n q (omega arith))
+    either_few (overruns v.ring.indices word) (overrun v word) (if word == v.ring.indices.cons then otherwise else record v { ring = record v.ring { seen = word }; stage = stage.Loop }) n
+    (let less = abort_due (record v { halted = Some (halt.Overrun word v.ring.indices.prod) }) in omega arith)
+    (either_few (word == v.ring.indices.cons) otherwise (record v { ring = record v.ring { seen = word }; stage = stage.Loop }) n q (omega arith))
 
 loop_few : (v : View) (r : Option Reply) (x : BackAnswer) → due (loop_step v r x) ≤ due v + 40
 loop_few v (Some r) x = let less = removed_left v.jobs.works (position (λ (t : Work). is_done t) v.jobs.works) refl in omega arith
 loop_few v None (answer.Word word) =
-    either_few (requests_of v.ring v.seen == 0) (looked v word (record v { seen = word; stage = stage.StoreEvent })) (record v { entry = word ∷ []; stage = stage.Fetch 1 }) (due v + 40)
-    (looked_few v word (record v { seen = word; stage = stage.StoreEvent }) (due v + 40) (omega arith) (omega arith)) (omega arith)
+    either_few (requests_of v.ring.indices v.ring.seen == 0) (looked v word (record v { ring = record v.ring { seen = word }; stage = stage.StoreEvent })) (record v { ring = record v.ring { entry = word ∷ [] }; stage = stage.Fetch 1 }) (due v + 40)
+    (looked_few v word (record v { ring = record v.ring { seen = word }; stage = stage.StoreEvent }) (due v + 40) (omega arith) (omega arith)) (omega arith)
 loop_few v None answer.Event = omega arith
 loop_few v None x = omega arith
 
@@ -324,12 +324,12 @@ fetch_few : (v : View) (k word : ℕ) → v.stage ≡ stage.Fetch k → due (fet
 fetch_few v k word here = by_last (k + 1 == entry_words_of v.shape.abi) refl
   where
     words : List ℕ
-    words = v.entry ++ word ∷ []
+    words = v.ring.entry ++ word ∷ []
 
     copied : words_copied v.stage ≡ k
     copied = ap words_copied here
 
-    by_last : (b : Bool) → (k + 1 == entry_words_of v.shape.abi) ≡ b → due (if b then fetched v words else record v { entry = words; stage = stage.Fetch (k + 1) }) ≤ due v + 40
+    by_last : (b : Bool) → (k + 1 == entry_words_of v.shape.abi) ≡ b → due (if b then fetched v words else record v { ring = record v.ring { entry = words }; stage = stage.Fetch (k + 1) }) ≤ due v + 40
     by_last true e =
         let request : RawRequest = request_of v.shape.abi words in
         let one = begun_left (next_number v) v.jobs.info.sectors request v.jobs.info (verdict_of request v.jobs.info) refl (few_pages v.shape.abi words) in
@@ -352,11 +352,11 @@ step_few (stage.ReplyHigh r) v x here = omega arith
 step_few (stage.ReplyLast r) v x here = omega arith
 step_few (stage.Producer r) v x here = omega arith
 step_few (stage.ProducerFence old) v x here = omega arith
-step_few (stage.ResponseEvent old) v (answer.Word event) here = let none = none_either (notifies old v.ring.prod event) stage.Send stage.Loop refl refl in omega arith
+step_few (stage.ResponseEvent old) v (answer.Word event) here = let none = none_either (notifies old v.ring.indices.prod event) stage.Send stage.Loop refl refl in omega arith
 step_few stage.Send v x here = omega arith
 step_few stage.StoreEvent v x here = omega arith
 step_few stage.EventFence v x here = omega arith
-step_few stage.LookAgain v (answer.Word word) here = looked_few v word (record v { seen = word; stage = stage.Loop; asleep = true }) (due v + 40) (omega arith) (omega arith)
+step_few stage.LookAgain v (answer.Word word) here = looked_few v word (record v { ring = record v.ring { seen = word; asleep = true }; stage = stage.Loop }) (due v + 40) (omega arith) (omega arith)
 step_few (stage.Abort m) v x here = let less = abort_due v in omega arith
 step_few stage.UnmapRing v x here = let none = none_bound (other_pages v.pages) in omega arith
 step_few stage.ClosePort v x here = omega arith
@@ -450,7 +450,3 @@ back_comes w =
     let all = all_rings_left (does w BackMoves) w.rings in
     let cost = does_cost (is_backs_ring w) (back_negotiates (attaches w b) w b) (negotiates_cost (attaches w b) w b) in
     omega arith
-
--- a move of a job comes to none
-pub job_comes : (w : World) (number : ℕ) (outcome : Outcome) → mappings_of (happens w (JobMoves number outcome)) ≤ mappings_of w
-job_comes w number outcome = job_left w.rings number outcome (ring.job_turn w.rings number outcome) refl

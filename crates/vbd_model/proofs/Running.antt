@@ -73,10 +73,6 @@ pub runs_attachment : (hs : List Happening) (w : World) (a b : DiskSeen) → Dis
 runs_attachment [] w a b p = ap (λ (d : DiskSeen). d.attachment) p
 runs_attachment (h ∷ hs) w a b p = runs_attachment hs (happens w h) p.0 b p.2 ∙ disk_attachment w h a p.0 p.1
 
--- the lines that a recorder keeps of what happened and then happened on
-pub kept-append : (detail : Detail) (first rest : List Happening) (w : World) → kept_of detail (lines_of (first ++ rest) w) ≡ kept_of detail (lines_of first w) ++ kept_of detail (lines_of rest (after first w))
-kept-append detail first rest w = ap (kept_of detail) (lines_of-append first rest w) ∙ kept_of-append detail (lines_of first w) (lines_of rest (after first w))
-
 -- nothing happened
 pub leads_nowhere : (kind : List Happening → Type 0) (m : Moment) → kind [] → Leads kind m m
 leads_nowhere kind m k = record { history = []; is_kind = k; world = refl; disk = refl; told = gained_none m.recorder }

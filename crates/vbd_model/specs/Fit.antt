@@ -181,7 +181,7 @@ has_terms r = true
 pub record HaveTerms (r : ends.View) (v : BackView) : Type 0 where
   pub shape : r.shape ≡ shape_read v
   pub grefs : r.grefs ≡ v.grefs
-  pub port : r.port ≡ v.terms.port
+  pub port : r.ring.port ≡ v.terms.port
 
 -- the disk as the end of the ring publishes it has what the negotiation offers
 pub record IsOffered (info : DiskInfo) (f : Features) : Type 0 where

@@ -228,9 +228,6 @@ front_keeps v idle a lawful h =
     let same = subst (λ (b : FrontBusAsk). IsAnswer b a) (ask_same (due v idle) (due v idle) v) lawful in
     keeps_at (due v idle) w idle a same (own_sound w sound) sound
 
-pub front_starts : (config : Options) → config.order ≤ 4 → IsSound (start_of config)
-front_starts config few = record { order = few; placed = tt; timely = refl; port = tt }
-
 -- a state that is asked for is above the one that was written before
 rises_at : (s : FrontStage) (v : FrontView) → IsTimely s v.state → Rises v.state (ask_at s v)
 rises_at (stage.WriteState next) v h = h.0

@@ -23,10 +23,10 @@ fn holding_in(tasks: &[Task], all: bool) -> Option<usize>
 }
 
 // That place after the job at a place was done: looked for anew where it was that one.
-pub(super) fn holding_after(tasks: &[Task], all: bool, was: usize, done: usize) -> usize
-    ensures { result ≡ (if was == done then position_or_len (λ (t : Work). holds all t) tasks.now else was) }
+pub(super) fn holding_after(tasks: &[Task], all: bool, was: usize, ended: usize) -> usize
+    ensures { result ≡ (if was == ended then position_or_len (λ (t : Work). holds all t) tasks.now else was) }
 {
-    if was == done {
+    if was == ended {
         first_holding(tasks, all)
     } else {
         was

@@ -66,7 +66,7 @@ impl Back {
         ensures { result ≡ is_waiting self.now }
     {
         if let Stage::Loop = self.stage {
-            return self.asleep && self.next_reply().is_none();
+            return self.ring.asleep && self.next_reply().is_none();
         }
         matches!(self.stage, Stage::InitWait | Stage::Halted)
     }

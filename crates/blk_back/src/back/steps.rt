@@ -43,7 +43,7 @@ impl Back {
         requires { self.old.stage ≡ stage.Bind }
         ensures { self.new ≡ step_at stage.Bind self.old BindRefused }
     {
-        self.halted = Some(Halt::BadPort(self.port));
+        self.halted = Some(Halt::BadPort(self.ring.port));
         self.stage = unbound(self.pages.as_slice());
     }
 
@@ -83,8 +83,8 @@ impl Back {
         self.order = order;
         self.grefs = ArrayVec::new();
         let _ = self.grefs.try_extend_from_slice(grefs);
-        self.port = port;
-        self.ring = BackRing::attach(RingShape::of(abi, order), self.ring.prod());
+        self.ring.port = port;
+        self.ring.indices = BackRing::attach(RingShape::of(abi, order), self.ring.indices.prod());
         self.stage = Stage::MapRing;
     }
 
@@ -97,7 +97,7 @@ impl Back {
         match (self.next_reply(), answer) {
             (Some(r), _) => self.begin_reply(r),
             (None, BackAnswer::Word(word)) => self.read_in_loop(*word),
-            (None, BackAnswer::Event) => self.asleep = false,
+            (None, BackAnswer::Event) => self.ring.asleep = false,
             // A watch is looked at by the negotiation, and doesn't end sleep.
             (None, _) => {}
         }
@@ -119,25 +119,25 @@ impl Back {
         requires { self.old.stage ≡ stage.Loop }
         ensures { self.new ≡ loop_word self.old word }
     {
-        if self.ring.unconsumed(self.seen) == 0 {
+        if self.ring.indices.unconsumed(self.ring.seen) == 0 {
             self.look(word);
         } else {
-            self.entry = ArrayVec::new();
-            self.entry.push(word);
+            self.ring.entry = ArrayVec::new();
+            self.ring.entry.push(word);
             self.stage = Stage::Fetch(1);
         }
     }
 
     // The requests' producer was read for the first time.
-    fn look(&mut self, word: u32)
+    fn look(&mut self, prod: u32)
         requires { self.old.stage ≡ stage.Loop }
-        ensures { self.new ≡ looked self.old word (record self.old { seen = word; stage = stage.StoreEvent }) }
+        ensures { self.new ≡ looked self.old prod (record self.old { ring = record self.old.ring { seen = prod }; stage = stage.StoreEvent }) }
     {
-        if self.ring.overran(word) {
-            self.overrun(word);
+        if self.ring.indices.overran(prod) {
+            self.overrun(prod);
         } else {
-            self.seen = word;
-            self.stage = if word == self.ring.cons() {
+            self.ring.seen = prod;
+            self.stage = if prod == self.ring.indices.cons() {
                 Stage::StoreEvent
             } else {
                 Stage::Loop
@@ -147,17 +147,17 @@ impl Back {
 
     /// The requests' producer was read again, after the event word was stored.
     #[inline(never)]
-    pub(super) fn look_again(&mut self, word: u32)
+    pub(super) fn look_again(&mut self, prod: u32)
         requires { self.old.stage ≡ stage.LookAgain }
-        ensures { self.new ≡ step_at stage.LookAgain self.old (Word word) }
+        ensures { self.new ≡ step_at stage.LookAgain self.old (Word prod) }
     {
-        if self.ring.overran(word) {
-            self.overrun(word);
+        if self.ring.indices.overran(prod) {
+            self.overrun(prod);
         } else {
-            self.seen = word;
+            self.ring.seen = prod;
             self.stage = Stage::Loop;
-            if word == self.ring.cons() {
-                self.asleep = true;
+            if prod == self.ring.indices.cons() {
+                self.ring.asleep = true;
             }
         }
     }
@@ -187,13 +187,13 @@ impl Back {
 
     // The requests' producer overran the ring.
     #[inline(never)]
-    fn overrun(&mut self, word: u32)
+    fn overrun(&mut self, prod: u32)
         requires { length self.old.pages ≡ 2 ^ self.old.shape.order }
-        ensures { self.new ≡ overrun self.old word }
+        ensures { self.new ≡ overrun self.old prod }
     {
         self.halted = Some(Halt::Overrun {
-            prod: word,
-            rsp_prod: self.ring.prod(),
+            prod,
+            rsp_prod: self.ring.indices.prod(),
         });
         self.abort();
     }
@@ -220,7 +220,7 @@ impl Back {
         if k + 1 == self.shape().entry_words() {
             self.fetched(k, word);
         } else {
-            self.entry.push(word);
+            self.ring.entry.push(word);
             self.stage = Stage::Fetch(k + 1);
         }
     }
@@ -230,12 +230,12 @@ impl Back {
     fn fetched(&mut self, k: u32, word: u32)
         requires stage { self.old.stage ≡ stage.Fetch k }
         requires last { k + 1 ≡ entry_words_of self.old.shape.abi }
-        ensures { self.new ≡ fetched self.old (self.old.entry ++ word ∷ []) }
+        ensures { self.new ≡ fetched self.old (self.old.ring.entry ++ word ∷ []) }
     {
-        self.entry.push(word);
-        let request = read_request(self.abi, self.entry.as_slice());
+        self.ring.entry.push(word);
+        let request = read_request(self.abi, self.ring.entry.as_slice());
         self.fetched = self.fetched.wrapping_add(1);
-        self.ring.consume();
+        self.ring.indices.consume();
         self.jobs.start(self.fetched, &request);
         self.stage = Stage::Loop;
     }
@@ -245,8 +245,8 @@ impl Back {
         requires { self.old.stage ≡ stage.Producer r }
         ensures { self.new ≡ replied self.old r }
     {
-        let old = self.ring.prod();
-        self.ring.produce();
+        let old = self.ring.indices.prod();
+        self.ring.indices.produce();
         self.told = Some(BackTold::Reply {
             id: r.id,
             status: r.status,
@@ -258,7 +258,7 @@ impl Back {
         requires { self.old.stage ≡ stage.ResponseEvent old }
         ensures { self.new ≡ step_at (stage.ResponseEvent old) self.old (Word event) }
     {
-        self.stage = if notify(old, self.ring.prod(), event) {
+        self.stage = if notify(old, self.ring.indices.prod(), event) {
             Stage::Send
         } else {
             Stage::Loop

@@ -45,9 +45,9 @@ impl Front {
         requires room { length self.old.requests ≤ entries_of order }
         ensures { self.new ≡ in_state (state.Agreed order) self.old }
     {
-        self.ring = FrontRing::attach(RingShape::of(self.abi, order), self.start);
+        self.ring.indices = FrontRing::attach(RingShape::of(self.abi, order), self.start);
         self.order = order;
-        self.seen = self.start;
+        self.ring.seen = self.start;
     }
 
     // Whether a ring of this order is no greater than it wished, and has an entry for each request.

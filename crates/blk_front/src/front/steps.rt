@@ -61,7 +61,7 @@ impl Front {
         match (self.next_request(), answer) {
             (Some(_), _) => self.issued_first(),
             (None, FrontAnswer::Word(word)) => self.read_in_loop(*word),
-            (None, FrontAnswer::Event) => self.asleep = false,
+            (None, FrontAnswer::Event) => self.ring.asleep = false,
             _ => {}
         }
     }
@@ -79,7 +79,7 @@ impl Front {
             Transfer::Read if is_indirect(r.count) => self.stage = Stage::Pages(1),
             Transfer::Read => self.stage = Stage::GrantFence(0),
             Transfer::Flush | Transfer::Discard(_) => {
-                self.entry = request_words(self.abi, &wire(r));
+                self.ring.entry = request_words(self.abi, &wire(r));
                 self.stage = Stage::Slot(1);
             }
         }
@@ -90,7 +90,7 @@ impl Front {
         requires { self.old.stage ≡ stage.Loop }
         ensures { self.new ≡ loop_word self.old word }
     {
-        if self.ring.unconsumed(self.seen) == 0 {
+        if self.ring.indices.unconsumed(self.ring.seen) == 0 {
             self.look(word);
         } else {
             self.stage = Stage::ResponseHigh(word);
@@ -98,15 +98,17 @@ impl Front {
     }
 
     // The responses' producer was read for the first time.
-    fn look(&mut self, word: u32)
+    fn look(&mut self, prod: u32)
         requires { self.old.stage ≡ stage.Loop }
-        ensures { self.new ≡ looked self.old word (record self.old { seen = word; stage = stage.StoreEvent }) }
+        ensures { self.new ≡ looked self.old prod (record self.old { ring = record self.old.ring { seen = prod }; stage = stage.StoreEvent }) }
     {
-        if self.ring.unconsumed(word) > self.ring.unconsumed(self.ring.prod()) {
-            self.break_with(word);
+        if self.ring.indices.unconsumed(prod)
+            > self.ring.indices.unconsumed(self.ring.indices.prod())
+        {
+            self.break_with(prod);
         } else {
-            self.seen = word;
-            self.stage = if word == self.ring.cons() {
+            self.ring.seen = prod;
+            self.stage = if prod == self.ring.indices.cons() {
                 Stage::StoreEvent
             } else {
                 Stage::Loop
@@ -116,17 +118,19 @@ impl Front {
 
     /// The responses' producer was read again, after the event word was stored.
     #[inline(never)]
-    pub(super) fn look_again(&mut self, word: u32)
+    pub(super) fn look_again(&mut self, prod: u32)
         requires { self.old.stage ≡ stage.LookAgain }
-        ensures { self.new ≡ step_at stage.LookAgain self.old (Word word) }
+        ensures { self.new ≡ step_at stage.LookAgain self.old (Word prod) }
     {
-        if self.ring.unconsumed(word) > self.ring.unconsumed(self.ring.prod()) {
-            self.break_with(word);
+        if self.ring.indices.unconsumed(prod)
+            > self.ring.indices.unconsumed(self.ring.indices.prod())
+        {
+            self.break_with(prod);
         } else {
-            self.seen = word;
+            self.ring.seen = prod;
             self.stage = Stage::Loop;
-            if word == self.ring.cons() {
-                self.asleep = true;
+            if prod == self.ring.indices.cons() {
+                self.ring.asleep = true;
             }
         }
     }
@@ -216,7 +220,7 @@ impl Front {
         if place + 1 < r.frames.len() as u32 {
             self.stage = Stage::GrantFrame(place + 1);
         } else {
-            self.entry = request_words(self.abi, &wire(r));
+            self.ring.entry = request_words(self.abi, &wire(r));
             self.stage = Stage::Slot(0);
         }
     }
@@ -237,8 +241,8 @@ impl Front {
         requires { self.old.stage ≡ stage.Producer }
         ensures { self.new ≡ pushed self.old }
     {
-        let old = self.ring.prod();
-        self.ring.produce();
+        let old = self.ring.indices.prod();
+        self.ring.indices.produce();
         self.waiting -= 1;
         self.stage = Stage::ProducerFence(old);
     }
@@ -247,7 +251,7 @@ impl Front {
         requires { self.old.stage ≡ stage.RequestEvent old }
         ensures { self.new ≡ step_at (stage.RequestEvent old) self.old (Word event) }
     {
-        self.stage = if notify(old, self.ring.prod(), event) {
+        self.stage = if notify(old, self.ring.indices.prod(), event) {
             Stage::Send
         } else {
             Stage::Loop
@@ -285,7 +289,7 @@ impl Front {
         requires within { place < length self.old.requests }
         ensures { IfSome (slice_get self.old.requests place) (λ r. self.new ≡ taken self.old place r status) }
     {
-        self.ring.consume();
+        self.ring.indices.consume();
         let request = self.requests.remove(place);
         if request.frames.is_empty() {
             let id = request.number;

@@ -25,10 +25,10 @@ impl Front {
         }
         put_back(self.stage, &mut self.requests, &mut self.ending);
         self.offers = Offers::none();
-        self.ring = FrontRing::attach(RingShape::of(self.abi, self.order), self.start);
+        self.ring.indices = FrontRing::attach(RingShape::of(self.abi, self.order), self.start);
         self.stage = stage_after(self.stage);
-        self.asleep = false;
-        self.seen = self.start;
+        self.ring.asleep = false;
+        self.ring.seen = self.start;
         self.waiting = self.requests.len() as u32;
     }
 }

@@ -50,12 +50,12 @@ note-requires-clause-ascending c = λ test. kept_rise c.self.inside.tasks.items 
 pub note-requires-clause-has_room : goal.note-requires-clause-has_room
 note-requires-clause-has_room c =
     let w = (goal.at.note-requires-clause-has_room c).After-is_done in
-    λ test. told_room c.self.inside.ascending c.self.inside.finished.items c.self.inside.done c.self.inside.room c.self.inside.tasks.cap (vec_capacity c.self.inside.finished) c.self.inside.info.sectors c.self.inside.tasks.items c.in_ok-place.place c.index_mut-task.result.now c.args.answer.now c.self.invariant.0 (here w) (allowed w) test
+    λ test. told_room c.self.inside.ascending c.self.inside.finished.items c.self.inside.done_place c.self.inside.room c.self.inside.tasks.cap (vec_capacity c.self.inside.finished) c.self.inside.info.sectors c.self.inside.tasks.items c.in_ok-place.place c.index_mut-task.result.now c.args.answer.now c.self.invariant.0 (here w) (allowed w) test
 
 pub invariant_of-self : goal.invariant_of-self
 invariant_of-self c =
     let w = (goal.at.invariant_of-self c).After-is_done in (
-      told_kept c.self.inside.ascending c.self.inside.finished.items c.note.new.numbers.items c.self.inside.done c.min-self-inside.result c.self.inside.room c.self.inside.tasks.cap (vec_capacity c.self.inside.finished) (vec_capacity c.note.new.numbers) c.self.inside.info.sectors c.self.inside.tasks.items c.in_ok-place.place c.number.result c.index_mut-task.result.now c.complete.new.self c.args.answer.now true c.self.invariant.0 (here w) (allowed w) c.complete.ensures (sym c.if-is_done.true ∙ c.is_done.ensures) c.min-self-inside.ensures c.number.ensures c.note.ensures.items c.note.ensures.capacity,
+      told_kept c.self.inside.ascending c.self.inside.finished.items c.note.new.numbers.items c.self.inside.done_place c.min-self-inside.result c.self.inside.room c.self.inside.tasks.cap (vec_capacity c.self.inside.finished) (vec_capacity c.note.new.numbers) c.self.inside.info.sectors c.self.inside.tasks.items c.in_ok-place.place c.number.result c.index_mut-task.result.now c.complete.new.self c.args.answer.now true c.self.invariant.0 (here w) (allowed w) c.complete.ensures (sym c.if-is_done.true ∙ c.is_done.ensures) c.min-self-inside.ensures c.number.ensures c.note.ensures.items c.note.ensures.capacity,
       ended_first c.self.inside.tasks.items c.in_ok-place.place c.index_mut-task.result.now c.complete.new.self c.self.inside.ordered c.self.inside.barrier c.holding_after-self-inside.result c.holding_after-self-inside-then-is_done.result
           c.self.invariant.1 (here w) (sym c.is_done.ensures ∙ c.if-is_done.true)
           (c.holding_after-self-inside.ensures ∙ ap (λ (l : List Work). if c.self.inside.ordered == c.in_ok-place.place then ordered_place l else c.self.inside.ordered) c.as_slice.ensures.value)
@@ -66,7 +66,7 @@ invariant_of-self c =
 pub invariant_of-self-else-is_done : goal.invariant_of-self-else-is_done
 invariant_of-self-else-is_done c =
     let w = (goal.at.invariant_of-self-else-is_done c).After-is_done in (
-      told_kept c.self.inside.ascending c.self.inside.finished.items c.self.inside.finished.items c.self.inside.done c.self.inside.done c.self.inside.room c.self.inside.tasks.cap (vec_capacity c.self.inside.finished) (vec_capacity c.self.inside.finished) c.self.inside.info.sectors c.self.inside.tasks.items c.in_ok-place.place c.complete.new.self.number c.index_mut-task.result.now c.complete.new.self c.args.answer.now false c.self.invariant.0 (here w) (allowed w) c.complete.ensures (sym c.if-is_done.false ∙ c.is_done.ensures) refl refl (λ test. refl) (omega arith),
+      told_kept c.self.inside.ascending c.self.inside.finished.items c.self.inside.finished.items c.self.inside.done_place c.self.inside.done_place c.self.inside.room c.self.inside.tasks.cap (vec_capacity c.self.inside.finished) (vec_capacity c.self.inside.finished) c.self.inside.info.sectors c.self.inside.tasks.items c.in_ok-place.place c.complete.new.self.number c.index_mut-task.result.now c.complete.new.self c.args.answer.now false c.self.invariant.0 (here w) (allowed w) c.complete.ensures (sym c.if-is_done.false ∙ c.is_done.ensures) refl refl (λ test. refl) (omega arith),
       told_first c.self.inside.tasks.items c.in_ok-place.place c.index_mut-task.result.now c.complete.new.self c.args.answer.now c.self.inside.ordered c.self.inside.barrier
           c.self.invariant.1 (here w) (undone c.index_mut-task.result.now c.args.answer.now (allowed w)) c.complete.ensures (sym c.is_done.ensures ∙ c.if-is_done.false),
       told_shared (length c.self.inside.rooms.items) (vec_capacity c.self.inside.rooms) c.self.inside.room c.self.inside.info.max_indirect c.self.inside.tasks.items c.in_ok-place.place c.index_mut-task.result.now c.complete.new.self c.args.answer.now (here w) c.complete.ensures c.self.invariant.2,

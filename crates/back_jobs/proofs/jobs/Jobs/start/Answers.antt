@@ -35,7 +35,7 @@ kept c b now listed test noted_now more =
         sized = rw grown (started_sized size true works t c.self.invariant.0.sized known);
         in_order = λ in_order. rw grown (ordered in_order);
         is_listed = λ in_order. rw grown (noting b (is_done t) c.args.number t.number c.self.inside.finished.items (done_numbers works) now (done_numbers (works ++ t ∷ [])) (test ∙ c.is_done-is_done.ensures) (sym numbered) (c.self.invariant.0.is_listed (was_ascending c.self.inside.ascending c.goes_on_ascending-self-inside.result (is_above c.as_slice.result.now c.args.number) c.goes_on_ascending-self-inside.ensures in_order)) (noted_now in_order) (began_listed works t (ordered in_order)));
-        is_done = rw grown (began_done works t c.self.inside.done c.done_with-self-inside.result c.len-count.result c.is_done-is_done.result c.self.invariant.0.is_done counted c.is_done-is_done.ensures c.done_with-self-inside.ensures);
+        is_done = rw grown (began_done works t c.self.inside.done_place c.done_with-self-inside.result c.len-count.result c.is_done-is_done.result c.self.invariant.0.is_done counted c.is_done-is_done.ensures c.done_with-self-inside.ensures);
       },
       rw grown (began_first works t c.self.inside.ordered c.self.inside.barrier c.done_with-self-inside-2.result c.done_with-self-inside-3.result c.len-count.result c.holds.result c.holds-2.result c.self.invariant.1 counted c.holds.ensures c.holds-2.ensures c.done_with-self-inside-2.ensures c.done_with-self-inside-3.ensures),
       rw grown (began_shared (length c.self.inside.rooms.items) (length c.begin-task.new.rooms.items) (vec_capacity c.self.inside.rooms) (vec_capacity c.begin-task.new.rooms) c.self.inside.room c.self.inside.info.max_indirect works t c.begin-task.ensures.rooms c.begin-task.ensures.capacity c.self.invariant.2),

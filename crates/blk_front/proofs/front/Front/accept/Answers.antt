@@ -14,6 +14,7 @@ invariant_of-self-2 c =
       record {
         order = sound.order;
         entries = sound.entries;
+        cons = sound.cons;
         counted = omega arith;
         room = grind (arith, few_pages);
         seen = sound.seen;

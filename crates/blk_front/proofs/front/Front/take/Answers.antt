@@ -1,22 +1,27 @@
-use Rattle.std.proofs.Common.{◌<◌, length, refl, arith, rules}
+use Rattle.std.proofs.Common.{◌<◌, length, refl, sym, subst, arith, rules}
 use Rattle.std.proofs.lemmas.Option.{slice_get_read}
+use Rattle.std.proofs.lemmas.List.Edits.{length-remove}
 use Rattle.std.proofs.lemmas.Grind.{common_steps}
 use Rattle.blk_front.specs.Request.{IsShaped}
-use Rattle.blk_front.proofs.Numbers.{remove_given, remove_all}
+use Rattle.blk_front.specs.Step.{IsTaking}
+use Rattle.blk_front.specs.View.{View}
+use Rattle.blk_front.proofs.Numbers.{remove_given, remove_all, reads_some}
 use Rattle.blk_front.proofs.Order.{removed_apart, still_apart}
 use Rattle.blk_front.proofs.front.Front.take.Goals as goal
 
 pub invariant_of-self-else-is_empty : goal.invariant_of-self-else-is_empty
 invariant_of-self-else-is_empty c =
     let sound = c.self.invariant.0 in
+    let some = reads_some _ _ (subst (λ (v : View). IsTaking v.stage) (sym c.self.view_is) c.requires.stage) sound.reading in
     let within : c.args.place < length c.self.inside.requests.held = search rules in
     let requests = c.remove-request.ensures.rest in (
       record {
         order = sound.order;
         entries = grind (arith, common_steps);
-        counted = grind (arith, common_steps);
+        cons = rw c.consume.ensures (omega arith);
+        counted = let fewer = length-remove c.self.inside.requests.held c.args.place within in rw (c.consume.ensures, requests) (omega (arith, fewer, sound.counted, sound.seen, sound.cons, some));
         room = grind (arith, common_steps);
-        seen = grind (arith, common_steps);
+        seen = rw c.consume.ensures (omega (arith, sound.seen, sound.cons, some));
         placed = omega arith;
         unissued = tt;
         issuing = tt;
@@ -35,14 +40,16 @@ invariant_of-self-else-is_empty c =
 pub invariant_of-self : goal.invariant_of-self
 invariant_of-self c =
     let sound = c.self.invariant.0 in
+    let some = reads_some _ _ (subst (λ (v : View). IsTaking v.stage) (sym c.self.view_is) c.requires.stage) sound.reading in
     let within : c.args.place < length c.self.inside.requests.held = search rules in
     let requests = c.remove-request.ensures.rest in (
       record {
         order = sound.order;
         entries = grind (arith, common_steps);
-        counted = grind (arith, common_steps);
+        cons = rw c.consume.ensures (omega arith);
+        counted = let fewer = length-remove c.self.inside.requests.held c.args.place within in rw (c.consume.ensures, requests) (omega (arith, fewer, sound.counted, sound.seen, sound.cons, some));
         room = grind (arith, common_steps);
-        seen = grind (arith, common_steps);
+        seen = rw c.consume.ensures (omega (arith, sound.seen, sound.cons, some));
         placed = tt;
         unissued = tt;
         issuing = tt;
@@ -69,3 +76,9 @@ returns-else-is_empty c =
     let within : c.args.place < length c.self.inside.requests.held = search rules in
     let found = slice_get_read c.self.inside.requests.held _ c.args.place c.remove-request.result refl within c.remove-request.ensures.value in
     rw (← c.self.view_is, found) (search rules)
+
+pub consume-requires : goal.consume-requires
+consume-requires c =
+    let sound = c.self.invariant.0 in
+    let some = reads_some _ _ (subst (λ (v : View). IsTaking v.stage) (sym c.self.view_is) c.requires.stage) sound.reading in
+    λ same. absurd (omega (arith, some, sound.seen, sound.cons, same))
