@@ -6,3 +6,4 @@ pub mod SectorAgain
 pub mod TextLemmas
 pub mod Solid
 mod Digits
+mod Spaced

@@ -5,7 +5,7 @@ ghost use Rattle.arrayvec.specs.ArrayString.{array_string_len};
 ghost use Rattle.line_text.specs.Numbers.{hex8, glyph};
 
 use arrayvec::ArrayString;
-use itoa::Buffer;
+use itoa::{Buffer, write_digits};
 use std::str;
 
 /// A line of a report, at most 1,152 bytes.
@@ -37,8 +37,10 @@ pub fn put_number(text: &mut LineText, number: u64)
     ensures bytes { text.new.bytes ≡ text.old.bytes ++ 32 ∷ decimal number }
     ensures len { array_string_len text.new ≤ array_string_len text.old + 21 }
 {
-    let mut buffer = Buffer::new();
-    put(text, buffer.format(number));
+    let mut bytes = [0; 21];
+    let space = write_digits(number, &mut bytes, 21) - 1;
+    bytes[space] = b' ';
+    text.push_str(unsafe { str::from_utf8_unchecked(&bytes[space..]) });
 }
 
 /// Adds a space and a signed number in decimal digits.
@@ -84,6 +86,7 @@ pub fn put_hex(text: &mut LineText, word: u32)
     ensures bytes { text.new.bytes ≡ text.old.bytes ++ 32 ∷ hex8 word }
     ensures len { array_string_len text.new ≡ array_string_len text.old + 9 }
 {
-    let digits = eight(word);
-    put(text, unsafe { str::from_utf8_unchecked(&digits) });
+    let d = eight(word);
+    let bytes = [b' ', d[0], d[1], d[2], d[3], d[4], d[5], d[6], d[7]];
+    text.push_str(unsafe { str::from_utf8_unchecked(&bytes) });
 }
