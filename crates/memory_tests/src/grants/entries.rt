@@ -2,11 +2,11 @@
 use crate::expected::same;
 use blk_base::Mode;
 use grant_table::{MapRefusal, verdict};
-use std::test::Fail;
+use std::process::Abort;
 
 // Flags, domain and frame of a `grant_entry_v1`, and its two words, as a program built with
 // `xen/grant_table.h` (Debian's libxen-dev 4.17.7) printed them.
-const ENTRIES: [(u32, u32, u32, u32, u32); 48] = [
+const ENTRIES: &[(u32, u32, u32, u32, u32)] = &[
     (5, 0, 3817016609, 0x00000005, 0xe3830d21),
     (5, 7058, 3842005179, 0x1b920005, 0xe50058bb),
     (5, 20220, 2654575169, 0x4efc0005, 0x9e399a41),
@@ -68,71 +68,83 @@ fn expected(flags: u32, domid: u32, frame: u32, mode: Mode) -> Result<u32, MapRe
     }
 }
 
+// A map of a reference whose entry has these words is answered so.
+fn judges(
+    rt: &impl Abort,
+    (gref, word0, word1): (u32, u32, u32),
+    mode: Mode,
+    wanted: Result<u32, MapRefusal>,
+) {
+    let found = verdict(gref, word0, word1, mode);
+    assert_eq!(rt; found, wanted, "{gref} {word0:08x} {word1:08x} {mode:?}");
+}
+
+// The words of each entry, its flags alone and its domain alone are judged as its fields say.
+fn judges_fields(rt: &impl Abort, entries: &[(u32, u32, u32, u32, u32)], mode: Mode) {
+    for (flags, domid, frame, word0, word1) in entries {
+        let low = *word0 % 65536;
+        let (whole, by_flags, by_domain) = (
+            expected(*flags, *domid, *frame, mode),
+            expected(*flags, 0, 895, mode),
+            expected(1, *domid, 895, mode),
+        );
+        judges(rt, (24, *word0, *word1), mode, whole);
+        judges(rt, (24, low, 895), mode, by_flags);
+        judges(rt, (24, *word0 - low + 1, 895), mode, by_domain);
+    }
+}
+
 #[test]
 fn judges_the_fields_that_the_header_wrote(rt: HostRuntime) {
-    for (flags, domid, frame, word0, word1) in ENTRIES {
-        let low = word0 % 65536;
-        for mode in [Mode::ReadOnly, Mode::ReadWrite] {
-            assert_eq!(rt;
-                verdict(24, word0, word1, mode),
-                expected(flags, domid, frame, mode),
-                "{word0:08x} {word1:08x}"
-            );
-            assert_eq!(rt;
-                verdict(24, low, 895, mode),
-                expected(flags, 0, 895, mode),
-                "flags of {word0:08x}"
-            );
-            assert_eq!(rt;
-                verdict(24, word0 - low + 1, 895, mode),
-                expected(1, domid, 895, mode),
-                "domain of {word0:08x}"
-            );
-        }
+    judges_fields(&rt, ENTRIES, Mode::ReadOnly);
+    judges_fields(&rt, ENTRIES, Mode::ReadWrite);
+}
+
+type Answer = Result<u32, MapRefusal>;
+
+const GENERAL: Answer = Err(MapRefusal::General);
+
+const UNKNOWN: Answer = Err(MapRefusal::BadRef);
+
+// A reference and the two words of its entry, and how a map for reading and one for writing are answered.
+const ROWS: &[(u32, u32, u32, Answer, Answer)] = &[
+    // no such reference, whatever stands there
+    (1024, 1, 895, UNKNOWN, UNKNOWN),
+    (4294967295, 0, 0, UNKNOWN, UNKNOWN),
+    // granted, for both modes or for reading
+    (1023, 0x1, 0x37f, Ok(895), Ok(895)),
+    (24, 0x1, 0xc1, Ok(193), Ok(193)),
+    (24, 0x5, 0x46, Ok(70), GENERAL),
+    // a mapping that lives doesn't stand in the way of another
+    (24, 0x19, 2, Ok(2), Ok(2)),
+    // of another type: invalid, transfer, transitive
+    (24, 0x0, 18, GENERAL, GENERAL),
+    (24, 0x2, 18, GENERAL, GENERAL),
+    (24, 0x3, 18, GENERAL, GENERAL),
+    // with another flag: GTF_PWT, GTF_sub_page, bit 15
+    (24, 0x21, 18, GENERAL, GENERAL),
+    (24, 0x101, 18, GENERAL, GENERAL),
+    (24, 0x8001, 18, GENERAL, GENERAL),
+    // for another domain
+    (24, 0x10001, 18, GENERAL, GENERAL),
+    (24, 0x89f00001, 18, GENERAL, GENERAL),
+    // frames of the table itself, and those past the guest's own
+    (24, 0x1, 1, GENERAL, GENERAL),
+    (24, 0x1, 1024, GENERAL, GENERAL),
+    (24, 0x1, 0xe3830d21, GENERAL, GENERAL),
+];
+
+fn answers(rt: &impl Abort, rows: &[(u32, u32, u32, Answer, Answer)]) {
+    for (gref, word0, word1, for_reading, for_writing) in rows {
+        let entry = (*gref, *word0, *word1);
+        judges(rt, entry, Mode::ReadOnly, *for_reading);
+        judges(rt, entry, Mode::ReadWrite, *for_writing);
     }
 }
 
 #[test]
 fn answers_by_the_first_row_that_applies(rt: HostRuntime) {
-    let general = Err(MapRefusal::General);
-    let unknown = Err(MapRefusal::BadRef);
-    for (gref, word0, word1, read_only, read_write) in [
-        // no such reference, whatever stands there
-        (1024, 1, 895, unknown, unknown),
-        (4294967295, 0, 0, unknown, unknown),
-        // granted, for both modes or for reading
-        (1023, 0x1, 0x37f, Ok(895), Ok(895)),
-        (24, 0x1, 0xc1, Ok(193), Ok(193)),
-        (24, 0x5, 0x46, Ok(70), general),
-        // a mapping that lives doesn't stand in the way of another
-        (24, 0x19, 2, Ok(2), Ok(2)),
-        // of another type: invalid, transfer, transitive
-        (24, 0x0, 18, general, general),
-        (24, 0x2, 18, general, general),
-        (24, 0x3, 18, general, general),
-        // with another flag: GTF_PWT, GTF_sub_page, bit 15
-        (24, 0x21, 18, general, general),
-        (24, 0x101, 18, general, general),
-        (24, 0x8001, 18, general, general),
-        // for another domain
-        (24, 0x10001, 18, general, general),
-        (24, 0x89f00001, 18, general, general),
-        // frames of the table itself, and those past the guest's own
-        (24, 0x1, 1, general, general),
-        (24, 0x1, 1024, general, general),
-        (24, 0x1, 0xe3830d21, general, general),
-    ] {
-        assert_eq!(rt;
-            verdict(gref, word0, word1, Mode::ReadOnly),
-            read_only,
-            "{gref} {word0:08x} {word1:08x} for reading"
-        );
-        assert_eq!(rt;
-            verdict(gref, word0, word1, Mode::ReadWrite),
-            read_write,
-            "{gref} {word0:08x} {word1:08x} for writing"
-        );
-    }
+    answers(&rt, ROWS);
 }
 
 #[test]
