@@ -1,80 +1,186 @@
-use crate::expected::same;
-use blk_base::{OutOfMemory, SectorWords};
+// Disks in memory, failing ones, and one over a file. What is done to a disk is an array of calls; what makes
+// them is proved once.
+ghost use Rattle.std.specs.Prelude.{◌≡◌, Some};
+ghost use Rattle.blk_io.specs.Disk.{attached_of};
+
+use crate::expected::{holds, same};
+use blk_base::SectorWords;
 use blk_io::{Failed, SectorDisk};
 use image_disk::{FailsAtCalls, FileDisk, ListedCalls, MemoryDisk};
 use std::alloc::Global;
 use std::fs;
-use std::test::Fail;
+use std::process::Abort;
+
+// A call of a disk.
+#[derive(Clone, Copy)]
+enum Call {
+    // A sector is read, and full of this word.
+    Reads(u64, u32),
+    // A sector is filled with this word.
+    Writes(u64, u32),
+    // It can't be filled.
+    FailsToWrite(u64, u32),
+    Trims(u64, u64),
+    Flushes,
+}
+
+// Attaches a disk of so many sectors.
+fn attaches<D: SectorDisk>(rt: &impl Abort, disk: &mut D, name: &str, count: u64)
+    ensures { attached_of (D.seen disk.new) ≡ Some count }
+{
+    let sectors = disk.attach(name, true).expect(rt, "attached");
+    holds(rt, sectors == count);
+}
+
+fn reads<D: SectorDisk>(rt: &impl Abort, disk: &mut D, count: u64, sector: u64) -> SectorWords
+    requires { attached_of (D.seen disk.old) ≡ Some count }
+    ensures { attached_of (D.seen disk.new) ≡ Some count }
+{
+    holds(rt, sector < count);
+    let mut words = [0u32; 128];
+    disk.read(sector, &mut words).expect(rt, "read");
+    words
+}
+
+fn writes<D: SectorDisk>(
+    rt: &impl Abort,
+    disk: &mut D,
+    count: u64,
+    sector: u64,
+    word: u32,
+) -> Result<(), Failed>
+    requires { attached_of (D.seen disk.old) ≡ Some count }
+    ensures { attached_of (D.seen disk.new) ≡ Some count }
+{
+    holds(rt, sector < count);
+    disk.write(sector, &[word; 128])
+}
+
+fn trims<D: SectorDisk>(rt: &impl Abort, disk: &mut D, count: u64, sector: u64, trimmed: u64)
+    requires { attached_of (D.seen disk.old) ≡ Some count }
+    ensures { attached_of (D.seen disk.new) ≡ Some count }
+{
+    holds(rt, sector <= count && trimmed <= count - sector);
+    disk.trim(sector, trimmed).expect(rt, "trimmed");
+}
+
+fn does<D: SectorDisk>(rt: &impl Abort, disk: &mut D, count: u64, call: Call)
+    requires { attached_of (D.seen disk.old) ≡ Some count }
+    ensures { attached_of (D.seen disk.new) ≡ Some count }
+{
+    match call {
+        Call::Reads(sector, word) => same(rt, reads(rt, disk, count, sector), [word; 128]),
+        Call::Writes(sector, word) => same(rt, writes(rt, disk, count, sector, word), Ok(())),
+        Call::FailsToWrite(sector, word) => {
+            same(rt, writes(rt, disk, count, sector, word), Err(Failed));
+        }
+        Call::Trims(sector, trimmed) => trims(rt, disk, count, sector, trimmed),
+        Call::Flushes => disk.flush().expect(rt, "flushed"),
+    }
+}
+
+// Makes all calls of a disk of so many sectors, which stays attached.
+fn plays<D: SectorDisk>(rt: &impl Abort, disk: &mut D, count: u64, calls: &[Call])
+    requires { attached_of (D.seen disk.old) ≡ Some count }
+    ensures { attached_of (D.seen disk.new) ≡ Some count }
+{
+    for call in calls {
+        does(rt, disk, count, *call);
+    }
+}
 
 // A disk in memory of two sectors, the first full of ones.
-fn two_sectors(alloc: Global) -> Result<MemoryDisk, OutOfMemory> {
+fn two_sectors(rt: &impl Abort, alloc: Global) -> MemoryDisk {
     let sectors: [SectorWords; 2] = [[1; 128], [0; 128]];
-    MemoryDisk::new(alloc, Vec::from_array(alloc, sectors)?)
+    let sectors = Vec::from_slice(alloc, &sectors).expect(rt, "memory");
+    MemoryDisk::new(alloc, sectors).expect(rt, "memory")
+}
+
+fn are_sectors(rt: &impl Abort, found: &[SectorWords], count: usize, sector: usize, word: u32) {
+    same(rt, found.len(), count);
+    same(rt, found.get(sector), Some(&[word; 128]));
+}
+
+fn writes_and_discards(rt: &impl Abort, alloc: Global) {
+    let mut disk = two_sectors(rt, alloc);
+    attaches(rt, &mut disk, "any", 2);
+    let calls = [
+        Call::Writes(1, 7),
+        Call::Reads(1, 7),
+        Call::Trims(0, 1),
+        Call::Reads(0, 0),
+    ];
+    plays(rt, &mut disk, 2, &calls);
+    are_sectors(rt, disk.stable(), 2, 0, 1);
+    plays(rt, &mut disk, 2, &[Call::Flushes]);
+    are_sectors(rt, disk.content(), 2, 1, 7);
 }
 
 #[test]
-fn a_disk_in_memory_reads_what_was_written_and_discarded(rt: HostRuntime) -> Result<(), Fail> {
-    let mut disk = two_sectors(rt.alloc())?;
-    same(&rt, disk.attach("any", true)?, 2);
-    disk.write(1, &[7; 128])?;
-    let mut words = [0u32; 128];
-    disk.read(1, &mut words)?;
-    same(&rt, words, [7u32; 128]);
-    disk.trim(0, 1)?;
-    disk.read(0, &mut words)?;
-    same(&rt, words, [0u32; 128]);
-    same(&rt, disk.stable().len(), 2);
-    same(&rt, disk.stable()[0], [1u32; 128]);
-    disk.flush()?;
-    same(&rt, disk.content().len(), 2);
-    same(&rt, disk.content()[1], [7u32; 128]);
-    Ok(())
+fn a_disk_in_memory_reads_what_was_written_and_discarded(rt: HostRuntime) {
+    writes_and_discards(&rt, rt.alloc());
 }
 
-#[test]
-fn the_second_write_fails_and_the_third_goes_on(rt: HostRuntime) -> Result<(), Fail> {
-    let none = Vec::new(rt.alloc());
+// A disk of two sectors whose second write fails.
+fn failing(rt: &impl Abort, alloc: Global) -> FailsAtCalls<MemoryDisk> {
     let listed = ListedCalls {
-        attaches: Vec::new(rt.alloc()),
-        reads: Vec::new(rt.alloc()),
-        writes: [2].to_vec(rt.alloc())?,
-        flushes: Vec::new(rt.alloc()),
-        trims: none,
+        attaches: Vec::new(alloc),
+        reads: Vec::new(alloc),
+        writes: Vec::from_slice(alloc, &[2]).expect(rt, "memory"),
+        flushes: Vec::new(alloc),
+        trims: Vec::new(alloc),
     };
-    let mut disk = FailsAtCalls::new(two_sectors(rt.alloc())?, listed);
-    same(&rt, disk.attach("any", true)?, 2);
-    disk.write(0, &[5; 128])?;
-    same(&rt, disk.write(0, &[6; 128]), Err(Failed));
-    let mut words = [0u32; 128];
-    disk.read(0, &mut words)?;
-    same(&rt, words, [5u32; 128]);
-    disk.flush()?;
-    disk.trim(0, 2)?;
-    same(&rt, disk.faults, 1);
-    Ok(())
+    FailsAtCalls::new(two_sectors(rt, alloc), listed)
+}
+
+fn fails_once(rt: &impl Abort, alloc: Global) {
+    let mut disk = failing(rt, alloc);
+    attaches(rt, &mut disk, "any", 2);
+    let calls = [
+        Call::Writes(0, 5),
+        Call::FailsToWrite(0, 6),
+        Call::Reads(0, 5),
+        Call::Flushes,
+        Call::Trims(0, 2),
+    ];
+    plays(rt, &mut disk, 2, &calls);
+    same(rt, disk.faults, 1);
 }
 
 #[test]
-fn a_short_tail_of_a_file_is_never_touched(rt: HostRuntime) -> Result<(), Fail> {
-    let mut image = Vec::new(rt.alloc());
-    for _ in 0..1100u32 {
-        image.push(9u8)?;
+fn the_second_write_fails_and_what_comes_after_it_goes_on(rt: HostRuntime) {
+    fails_once(&rt, rt.alloc());
+}
+
+// A file's first sector is discarded, and its second one written.
+fn writes_a_file<D: SectorDisk>(rt: &impl Abort, disk: &mut D) {
+    attaches(rt, disk, "tail.image", 2);
+    let calls = [
+        Call::Reads(1, 0x0909_0909),
+        Call::Writes(1, 0x0403_0201),
+        Call::Trims(0, 1),
+        Call::Flushes,
+    ];
+    plays(rt, disk, 2, &calls);
+}
+
+fn are_bytes(rt: &impl Abort, found: &[u8], bytes: &[(usize, u8)]) {
+    for (at, byte) in bytes {
+        same(rt, found.get(*at), Some(byte));
     }
-    fs::write(&rt, "tail.image", image.as_slice())?;
-    let mut disk = FileDisk::new(rt.alloc(), rt.clone()?);
-    same(&rt, disk.attach("tail.image", true)?, 2);
-    let mut words = [0u32; 128];
-    disk.read(1, &mut words)?;
-    same(&rt, words, [0x0909_0909u32; 128]);
-    disk.write(1, &[0x0403_0201; 128])?;
-    disk.trim(0, 1)?;
-    disk.flush()?;
-    let after = fs::read(&rt, "tail.image")?;
+}
+
+#[test]
+fn a_short_tail_of_a_file_is_never_touched(rt: HostRuntime) {
+    fs::write(&rt, "tail.image", [9u8; 1100].as_slice()).expect(&rt, "a file");
+    let files = rt.clone().expect(&rt, "files");
+    writes_a_file(&rt, &mut FileDisk::new(rt.alloc(), files));
+    let after = fs::read(&rt, "tail.image").expect(&rt, "a file");
     same(&rt, after.len(), 1100);
-    same(&rt, after[511], 0);
-    same(&rt, after[512], 1);
-    same(&rt, after[515], 4);
-    same(&rt, after[1024], 9);
-    fs::remove_file(&rt, "tail.image")?;
-    Ok(())
+    are_bytes(
+        &rt,
+        after.as_slice(),
+        &[(511, 0), (512, 1), (515, 4), (1024, 9)],
+    );
+    fs::remove_file(&rt, "tail.image").expect(&rt, "a file");
 }

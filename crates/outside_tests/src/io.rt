@@ -1,67 +1,116 @@
+// Sources and sinks, in memory, failing and over real streams, and what their calls answer.
 use crate::expected::same;
 use blk_io::{
     BufferedSink, Failed, FailsAt, MemorySink, MemorySource, ReaderSource, Sink, Source, WriterSink,
 };
+use std::alloc::Global;
 use std::io::{self, Write};
-use std::test::Fail;
+use std::process::Abort;
 
-// Reads once, into a buffer of four bytes.
-fn next<S: Source>(source: &mut S) -> Result<(usize, [u8; 4]), Failed> {
+// How many bytes a read into a buffer of four gives, and what the buffer holds then.
+type Read = Result<(usize, [u8; 4]), Failed>;
+
+fn next<S: Source>(source: &mut S) -> Read {
     let mut buf = [0u8; 4];
     let n = source.read(&mut buf)?;
     Ok((n, buf))
 }
 
-// Writes two pieces.
-fn pour<S: Sink>(sink: &mut S) -> Result<(), Failed> {
-    sink.write(b"ring")?;
-    sink.write(b" full")
+// Reads give these, one after the other.
+fn gives<S: Source>(rt: &impl Abort, source: &mut S, reads: &[Read]) {
+    for wanted in reads {
+        same(rt, next(source), *wanted);
+    }
+}
+
+// A call of a sink: a piece that is written, or none at a flush.
+type Call = (Option<&'static str>, Result<(), Failed>);
+
+fn made<S: Sink>(sink: &mut S, piece: Option<&str>) -> Result<(), Failed> {
+    match piece {
+        Some(piece) => sink.write(piece.as_bytes()),
+        None => sink.flush(),
+    }
+}
+
+// The calls answer this, one after the other.
+fn answers<S: Sink>(rt: &impl Abort, sink: &mut S, calls: &[Call]) {
+    for (piece, wanted) in calls {
+        same(rt, made(sink, *piece), *wanted);
+    }
+}
+
+// A source of five bytes.
+fn five(rt: &impl Abort, alloc: Global) -> MemorySource {
+    MemorySource::new(Vec::from_slice(alloc, &[1, 2, 3, 4, 5]).expect(rt, "memory"))
 }
 
 #[test]
-fn a_source_in_memory_gives_its_bytes_in_pieces(rt: HostRuntime) -> Result<(), Fail> {
-    let mut source = MemorySource::new([1, 2, 3, 4, 5].to_vec(rt.alloc())?);
-    same(&rt, next(&mut source)?, (4, [1, 2, 3, 4]));
-    same(&rt, next(&mut source)?, (1, [5, 0, 0, 0]));
-    same(&rt, next(&mut source)?.0, 0);
-    Ok(())
+fn a_source_in_memory_gives_its_bytes_in_pieces(rt: HostRuntime) {
+    gives(
+        &rt,
+        &mut five(&rt, rt.alloc()),
+        &[
+            Ok((4, [1, 2, 3, 4])),
+            Ok((1, [5, 0, 0, 0])),
+            Ok((0, [0; 4])),
+        ],
+    );
+}
+
+fn takes_what_fits(rt: &impl Abort, alloc: Global) {
+    let mut sink = MemorySink::with_room(alloc, 9).expect(rt, "memory");
+    answers(
+        rt,
+        &mut sink,
+        &[(Some("ring"), Ok(())), (Some(" full"), Ok(()))],
+    );
+    same(rt, sink.bytes(), b"ring full".as_slice());
+    answers(rt, &mut sink, &[(Some("!"), Err(Failed))]);
+    same(rt, sink.bytes(), b"ring full".as_slice());
 }
 
 #[test]
-fn a_sink_in_memory_takes_what_fits(rt: HostRuntime) -> Result<(), Fail> {
-    let mut sink = MemorySink::with_room(rt.alloc(), 9)?;
-    pour(&mut sink)?;
-    same(&rt, sink.bytes().len(), 9);
-    same(&rt, sink.bytes()[4], b' ');
-    same(&rt, sink.write(b"!"), Err(Failed));
-    same(&rt, sink.bytes().len(), 9);
-    Ok(())
+fn a_sink_in_memory_takes_what_fits(rt: HostRuntime) {
+    takes_what_fits(&rt, rt.alloc());
+}
+
+// It fails at its second call.
+fn failing<T>(rt: &impl Abort, alloc: Global, inside: T) -> FailsAt<T> {
+    FailsAt::new(inside, Vec::from_slice(alloc, &[2]).expect(rt, "memory"))
+}
+
+fn room(rt: &impl Abort, alloc: Global) -> MemorySink {
+    MemorySink::with_room(alloc, 90).expect(rt, "memory")
+}
+
+fn fails_to_give(rt: &impl Abort, alloc: Global) {
+    let mut source = failing(rt, alloc, five(rt, alloc));
+    let reads = [Ok((4, [1, 2, 3, 4])), Err(Failed), Ok((1, [5, 0, 0, 0]))];
+    gives(rt, &mut source, &reads);
+    same(rt, source.faults, 1);
+}
+
+fn fails_to_take(rt: &impl Abort, alloc: Global) {
+    let mut sink = failing(rt, alloc, room(rt, alloc));
+    let calls = [(Some("ring"), Ok(())), (Some(" full"), Err(Failed))];
+    answers(rt, &mut sink, &calls);
+    same(rt, sink.inside.bytes().len(), 4);
 }
 
 #[test]
-fn listed_calls_fail_and_the_others_go_on(rt: HostRuntime) -> Result<(), Fail> {
-    let bytes = MemorySource::new([1, 2, 3, 4, 5].to_vec(rt.alloc())?);
-    let mut source = FailsAt::new(bytes, [2].to_vec(rt.alloc())?);
-    same(&rt, next(&mut source)?, (4, [1, 2, 3, 4]));
-    same(&rt, next(&mut source), Err(Failed));
-    same(&rt, next(&mut source)?, (1, [5, 0, 0, 0]));
-    same(&rt, source.faults, 1);
-    let shelf = MemorySink::with_room(rt.alloc(), 90)?;
-    let mut sink = FailsAt::new(shelf, [2].to_vec(rt.alloc())?);
-    same(&rt, pour(&mut sink), Err(Failed));
-    same(&rt, sink.inside.bytes().len(), 4);
-    Ok(())
+fn listed_calls_fail_and_the_others_go_on(rt: HostRuntime) {
+    fails_to_give(&rt, rt.alloc());
+    fails_to_take(&rt, rt.alloc());
 }
 
 #[test]
-fn real_streams_pass_their_bytes_on(rt: HostRuntime) -> Result<(), Fail> {
+fn real_streams_pass_their_bytes_on(rt: HostRuntime) {
     let bytes: &[u8] = &[7, 8];
-    let mut source = ReaderSource::new(bytes);
-    same(&rt, next(&mut source)?, (2, [7, 8, 0, 0]));
+    gives(&rt, &mut ReaderSource::new(bytes), &[Ok((2, [7, 8, 0, 0]))]);
     let held: Vec<u8> = Vec::new(rt.alloc());
-    let mut sink = WriterSink::new(held);
-    pour(&mut sink)?;
-    Ok(())
+    let calls = [(Some("ring"), Ok(())), (Some(" full"), Ok(()))];
+    answers(&rt, &mut WriterSink::new(held), &calls);
 }
 
 // A writer that keeps its bytes back until a flush, and can't flush more than eight.
@@ -87,26 +136,25 @@ impl Write for Lazy {
 }
 
 #[test]
-fn a_line_is_never_left_in_a_writer(rt: HostRuntime) -> Result<(), Fail> {
+fn a_line_is_never_left_in_a_writer(rt: HostRuntime) {
     let mut lazy = Lazy {
         taken: 0,
         flushed: 0,
     };
-    let mut sink = WriterSink::new(&mut lazy);
-    same(&rt, sink.write(b"ring"), Ok(()));
-    same(&rt, sink.write(b" full"), Err(Failed));
+    let calls = [(Some("ring"), Ok(())), (Some(" full"), Err(Failed))];
+    answers(&rt, &mut WriterSink::new(&mut lazy), &calls);
     same(&rt, lazy.flushed, 4);
-    Ok(())
 }
 
 #[test]
-fn what_was_kept_back_is_handed_on_at_a_flush(rt: HostRuntime) -> Result<(), Fail> {
-    let shelf = MemorySink::with_room(rt.alloc(), 90)?;
-    let mut sink = BufferedSink::new(FailsAt::new(shelf, [2].to_vec(rt.alloc())?));
+fn what_was_kept_back_is_handed_on_at_a_flush(rt: HostRuntime) {
+    let inside = failing(&rt, rt.alloc(), room(&rt, rt.alloc()));
     // a flush that goes well makes two calls of the sink inside
-    same(&rt, sink.write(b"two"), Ok(()));
-    same(&rt, sink.flush(), Err(Failed));
-    same(&rt, sink.write(b"more"), Ok(()));
-    same(&rt, sink.flush(), Ok(()));
-    Ok(())
+    let calls = [
+        (Some("two"), Ok(())),
+        (None, Err(Failed)),
+        (Some("more"), Ok(())),
+        (None, Ok(())),
+    ];
+    answers(&rt, &mut BufferedSink::new(inside), &calls);
 }

@@ -1,123 +1,145 @@
+// Lines of reports and schedules as text, and the recorders that keep them.
 ghost use Rattle.std.specs.Prelude.{◌≡◌, OnOk, codes};
 ghost use Rattle.blk_io.specs.Outside.{written};
 
 use crate::expected::{holds, same};
-use blk_base::{Access, BackMover, End, Move};
+use blk_base::{Access, BackMover, End, Move, SectorWords};
 use blk_io::{MemorySink, Sink};
 use line_text::LineText;
 use schedule_text::{
-    Detail, Event, Line, LineSink, LineTally, RecordStop, Recorder, Shown, read_event, read_line,
-    write_event, write_line,
+    BadLine, Detail, Event, Line, LineSink, LineTally, RecordStop, Recorder, Shown, Tally,
+    read_event, read_line, write_event, write_line,
 };
+use std::alloc::Global;
 use std::process::Abort;
-use std::test::Fail;
 
-/// A line is read, and written as it was.
-fn goes_round(rt: &impl Abort, line: &str) {
-    let mut text = LineText::new();
-    match read_line(line.as_bytes()) {
-        Ok(read) => write_line(&read, &mut text),
-        Err(_) => {}
+// Reads a line, and writes what was read.
+fn again(text: &mut LineText, line: &str) {
+    if let Ok(read) = read_line(line.as_bytes()) {
+        write_line(&read, text);
     }
-    same(rt, text.as_str(), line);
 }
 
-/// A schedule's line is read, and written as it was.
-fn event_goes_round(rt: &impl Abort, line: &str) {
-    let mut text = LineText::new();
-    match read_event(line.as_bytes()) {
-        Ok(Some(read)) => write_event(&read, &mut text),
-        Ok(None) | Err(_) => {}
+// Each line is read, and written as it was.
+fn go_round(rt: &impl Abort, lines: &[&str]) {
+    for line in lines {
+        let mut text = LineText::new();
+        again(&mut text, line);
+        same(rt, text.as_str(), *line);
     }
-    same(rt, text.as_str(), line);
 }
+
+// No line is read.
+fn are_refused(rt: &impl Abort, lines: &[&str]) {
+    for line in lines {
+        assert!(rt; read_line(line.as_bytes()).is_err(), "{line}");
+    }
+}
+
+const LINES: &[&str] = &[
+    "begin 64 0 0 0 0 rw 8 lines",
+    "begin 32 4 1000 960 4294967295 ro 18446744073709551615 moves",
+    "ready",
+    "closing",
+    "closed",
+    "broken 00000020",
+    "submit 1 write 0 1 00000007",
+    "submit 2 read 7 1",
+    "submit 3 barrier 1 1 0000000a",
+    "submit 4 flush",
+    "submit 5 discard 0 4294967295",
+    "refuse notready",
+    "refuse spent",
+    "refuse buffers",
+    "effect 1 0",
+    "effect 2 0 fill 00000007",
+    "flushed 4",
+    "trimmed 2",
+    "fault 2 0",
+    "reply 1 ok",
+    "reply 0 error",
+    "answer 1 unsupported",
+    "data 2 0 fill 00000007",
+    "epoch",
+    "poke 2 0 33",
+    "poke 2 16 3388997888",
+    "key state 7",
+    "quiet",
+    "busy",
+    "unsettled",
+    "word 2 0 00000002",
+    "end",
+];
 
 #[test]
 fn lines_of_a_report_go_round(rt: HostRuntime) {
-    for line in [
-        "begin 64 0 0 0 0 rw 8 lines",
-        "begin 32 4 1000 960 4294967295 ro 18446744073709551615 moves",
-        "ready",
-        "closing",
-        "closed",
-        "broken 00000020",
-        "submit 1 write 0 1 00000007",
-        "submit 2 read 7 1",
-        "submit 3 barrier 1 1 0000000a",
-        "submit 4 flush",
-        "submit 5 discard 0 4294967295",
-        "refuse notready",
-        "refuse spent",
-        "refuse buffers",
-        "effect 1 0",
-        "effect 2 0 fill 00000007",
-        "flushed 4",
-        "trimmed 2",
-        "fault 2 0",
-        "reply 1 ok",
-        "reply 0 error",
-        "answer 1 unsupported",
-        "data 2 0 fill 00000007",
-        "epoch",
-        "poke 2 0 33",
-        "poke 2 16 3388997888",
-        "key state 7",
-        "quiet",
-        "busy",
-        "unsettled",
-        "word 2 0 00000002",
-        "end",
-    ] {
-        goes_round(&rt, line);
-    }
+    go_round(&rt, LINES);
 }
+
+const HALTS: &[&str] = &[
+    "halt overrun 33 0",
+    "halt gone 5",
+    "halt unplugged 5",
+    "halt badkey ring-ref",
+    "halt badorder 7",
+    "halt badport 2",
+    "halt refused 8 -1",
+];
 
 #[test]
 fn halts_go_round(rt: HostRuntime) {
-    for line in [
-        "halt overrun 33 0",
-        "halt gone 5",
-        "halt unplugged 5",
-        "halt badkey ring-ref",
-        "halt badorder 7",
-        "halt badport 2",
-        "halt refused 8 -1",
-    ] {
-        goes_round(&rt, line);
-    }
+    go_round(&rt, HALTS);
 }
+
+const MOVES: &[&str] = &[
+    "m front read 2 1 00000001",
+    "m front write 18 0 00000007",
+    "m front cas 0 48 00000001 00000000 00000001",
+    "m front port 1",
+    "m front send",
+    "m back read 1 2 0 00000001",
+    "m job 1 write 18446744073709551615 18 127 ffffffff",
+    "m job 1 map 24 w ok 2 18",
+    "m job 1 map 24 w refused -1",
+    "m back map 8 r refused -2147483648",
+    "m job 1 unmap 2",
+    "m back bind 1 ok",
+    "m back bind 1 refused",
+    "m job 1 dread 0",
+    "m job 1 dwrite 7",
+    "m job 1 flush",
+    "m job 1 trim 0 8",
+    "m back fence",
+    "m job 1 closeport",
+    "m back event",
+    "m front watch /local/domain/0/backend/vbd/1/51712/state",
+    "m back watched /local/domain/1/device/vbd/51712/state",
+    "m back getkey /local/domain/1/device/vbd/51712/protocol",
+    "m back getkey /local/domain/1/device/vbd/51712/protocol =x86_64-abi",
+    "m front setkey /local/domain/1/device/vbd/51712/state =3",
+];
 
 #[test]
 fn moves_go_round(rt: HostRuntime) {
-    for line in [
-        "m front read 2 1 00000001",
-        "m front write 18 0 00000007",
-        "m front cas 0 48 00000001 00000000 00000001",
-        "m front port 1",
-        "m front send",
-        "m back read 1 2 0 00000001",
-        "m job 1 write 18446744073709551615 18 127 ffffffff",
-        "m job 1 map 24 w ok 2 18",
-        "m job 1 map 24 w refused -1",
-        "m back map 8 r refused -2147483648",
-        "m job 1 unmap 2",
-        "m back bind 1 ok",
-        "m back bind 1 refused",
-        "m job 1 dread 0",
-        "m job 1 dwrite 7",
-        "m job 1 flush",
-        "m job 1 trim 0 8",
-        "m back fence",
-        "m job 1 closeport",
-        "m back event",
-        "m front watch /local/domain/0/backend/vbd/1/51712/state",
-        "m back watched /local/domain/1/device/vbd/51712/state",
-        "m back getkey /local/domain/1/device/vbd/51712/protocol",
-        "m back getkey /local/domain/1/device/vbd/51712/protocol =x86_64-abi",
-        "m front setkey /local/domain/1/device/vbd/51712/state =3",
-    ] {
-        goes_round(&rt, line);
-    }
+    go_round(&rt, MOVES);
+}
+
+fn written(line: &Line) -> LineText {
+    let mut text = LineText::new();
+    write_line(line, &mut text);
+    text
+}
+
+fn shows(rt: &impl Abort, words: SectorWords, begin: &str) {
+    let line = Line::Data {
+        id: 1,
+        index: 0,
+        words,
+    };
+    let text = written(&line);
+    holds(rt, text.as_str().starts_with(begin));
+    same(rt, text.len(), 1033);
+    same(rt, read_line(text.as_str().as_bytes()), Ok(line));
 }
 
 #[test]
@@ -125,62 +147,40 @@ fn a_sector_shows_its_bytes_in_order(rt: HostRuntime) {
     let mut words = [0; 128];
     words[0] = 1;
     words[1] = 0x0403_0201;
-    let mut text = LineText::new();
-    write_line(
-        &Line::Data {
-            id: 1,
-            index: 0,
-            words,
-        },
-        &mut text,
-    );
-    holds(
-        &rt,
-        text.as_str().starts_with("data 1 0 01000000010203040000"),
-    );
-    same(&rt, text.len(), 1033);
-    same(
-        &rt,
-        read_line(text.as_str().as_bytes()),
-        Ok(Line::Data {
-            id: 1,
-            index: 0,
-            words,
-        }),
-    );
+    shows(&rt, words, "data 1 0 01000000010203040000");
 }
+
+const NO_LINES: &[&str] = &[
+    "",
+    "hello",
+    " ready",
+    "ready ",
+    "ready\n",
+    "effect 1  0",
+    "effect 01 0",
+    "effect 1 4294967296",
+    "effect 18446744073709551616 0",
+    "effect 1 0 fill 0000000A",
+    "effect 1 0 fill 000000007",
+    "begin 64 5 0 0 0 rw 8 lines",
+    "begin 64 0 1001 0 0 rw 8 lines",
+    "begin 64 0 0 961 0 rw 8 lines",
+    "submit 1 read 0 0",
+    "submit 1 flush 0",
+    "refuse busy",
+    "poke 1024 0 0",
+    "poke 2 1024 0",
+    "key State 7",
+    "halt refused 8 -0",
+    "m job 0 fence",
+    "m back watch local/domain/1",
+    "m front setkey /local/domain/1 3",
+    "m back map 24 x ok 1 18",
+];
 
 #[test]
 fn other_lines_are_refused(rt: HostRuntime) {
-    for line in [
-        "",
-        "hello",
-        " ready",
-        "ready ",
-        "ready\n",
-        "effect 1  0",
-        "effect 01 0",
-        "effect 1 4294967296",
-        "effect 18446744073709551616 0",
-        "effect 1 0 fill 0000000A",
-        "effect 1 0 fill 000000007",
-        "begin 64 5 0 0 0 rw 8 lines",
-        "begin 64 0 1001 0 0 rw 8 lines",
-        "begin 64 0 0 961 0 rw 8 lines",
-        "submit 1 read 0 0",
-        "submit 1 flush 0",
-        "refuse busy",
-        "poke 1024 0 0",
-        "poke 2 1024 0",
-        "key State 7",
-        "halt refused 8 -0",
-        "m job 0 fence",
-        "m back watch local/domain/1",
-        "m front setkey /local/domain/1 3",
-        "m back map 24 x ok 1 18",
-    ] {
-        holds(&rt, read_line(line.as_bytes()).is_err());
-    }
+    are_refused(&rt, NO_LINES);
 }
 
 #[test]
@@ -190,74 +190,97 @@ fn a_filled_sector_has_one_spelling(rt: HostRuntime) {
     for _ in 0..128 {
         let _ = text.try_push_str("07000000");
     }
-    holds(&rt, read_line(text.as_str().as_bytes()).is_err());
+    are_refused(&rt, &[text.as_str()]);
 }
+
+// Reads a line of a schedule, and writes what was read.
+fn event_again(text: &mut LineText, line: &str) {
+    if let Ok(Some(read)) = read_event(line.as_bytes()) {
+        write_event(&read, text);
+    }
+}
+
+// Each line of a schedule is read, and written as it was.
+fn events_go_round(rt: &impl Abort, lines: &[&str]) {
+    for line in lines {
+        let mut text = LineText::new();
+        event_again(&mut text, line);
+        same(rt, text.as_str(), *line);
+    }
+}
+
+fn asks_for(rt: &impl Abort, line: &[u8], wanted: Result<Option<Event>, BadLine>) {
+    same(rt, read_event(line), wanted);
+}
+
+const EVENTS: &[&str] = &[
+    "submit read 0 1",
+    "submit write 18446744073709551615 4294967295 0000000a",
+    "submit barrier 1 1 00000002",
+    "submit flush",
+    "submit discard 0 1",
+    "front 163",
+    "back 1000000",
+    "job 2 1000",
+    "turn 1",
+    "settle",
+    "look",
+    "notify front",
+    "notify back",
+    "suspend",
+    "close front",
+    "close back",
+    "poke 1023 1023 4294967295",
+    "key ring-ref 8",
+    "dump",
+];
 
 #[test]
 fn lines_of_a_schedule_go_round(rt: HostRuntime) {
-    for line in [
-        "submit read 0 1",
-        "submit write 18446744073709551615 4294967295 0000000a",
-        "submit barrier 1 1 00000002",
-        "submit flush",
-        "submit discard 0 1",
-        "front 163",
-        "back 1000000",
-        "job 2 1000",
-        "turn 1",
-        "settle",
-        "look",
-        "notify front",
-        "notify back",
-        "suspend",
-        "close front",
-        "close back",
-        "poke 1023 1023 4294967295",
-        "key ring-ref 8",
-        "dump",
-    ] {
-        event_goes_round(&rt, line);
-    }
-    same(
-        &rt,
-        read_event(b"notify back".as_slice()),
-        Ok(Some(Event::Notify(End::Back))),
-    );
+    events_go_round(&rt, EVENTS);
+    asks_for(&rt, b"notify back", Ok(Some(Event::Notify(End::Back))));
 }
 
 #[test]
 fn silent_lines_ask_for_nothing(rt: HostRuntime) {
-    same(&rt, read_event(&[]), Ok(None));
-    same(&rt, read_event(b"# 64 sectors\r".as_slice()), Ok(None));
-    same(&rt, read_event(&[b'#'; 128]), Ok(None));
-    holds(&rt, read_event(&[b'#'; 129]).is_err());
+    asks_for(&rt, b"", Ok(None));
+    asks_for(&rt, b"# 64 sectors\r", Ok(None));
+    asks_for(&rt, &[b'#'; 128], Ok(None));
+    asks_for(&rt, &[b'#'; 129], Err(BadLine));
 }
+
+// No line is read.
+fn ask_for_nothing(rt: &impl Abort, lines: &[&[u8]]) {
+    for line in lines {
+        assert!(rt; read_event(line).is_err(), "{line:?}");
+    }
+}
+
+const NO_EVENTS: &[&[u8]] = &[
+    b"submit wri",
+    b" # no comment",
+    b"settle\r",
+    b"settle ",
+    b"front 0",
+    b"front 1000001",
+    b"front 00163",
+    b"job 0 1",
+    b"job 1 0",
+    b"turn +1",
+    b"submit write 0 1 0000000A",
+    b"submit write 0 1 7",
+    b"submit  flush",
+    b"submit read 0 4294967296",
+    b"poke 2 0 4294967296",
+    b"close both",
+    b"key a-name-of-more-than-thirty-two-bytes x",
+    b"key state two words",
+    &[0xff, 0xfe],
+];
 
 #[test]
 fn other_events_are_refused(rt: HostRuntime) {
-    for line in [
-        "submit wri",
-        " # no comment",
-        "settle\r",
-        "settle ",
-        "front 0",
-        "front 1000001",
-        "front 00163",
-        "job 0 1",
-        "job 1 0",
-        "turn +1",
-        "submit write 0 1 0000000A",
-        "submit write 0 1 7",
-        "submit  flush",
-        "submit read 0 4294967296",
-        "poke 2 0 4294967296",
-        "close both",
-        "key a-name-of-more-than-thirty-two-bytes x",
-        "key state two words",
-    ] {
-        holds(&rt, read_event(line.as_bytes()).is_err());
-    }
-    holds(&rt, read_event(&[0xff, 0xfe]).is_err());
+    ask_for_nothing(&rt, NO_EVENTS);
 }
 
 /// What a sink holds after two lines, as a stranger says it.
@@ -275,12 +298,27 @@ fn two_lines<S: Sink>(out: &mut S) -> Result<(), RecordStop>
     Ok(())
 }
 
+// A sink of so much room holds these bytes after the two lines, or those before the stop.
+fn holds_lines(
+    rt: &impl Abort,
+    alloc: Global,
+    room: usize,
+    told: Result<(), RecordStop>,
+    bytes: &[u8],
+) {
+    let mut sink = MemorySink::with_room(alloc, room).expect(rt, "memory");
+    same(rt, two_lines(&mut sink), told);
+    same(rt, sink.bytes(), bytes);
+}
+
 #[test]
-fn a_sink_gets_the_lines(rt: HostRuntime) -> Result<(), Fail> {
-    let mut sink = MemorySink::with_room(rt.alloc(), 100)?;
-    holds(&rt, two_lines(&mut sink).is_ok());
-    same(&rt, sink.bytes(), b"quiet\nend\n".as_slice());
-    Ok(())
+fn a_sink_gets_the_lines(rt: HostRuntime) {
+    holds_lines(&rt, rt.alloc(), 100, Ok(()), b"quiet\nend\n");
+}
+
+#[test]
+fn a_full_sink_stops_the_recorder(rt: HostRuntime) {
+    holds_lines(&rt, rt.alloc(), 8, Err(RecordStop::Failed), b"quiet\n");
 }
 
 // A move that makes a port.
@@ -332,45 +370,49 @@ impl Shown for Word {
     }
 }
 
-#[test]
-fn a_move_has_a_line_where_the_recorder_keeps_moves(rt: HostRuntime) -> Result<(), Fail> {
-    let mut sink = MemorySink::with_room(rt.alloc(), 100)?;
-    for detail in [Detail::Lines, Detail::Moves] {
-        let mut recorder = LineSink {
-            sink: &mut sink,
-            detail,
-            room: LineText::new(),
-        };
-        recorder.add_move(&Port(7))?;
-        recorder.add_move(&Word(0xdead_beef))?;
-    }
-    same(
-        &rt,
-        sink.bytes(),
-        b"m front port 7\nm job 2 read 5 18 7 deadbeef\n".as_slice(),
-    );
-    Ok(())
+fn adds_moves<S: Sink>(rt: &impl Abort, sink: &mut S, detail: Detail) {
+    let mut recorder = LineSink {
+        sink,
+        detail,
+        room: LineText::new(),
+    };
+    recorder.add_move(&Port(7)).expect(rt, "room");
+    recorder.add_move(&Word(0xdead_beef)).expect(rt, "room");
+}
+
+// Moves are added where a recorder keeps none, and then where it keeps them.
+fn keeps_moves(rt: &impl Abort, alloc: Global, wanted: &[u8]) {
+    let mut sink = MemorySink::with_room(alloc, 100).expect(rt, "memory");
+    adds_moves(rt, &mut sink, Detail::Lines);
+    adds_moves(rt, &mut sink, Detail::Moves);
+    same(rt, sink.bytes(), wanted);
 }
 
 #[test]
-fn a_full_sink_stops_the_recorder(rt: HostRuntime) -> Result<(), Fail> {
-    let mut sink = MemorySink::with_room(rt.alloc(), 8)?;
-    same(&rt, two_lines(&mut sink), Err(RecordStop::Failed));
-    same(&rt, sink.bytes(), b"quiet\n".as_slice());
-    Ok(())
+fn a_move_has_a_line_where_the_recorder_keeps_moves(rt: HostRuntime) {
+    let wanted = b"m front port 7\nm job 2 read 5 18 7 deadbeef\n";
+    keeps_moves(&rt, rt.alloc(), wanted);
+}
+
+fn tallied(rt: &impl Abort, lines: &[Line]) -> Tally {
+    let mut recorder = LineTally::new();
+    for line in lines {
+        recorder.add(line).expect(rt, "a tally");
+    }
+    recorder.tally
 }
 
 #[test]
 fn a_tally_counts_lines_of_requests(rt: HostRuntime) {
-    let mut recorder = LineTally::new();
-    for line in [
-        Line::Ready,
-        Line::Effect { id: 1, index: 0 },
-        Line::Effect { id: 1, index: 1 },
-        Line::Quiet,
-    ] {
-        holds(&rt, recorder.add(&line).is_ok());
-    }
-    same(&rt, recorder.tally.effects, 2);
-    same(&rt, recorder.tally.submitted, 0);
+    let tally = tallied(
+        &rt,
+        &[
+            Line::Ready,
+            Line::Effect { id: 1, index: 0 },
+            Line::Effect { id: 1, index: 1 },
+            Line::Quiet,
+        ],
+    );
+    same(&rt, tally.effects, 2);
+    same(&rt, tally.submitted, 0);
 }

@@ -8,7 +8,7 @@ use Rattle.vbd_model.specs.Leads.{Moment, moment}
 use Rattle.schedule_run.specs.Machine.{Run}
 use Rattle.schedule_run.specs.Outcome.{Outside, outside, HasCarried}
 use Rattle.schedule_run.specs.Lawful.{EventLeaves, HasLawfulReport}
-use Rattle.schedule_run_tests.proofs.tests.writes_a_sector.Goals as goal
+use Rattle.schedule_run_tests.proofs.tests.tells_a_write.Goals as goal
 
 last_one : (config : Options) (events : List Event) (old : Outside) (result : Result (Unit {0}) RecordStop) (new : Moment) → EventLeaves config events old result new → OnOk result (HasLawfulReport config events old (outside new.disk new.recorder))
 last_one config events old (Ok done) new h = h.told
@@ -18,8 +18,8 @@ pub returns : goal.returns
 returns g c =
     let config = c.args.config in
     let begin = outside (g.D.SectorDisk.seen c.args.disk.now) (g.R.Recorder.seen c.args.recorder.now) in
-    let begun = c.a_run_begins.ensures config (g.D.SectorDisk.seen c.args.disk.now) (g.R.Recorder.seen c.args.recorder.now) (g.R.Recorder.seen c.add.new.self) c.in-Ok.ensures.served Moves c.in_ok-add.ensures in
-    let none = subst (λ (m : Run). HasCarried config [] begin (moment m.world (g.D.SectorDisk.seen c.args.disk.now) (g.R.Recorder.seen c.add.new.self))) (sym c.in-Ok.ensures.machine) begun in
+    let begun = c.a_run_begins.ensures config (g.D.SectorDisk.seen c.args.disk.now) (g.R.Recorder.seen c.args.recorder.now) (g.R.Recorder.seen c.add.new.self) c.requires.served Moves c.in_ok-add.ensures in
+    let none = subst (λ (m : Run). HasCarried config [] begin (moment m.world (g.D.SectorDisk.seen c.args.disk.now) (g.R.Recorder.seen c.add.new.self))) (sym c.requires.new) begun in
     let one = c.in_ok-event.ensures.lawful config [] begin (omega arith) c.requires.sectors none in
     let two = c.in_ok-event-2.ensures.lawful config (Settle ∷ []) begin (omega arith) c.requires.sectors one.carried in
     let three = c.in_ok-event-3.ensures.lawful config (Settle ∷ Submit c.args.write ∷ []) begin (omega arith) c.requires.sectors two.carried in
