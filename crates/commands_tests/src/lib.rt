@@ -2,6 +2,4 @@
 #![tactic(auto)]
 
 #[cfg(test)]
-mod expected;
-#[cfg(test)]
 mod tests;
