@@ -23,7 +23,7 @@ fn gives<S: Source>(rt: &impl Abort, source: &mut S, reads: &[Read]) {
     }
 }
 
-// A call of a sink: a piece that is written, or none at a flush.
+// A call of a sink, which writes a piece, or flushes where there is none; and its answer.
 type Call = (Option<&'static str>, Result<(), Failed>);
 
 fn made<S: Sink>(sink: &mut S, piece: Option<&str>) -> Result<(), Failed> {

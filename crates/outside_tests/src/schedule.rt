@@ -13,26 +13,49 @@ use schedule_text::{
 use std::alloc::Global;
 use std::process::Abort;
 
+// Lines of a report, or of a schedule.
+#[derive(Clone, Copy)]
+enum Kind {
+    Report,
+    Schedule,
+}
+
 // Reads a line, and writes what was read.
-fn again(text: &mut LineText, line: &str) {
-    if let Ok(read) = read_line(line.as_bytes()) {
-        write_line(&read, text);
+fn again(text: &mut LineText, kind: Kind, line: &str) {
+    match kind {
+        Kind::Report => {
+            if let Ok(read) = read_line(line.as_bytes()) {
+                write_line(&read, text);
+            }
+        }
+        Kind::Schedule => {
+            if let Ok(Some(read)) = read_event(line.as_bytes()) {
+                write_event(&read, text);
+            }
+        }
     }
 }
 
 // Each line is read, and written as it was.
-fn go_round(rt: &impl Abort, lines: &[&str]) {
+fn go_round(rt: &impl Abort, kind: Kind, lines: &[&str]) {
     for line in lines {
         let mut text = LineText::new();
-        again(&mut text, line);
+        again(&mut text, kind, line);
         same(rt, text.as_str(), *line);
     }
 }
 
+fn is_refused(kind: Kind, line: &[u8]) -> bool {
+    match kind {
+        Kind::Report => read_line(line).is_err(),
+        Kind::Schedule => read_event(line).is_err(),
+    }
+}
+
 // No line is read.
-fn are_refused(rt: &impl Abort, lines: &[&str]) {
+fn are_refused(rt: &impl Abort, kind: Kind, lines: &[&str]) {
     for line in lines {
-        assert!(rt; read_line(line.as_bytes()).is_err(), "{line}");
+        assert!(rt; is_refused(kind, line.as_bytes()), "{line}");
     }
 }
 
@@ -73,7 +96,7 @@ const LINES: &[&str] = &[
 
 #[test]
 fn lines_of_a_report_go_round(rt: HostRuntime) {
-    go_round(&rt, LINES);
+    go_round(&rt, Kind::Report, LINES);
 }
 
 const HALTS: &[&str] = &[
@@ -88,7 +111,7 @@ const HALTS: &[&str] = &[
 
 #[test]
 fn halts_go_round(rt: HostRuntime) {
-    go_round(&rt, HALTS);
+    go_round(&rt, Kind::Report, HALTS);
 }
 
 const MOVES: &[&str] = &[
@@ -121,7 +144,7 @@ const MOVES: &[&str] = &[
 
 #[test]
 fn moves_go_round(rt: HostRuntime) {
-    go_round(&rt, MOVES);
+    go_round(&rt, Kind::Report, MOVES);
 }
 
 fn written(line: &Line) -> LineText {
@@ -180,7 +203,7 @@ const NO_LINES: &[&str] = &[
 
 #[test]
 fn other_lines_are_refused(rt: HostRuntime) {
-    are_refused(&rt, NO_LINES);
+    are_refused(&rt, Kind::Report, NO_LINES);
 }
 
 #[test]
@@ -190,23 +213,7 @@ fn a_filled_sector_has_one_spelling(rt: HostRuntime) {
     for _ in 0..128 {
         let _ = text.try_push_str("07000000");
     }
-    are_refused(&rt, &[text.as_str()]);
-}
-
-// Reads a line of a schedule, and writes what was read.
-fn event_again(text: &mut LineText, line: &str) {
-    if let Ok(Some(read)) = read_event(line.as_bytes()) {
-        write_event(&read, text);
-    }
-}
-
-// Each line of a schedule is read, and written as it was.
-fn events_go_round(rt: &impl Abort, lines: &[&str]) {
-    for line in lines {
-        let mut text = LineText::new();
-        event_again(&mut text, line);
-        same(rt, text.as_str(), *line);
-    }
+    are_refused(&rt, Kind::Report, &[text.as_str()]);
 }
 
 fn asks_for(rt: &impl Abort, line: &[u8], wanted: Result<Option<Event>, BadLine>) {
@@ -237,7 +244,7 @@ const EVENTS: &[&str] = &[
 
 #[test]
 fn lines_of_a_schedule_go_round(rt: HostRuntime) {
-    events_go_round(&rt, EVENTS);
+    go_round(&rt, Kind::Schedule, EVENTS);
     asks_for(&rt, b"notify back", Ok(Some(Event::Notify(End::Back))));
 }
 
@@ -249,38 +256,31 @@ fn silent_lines_ask_for_nothing(rt: HostRuntime) {
     asks_for(&rt, &[b'#'; 129], Err(BadLine));
 }
 
-// No line is read.
-fn ask_for_nothing(rt: &impl Abort, lines: &[&[u8]]) {
-    for line in lines {
-        assert!(rt; read_event(line).is_err(), "{line:?}");
-    }
-}
-
-const NO_EVENTS: &[&[u8]] = &[
-    b"submit wri",
-    b" # no comment",
-    b"settle\r",
-    b"settle ",
-    b"front 0",
-    b"front 1000001",
-    b"front 00163",
-    b"job 0 1",
-    b"job 1 0",
-    b"turn +1",
-    b"submit write 0 1 0000000A",
-    b"submit write 0 1 7",
-    b"submit  flush",
-    b"submit read 0 4294967296",
-    b"poke 2 0 4294967296",
-    b"close both",
-    b"key a-name-of-more-than-thirty-two-bytes x",
-    b"key state two words",
-    &[0xff, 0xfe],
+const NO_EVENTS: &[&str] = &[
+    "submit wri",
+    " # no comment",
+    "settle\r",
+    "settle ",
+    "front 0",
+    "front 1000001",
+    "front 00163",
+    "job 0 1",
+    "job 1 0",
+    "turn +1",
+    "submit write 0 1 0000000A",
+    "submit write 0 1 7",
+    "submit  flush",
+    "submit read 0 4294967296",
+    "poke 2 0 4294967296",
+    "close both",
+    "key a-name-of-more-than-thirty-two-bytes x",
+    "key state two words",
 ];
 
 #[test]
 fn other_events_are_refused(rt: HostRuntime) {
-    ask_for_nothing(&rt, NO_EVENTS);
+    are_refused(&rt, Kind::Schedule, NO_EVENTS);
+    holds(&rt, is_refused(Kind::Schedule, &[0xff, 0xfe]));
 }
 
 /// What a sink holds after two lines, as a stranger says it.
