@@ -16,10 +16,8 @@ use std::process::Abort;
 enum Call {
     // A sector is read, and full of this word.
     Reads(u64, u32),
-    // A sector is filled with this word.
-    Writes(u64, u32),
-    // It can't be filled.
-    FailsToWrite(u64, u32),
+    // A sector is filled with this word, or can't be.
+    Writes(u64, u32, Result<(), Failed>),
     Trims(u64, u64),
     Flushes,
 }
@@ -70,9 +68,8 @@ fn does<D: SectorDisk>(rt: &impl Abort, disk: &mut D, count: u64, call: Call)
 {
     match call {
         Call::Reads(sector, word) => same(rt, reads(rt, disk, count, sector), [word; 128]),
-        Call::Writes(sector, word) => same(rt, writes(rt, disk, count, sector, word), Ok(())),
-        Call::FailsToWrite(sector, word) => {
-            same(rt, writes(rt, disk, count, sector, word), Err(Failed));
+        Call::Writes(sector, word, answer) => {
+            same(rt, writes(rt, disk, count, sector, word), answer);
         }
         Call::Trims(sector, trimmed) => trims(rt, disk, count, sector, trimmed),
         Call::Flushes => disk.flush().expect(rt, "flushed"),
@@ -101,18 +98,21 @@ fn are_sectors(rt: &impl Abort, found: &[SectorWords], count: usize, sector: usi
     same(rt, found.get(sector), Some(&[word; 128]));
 }
 
+const DISCARDING: &[Call] = &[
+    Call::Writes(1, 7, Ok(())),
+    Call::Reads(1, 7),
+    Call::Trims(0, 1),
+    Call::Reads(0, 0),
+];
+
+const FLUSHING: &[Call] = &[Call::Flushes];
+
 fn writes_and_discards(rt: &impl Abort, alloc: Global) {
     let mut disk = two_sectors(rt, alloc);
     attaches(rt, &mut disk, "any", 2);
-    let calls = [
-        Call::Writes(1, 7),
-        Call::Reads(1, 7),
-        Call::Trims(0, 1),
-        Call::Reads(0, 0),
-    ];
-    plays(rt, &mut disk, 2, &calls);
+    plays(rt, &mut disk, 2, DISCARDING);
     are_sectors(rt, disk.stable(), 2, 0, 1);
-    plays(rt, &mut disk, 2, &[Call::Flushes]);
+    plays(rt, &mut disk, 2, FLUSHING);
     are_sectors(rt, disk.content(), 2, 1, 7);
 }
 
@@ -133,17 +133,18 @@ fn failing(rt: &impl Abort, alloc: Global) -> FailsAtCalls<MemoryDisk> {
     FailsAtCalls::new(two_sectors(rt, alloc), listed)
 }
 
+const FAILING: &[Call] = &[
+    Call::Writes(0, 5, Ok(())),
+    Call::Writes(0, 6, Err(Failed)),
+    Call::Reads(0, 5),
+    Call::Flushes,
+    Call::Trims(0, 2),
+];
+
 fn fails_once(rt: &impl Abort, alloc: Global) {
     let mut disk = failing(rt, alloc);
     attaches(rt, &mut disk, "any", 2);
-    let calls = [
-        Call::Writes(0, 5),
-        Call::FailsToWrite(0, 6),
-        Call::Reads(0, 5),
-        Call::Flushes,
-        Call::Trims(0, 2),
-    ];
-    plays(rt, &mut disk, 2, &calls);
+    plays(rt, &mut disk, 2, FAILING);
     same(rt, disk.faults, 1);
 }
 
@@ -152,17 +153,20 @@ fn the_second_write_fails_and_what_comes_after_it_goes_on(rt: HostRuntime) {
     fails_once(&rt, rt.alloc());
 }
 
+const TAIL: &[Call] = &[
+    Call::Reads(1, 0x0909_0909),
+    Call::Writes(1, 0x0403_0201, Ok(())),
+    Call::Trims(0, 1),
+    Call::Flushes,
+];
+
 // A file's first sector is discarded, and its second one written.
 fn writes_a_file<D: SectorDisk>(rt: &impl Abort, disk: &mut D) {
     attaches(rt, disk, "tail.image", 2);
-    let calls = [
-        Call::Reads(1, 0x0909_0909),
-        Call::Writes(1, 0x0403_0201),
-        Call::Trims(0, 1),
-        Call::Flushes,
-    ];
-    plays(rt, disk, 2, &calls);
+    plays(rt, disk, 2, TAIL);
 }
+
+const BYTES: &[(usize, u8)] = &[(511, 0), (512, 1), (515, 4), (1024, 9)];
 
 fn are_bytes(rt: &impl Abort, found: &[u8], bytes: &[(usize, u8)]) {
     for (at, byte) in bytes {
@@ -177,10 +181,6 @@ fn a_short_tail_of_a_file_is_never_touched(rt: HostRuntime) {
     writes_a_file(&rt, &mut FileDisk::new(rt.alloc(), files));
     let after = fs::read(&rt, "tail.image").expect(&rt, "a file");
     same(&rt, after.len(), 1100);
-    are_bytes(
-        &rt,
-        after.as_slice(),
-        &[(511, 0), (512, 1), (515, 4), (1024, 9)],
-    );
+    are_bytes(&rt, after.as_slice(), BYTES);
     fs::remove_file(&rt, "tail.image").expect(&rt, "a file");
 }

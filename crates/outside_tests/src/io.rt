@@ -45,28 +45,26 @@ fn five(rt: &impl Abort, alloc: Global) -> MemorySource {
     MemorySource::new(Vec::from_slice(alloc, &[1, 2, 3, 4, 5]).expect(rt, "memory"))
 }
 
+const PIECES: &[Read] = &[
+    Ok((4, [1, 2, 3, 4])),
+    Ok((1, [5, 0, 0, 0])),
+    Ok((0, [0; 4])),
+];
+
 #[test]
 fn a_source_in_memory_gives_its_bytes_in_pieces(rt: HostRuntime) {
-    gives(
-        &rt,
-        &mut five(&rt, rt.alloc()),
-        &[
-            Ok((4, [1, 2, 3, 4])),
-            Ok((1, [5, 0, 0, 0])),
-            Ok((0, [0; 4])),
-        ],
-    );
+    gives(&rt, &mut five(&rt, rt.alloc()), PIECES);
 }
+
+const TAKEN: &[Call] = &[(Some("ring"), Ok(())), (Some(" full"), Ok(()))];
+
+const TOO_LONG: &[Call] = &[(Some("!"), Err(Failed))];
 
 fn takes_what_fits(rt: &impl Abort, alloc: Global) {
     let mut sink = MemorySink::with_room(alloc, 9).expect(rt, "memory");
-    answers(
-        rt,
-        &mut sink,
-        &[(Some("ring"), Ok(())), (Some(" full"), Ok(()))],
-    );
+    answers(rt, &mut sink, TAKEN);
     same(rt, sink.bytes(), b"ring full".as_slice());
-    answers(rt, &mut sink, &[(Some("!"), Err(Failed))]);
+    answers(rt, &mut sink, TOO_LONG);
     same(rt, sink.bytes(), b"ring full".as_slice());
 }
 
@@ -84,17 +82,19 @@ fn room(rt: &impl Abort, alloc: Global) -> MemorySink {
     MemorySink::with_room(alloc, 90).expect(rt, "memory")
 }
 
+const HELD_UP: &[Read] = &[Ok((4, [1, 2, 3, 4])), Err(Failed), Ok((1, [5, 0, 0, 0]))];
+
 fn fails_to_give(rt: &impl Abort, alloc: Global) {
     let mut source = failing(rt, alloc, five(rt, alloc));
-    let reads = [Ok((4, [1, 2, 3, 4])), Err(Failed), Ok((1, [5, 0, 0, 0]))];
-    gives(rt, &mut source, &reads);
+    gives(rt, &mut source, HELD_UP);
     same(rt, source.faults, 1);
 }
 
+const STOPPED: &[Call] = &[(Some("ring"), Ok(())), (Some(" full"), Err(Failed))];
+
 fn fails_to_take(rt: &impl Abort, alloc: Global) {
     let mut sink = failing(rt, alloc, room(rt, alloc));
-    let calls = [(Some("ring"), Ok(())), (Some(" full"), Err(Failed))];
-    answers(rt, &mut sink, &calls);
+    answers(rt, &mut sink, STOPPED);
     same(rt, sink.inside.bytes().len(), 4);
 }
 
@@ -104,13 +104,14 @@ fn listed_calls_fail_and_the_others_go_on(rt: HostRuntime) {
     fails_to_take(&rt, rt.alloc());
 }
 
+const TWO: &[Read] = &[Ok((2, [7, 8, 0, 0]))];
+
 #[test]
 fn real_streams_pass_their_bytes_on(rt: HostRuntime) {
     let bytes: &[u8] = &[7, 8];
-    gives(&rt, &mut ReaderSource::new(bytes), &[Ok((2, [7, 8, 0, 0]))]);
+    gives(&rt, &mut ReaderSource::new(bytes), TWO);
     let held: Vec<u8> = Vec::new(rt.alloc());
-    let calls = [(Some("ring"), Ok(())), (Some(" full"), Ok(()))];
-    answers(&rt, &mut WriterSink::new(held), &calls);
+    answers(&rt, &mut WriterSink::new(held), TAKEN);
 }
 
 // A writer that keeps its bytes back until a flush, and can't flush more than eight.
@@ -141,20 +142,20 @@ fn a_line_is_never_left_in_a_writer(rt: HostRuntime) {
         taken: 0,
         flushed: 0,
     };
-    let calls = [(Some("ring"), Ok(())), (Some(" full"), Err(Failed))];
-    answers(&rt, &mut WriterSink::new(&mut lazy), &calls);
+    answers(&rt, &mut WriterSink::new(&mut lazy), STOPPED);
     same(&rt, lazy.flushed, 4);
 }
+
+// A flush that goes well makes two calls of the sink inside.
+const KEPT_BACK: &[Call] = &[
+    (Some("two"), Ok(())),
+    (None, Err(Failed)),
+    (Some("more"), Ok(())),
+    (None, Ok(())),
+];
 
 #[test]
 fn what_was_kept_back_is_handed_on_at_a_flush(rt: HostRuntime) {
     let inside = failing(&rt, rt.alloc(), room(&rt, rt.alloc()));
-    // a flush that goes well makes two calls of the sink inside
-    let calls = [
-        (Some("two"), Ok(())),
-        (None, Err(Failed)),
-        (Some("more"), Ok(())),
-        (None, Ok(())),
-    ];
-    answers(&rt, &mut BufferedSink::new(inside), &calls);
+    answers(&rt, &mut BufferedSink::new(inside), KEPT_BACK);
 }

@@ -8,6 +8,8 @@ mod expected;
 #[cfg(test)]
 mod io;
 #[cfg(test)]
+mod recorders;
+#[cfg(test)]
 mod schedule;
 #[cfg(test)]
 mod text;

@@ -12,20 +12,22 @@ enum Word {
     Signed(i32),
 }
 
-fn puts(rt: &impl Abort, text: &mut LineText, word: Word) {
-    holds(rt, text.len() <= 1000);
-    match word {
-        Word::Plain(word) => {
-            holds(rt, word.len() <= 100);
-            put(text, word);
+fn puts(rt: &impl Abort, text: &mut LineText, words: &[Word]) {
+    for word in words {
+        holds(rt, text.len() <= 1000);
+        match *word {
+            Word::Plain(word) => {
+                holds(rt, word.len() <= 100);
+                put(text, word);
+            }
+            Word::Number(number) => put_number(text, number),
+            Word::Hex(word) => put_hex(text, word),
+            Word::Signed(number) => put_signed(text, number),
         }
-        Word::Number(number) => put_number(text, number),
-        Word::Hex(word) => put_hex(text, word),
-        Word::Signed(number) => put_signed(text, number),
     }
 }
 
-fn takes(words: &mut Words, word: Word) -> bool {
+fn is_next(words: &mut Words, word: Word) -> bool {
     match word {
         Word::Plain(word) => words.next() == word.as_bytes(),
         Word::Number(number) => words.number() == number,
@@ -34,16 +36,10 @@ fn takes(words: &mut Words, word: Word) -> bool {
     }
 }
 
-fn puts_all(rt: &impl Abort, text: &mut LineText, words: &[Word]) {
-    for word in words {
-        puts(rt, text, *word);
-    }
-}
-
-fn takes_all(rt: &impl Abort, text: &[u8], all: &[Word]) {
+fn takes(rt: &impl Abort, text: &[u8], all: &[Word]) {
     let mut words = Words::new(text);
     for word in all {
-        holds(rt, takes(&mut words, *word));
+        holds(rt, is_next(&mut words, *word));
     }
 }
 
@@ -69,9 +65,9 @@ fn words_stand_apart_by_one_space(rt: HostRuntime) {
     let wanted = "answer 18446744073709551615 ok 00000020 -3";
     let mut text = LineText::new();
     begin(&mut text, "answer");
-    puts_all(&rt, &mut text, WORDS);
+    puts(&rt, &mut text, WORDS);
     same(&rt, text.as_str(), wanted);
-    takes_all(&rt, wanted.as_bytes(), TAKEN);
+    takes(&rt, wanted.as_bytes(), TAKEN);
 }
 
 fn sector_after_a_word(line: &[u8]) -> SectorWords {

@@ -23,4 +23,5 @@ returns g c =
     let one = c.in_ok-event.ensures.lawful config [] begin (omega arith) c.requires.sectors none in
     let two = c.in_ok-event-2.ensures.lawful config (Settle ∷ []) begin (omega arith) c.requires.sectors one.carried in
     let three = c.in_ok-event-3.ensures.lawful config (Settle ∷ Submit c.args.write ∷ []) begin (omega arith) c.requires.sectors two.carried in
-    last_one config _ begin c.event-4.result _ (c.event-4.ensures.lawful config (Settle ∷ Submit c.args.write ∷ Settle ∷ []) begin (omega arith) c.requires.sectors three.carried)
+    let now = moment c.event-4.new.self.world (g.D.SectorDisk.seen c.event-4.new.disk) (g.R.Recorder.seen c.event-4.new.recorder) in
+    last_one config _ begin c.event-4.result now (c.event-4.ensures.lawful config (Settle ∷ Submit c.args.write ∷ Settle ∷ []) begin (omega arith) c.requires.sectors three.carried)
