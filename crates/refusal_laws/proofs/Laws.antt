@@ -10,7 +10,7 @@ use Rattle.report_rules.proofs.Obeys.{obeys_more}
 use Rattle.split_model.specs.Report as ring_report
 use Rattle.machine_pipeline.specs.Submissions as ring
 use Rattle.vbd_model.specs.World.{World, start_of}
-use Rattle.vbd_model.specs.Happening.{Happening, FrontMoves, BackMoves, JobMoves, Closes, Submits, Notifies, Pokes, OverwritesKey, Suspends, Dumps, Looks, Settles, does, happens, all_does}
+use Rattle.vbd_model.specs.Happening.{Happening, FrontMoves, BackMoves, Closes, does, happens, all_does}
 use Rattle.vbd_model.specs.Possible.{ArePossible}
 use Rattle.vbd_model.specs.Report.{report_of, ended_report_of}
 use Rattle.vbd_model.proofs.Running.{report_lift}
@@ -26,16 +26,8 @@ use Rattle.refusal_laws.proofs.Kept.{kept_ruled}
 one_submits : (h : Happening) (w : World) → ring.submitted_of (all_does (h ∷ []) w) ≡ submitted_of (h ∷ [])
 one_submits FrontMoves w = moves_submit (FrontMoves ∷ []) w (refl, tt)
 one_submits BackMoves w = moves_submit (BackMoves ∷ []) w (refl, tt)
-one_submits (JobMoves number outcome) w = refl
 one_submits (Closes at) w = moves_submit (Closes at ∷ []) w (refl, tt)
-one_submits (Submits job) w = refl
-one_submits (Notifies at) w = refl
-one_submits (Pokes frame word value) w = refl
-one_submits (OverwritesKey name text) w = refl
-one_submits Suspends w = refl
-one_submits Dumps w = refl
-one_submits (Looks quiet) w = refl
-one_submits (Settles quiet) w = refl
+one_submits h w = refl
 
 does_submit : (h : Happening) (w : World) → ring.submitted_of (does w h) ≡ submitted_of (h ∷ [])
 does_submit h w = ap ring.submitted_of (sym (append-nil (does w h))) ∙ one_submits h w

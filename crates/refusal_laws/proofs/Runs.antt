@@ -1,5 +1,5 @@
 -- Every report of the ring's machine answers each submission by the first rule that applies, whatever happens.
-use Rattle.std.proofs.Common.{◌≡◌, ℕ, ◌+◌, ◌*◌, ◌^◌, ◌≤◌, Bool, true, false, true≢false, cond, if◌then◌else◌, List, [], ◌∷◌, ◌++◌, length, refl, ap, sym, ◌∙◌, subst, append_assoc, append-nil, arith}
+use Rattle.std.proofs.Common.{◌≡◌, ℕ, ◌+◌, ◌≤◌, Bool, true, false, true≢false, cond, List, [], ◌∷◌, ◌++◌, length, refl, ap, sym, ◌∙◌, subst, append_assoc, append-nil, arith}
 use Rattle.std.specs.Prelude.{Option, Some, None, Result, Ok, Err, fold, slice_get, IsSomeAnd}
 use Rattle.std.specs.List.{AllByRecursion}
 use Rattle.std.proofs.lemmas.List.Sums.{fold-append, sum_by-append, sum_by-cons}
@@ -26,20 +26,19 @@ use Rattle.blk_front.specs.Submit.{submit_of}
 use Rattle.split_model.specs.World.{World, start_of}
 use Rattle.split_model.specs.Safe.{IsSafe}
 use Rattle.split_model.specs.Shown.{front_lines}
-use Rattle.split_model.specs.Happening.{Happening, FrontMoves, BackMoves, JobMoves, Negotiates, FrontEnters, BackAttaches, BackHalts, Submits, Notifies, Pokes, OverwritesKey, Suspends, Dumps, Looks, Settles, happens, lines_at, lines_of, front_after, front_shows, back_after, back_shows, job_after, job_shows, front_turn, back_turn, job_turn, submit_line, enter_lines}
+use Rattle.split_model.specs.Happening.{Happening, FrontMoves, BackMoves, JobMoves, FrontEnters, BackAttaches, BackHalts, Submits, Suspends, happens, lines_at, lines_of, front_after, front_shows, back_after, back_shows, job_after, job_shows, front_turn, back_turn, job_turn, submit_line, enter_lines}
+use Rattle.split_model.proofs.Outside.{front_stays, OfOutside, outside_lines}
 use Rattle.split_model.specs.Report.{report_of}
 use Rattle.split_model.proofs.Safe.{safe_start, safe_happens}
 use Rattle.split_model.proofs.States.{enters_cases, enter_lines_are, state_lines_are}
 use Rattle.split_model.proofs.Suspending.{suspend_cases, suspend_lines_are}
-use Rattle.split_model.proofs.Keys.{negotiated_lines_are}
 use Rattle.split_model.proofs.Attaching.{attach_lines_are}
-use Rattle.split_model.proofs.Overwriting.{poke_lines_are, dump_lines_are, overwritten_lines_are}
 use Rattle.machine_pipeline.specs.Allowed.{IsPossible, ArePossible}
 use Rattle.machine_pipeline.specs.Submissions.{submitted_of}
 use Rattle.machine_pipeline.proofs.Refusing.{answer_of}
 use Rattle.machine_pipeline.proofs.StartingHolds.{empty_pooled}
 use Rattle.machine_pipeline.proofs.Growing.{longer}
-use Rattle.report_laws.proofs.Lines.{OfBack, halt_lines_all, back_all, job_all}
+use Rattle.split_model.proofs.Lines.{OfBack, halt_lines_all, back_all, job_all}
 use Rattle.refusal_laws.specs.Ruled.{asked_step, asked_by, ruled_of, IsRuledAt, AreRuled}
 use Rattle.refusal_laws.proofs.Stands.{Keeps}
 use Rattle.refusal_laws.proofs.Steps.{step_goes}
@@ -136,9 +135,13 @@ job_leaves : (w : World) (number : ℕ) (act : Option BackAct) → Leaves w (job
 job_leaves w number None = record { front = refl; lines = tt }
 job_leaves w number (Some a) = record { front = refl; lines = job_all _ back_aside w number (Some a) }
 
-look_aside : (quiet : Bool) (other : Line) → is_aside other ≡ true → AreAside ((if quiet then lines.Quiet else other) ∷ [])
-look_aside true other e = (refl, tt)
-look_aside false other e = (e, tt)
+aside_outside : OfOutside (λ (line : Line). is_aside line ≡ true)
+aside_outside = record {
+  under = record { got = λ who path text. refl; set = λ who path text. refl; watch = λ who path. refl; watched = λ who path. refl; poke = λ frame word value. refl; key = λ name text. refl; word = λ frame word value. refl };
+  quiet = refl;
+  busy = refl;
+  unsettled = refl;
+}
 
 abbrev IsAside : Happening → Type 0
 IsAside FrontMoves = ⊥
@@ -148,21 +151,15 @@ IsAside Suspends = ⊥
 IsAside h = Unit {0}
 
 leaves : (w : World) (h : Happening) → IsAside h → Leaves w (happens w h) (lines_at w h)
-leaves w FrontMoves aside = absurd aside
 leaves w BackMoves aside = back_leaves w (back_turn w Took)
 leaves w (JobMoves number outcome) aside = job_leaves w number (job_turn w number outcome)
-leaves w (Negotiates at move) aside = record { front = refl; lines = negotiated_lines_are (λ (line : Line). is_aside line ≡ true) w.back.stage at move w.under.keys (λ path. refl) (λ path text. refl) (λ path. refl) (λ path. refl) }
-leaves w (FrontEnters s) aside = absurd aside
 leaves w (BackAttaches shape grefs port) aside = record { front = refl; lines = attach_lines_are (λ (line : Line). is_aside line ≡ true) w shape grefs refl }
 leaves w (BackHalts why) aside = record { front = refl; lines = halt_lines_all _ back_aside w.back.halted _ }
+leaves w FrontMoves aside = absurd aside
+leaves w (FrontEnters s) aside = absurd aside
 leaves w (Submits job) aside = absurd aside
-leaves w (Notifies at) aside = record { front = refl; lines = tt }
-leaves w (Pokes frame word value) aside = record { front = refl; lines = poke_lines_are (λ (line : Line). is_aside line ≡ true) frame word value refl }
-leaves w (OverwritesKey name text) aside = record { front = refl; lines = overwritten_lines_are (λ (line : Line). is_aside line ≡ true) name text refl }
 leaves w Suspends aside = absurd aside
-leaves w Dumps aside = record { front = refl; lines = dump_lines_are (λ (line : Line). is_aside line ≡ true) w.under.pages 0 (1024 * 2 ^ w.front.shape.order) (λ frame word value. refl) }
-leaves w (Looks quiet) aside = record { front = refl; lines = look_aside quiet lines.Busy refl }
-leaves w (Settles quiet) aside = record { front = refl; lines = look_aside quiet lines.Unsettled refl }
+leaves w h aside = record { front = front_stays w h tt; lines = outside_lines (λ (line : Line). is_aside line ≡ true) aside_outside w h tt }
 
 -- the lines of the front's own moves and states, and of a suspend
 front_free : (t : Option Told) → AreFree (front_lines t)

@@ -17,7 +17,7 @@ use Rattle.blk_front.specs.Submit.{submit_of}
 use Rattle.blk_front.specs.Suspend.{suspended}
 use Rattle.split_model.specs.World.{World}
 use Rattle.split_model.specs.Shown.{front_lines, state_lines}
-use Rattle.split_model.specs.Happening.{Happening, FrontMoves, BackMoves, JobMoves, Negotiates, FrontEnters, BackAttaches, BackHalts, Submits, Notifies, Pokes, OverwritesKey, Suspends, Dumps, Looks, Settles, happens, lines_at, after, lines_of, front_after, front_shows, back_after, job_after, front_turn, back_turn, job_turn}
+use Rattle.split_model.specs.Happening.{Happening, FrontMoves, BackMoves, JobMoves, FrontEnters, Submits, Suspends, happens, lines_at, after, lines_of, front_after, front_shows, back_after, job_after, front_turn, back_turn, job_turn}
 use Rattle.split_model.proofs.States.{enters_cases}
 use Rattle.split_model.proofs.Suspending.{suspend_cases}
 
@@ -75,21 +75,13 @@ module _ (so : View → Bool) (says : Line → Bool) (announced : IsAnnounced so
   one_said w before FrontMoves was = front_said w before (front_turn w) was
   one_said w before BackMoves was = same_said w (back_after w (back_turn w Took)) before _ (back_same w (back_turn w Took)) was
   one_said w before (JobMoves number outcome) was = same_said w (job_after w number (job_turn w number outcome)) before _ (job_same w number (job_turn w number outcome)) was
-  one_said w before (Negotiates at move) was = same_said w (happens w (Negotiates at move)) before _ refl was
   one_said w before (FrontEnters state) was = enters_said w before state was
-  one_said w before (BackAttaches shape grefs port) was = same_said w (happens w (BackAttaches shape grefs port)) before _ refl was
-  one_said w before (BackHalts why) was = same_said w (happens w (BackHalts why)) before _ refl was
   one_said w before (Submits job) was = λ t. has_first says before _ (was (announced.submit w.front job t))
-  one_said w before (Notifies at) was = same_said w (happens w (Notifies at)) before _ refl was
-  one_said w before (Pokes frame word value) was = same_said w (happens w (Pokes frame word value)) before _ refl was
-  one_said w before (OverwritesKey name text) was = same_said w (happens w (OverwritesKey name text)) before _ refl was
   one_said w before Suspends was =
       suspend_cases (λ v shown. IsSaid so says (before ++ shown) v) w
       (λ may t. has_first says before _ (was (announced.suspend w.front t)))
       (same_said w w before [] refl was)
-  one_said w before Dumps was = same_said w w before _ refl was
-  one_said w before (Looks quiet) was = same_said w w before _ refl was
-  one_said w before (Settles quiet) was = same_said w w before _ refl was
+  one_said w before h was = same_said w (happens w h) before _ refl was
 
   pub all_said : (history : List Happening) (w : World) (before : List Line) → IsSaid so says before w → IsSaid so says (before ++ lines_of history w) (after history w)
   all_said [] w before was = λ t. has_first says before [] (was t)

@@ -1,5 +1,5 @@
 -- What happens aside from the front: it leaves the front where it is, and says nothing of it.
-use Rattle.std.proofs.Common.{◌≡◌, ℕ, ◌*◌, ◌^◌, ◌||◌, Bool, true, false, true≢false, if◌then◌else◌, List, [], ◌∷◌, refl, ap, sym, ◌∙◌}
+use Rattle.std.proofs.Common.{◌≡◌, ℕ, ◌||◌, Bool, true, false, true≢false, List, [], ◌∷◌, refl, ap, sym, ◌∙◌}
 use Rattle.std.specs.Prelude.{Option, Some, None, Result, Ok, Err}
 use Rattle.std.specs.List.{AllByRecursion, list_any}
 use Rattle.blk_base.specs.declared.config.Job.{Job}
@@ -15,13 +15,12 @@ use Rattle.blk_front.specs.Submit.{submit_of}
 use Rattle.report_rules.specs.Standing.{is_epoch}
 use Rattle.split_model.specs.World.{World}
 use Rattle.split_model.specs.Shown.{front_lines}
-use Rattle.split_model.specs.Happening.{Happening, FrontMoves, BackMoves, JobMoves, Negotiates, FrontEnters, BackAttaches, BackHalts, Submits, Notifies, Pokes, OverwritesKey, Suspends, Dumps, Looks, Settles, happens, lines_at, front_shows, back_after, back_shows, job_after, job_shows, back_turn, job_turn, submit_line}
-use Rattle.split_model.proofs.Keys.{negotiated_lines_are}
+use Rattle.split_model.specs.Happening.{Happening, FrontMoves, BackMoves, JobMoves, FrontEnters, BackAttaches, BackHalts, Submits, Suspends, happens, lines_at, front_shows, back_after, back_shows, job_after, job_shows, back_turn, job_turn, submit_line}
+use Rattle.split_model.proofs.Outside.{front_stays, OfOutside, outside_lines}
 use Rattle.split_model.proofs.Attaching.{attach_lines_are}
-use Rattle.split_model.proofs.Overwriting.{poke_lines_are, dump_lines_are, overwritten_lines_are}
 use Rattle.report_laws.specs.Ready.{says_ready, says_over}
 use Rattle.report_laws.specs.QuietRing.{says_answer}
-use Rattle.report_laws.proofs.Lines.{OfBack, halt_lines_all, back_all, job_all}
+use Rattle.split_model.proofs.Lines.{OfBack, halt_lines_all, back_all, job_all}
 use Rattle.report_laws.proofs.Epochs.{AreWithin}
 use Rattle.report_laws.proofs.Submitted.{submit_cases}
 
@@ -112,16 +111,18 @@ submit_aside : (job : Job) (r : Result ℕ Refusal) → AreAside (submit_line jo
 submit_aside job (Ok number) = (refl, tt)
 submit_aside job (Err r) = (refl, tt)
 
-look_aside : (quiet : Bool) (other : Line) → is_aside other ≡ true → AreAside ((if quiet then lines.Quiet else other) ∷ [])
-look_aside true other e = (refl, tt)
-look_aside false other e = (e, tt)
+aside_outside : OfOutside (λ (line : Line). is_aside line ≡ true)
+aside_outside = record {
+  under = record { got = λ who path text. refl; set = λ who path text. refl; watch = λ who path. refl; watched = λ who path. refl; poke = λ frame word value. refl; key = λ name text. refl; word = λ frame word value. refl };
+  quiet = refl;
+  busy = refl;
+  unsettled = refl;
+}
 
 pub leaves_front : (w : World) (h : Happening) → IsAside h → LeavesFront w (happens w h) (lines_at w h)
 leaves_front w FrontMoves aside = absurd aside
 leaves_front w BackMoves aside = back_leaves w (back_turn w Took)
 leaves_front w (JobMoves number outcome) aside = job_leaves w number (job_turn w number outcome)
-leaves_front w (Negotiates at move) aside =
-    leaves w (happens w (Negotiates at move)) _ refl (negotiated_lines_are (λ (line : Line). is_aside line ≡ true) w.back.stage at move w.under.keys (λ path. refl) (λ path text. refl) (λ path. refl) (λ path. refl))
 leaves_front w (FrontEnters state) aside = absurd aside
 leaves_front w (BackAttaches shape grefs port) aside = leaves w (happens w (BackAttaches shape grefs port)) _ refl (attach_lines_are (λ (line : Line). is_aside line ≡ true) w shape grefs refl)
 leaves_front w (BackHalts why) aside = leaves w (happens w (BackHalts why)) _ refl (halt_lines_all _ back_aside w.back.halted _)
@@ -129,13 +130,8 @@ leaves_front w (Submits job) aside = record {
   front = submit_cases (IsUnmoved w.front) w.front (unmoved w.front) (λ wish taken. record { stage = refl; start = refl; cons = refl }) job;
   lines = submit_aside job (submit_of w.front job).0;
 }
-leaves_front w (Notifies at) aside = leaves w (happens w (Notifies at)) [] refl tt
-leaves_front w (Pokes frame word value) aside = leaves w (happens w (Pokes frame word value)) _ refl (poke_lines_are (λ (line : Line). is_aside line ≡ true) frame word value refl)
-leaves_front w (OverwritesKey name text) aside = leaves w (happens w (OverwritesKey name text)) _ refl (overwritten_lines_are (λ (line : Line). is_aside line ≡ true) name text refl)
 leaves_front w Suspends aside = absurd aside
-leaves_front w Dumps aside = leaves w w _ refl (dump_lines_are (λ (line : Line). is_aside line ≡ true) w.under.pages 0 (1024 * 2 ^ w.front.shape.order) (λ frame word value. refl))
-leaves_front w (Looks quiet) aside = leaves w w _ refl (look_aside quiet lines.Busy refl)
-leaves_front w (Settles quiet) aside = leaves w w _ refl (look_aside quiet lines.Unsettled refl)
+leaves_front w h aside = leaves w (happens w h) _ (front_stays w h tt) (outside_lines (λ (line : Line). is_aside line ≡ true) aside_outside w h tt)
 
 -- a move of the front doesn't say that it is connected
 front_unready : (t : Option Told) → list_any says_ready (front_lines t) ≡ false

@@ -8,14 +8,14 @@ use Rattle.schedule_text.specs.declared.line.Line.TheVariants as lines
 use Rattle.hypervisor.specs.Act.{Took}
 use Rattle.blk_front.specs.Submit as front_submit
 use Rattle.split_model.specs.World.{World, start_of, is_quiet}
-use Rattle.split_model.specs.Happening.{Happening, FrontMoves, BackMoves, JobMoves, Negotiates, FrontEnters, BackAttaches, BackHalts, Submits, Notifies, Pokes, OverwritesKey, Suspends, Dumps, Looks, Settles, lines_at, after, front_shows, back_shows, job_shows, front_turn, back_turn, job_turn, submit_line}
+use Rattle.split_model.specs.Happening.{Happening, FrontMoves, BackMoves, JobMoves, FrontEnters, BackAttaches, BackHalts, Submits, Suspends, Looks, Settles, lines_at, after, front_shows, back_shows, job_shows, front_turn, back_turn, job_turn, submit_line}
 use Rattle.machine_pipeline.specs.Plain.{IsPlain}
 use Rattle.machine_pipeline.specs.Allowed.{IsServed, AreServed}
 use Rattle.machine_pipeline.proofs.Over.{IsDrained}
 use Rattle.machine_pipeline.proofs.Together.{always_stands}
 use Rattle.machine_pipeline.proofs.AtRest.{IsIdleRing, quiet_rests}
 use Rattle.report_laws.specs.AtRest.{IsReadRing, IsAtRest}
-use Rattle.report_laws.proofs.Lines.{says_quiet, is_usual, AreUsual, AreUnquiet, usual_unquiet, front_usual, back_usual, job_usual, keys_usual, attach_usual, states_unquiet, halt_usual, submit_usual, suspend_usual, dump_usual}
+use Rattle.report_laws.proofs.Lines.{says_quiet, is_usual, AreUsual, AreUnquiet, usual_unquiet, front_usual, back_usual, job_usual, attach_usual, states_unquiet, halt_usual, submit_usual, suspend_usual, outside_usual}
 
 pub always_rests : (config : Options) (history : List Happening) → IsPlain config → AreServed history (start_of config) → is_quiet (after history (start_of config)) ≡ true → IsAtRest (after history (start_of config))
 always_rests config history plain may quiet = record { ring = read; no_job = rest.no_job; no_request = rest.no_request }
@@ -44,15 +44,11 @@ pub shown_quiet : (w : World) (h : Happening) → IsServed w h → Contains (lin
 shown_quiet w FrontMoves may has = absurd (none_usual (front_shows w (front_turn w)) (front_usual w (front_turn w)) has)
 shown_quiet w BackMoves may has = absurd (none_usual (back_shows w (back_turn w Took)) (back_usual w (back_turn w Took)) has)
 shown_quiet w (JobMoves number outcome) may has = absurd (none_usual (job_shows w number (job_turn w number outcome)) (job_usual w number (job_turn w number outcome)) has)
-shown_quiet w (Negotiates at move) may has = absurd (none_usual _ (keys_usual w at move) has)
 shown_quiet w (FrontEnters state) may has = absurd (none_quiet _ (states_unquiet state w.front) has)
 shown_quiet w (BackAttaches shape grefs port) may has = absurd (none_usual _ (attach_usual w shape grefs port) has)
 shown_quiet w (BackHalts why) may has = absurd (none_usual _ (halt_usual w.back.halted _) has)
 shown_quiet w (Submits job) may has = absurd (none_usual (submit_line job (front_submit.submit_of w.front job).0 ∷ []) (submit_usual job (front_submit.submit_of w.front job).0) has)
-shown_quiet w (Notifies at) may has = absurd (none_usual [] tt has)
-shown_quiet w (Pokes frame word value) may has = absurd may
-shown_quiet w (OverwritesKey name text) may has = absurd may
 shown_quiet w Suspends may has = absurd (none_usual _ (suspend_usual w) has)
-shown_quiet w Dumps may has = absurd (none_usual _ (dump_usual w) has)
 shown_quiet w (Looks quiet) may has = may (look_quiet quiet lines.Busy refl has)
 shown_quiet w (Settles quiet) may has = may (look_quiet quiet lines.Unsettled refl has)
+shown_quiet w h may has = absurd (none_usual (lines_at w h) (outside_usual w h tt) has)

@@ -62,7 +62,7 @@ use Rattle.split_model.proofs.SafeAnswers.{IsFronts, fronts_at, backs_of, jobs_o
 use Rattle.split_model.proofs.Suspending.{suspend_cases}
 use Rattle.split_model.proofs.Safe.{safe_start, safe_happens}
 use Rattle.report_laws.specs.Ports.{makes_port, ports_made, IsFewPortsAt, AreFewPorts}
-use Rattle.report_laws.proofs.Lines.{both_all}
+use Rattle.split_model.proofs.Lines.{both_all}
 
 -- a line that makes no port and begins no epoch
 abbrev pub is_counted : Line → Bool

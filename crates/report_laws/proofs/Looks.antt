@@ -12,12 +12,12 @@ use Rattle.report_rules.proofs.Obeys.{obeys_none, obeys_more}
 use Rattle.hypervisor.specs.Act.{Took}
 use Rattle.blk_front.specs.Submit as front_submit
 use Rattle.split_model.specs.World.{World, start_of, is_quiet}
-use Rattle.split_model.specs.Happening.{Happening, FrontMoves, BackMoves, JobMoves, Negotiates, FrontEnters, BackAttaches, BackHalts, Submits, Notifies, Pokes, OverwritesKey, Suspends, Dumps, Looks, Settles, happens, lines_at, after, lines_of, front_turn, back_turn, job_turn}
+use Rattle.split_model.specs.Happening.{Happening, FrontMoves, BackMoves, JobMoves, FrontEnters, BackAttaches, BackHalts, Submits, Suspends, Looks, Settles, happens, lines_at, after, lines_of, front_turn, back_turn, job_turn}
 use Rattle.schedule_text.specs.Recorder.{kept_of}
 use Rattle.split_model.specs.Report.{report_of, ended_report_of}
 use Rattle.split_model.proofs.Running.{lines_of-append, kept_of-append}
 use Rattle.machine_pipeline.specs.Allowed.{IsServed, AreServed}
-use Rattle.report_laws.proofs.Lines.{says_quiet, AreUsual, AreUnquiet, usual_unquiet, front_usual, back_usual, job_usual, keys_usual, attach_usual, states_unquiet, halt_usual, submit_usual, poke_usual, dump_usual, overwritten_usual, suspend_usual}
+use Rattle.report_laws.proofs.Lines.{says_quiet, AreUsual, AreUnquiet, usual_unquiet, front_usual, back_usual, job_usual, attach_usual, states_unquiet, halt_usual, submit_usual, suspend_usual, outside_usual}
 
 -- a rule that says nothing of any other line than `quiet`
 abbrev pub SpeaksOfQuiet : (List Line → Line → Type 0) → Type 0
@@ -46,18 +46,14 @@ one_obeys : (Rule : List Line → Line → Type 0) → SpeaksOfQuiet Rule → (b
 one_obeys Rule free before w FrontMoves holds obeys = usual_obey Rule free _ before (front_usual w (front_turn w)) obeys
 one_obeys Rule free before w BackMoves holds obeys = usual_obey Rule free _ before (back_usual w (back_turn w Took)) obeys
 one_obeys Rule free before w (JobMoves number outcome) holds obeys = usual_obey Rule free _ before (job_usual w number (job_turn w number outcome)) obeys
-one_obeys Rule free before w (Negotiates at move) holds obeys = usual_obey Rule free _ before (keys_usual w at move) obeys
 one_obeys Rule free before w (FrontEnters state) holds obeys = unquiet_obey Rule free _ before (states_unquiet state w.front) obeys
 one_obeys Rule free before w (BackAttaches shape grefs port) holds obeys = usual_obey Rule free _ before (attach_usual w shape grefs port) obeys
 one_obeys Rule free before w (BackHalts why) holds obeys = usual_obey Rule free _ before (halt_usual w.back.halted _) obeys
 one_obeys Rule free before w (Submits job) holds obeys = usual_obey Rule free _ before (submit_usual job (front_submit.submit_of w.front job).0) obeys
-one_obeys Rule free before w (Notifies at) holds obeys = usual_obey Rule free [] before tt obeys
-one_obeys Rule free before w (Pokes frame word value) holds obeys = usual_obey Rule free _ before (poke_usual frame word value) obeys
-one_obeys Rule free before w (OverwritesKey name text) holds obeys = usual_obey Rule free _ before (overwritten_usual name text) obeys
 one_obeys Rule free before w Suspends holds obeys = usual_obey Rule free _ before (suspend_usual w) obeys
-one_obeys Rule free before w Dumps holds obeys = usual_obey Rule free _ before (dump_usual w) obeys
 one_obeys Rule free before w (Looks quiet) holds obeys = look_obeys Rule free before quiet lines.Busy refl holds obeys
 one_obeys Rule free before w (Settles quiet) holds obeys = look_obeys Rule free before quiet lines.Unsettled refl holds obeys
+one_obeys Rule free before w h holds obeys = usual_obey Rule free (lines_at w h) before (outside_usual w h tt) obeys
 
 -- the report of one happening more
 pub report_more : (config : Options) (detail : Detail) (earlier : List Happening) (h : Happening) → report_of config detail (earlier ++ h ∷ []) ≡ report_of config detail earlier ++ lines_at (after earlier (start_of config)) h

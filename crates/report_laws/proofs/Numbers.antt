@@ -23,7 +23,7 @@ use Rattle.blk_back.specs.Ask.{next_reply}
 use Rattle.blk_back.specs.Step.{attached, halts, overrun, looked, loop_step, fetched, step_at}
 use Rattle.split_model.proofs.Suspending.{suspend_cases, back_cases}
 use Rattle.split_model.specs.World.{World, start_of}
-use Rattle.split_model.specs.Happening.{Happening, FrontMoves, BackMoves, JobMoves, Negotiates, FrontEnters, BackAttaches, BackHalts, Submits, Notifies, Pokes, OverwritesKey, Suspends, Dumps, Looks, Settles, happens, lines_at, lines_of, front_after, front_shows, back_after, back_shows, job_after, job_shows, front_turn, back_turn, job_turn, is_guest_word, attaches_at, is_guest_key}
+use Rattle.split_model.specs.Happening.{Happening, FrontMoves, BackMoves, JobMoves, BackAttaches, BackHalts, Pokes, OverwritesKey, Suspends, happens, lines_at, lines_of, front_after, front_shows, back_after, back_shows, job_after, job_shows, front_turn, back_turn, job_turn, is_guest_word, attaches_at, is_guest_key}
 use Rattle.split_model.specs.Report.{report_of}
 use Rattle.split_model.proofs.SafeActs.{made_front, made_back}
 use Rattle.split_model.proofs.States.{halts_cases}
@@ -113,21 +113,15 @@ grew : (w : World) (h : Happening) → Grew (length (lines_at w h)) w (happens w
 grew w FrontMoves = front_grew w (front_turn w) refl
 grew w BackMoves = back_grew w (back_turn w Took) refl
 grew w (JobMoves number outcome) = job_grew w number outcome (job_turn w number outcome) refl
-grew w (Negotiates who move) = record { made = omega arith; fetched = omega arith }
-grew w (FrontEnters s) = record { made = omega arith; fetched = omega arith }
 grew w (BackAttaches shape grefs port) = let few = attached_few (attaches_at w shape grefs) shape grefs port w.back in record { made = omega arith; fetched = omega arith }
 grew w (BackHalts why) = let few = halted_few why w.back in record { made = omega arith; fetched = omega arith }
-grew w (Submits job) = record { made = omega arith; fetched = omega arith }
-grew w (Notifies at) = record { made = omega arith; fetched = omega arith }
 grew w (Pokes frame word value) = overwritten_grew (is_guest_word frame word) w _ (lines_at w (Pokes frame word value)) refl
 grew w (OverwritesKey name text) = overwritten_grew (is_guest_key name text) w _ (lines_at w (OverwritesKey name text)) refl
 grew w Suspends =
     suspend_cases (λ v shown. Grew (length shown) w v) w
     (λ may. record { made = omega arith; fetched = back_cases (λ (b : View). b.fetched ≤ w.back.fetched + 1) w (omega arith) (omega arith) })
     (record { made = omega arith; fetched = omega arith })
-grew w Dumps = record { made = omega arith; fetched = omega arith }
-grew w (Looks quiet) = record { made = omega arith; fetched = omega arith }
-grew w (Settles quiet) = record { made = omega arith; fetched = omega arith }
+grew w h = record { made = omega arith; fetched = omega arith }
 
 by_lines : (hs : List Happening) (n : ℕ) (w : World) → w.under.grants.made + 1 ≤ n → w.back.fetched + 1 ≤ n → n + length (lines_of hs w) < 2 ^ 64 → HaveNumbers hs w
 by_lines [] n w made few short = tt

@@ -68,7 +68,7 @@ use Rattle.move_laws.proofs.Recorded.{report_kept, ended_kept}
 use Rattle.report_laws.specs.Ready.{says_over}
 use Rattle.report_laws.specs.States.{front_state, back_state, begun_text, text_at, text_after, said_last, SayBoth, says_closing, IsAgreedAt, AreStatesAgreed}
 use Rattle.report_laws.specs.Agreed.{HasBoth, AreAlike, IsAgreed, AreAgreed}
-use Rattle.report_laws.proofs.Lines.{both_all}
+use Rattle.split_model.proofs.Lines.{both_all}
 use Rattle.report_laws.proofs.Announced.{all_said}
 use Rattle.report_laws.proofs.Closing.{closing_announced}
 use Rattle.report_laws.proofs.Gone.{IsToldOver, one_over}

@@ -1,6 +1,6 @@
 -- Whatever happens from the start, the lines keep the rules on jobs.
 use Rattle.key_directory.specs.Directory.{written}
-use Rattle.std.proofs.Common.{◌≡◌, ℕ, ◌<◌, ◌≤◌, ◌^◌, Bool, true, false, if◌then◌else◌, ◌*◌, List, [], ◌∷◌, ◌++◌, refl, ap, sym, ◌∙◌, subst, append-nil}
+use Rattle.std.proofs.Common.{◌≡◌, ℕ, ◌<◌, ◌≤◌, ◌^◌, Bool, true, false, if◌then◌else◌, List, [], ◌∷◌, ◌++◌, refl, ap, sym, ◌∙◌, subst, append-nil}
 use Rattle.std.specs.Prelude.{Option, Some, None, is_some, Result, Ok, Err}
 use Rattle.blk_base.specs.Options.{Options}
 use Rattle.blk_base.specs.declared.config.Job.{Job}
@@ -35,7 +35,7 @@ use Rattle.blk_back.specs.Ask.{ask_of}
 use Rattle.blk_back.specs.View as back
 use Rattle.blk_back.specs.Step as back_step
 use Rattle.split_model.specs.World.{World, start_of, suspended}
-use Rattle.split_model.specs.Happening.{Happening, FrontMoves, BackMoves, JobMoves, Negotiates, FrontEnters, BackAttaches, BackHalts, Submits, Notifies, Pokes, OverwritesKey, Suspends, Dumps, Looks, Settles, is_guest_word, poke_lines, overwritten_lines, layout_text, layout_read, happens, lines_at, after, front_after, front_shows, back_after, back_shows, job_after, job_shows, front_turn, back_turn, job_turn, submit_line, is_guest_key}
+use Rattle.split_model.specs.Happening.{Happening, FrontMoves, BackMoves, JobMoves, BackAttaches, BackHalts, Submits, Pokes, OverwritesKey, Suspends, Looks, Settles, is_guest_word, poke_lines, overwritten_lines, layout_text, layout_read, happens, lines_at, after, front_after, front_shows, back_after, back_shows, job_after, job_shows, front_turn, back_turn, job_turn, submit_line, is_guest_key}
 use Rattle.split_model.specs.Safe.{IsSafe}
 use Rattle.split_model.proofs.Safe.{safe_start, safe_happens}
 use Rattle.split_model.specs.Shown.{back_lines, halt_lines}
@@ -52,7 +52,7 @@ use Rattle.ring_laws.proofs.BackReads.{reads_of}
 use Rattle.ring_laws.proofs.Sight.{is_other}
 use Rattle.ring_laws.proofs.Shows.{Sight, Shows}
 use Rattle.ring_laws.proofs.Knows.{Follows}
-use Rattle.ring_laws.proofs.Outsiders.{AreOutsiders, keys_outsiders, state_outsiders, poke_outsiders, overwritten_outsiders, dump_outsiders, outsiders_other, outsiders_by, outsiders_calm}
+use Rattle.ring_laws.proofs.Outsiders.{AreOutsiders, poke_outsiders, overwritten_outsiders, outsiders_other, outsiders_by, outsiders_calm, beside_outsiders}
 use Rattle.ring_laws.proofs.Free.{IsFree, AreFree, front_free, job_free, job_running, free_front, free_told, free_submit, free_look, free_settle}
 use Rattle.ring_laws.proofs.Runs.{FollowsTo, earlier_pages, unread, follows_happens, follows_begin}
 use Rattle.ring_laws.proofs.Works.{jobs_anew}
@@ -184,18 +184,13 @@ tells_happens : (config : Options) (w : World) (h : Happening) (before : List Li
 tells_happens config w FrontMoves before s few = front_after_tells config w (before ++ front_shows w (front_turn w)) (front_turn w) (front_tells config w before (front_turn w) s.ring s.tells refl)
 tells_happens config w BackMoves before s few = back_goes_on config w before Took (back_turn w Took) s.safe s.ring s.tells refl few
 tells_happens config w (JobMoves number outcome) before s few = job_goes_on config w before number outcome (job_turn w number outcome) s refl
-tells_happens config w (Negotiates at move) before s few = outside config w before (lines_at w (Negotiates at move)) (keys_outsiders w.back.stage at move w.under.keys) s
-tells_happens config w (FrontEnters state) before s few = outside config w before (lines_at w (FrontEnters state)) (state_outsiders w.back.stage state w.front) s
 tells_happens config w (BackAttaches shape grefs port) before s few = attached_tells config w before shape grefs port s
 tells_happens config w (BackHalts why) before s few = halted_tells config w before why s
 tells_happens config w (Submits job) before s few = aside config config.start before (lines_at w (Submits job)) w.back s.ring.follows (free_submit (is_some w.back.halted) job (front_submit.submit_of w.front job).0, tt) (submit_by job (front_submit.submit_of w.front job).0, tt) s.tells
-tells_happens config w (Notifies at) before s few = no_lines config before w.back s.tells
-tells_happens config w (Pokes frame word value) before s few = outside config w before (poke_lines frame word value) (poke_outsiders w.back.stage frame word value) s
-tells_happens config w (OverwritesKey name text) before s few = outside config w before (overwritten_lines name text) (overwritten_outsiders w.back.stage name text) s
 tells_happens config w Suspends before s few = suspend_cases (λ (v : World) (shown : List Line). Tells config (before ++ shown) v.back) w (λ may. suspended_tells config w before s.tells) (no_lines config before w.back s.tells)
-tells_happens config w Dumps before s few = outside config w before (lines_at w Dumps) (dump_outsiders w.back.stage w.under.pages (1024 * 2 ^ w.front.shape.order)) s
 tells_happens config w (Looks quiet) before s few = aside config config.start before (lines_at w (Looks quiet)) w.back s.ring.follows (free_look (is_some w.back.halted) quiet, tt) (look_by quiet, tt) s.tells
 tells_happens config w (Settles quiet) before s few = aside config config.start before (lines_at w (Settles quiet)) w.back s.ring.follows (free_settle (is_some w.back.halted) quiet, tt) (settle_by quiet, tt) s.tells
+tells_happens config w h before s few = outside config w before (lines_at w h) (beside_outsiders w h tt) s
 
 -- the lines of each mover tell what was fetched
 no_fetch : (terms : Terms) (before : List Line) → AreFetched terms before → AreFetched terms (before ++ [])
@@ -274,18 +269,13 @@ fetched_happens config w FrontMoves before s = front_terms config w (before ++ f
 fetched_happens config w BackMoves before s = back_fetches config w before (back_turn w Took) refl s
 fetched_happens config w (JobMoves number outcome) before s =
     job_terms config w (before ++ job_shows w number (job_turn w number outcome)) number (job_turn w number outcome) (job_fetches (terms_of config w.back) w before number outcome (job_turn w number outcome) refl s.fetched)
-fetched_happens config w (Negotiates at move) before s = outside_fetched config w before (lines_at w (Negotiates at move)) (keys_outsiders w.back.stage at move w.under.keys) s
-fetched_happens config w (FrontEnters state) before s = outside_fetched config w before (lines_at w (FrontEnters state)) (state_outsiders w.back.stage state w.front) s
 fetched_happens config w (BackAttaches shape grefs port) before s = attached_fetches config w before shape grefs port s
 fetched_happens config w (BackHalts why) before s = halted_fetches config w before why s
 fetched_happens config w (Submits job) before s = free_fetched config w before (lines_at w (Submits job)) (free_submit (is_some w.back.halted) job (front_submit.submit_of w.front job).0, tt) s
-fetched_happens config w (Notifies at) before s = no_fetch (terms_of config w.back) before s.fetched
-fetched_happens config w (Pokes frame word value) before s = outside_fetched config w before (poke_lines frame word value) (poke_outsiders w.back.stage frame word value) s
-fetched_happens config w (OverwritesKey name text) before s = outside_fetched config w before (overwritten_lines name text) (overwritten_outsiders w.back.stage name text) s
 fetched_happens config w Suspends before s = suspend_cases (λ (v : World) (shown : List Line). AreFetched (terms_of config v.back) (before ++ shown)) w (λ may. suspended_fetched config w before) (no_fetch (terms_of config w.back) before s.fetched)
-fetched_happens config w Dumps before s = outside_fetched config w before (lines_at w Dumps) (dump_outsiders w.back.stage w.under.pages (1024 * 2 ^ w.front.shape.order)) s
 fetched_happens config w (Looks quiet) before s = free_fetched config w before (lines_at w (Looks quiet)) (free_look (is_some w.back.halted) quiet, tt) s
 fetched_happens config w (Settles quiet) before s = free_fetched config w before (lines_at w (Settles quiet)) (free_settle (is_some w.back.halted) quiet, tt) s
+fetched_happens config w h before s = outside_fetched config w before (lines_at w h) (beside_outsiders w h tt) s
 
 -- the mappings that stand are those that live
 none_stands : (before : List Line) (table : GrantTable) → Stands before table → Stands (before ++ []) table
@@ -335,20 +325,17 @@ stands_happen : (config : Options) (w : World) (h : Happening) (before : List Li
 stands_happen config w FrontMoves before s = front_stands w before (front_turn w) refl s.standing
 stands_happen config w BackMoves before s = back_stands w before Took (back_turn w Took) refl s.standing
 stands_happen config w (JobMoves number outcome) before s = job_stands w before number outcome (job_turn w number outcome) refl s.standing
-stands_happen config w (Negotiates at move) before s = outside_stands config w before (lines_at w (Negotiates at move)) (keys_outsiders w.back.stage at move w.under.keys) s
-stands_happen config w (FrontEnters state) before s = outside_stands config w before (lines_at w (FrontEnters state)) (state_outsiders w.back.stage state w.front) s
 stands_happen config w (BackAttaches shape grefs port) before s =
     attach_cases (λ (new : back.View) (shown : List Line). Stands (before ++ shown) w.under.grants) w shape grefs port
     (λ may layout says. stands_aside before (lines.Move (layout_read w) ∷ []) w.under.grants (record { same_epoch = refl; none_gone = λ n. refl; none_made = λ k. refl }, tt) (refl, tt) s.standing) (none_stands before w.under.grants s.standing)
 stands_happen config w (BackHalts why) before s = stands_aside before (lines_at w (BackHalts why)) w.under.grants (calm_quiet _ (halt_calm w.back.halted _)) (halts_other w.back.halted _) s.standing
 stands_happen config w (Submits job) before s = free_stands config w before (lines_at w (Submits job)) (submit_calm job (front_submit.submit_of w.front job).0, tt) (free_submit false job (front_submit.submit_of w.front job).0, tt) s
-stands_happen config w (Notifies at) before s = none_stands before w.under.grants s.standing
 stands_happen config w (Pokes frame word value) before s = poked_stands w frame word value (before ++ poke_lines frame word value) (outside_stands config w before (poke_lines frame word value) (poke_outsiders w.back.stage frame word value) s)
 stands_happen config w (OverwritesKey name text) before s = overwritten_stands w name text (before ++ overwritten_lines name text) (outside_stands config w before (overwritten_lines name text) (overwritten_outsiders w.back.stage name text) s)
 stands_happen config w Suspends before s = suspend_cases (λ (v : World) (shown : List Line). Stands (before ++ shown) v.under.grants) w (λ may. epoch_stands before w.under.grants) (none_stands before w.under.grants s.standing)
-stands_happen config w Dumps before s = outside_stands config w before (lines_at w Dumps) (dump_outsiders w.back.stage w.under.pages (1024 * 2 ^ w.front.shape.order)) s
 stands_happen config w (Looks quiet) before s = free_stands config w before (lines_at w (Looks quiet)) (look_calm quiet, tt) (free_look false quiet, tt) s
 stands_happen config w (Settles quiet) before s = free_stands config w before (lines_at w (Settles quiet)) (settle_calm quiet, tt) (free_settle false quiet, tt) s
+stands_happen config w h before s = outside_stands config w before (lines_at w h) (beside_outsiders w h tt) s
 
 pub stand_happens : (config : Options) (w : World) (h : Happening) (before : List Line) → Stand config before w → reads_of (before ++ lines_at w h) < 2 ^ 64 → Stand config (before ++ lines_at w h) (happens w h)
 stand_happens config w h before s few = record {

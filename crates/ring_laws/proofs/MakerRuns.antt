@@ -1,5 +1,5 @@
 -- Whatever happens from the start, jobs unmap only what they made, and nothing is left to them but what they have in their hands.
-use Rattle.std.proofs.Common.{◌≡◌, ℕ, ◌+◌, ◌*◌, ◌<◌, ◌≤◌, ◌^◌, Bool, true, false, if◌then◌else◌, List, [], ◌∷◌, ◌++◌, length, refl, ap, sym, ◌∙◌, subst, append-nil, arith}
+use Rattle.std.proofs.Common.{◌≡◌, ℕ, ◌+◌, ◌<◌, ◌≤◌, ◌^◌, Bool, true, false, if◌then◌else◌, List, [], ◌∷◌, ◌++◌, length, refl, ap, sym, ◌∙◌, subst, append-nil, arith}
 use Rattle.std.specs.Prelude.{Option, Some, None, is_some, slice_get}
 use Rattle.std.specs.List.{AllByRecursion}
 use Rattle.blk_base.specs.Options.{Options}
@@ -31,14 +31,14 @@ use Rattle.blk_back.specs.declared.told.Halt.{Halt}
 use Rattle.blk_back.specs.View as back
 use Rattle.blk_back.specs.Step as back_step
 use Rattle.split_model.specs.World.{World, start_of, suspended}
-use Rattle.split_model.specs.Happening.{Happening, FrontMoves, BackMoves, JobMoves, Negotiates, FrontEnters, BackAttaches, BackHalts, Submits, Notifies, Pokes, OverwritesKey, Suspends, Dumps, Looks, Settles, poke_lines, overwritten_lines, layout_read, happens, lines_at, after, front_after, front_shows, back_after, back_shows, job_after, job_shows, front_turn, back_turn, job_turn}
+use Rattle.split_model.specs.Happening.{Happening, FrontMoves, BackMoves, JobMoves, BackAttaches, BackHalts, Submits, Suspends, Looks, Settles, layout_read, happens, lines_at, after, front_after, front_shows, back_after, back_shows, job_after, job_shows, front_turn, back_turn, job_turn}
 use Rattle.split_model.specs.Report.{report_of, ended_report_of}
 use Rattle.split_model.specs.Shown.{back_lines, halt_lines}
 use Rattle.split_model.proofs.SafeAnswers.{backs_of}
 use Rattle.split_model.proofs.Attaching.{attach_cases}
 use Rattle.split_model.proofs.Suspending.{suspend_cases, begun_back, gone_back, back_cases}
 use Rattle.ring_laws.proofs.Epochs.{new_made, epoch_made}
-use Rattle.ring_laws.proofs.Outsiders.{keys_outsiders, state_outsiders, poke_outsiders, overwritten_outsiders, dump_outsiders, outsiders_calm}
+use Rattle.ring_laws.proofs.Outsiders.{outsiders_calm, beside_outsiders}
 use Rattle.ring_laws.proofs.Knows.{Follows}
 use Rattle.ring_laws.proofs.Free.{job_running}
 use Rattle.ring_laws.proofs.Began.{Terms, IsJobOf}
@@ -121,20 +121,15 @@ pub made_happens : (config : Options) (w : World) (h : Happening) (before : List
 made_happens config w FrontMoves before s t m = front_made w before (front_turn w) refl m
 made_happens config w BackMoves before s t m = back_made config w before Took (back_turn w Took) s t refl m
 made_happens config w (JobMoves number outcome) before s t m = job_made config w before number outcome (job_turn w number outcome) refl s t m
-made_happens config w (Negotiates at move) before s t m = made_aside before (lines_at w (Negotiates at move)) w.back (outsiders_calm w.back.stage _ (keys_outsiders w.back.stage at move w.under.keys)) m
-made_happens config w (FrontEnters state) before s t m = made_aside before (lines_at w (FrontEnters state)) w.back (outsiders_calm w.back.stage _ (state_outsiders w.back.stage state w.front)) m
 made_happens config w (BackAttaches shape grefs port) before s t m =
     attach_cases (λ (new : back.View) (shown : List Line). Made (before ++ shown) new) w shape grefs port
     (λ may layout says. let now : Made (before ++ lines.Move (layout_read w) ∷ []) w.back = made_aside before (lines.Move (layout_read w) ∷ []) w.back (key_calm who.Back (layout_read w) refl, tt) m in record { obeys = now.obeys; hands = now.hands }) (no_lines before w.back m)
 made_happens config w (BackHalts why) before s t m = halted_made config w before why s m
 made_happens config w (Submits job) before s t m = made_aside before (lines_at w (Submits job)) w.back (submit_calm job (front_submit.submit_of w.front job).0, tt) m
-made_happens config w (Notifies at) before s t m = no_lines before w.back m
-made_happens config w (Pokes frame word value) before s t m = made_aside before (poke_lines frame word value) w.back (outsiders_calm w.back.stage _ (poke_outsiders w.back.stage frame word value)) m
-made_happens config w (OverwritesKey name text) before s t m = made_aside before (overwritten_lines name text) w.back (outsiders_calm w.back.stage _ (overwritten_outsiders w.back.stage name text)) m
 made_happens config w Suspends before s t m = suspend_cases (λ (v : World) (shown : List Line). Made (before ++ shown) v.back) w (λ may. suspended_made w before m) (no_lines before w.back m)
-made_happens config w Dumps before s t m = made_aside before (lines_at w Dumps) w.back (outsiders_calm w.back.stage _ (dump_outsiders w.back.stage w.under.pages (1024 * 2 ^ w.front.shape.order))) m
 made_happens config w (Looks quiet) before s t m = made_aside before (lines_at w (Looks quiet)) w.back (look_calm quiet, tt) m
 made_happens config w (Settles quiet) before s t m = made_aside before (lines_at w (Settles quiet)) w.back (settle_calm quiet, tt) m
+made_happens config w h before s t m = made_aside before (lines_at w h) w.back (outsiders_calm w.back.stage (lines_at w h) (beside_outsiders w h tt)) m
 
 pub made_start : (config : Options) (detail : Detail) → (let w : World = start_of config in Made (lines.Begin config detail ∷ []) w.back)
 made_start config detail = new_made (lines.Begin config detail ∷ []) (back.start_of config) (obeys_more IsMine [] (lines.Begin config detail) (obeys_none IsMine) (record { unmap = tt; touch = tt })) refl

@@ -1,5 +1,5 @@
 -- Lines that come between all others: a word that a hostile hand overwrote, a word that a dump shows, a state that the front enters, and what an end does with its keys.
-use Rattle.std.proofs.Common.{◌≡◌, ℕ, ◌||◌, ◌&&◌, not, Bool, true, false, List, [], ◌∷◌, ◌++◌, refl, ap, sym, ◌∙◌, subst, append_assoc, append-nil}
+use Rattle.std.proofs.Common.{◌*◌, ◌^◌, ◌≡◌, ℕ, ◌||◌, ◌&&◌, not, Bool, true, false, List, [], ◌∷◌, ◌++◌, refl, ap, sym, ◌∙◌, subst, append_assoc, append-nil}
 use Rattle.std.specs.Prelude.{Option, None}
 use Rattle.std.specs.List.{AllByRecursion}
 use Rattle.blk_base.specs.declared.parts.End.{End}
@@ -28,7 +28,9 @@ use Rattle.blk_back.specs.declared.stage.Stage.TheVariants as stage
 use Rattle.blk_back.specs.Ask.{is_led}
 use Rattle.blk_back.specs.View.{View}
 use Rattle.split_model.specs.Keys.{KeyMove, Gets, mover_at, is_early, may_set, may_negotiate, is_between, key_lines, negotiated_lines}
-use Rattle.split_model.specs.Happening.{poke_lines, overwritten_lines, ring_lines, enter_lines}
+use Rattle.split_model.specs.World.{World}
+use Rattle.split_model.specs.Happening.{Happening, Negotiates, FrontEnters, Notifies, Pokes, OverwritesKey, Dumps, lines_at, poke_lines, overwritten_lines, ring_lines, enter_lines}
+use Rattle.split_model.proofs.Outside.{IsUnder}
 use Rattle.split_model.proofs.SafeActs.{IsKeyMove}
 use Rattle.split_model.proofs.Keys.{key_cases, negotiated_cases}
 use Rattle.split_model.proofs.States.{enter_lines_are, state_lines_are}
@@ -162,6 +164,20 @@ overwritten_outsiders s name text = overwritten_lines_are (IsOutsider s) name te
 
 pub dump_outsiders : (s : Stage) (pages : List ℕ) (count : ℕ) → AreOutsiders s (ring_lines pages 0 count)
 dump_outsiders s pages count = dump_lines_are (IsOutsider s) pages 0 count (word_outsider s)
+
+-- what happens beside the back, but for a submission and a look
+abbrev pub IsBeside : Happening → Type 0
+IsBeside (FrontEnters state) = Unit {0}
+IsBeside h = IsUnder h
+
+pub beside_outsiders : (w : World) (h : Happening) → IsBeside h → AreOutsiders w.back.stage (lines_at w h)
+beside_outsiders w (Negotiates at move) beside = keys_outsiders w.back.stage at move w.under.keys
+beside_outsiders w (FrontEnters state) beside = state_outsiders w.back.stage state w.front
+beside_outsiders w (Notifies at) beside = tt
+beside_outsiders w (Pokes frame word value) beside = poke_outsiders w.back.stage frame word value
+beside_outsiders w (OverwritesKey name text) beside = overwritten_outsiders w.back.stage name text
+beside_outsiders w Dumps beside = dump_outsiders w.back.stage w.under.pages (1024 * 2 ^ w.front.shape.order)
+beside_outsiders w h beside = absurd beside
 
 pub outsiders_other : (s : Stage) (ls : List Line) → AreOutsiders s ls → AreOther ls
 outsiders_other s ls all = all_more (IsOutsider s) (λ (l : Line). is_other l ≡ true) ls (λ l o. o.other) all

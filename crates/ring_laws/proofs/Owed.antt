@@ -9,7 +9,7 @@ use Rattle.back_jobs.proofs.Hands.{IsAmong, place_among}
 use Rattle.ring_laws.proofs.Began.{Terms, none_read}
 use Rattle.ring_laws.proofs.JobLines.{IsAside}
 use Rattle.ring_laws.proofs.Lists.{AreApart, all_first, all_both, all_more, all_pairs, all_of_map, apart_push}
-use Rattle.ring_laws.proofs.Works.{numbers, number_of, apart_first, apart_without, numbers_split}
+use Rattle.ring_laws.proofs.Works.{numbers, number_of, apart_first, numbers_split}
 use Rattle.ring_laws.proofs.Due.{IsWorkOver, Answered, job_answered, jobs_of}
 use Rattle.ring_laws.proofs.Matching.{moved}
 use Rattle.ring_laws.proofs.Over.{over_kept}

@@ -1,5 +1,5 @@
 -- Whatever happens from the start, the back replies only what a job is due, once.
-use Rattle.std.proofs.Common.{◌≡◌, ℕ, ◌*◌, ◌<◌, ◌≤◌, ◌^◌, ◌||◌, Bool, true, false, if◌then◌else◌, List, [], ◌∷◌, ◌++◌, length, refl, ap, sym, ◌∙◌, subst, append-nil}
+use Rattle.std.proofs.Common.{◌≡◌, ℕ, ◌<◌, ◌≤◌, ◌^◌, ◌||◌, Bool, true, false, if◌then◌else◌, List, [], ◌∷◌, ◌++◌, length, refl, ap, sym, ◌∙◌, subst, append-nil}
 use Rattle.std.specs.Prelude.{Option, Some, None, is_some}
 use Rattle.std.specs.List.{list_any}
 use Rattle.std.proofs.lemmas.Option.{none-some}
@@ -31,7 +31,7 @@ use Rattle.blk_back.specs.declared.stage.Stage.{Stage}
 use Rattle.blk_back.specs.declared.told.Halt.{Halt}
 use Rattle.hypervisor.specs.Hypervisor.{Hypervisor}
 use Rattle.split_model.specs.World.{World, start_of, suspended}
-use Rattle.split_model.specs.Happening.{Happening, FrontMoves, BackMoves, JobMoves, Negotiates, FrontEnters, BackAttaches, BackHalts, Submits, Notifies, Pokes, OverwritesKey, Suspends, Dumps, Looks, Settles, poke_lines, overwritten_lines, layout_text, layout_read, happens, lines_at, after, front_after, front_shows, back_after, back_shows, job_after, job_shows, front_turn, back_turn, job_turn}
+use Rattle.split_model.specs.Happening.{Happening, FrontMoves, BackMoves, JobMoves, BackAttaches, BackHalts, Submits, Suspends, Looks, Settles, layout_text, layout_read, happens, lines_at, after, front_after, front_shows, back_after, back_shows, job_after, job_shows, front_turn, back_turn, job_turn}
 use Rattle.split_model.specs.Shown.{halt_lines}
 use Rattle.split_model.specs.Report.{report_of, ended_report_of}
 use Rattle.split_model.proofs.Suspending.{suspend_cases, begun_back, gone_back, back_cases}
@@ -46,7 +46,7 @@ use Rattle.ring_laws.proofs.Knows.{KnowsAt, Knows, Follows, unhalted}
 use Rattle.ring_laws.proofs.Stages.{back_goes}
 use Rattle.ring_laws.proofs.Sight.{other_epoch}
 use Rattle.split_model.specs.Keys.{is_layout, layout_path, is_between}
-use Rattle.ring_laws.proofs.Outsiders.{IsOutsider, AreOutsiders, get_key, keys_outsiders, state_outsiders, poke_outsiders, overwritten_outsiders, dump_outsiders, outsiders_other, outsiders_by, outsiders_pass}
+use Rattle.ring_laws.proofs.Outsiders.{IsOutsider, AreOutsiders, get_key, outsiders_other, outsiders_by, outsiders_pass, beside_outsiders}
 use Rattle.ring_laws.proofs.Free.{IsFree, AreFree, front_free, job_free, job_running, free_front, free_told, free_submit, free_look, free_settle}
 use Rattle.ring_laws.proofs.Lists.{all_second}
 use Rattle.ring_laws.proofs.Works.{AreJobs, job_found}
@@ -315,18 +315,13 @@ replies_happen : (config : Options) (w : World) (h : Happening) (before : List L
 replies_happen config w FrontMoves before s t made r = front_after_replies config w (before ++ front_shows w (front_turn w)) (front_turn w) (front_replies config w before (front_turn w) s refl r)
 replies_happen config w BackMoves before s t made r = back_replies config w before Took (back_turn w Took) refl s t made r
 replies_happen config w (JobMoves number outcome) before s t made r = job_replies config w before number outcome (job_turn w number outcome) refl s r
-replies_happen config w (Negotiates at move) before s t made r = outside_replies config w before (lines_at w (Negotiates at move)) (keys_outsiders w.back.stage at move w.under.keys) s r
-replies_happen config w (FrontEnters state) before s t made r = outside_replies config w before (lines_at w (FrontEnters state)) (state_outsiders w.back.stage state w.front) s r
 replies_happen config w (BackAttaches shape grefs port) before s t made r = attached_replies config w before shape grefs port s r
 replies_happen config w (BackHalts why) before s t made r = halted_replies config w before why s r
 replies_happen config w (Submits job) before s t made r = others_free config w before (lines_at w (Submits job)) (submit_else job (front_submit.submit_of w.front job).0) (submit_by job (front_submit.submit_of w.front job).0, tt) (free_submit (is_some w.back.halted) job (front_submit.submit_of w.front job).0, tt) s r
-replies_happen config w (Notifies at) before s t made r = no_lines config before w.back r
-replies_happen config w (Pokes frame word value) before s t made r = outside_replies config w before (poke_lines frame word value) (poke_outsiders w.back.stage frame word value) s r
-replies_happen config w (OverwritesKey name text) before s t made r = outside_replies config w before (overwritten_lines name text) (overwritten_outsiders w.back.stage name text) s r
 replies_happen config w Suspends before s t made r = suspend_cases (λ (v : World) (shown : List Line). Replies config (before ++ shown) v.back) w (λ may. suspended_replies config w before r) (no_lines config before w.back r)
-replies_happen config w Dumps before s t made r = outside_replies config w before (lines_at w Dumps) (dump_outsiders w.back.stage w.under.pages (1024 * 2 ^ w.front.shape.order)) s r
 replies_happen config w (Looks quiet) before s t made r = others_free config w before (lines_at w (Looks quiet)) (look_else quiet) (look_by quiet, tt) (free_look (is_some w.back.halted) quiet, tt) s r
 replies_happen config w (Settles quiet) before s t made r = others_free config w before (lines_at w (Settles quiet)) (settle_else quiet) (settle_by quiet, tt) (free_settle (is_some w.back.halted) quiet, tt) s r
+replies_happen config w h before s t made r = outside_replies config w before (lines_at w h) (beside_outsiders w h tt) s r
 
 -- all that the lines so far tell
 record All (config : Options) (before : List Line) (w : World) : Type 0 where

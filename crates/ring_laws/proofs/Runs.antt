@@ -1,5 +1,5 @@
 -- Whatever happens from the start, the lines keep the rules of the ring.
-use Rattle.std.proofs.Common.{◌≡◌, ℕ, ◌*◌, ◌<◌, ◌^◌, Bool, true, false, if◌then◌else◌, length, List, [], ◌∷◌, ◌++◌, refl, ap, sym, subst, append_assoc, ◌∙◌, arith}
+use Rattle.std.proofs.Common.{◌≡◌, ℕ, ◌<◌, ◌^◌, Bool, true, false, if◌then◌else◌, length, List, [], ◌∷◌, ◌++◌, refl, ap, sym, subst, append_assoc, ◌∙◌, arith}
 use Rattle.std.specs.Prelude.{Option, Some, None, is_some, codes}
 use Rattle.std.proofs.lemmas.List.{append-nil}
 use Rattle.std.proofs.lemmas.Nat.{pow_pos}
@@ -32,7 +32,7 @@ use Rattle.report_rules.specs.Job.{entry_values}
 use Rattle.blk_back.specs.View as back
 use Rattle.blk_back.specs.Step as back_step
 use Rattle.split_model.specs.World.{World, start_of, suspended}
-use Rattle.split_model.specs.Happening.{Happening, FrontMoves, BackMoves, JobMoves, Negotiates, FrontEnters, BackAttaches, BackHalts, Submits, Notifies, Pokes, OverwritesKey, Suspends, Dumps, Looks, Settles, poke_lines, overwritten_lines, layout_text, layout_read, happens, lines_at, after, lines_of, front_after, front_shows, back_after, back_shows, job_after, job_shows, front_turn, back_turn, job_turn}
+use Rattle.split_model.specs.Happening.{Happening, FrontMoves, BackMoves, JobMoves, FrontEnters, BackAttaches, BackHalts, Submits, Suspends, Looks, Settles, layout_text, layout_read, happens, lines_at, after, lines_of, front_after, front_shows, back_after, back_shows, job_after, job_shows, front_turn, back_turn, job_turn}
 use Rattle.split_model.proofs.SafeAnswers.{jobs_of, fronts_no_key}
 use Rattle.split_model.specs.Keys.{is_layout, layout_path}
 use Rattle.split_model.specs.Shown.{halt_lines, halt_line}
@@ -52,7 +52,7 @@ use Rattle.ring_laws.proofs.Knows.{AreMapped, Waits, Untold, Maps, KnowsAt, Foll
 use Rattle.ring_laws.proofs.Back.{halt_follows}
 use Rattle.ring_laws.proofs.Halting.{Stops, stops_cases}
 use Rattle.ring_laws.proofs.Stages.{back_goes}
-use Rattle.ring_laws.proofs.Outsiders.{keys_outsiders, state_outsiders, poke_outsiders, overwritten_outsiders, dump_outsiders, outsiders_follow}
+use Rattle.ring_laws.proofs.Outsiders.{state_outsiders, outsiders_follow, beside_outsiders}
 use Rattle.ring_laws.proofs.Free.{follow_named, follow_free, follow_all, front_free, job_free, job_running, free_front, free_told, free_submit, free_look, free_settle, free_end}
 
 -- the lines so far keep the rules, the back has nothing left to tell, and the front's rings begin at that index
@@ -196,22 +196,14 @@ pub follows_happens : (start : ℕ) (w : World) (h : Happening) (before : List L
 follows_happens start w FrontMoves before safe f = front_follows start w before (front_turn w) f refl
 follows_happens start w BackMoves before safe f = back_follows start w before Took (back_turn w Took) safe f refl
 follows_happens start w (JobMoves number outcome) before safe f = job_follows start w before number outcome (job_turn w number outcome) f refl
-follows_happens start w (Negotiates at move) before safe f =
-    record { follows = outsiders_follow start [] (lines_at w (Negotiates at move)) before w.back (keys_outsiders w.back.stage at move w.under.keys) f.follows; told = f.told; begins = f.begins }
 follows_happens start w (FrontEnters state) before safe f = record { follows = outsiders_follow start [] (lines_at w (FrontEnters state)) before w.back (state_outsiders w.back.stage state w.front) f.follows; told = f.told; begins = (entered_kept state w.front).start ∙ f.begins }
 follows_happens start w (BackAttaches shape grefs port) before safe f = attached_follows start w before shape grefs port f
 follows_happens start w (BackHalts why) before safe f = halted_follows start w before why f
 follows_happens start w (Submits job) before safe f = record { follows = follow_free start [] before _ w.back (free_submit (is_some w.back.halted) job (front_submit.submit_of w.front job).0) f.follows; told = f.told; begins = (submit_kept w.front job).start ∙ f.begins }
-follows_happens start w (Notifies at) before safe f = subst (λ (ls : List Line). FollowsTo start ls (happens w (Notifies at))) (sym (append-nil before)) (record { follows = f.follows; told = f.told; begins = f.begins })
-follows_happens start w (Pokes frame word value) before safe f =
-    record { follows = outsiders_follow start [] (poke_lines frame word value) before w.back (poke_outsiders w.back.stage frame word value) f.follows; told = f.told; begins = f.begins }
-follows_happens start w (OverwritesKey name text) before safe f =
-    record { follows = outsiders_follow start [] (overwritten_lines name text) before w.back (overwritten_outsiders w.back.stage name text) f.follows; told = f.told; begins = f.begins }
 follows_happens start w Suspends before safe f = suspend_follows start w before f
-follows_happens start w Dumps before safe f =
-    record { follows = outsiders_follow start [] (lines_at w Dumps) before w.back (dump_outsiders w.back.stage w.under.pages (1024 * 2 ^ w.front.shape.order)) f.follows; told = f.told; begins = f.begins }
 follows_happens start w (Looks quiet) before safe f = record { follows = follow_free start [] before _ w.back (free_look (is_some w.back.halted) quiet) f.follows; told = f.told; begins = f.begins }
 follows_happens start w (Settles quiet) before safe f = record { follows = follow_free start [] before _ w.back (free_settle (is_some w.back.halted) quiet) f.follows; told = f.told; begins = f.begins }
+follows_happens start w h before safe f = record { follows = outsiders_follow start [] (lines_at w h) before w.back (beside_outsiders w h tt) f.follows; told = f.told; begins = f.begins }
 
 follows_after : (start : ℕ) (hs : List Happening) (w : World) (before : List Line) → IsSafe w → FollowsTo start before w → FollowsTo start (before ++ lines_of hs w) (after hs w)
 follows_after start [] w before safe f = no_lines start before w f

@@ -27,7 +27,7 @@ use Rattle.plain_disk.specs.Echo.{is_echo, AnswersSubmit, AreRingWords}
 use Rattle.xen_pages.specs.Pages.{word_of}
 use Rattle.split_model.specs.World.{World, may_suspend}
 use Rattle.split_model.specs.Shown.{front_lines, back_lines, halt_lines, effect_line}
-use Rattle.split_model.specs.Happening.{Happening, FrontMoves, BackMoves, JobMoves, Negotiates, FrontEnters, BackAttaches, BackHalts, Submits, Notifies, Pokes, OverwritesKey, Suspends, Dumps, Looks, Settles, is_guest_word, is_guest_key, word_lines, ring_lines, happens, lines_at, lines_of, front_shows, back_shows, job_shows, front_turn, back_turn, job_turn, submit_line}
+use Rattle.split_model.specs.Happening.{Happening, FrontMoves, BackMoves, JobMoves, Negotiates, FrontEnters, BackAttaches, BackHalts, Notifies, Pokes, OverwritesKey, Suspends, Dumps, is_guest_word, is_guest_key, word_lines, ring_lines, happens, lines_at, lines_of, front_shows, back_shows, job_shows, front_turn, back_turn, job_turn, submit_line}
 use Rattle.schedule_text.specs.Recorder.{recorded, kept_of}
 use Rattle.split_model.proofs.Keys.{negotiated_lines_are}
 use Rattle.split_model.proofs.Attaching.{attach_lines_are}
@@ -120,13 +120,7 @@ move_silent w (FrontEnters state) m = none_silent _ (enter_lines_are (λ l. is_e
 move_silent w (BackAttaches shape grefs port) m = none_silent _ (attach_lines_are (λ l. is_echo l ≡ false) w shape grefs refl)
 move_silent w (BackHalts why) m = halt_silent w.back.halted (let b : back.View = back_step.halts why w.back in b.halted)
 move_silent w (Notifies at) m = refl
-move_silent w (Submits job) m = absurd (cc)
-move_silent w (Pokes frame word value) m = absurd (cc)
-move_silent w (OverwritesKey name text) m = absurd (cc)
-move_silent w Suspends m = absurd (cc)
-move_silent w Dumps m = absurd (cc)
-move_silent w (Looks quiet) m = absurd (cc)
-move_silent w (Settles quiet) m = absurd (cc)
+move_silent w h m = absurd (cc)
 
 -- moves show no line that echoes
 pub moves_silent : (hs : List Happening) (w : World) → AllByRecursion (λ h. is_move h ≡ true) hs → echo_of (lines_of hs w) ≡ []

@@ -21,7 +21,7 @@ use Rattle.blk_front.specs.State.{enters}
 use Rattle.blk_back.specs.Ask as back_ends
 use Rattle.blk_back.specs.Step.{job_ask_of}
 use Rattle.split_model.specs.World.{World, suspended}
-use Rattle.split_model.specs.Happening.{Happening, FrontMoves, BackMoves, JobMoves, Negotiates, FrontEnters, BackAttaches, BackHalts, Submits, Notifies, Pokes, OverwritesKey, Suspends, Dumps, Looks, Settles, happens, after, front_after, back_after, job_after, front_turn, back_turn, job_turn}
+use Rattle.split_model.specs.Happening.{Happening, FrontMoves, BackMoves, JobMoves, FrontEnters, Submits, Notifies, Pokes, OverwritesKey, Suspends, happens, after, front_after, back_after, job_after, front_turn, back_turn, job_turn}
 use Rattle.split_model.specs.Safe.{IsPorted, due_at, ports_due}
 use Rattle.split_model.proofs.Overwriting.{poke_cases, overwriting_cases}
 use Rattle.split_model.proofs.Safe.{ports_back}
@@ -157,19 +157,14 @@ pub ports_left : (w : World) (h : Happening) → ports_of (happens w h) ≤ port
 ports_left w FrontMoves = let one = front_left w (front_turn w) refl in omega arith
 ports_left w BackMoves = let one = back_left w (back_turn w Took) refl in omega arith
 ports_left w (JobMoves number outcome) = let one = job_left w number outcome (job_turn w number outcome) refl in omega arith
-ports_left w (Negotiates at move) = omega arith
 ports_left w (FrontEnters state) = let due = entered_due state w.front in omega arith
-ports_left w (BackAttaches shape grefs port) = omega arith
-ports_left w (BackHalts why) = omega arith
 ports_left w (Submits job) = let same = ap due_at (submit_kept w.front job).stage in omega arith
-ports_left w (Notifies end.Front) = omega arith
-ports_left w (Notifies end.Back) = omega arith
 ports_left w (Pokes frame word value) = poke_cases (λ under shown. ports_of (record { front = w.front; back = w.back; under = under }) ≤ ports_of w + 0) w.under frame word value (λ framed worded. omega arith) (omega arith)
 ports_left w (OverwritesKey name text) = overwriting_cases (λ under shown. ports_of (record { front = w.front; back = w.back; under = under }) ≤ ports_of w + 0) w.under name text (λ allowed. omega arith) (omega arith)
 ports_left w Suspends = suspend_cases (λ v shown. ports_of v ≤ ports_of w + 1) w (λ may. let due = one_due (let v : World = suspended w in v.front.stage) in omega arith) (omega arith)
-ports_left w Dumps = omega arith
-ports_left w (Looks quiet) = omega arith
-ports_left w (Settles quiet) = omega arith
+ports_left w (Notifies end.Front) = omega arith
+ports_left w (Notifies end.Back) = omega arith
+ports_left w h = omega arith
 
 -- over all this there is one more for each suspend
 pub ports_left_after : (hs : List Happening) (w : World) → ports_of (after hs w) ≤ ports_of w + sum_by allows hs

@@ -7,7 +7,7 @@ use Rattle.blk_back.specs.Step as back_step
 use Rattle.hypervisor.specs.Act.{Outcome, Gave, Took, Failed}
 use Rattle.hypervisor.specs.Disk.{DiskDoes, DiskReads, DiskWrites, DiskFlushes, DiskTrims, NoCall}
 use Rattle.split_model.specs.World.{World}
-use Rattle.split_model.specs.Happening.{Happening, FrontMoves, BackMoves, JobMoves, Negotiates, FrontEnters, BackAttaches, BackHalts, Submits, Notifies, Pokes, OverwritesKey, Suspends, Dumps, Looks, Settles, DiskGoes}
+use Rattle.split_model.specs.Happening.{Happening, JobMoves, DiskGoes}
 
 attachment_of : (a b : DiskSeen) → b ≡ a → b.attachment ≡ a.attachment
 attachment_of a b e = ap (λ (d : DiskSeen). d.attachment) e
@@ -48,17 +48,4 @@ call_keeps ask o a b p = attachment_of a b (no_call o a b p).1
 -- what is attached stays, whatever happens
 pub disk_attachment : (w : World) (h : Happening) (a b : DiskSeen) → DiskGoes w h a b → b.attachment ≡ a.attachment
 disk_attachment w (JobMoves number outcome) a b p = call_keeps (back_step.job_ask_of w.back number) outcome a b p
-disk_attachment w FrontMoves a b p = attachment_of a b p
-disk_attachment w BackMoves a b p = attachment_of a b p
-disk_attachment w (Negotiates at move) a b p = attachment_of a b p
-disk_attachment w (FrontEnters state) a b p = attachment_of a b p
-disk_attachment w (BackAttaches shape grefs port) a b p = attachment_of a b p
-disk_attachment w (BackHalts why) a b p = attachment_of a b p
-disk_attachment w (Submits job) a b p = attachment_of a b p
-disk_attachment w (Notifies at) a b p = attachment_of a b p
-disk_attachment w (Pokes frame word value) a b p = attachment_of a b p
-disk_attachment w (OverwritesKey name text) a b p = attachment_of a b p
-disk_attachment w Suspends a b p = attachment_of a b p
-disk_attachment w Dumps a b p = attachment_of a b p
-disk_attachment w (Looks quiet) a b p = attachment_of a b p
-disk_attachment w (Settles quiet) a b p = attachment_of a b p
+disk_attachment w h a b p = attachment_of a b p

@@ -31,7 +31,7 @@ use Rattle.blk_back.specs.Ask as back_ends
 use Rattle.blk_back.specs.Step.{job_ask_of}
 use Rattle.split_model.specs.World.{World, state_after, may_suspend}
 use Rattle.split_model.specs.Keys.{KeyMove, front_path, Gets, Sets, Watches as WatchesPath, TakesWatch, mover_at, may_set, may_negotiate, keys_after, watched_lines, key_lines, negotiated, negotiated_lines}
-use Rattle.split_model.specs.Happening.{Happening, FrontMoves, BackMoves, JobMoves, Negotiates, FrontEnters, BackAttaches, BackHalts, Submits, Notifies, Pokes, OverwritesKey, Suspends, Dumps, Looks, Settles, happens, front_after, back_after, job_after, front_turn, back_turn, job_turn, is_guest_key}
+use Rattle.split_model.specs.Happening.{Happening, FrontMoves, BackMoves, JobMoves, Negotiates, Pokes, OverwritesKey, Suspends, happens, front_after, back_after, job_after, front_turn, back_turn, job_turn, is_guest_key}
 use Rattle.split_model.proofs.Suspending.{suspend_cases}
 use Rattle.split_model.proofs.Overwriting.{poke_cases, overwriting_cases}
 use Rattle.split_model.proofs.SafeActs.{of_front, of_back, of_read, of_disk, AsksBackKey, front_wait, back_wait}
@@ -187,14 +187,7 @@ keys_happen P taking w FrontMoves kept set fresh u = front_turn_stays P taking w
 keys_happen P taking w BackMoves kept set fresh u = back_turn_stays P taking w (back_turn w Took) refl u
 keys_happen P taking w (JobMoves number outcome) kept set fresh u = job_turn_stays P taking w number outcome (job_turn w number outcome) refl u
 keys_happen P taking w (Negotiates at move) kept set fresh u = kept at move refl u
-keys_happen P taking w (FrontEnters state) kept set fresh u = u
-keys_happen P taking w (BackAttaches shape grefs port) kept set fresh u = u
-keys_happen P taking w (BackHalts why) kept set fresh u = u
-keys_happen P taking w (Submits job) kept set fresh u = u
-keys_happen P taking w (Notifies at) kept set fresh u = u
 keys_happen P taking w (Pokes frame word value) kept set fresh u = poke_cases (λ under shown. P under.keys) w.under frame word value (λ framed worded. u) u
 keys_happen P taking w (OverwritesKey name text) kept set fresh u = overwriting_cases (λ under shown. P under.keys) w.under name text (λ allowed. set name text refl allowed u) u
 keys_happen P taking w Suspends kept set fresh u = suspend_cases (λ v shown. P v.under.keys) w (λ may. fresh refl may u) u
-keys_happen P taking w Dumps kept set fresh u = u
-keys_happen P taking w (Looks quiet) kept set fresh u = u
-keys_happen P taking w (Settles quiet) kept set fresh u = u
+keys_happen P taking w h kept set fresh u = u

@@ -19,3 +19,5 @@ pub mod FewFront
 pub mod FewJobs
 pub mod Tight
 pub mod Echo
+pub mod Outside
+pub mod Lines

@@ -12,7 +12,7 @@ use Rattle.blk_front.specs.Request.{is_write, named_of, frames_for}
 use Rattle.blk_front.specs.View.{View}
 use Rattle.blk_front.specs.Submit.{is_ready, unfinished, wish_of, most_segments, frames_taken, submit_with, submit_one, submit_of}
 use Rattle.split_model.specs.World.{World}
-use Rattle.split_model.specs.Happening.{Happening, FrontMoves, BackMoves, JobMoves, Negotiates, FrontEnters, BackAttaches, BackHalts, Submits, Notifies, Pokes, OverwritesKey, Suspends, Dumps, Looks, Settles, happens, after, front_after, back_after, job_after, front_turn, back_turn, job_turn}
+use Rattle.split_model.specs.Happening.{Happening, FrontMoves, BackMoves, JobMoves, FrontEnters, Submits, Suspends, happens, after, front_after, back_after, job_after, front_turn, back_turn, job_turn}
 use Rattle.hypervisor.specs.Act.{Took}
 use Rattle.split_model.proofs.States.{enters_cases}
 use Rattle.split_model.proofs.Suspending.{suspend_cases, front_kept}
@@ -64,18 +64,10 @@ pub happens_narrow : (w : World) (h : Happening) → (let v : World = happens w 
 happens_narrow w FrontMoves = front_narrow w (front_turn w)
 happens_narrow w BackMoves = back_narrow w (back_turn w Took)
 happens_narrow w (JobMoves number outcome) = job_narrow w number (job_turn w number outcome)
-happens_narrow w (Negotiates at move) = omega arith
 happens_narrow w (FrontEnters state) = enters_cases (λ v shown. v.shape.order ≤ w.front.shape.order) state w.front (λ may. entered_order state w.front may) (omega arith)
-happens_narrow w (BackAttaches shape grefs port) = omega arith
-happens_narrow w (BackHalts why) = omega arith
 happens_narrow w (Submits job) = let same = ap (λ (s : Shape). s.order) (submit_shape w.front job) in rw same (omega arith)
-happens_narrow w (Notifies at) = omega arith
-happens_narrow w (Pokes frame word value) = omega arith
-happens_narrow w (OverwritesKey name text) = omega arith
 happens_narrow w Suspends = suspend_cases (λ v shown. IsNarrower w v) w (λ may. let same = ap (λ (s : Shape). s.order) (front_kept w.front).shape in rw same (omega arith)) (omega arith)
-happens_narrow w Dumps = omega arith
-happens_narrow w (Looks quiet) = omega arith
-happens_narrow w (Settles quiet) = omega arith
+happens_narrow w h = omega arith
 
 pub after_narrow : (hs : List Happening) (w : World) → (let v : World = after hs w in v.front.shape.order) ≤ w.front.shape.order
 after_narrow [] w = omega arith

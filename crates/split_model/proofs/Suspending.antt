@@ -1,13 +1,11 @@
 -- What a suspend leaves of the machine: of the front its frames and its disk, of the back its disk, and the numbers of mappings and of ports.
-use Rattle.std.proofs.Common.{◌≡◌, ℕ, ◌<◌, ◌≤◌, Bool, true, false, if◌then◌else◌, List, [], ◌∷◌, refl, arith}
+use Rattle.std.proofs.Common.{◌≡◌, ◌<◌, Bool, true, false, if◌then◌else◌, List, [], ◌∷◌, refl, arith}
 use Rattle.std.specs.Prelude.{None}
 use Rattle.std.specs.List.{AllByRecursion}
 use Rattle.std.proofs.lemmas.Bool.Decides.{nat_tests}
 use Rattle.schedule_text.specs.declared.line.Line.{Line}
 use Rattle.schedule_text.specs.declared.line.Line.TheVariants.{Epoch}
-use Rattle.xen_pages.specs.Pages.{word_of}
 use Rattle.hypervisor.specs.Suspend.{suspended as under_suspended}
-use Rattle.hypervisor.proofs.Cleared.{cleared_word, kept_word}
 use Rattle.blk_front.specs.State.{is_open}
 use Rattle.blk_front.specs.Suspend.{resumed, suspended as front_suspended}
 use Rattle.blk_front.specs.View as front

@@ -31,7 +31,7 @@ use Rattle.vbd_back.specs.View as back_view
 use Rattle.vbd_back.specs.Ask as back
 use Rattle.vbd_back.specs.Step as back_step
 use Rattle.vbd_model.specs.World.{World, start_of, frontend_of, backend_of}
-use Rattle.vbd_model.specs.Happening.{Happening, FrontMoves, BackMoves, JobMoves, Closes, Submits, Notifies, Pokes, OverwritesKey, Suspends, Dumps, Looks, Settles, front_turn, back_turn, entered_at, halted_at, reasons_of, closes_does, front_does, back_does, renewed_bus, does, happens, all_does}
+use Rattle.vbd_model.specs.Happening.{Happening, FrontMoves, BackMoves, Closes, Notifies, Suspends, Dumps, Looks, Settles, front_turn, back_turn, entered_at, halted_at, reasons_of, closes_does, front_does, back_does, renewed_bus, does, happens, all_does}
 use Rattle.vbd_model.specs.Possible.{IsPossible, ArePossible}
 use Rattle.vbd_model.specs.Fit.{IsFit}
 use Rattle.vbd_laws.proofs.Fit.{fit_start, fit_happens}
@@ -137,16 +137,12 @@ closes_possible w end.Back = tt
 possible_at : (w : World) (h : Happening) → Stands w → IsPossible w h → ring_allowed.ArePossible (does w h) w.rings
 possible_at w FrontMoves stands is = front_possible w stands
 possible_at w BackMoves stands is = back_possible w stands
-possible_at w (JobMoves number outcome) stands is = (is, tt)
 possible_at w (Closes at) stands is = closes_possible w.rings at
-possible_at w (Submits job) stands is = (is, tt)
 possible_at w (Notifies at) stands is = (tt, tt)
-possible_at w (Pokes frame word value) stands is = (is, tt)
-possible_at w (OverwritesKey name text) stands is = (is, tt)
-possible_at w Suspends stands is = (is, tt)
 possible_at w Dumps stands is = (tt, tt)
 possible_at w (Looks quiet) stands is = (tt, tt)
 possible_at w (Settles quiet) stands is = (tt, tt)
+possible_at w h stands is = (is, tt)
 
 suspended_front : (b : Bool) (w : World) → Stands w → fronts.Speaks (if b then suspended w.front else w.front)
 suspended_front true w stands = suspended_speaks fronts.IsNumber w.front stands.front

@@ -17,7 +17,7 @@ use Rattle.xenbus_state.specs.BackView.{BackView}
 use Rattle.vbd_front.specs.Ask as front
 use Rattle.vbd_back.specs.Ask as back
 use Rattle.vbd_model.specs.World.{World, is_quiet, frontend_of, backend_of}
-use Rattle.vbd_model.specs.Happening.{Happening, FrontMoves, BackMoves, JobMoves, Closes, Submits, Notifies, Pokes, OverwritesKey, Suspends, Dumps, Looks, Settles, front_key, entered_at, halted_at, front_enters, back_halts, back_negotiates, back_bus_after, attaches, front_turn, back_turn, is_fronts_ring, is_backs_ring, does, happens, after, lines_of, all_does}
+use Rattle.vbd_model.specs.Happening.{Happening, FrontMoves, BackMoves, JobMoves, Closes, Submits, Notifies, Pokes, OverwritesKey, Suspends, Dumps, Settles, front_key, entered_at, halted_at, front_enters, back_halts, back_negotiates, back_bus_after, attaches, front_turn, back_turn, is_fronts_ring, is_backs_ring, does, happens, after, lines_of, all_does}
 use Rattle.vbd_model.specs.Kind.{is_carried, Makes, AreOf, AreOfAll, AreJobMoves, AreEachJobs, round_start, IsRound, AreRounds, never}
 use Rattle.split_model.specs.World as rings
 use Rattle.split_model.proofs.Narrow.{after_narrow}
@@ -69,13 +69,7 @@ does_moves w (JobMoves number outcome) m = (refl, tt)
 does_moves w (Closes end.Front) m = (refl, tt)
 does_moves w (Closes end.Back) m = tt
 does_moves w (Notifies at) m = (refl, tt)
-does_moves w (Submits job) m = absurd (cc)
-does_moves w (Pokes frame word value) m = absurd (cc)
-does_moves w (OverwritesKey name text) m = absurd (cc)
-does_moves w Suspends m = absurd (cc)
-does_moves w Dumps m = absurd (cc)
-does_moves w (Looks quiet) m = absurd (cc)
-does_moves w (Settles quiet) m = absurd (cc)
+does_moves w h m = absurd (cc)
 
 pub all_do_moves : (hs : List Happening) (w : World) → AllByRecursion (λ (h : Happening). is_move h ≡ true) hs → AllByRecursion (λ (x : ring.Happening). is_ring_move x ≡ true) (all_does hs w)
 all_do_moves [] w m = tt

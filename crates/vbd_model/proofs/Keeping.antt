@@ -31,18 +31,10 @@ ring_sectors_kept : (w : rings.World) (h : ring.Happening) → (let v : rings.Wo
 ring_sectors_kept w ring.FrontMoves = front_sectors_at w (ring.front_turn w)
 ring_sectors_kept w ring.BackMoves = back_sectors_at w (ring.back_turn w Took)
 ring_sectors_kept w (ring.JobMoves number outcome) = job_sectors_at w number (ring.job_turn w number outcome)
-ring_sectors_kept w (ring.Negotiates at move) = refl
 ring_sectors_kept w (ring.FrontEnters state) = (entered_kept state w.front).sectors
-ring_sectors_kept w (ring.BackAttaches shape grefs port) = refl
-ring_sectors_kept w (ring.BackHalts why) = refl
 ring_sectors_kept w (ring.Submits job) = let kept = submit_kept w.front job in kept.sectors
-ring_sectors_kept w (ring.Notifies at) = refl
-ring_sectors_kept w (ring.Pokes frame word value) = refl
-ring_sectors_kept w (ring.OverwritesKey name text) = refl
 ring_sectors_kept w ring.Suspends = suspend_cases (λ v shown. v.front.sectors ≡ w.front.sectors) w (λ may. (front_kept w.front).sectors) refl
-ring_sectors_kept w ring.Dumps = refl
-ring_sectors_kept w (ring.Looks quiet) = refl
-ring_sectors_kept w (ring.Settles quiet) = refl
+ring_sectors_kept w h = refl
 
 ring_sectors_after : (hs : List ring.Happening) (w : rings.World) → (let v : rings.World = ring.after hs w in v.front.sectors) ≡ w.front.sectors
 ring_sectors_after [] w = refl

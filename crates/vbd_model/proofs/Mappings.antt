@@ -66,7 +66,7 @@ use Rattle.xenbus_state.specs.declared.back.BackBusAsk.{BackBusAsk}
 use Rattle.vbd_back.specs.Ask as backend_asks
 use Rattle.vbd_back.specs.Step as back_step
 use Rattle.vbd_model.specs.World.{World, backend_of}
-use Rattle.vbd_model.specs.Happening.{BackMoves, JobMoves, does, happens, attaches, back_negotiates, back_halts, back_key, back_bus_after, back_turn, halted_at, is_backs_ring}
+use Rattle.vbd_model.specs.Happening.{BackMoves, does, happens, attaches, back_negotiates, back_halts, back_key, back_bus_after, back_turn, halted_at, is_backs_ring}
 use Rattle.vbd_model.specs.Mappings.{maps_at, maps_left, words_copied, mappings_in, mappings_of}
 
 -- A job. What it maps is left to it no more.
@@ -401,18 +401,12 @@ pub ring_left : (w : rings.World) (h : ring.Happening) → mappings_in (ring.hap
 ring_left w ring.FrontMoves = let same = front_left w (ring.front_turn w) refl in omega arith
 ring_left w ring.BackMoves = back_left w (ring.back_turn w Took) refl
 ring_left w (ring.JobMoves number outcome) = let same = job_left w number outcome (ring.job_turn w number outcome) refl in omega arith
-ring_left w (ring.Negotiates who move) = omega arith
-ring_left w (ring.FrontEnters s) = omega arith
 ring_left w (ring.BackAttaches shape grefs port) = let same = attached_left w shape grefs port in omega arith
 ring_left w (ring.BackHalts why) = let less = halted_left why w.back in omega arith
-ring_left w (ring.Submits job) = omega arith
-ring_left w (ring.Notifies at) = omega arith
 ring_left w (ring.Pokes frame word value) = let same = overwritten_left (ring.is_guest_word frame word) w (with_pages w.under (with_word w.under.pages frame word value)) refl in omega arith
 ring_left w (ring.OverwritesKey name text) = let same = overwritten_left (ring.is_guest_key name text) w (with_keys w.under (written w.under.keys (front_path name) text)) refl in omega arith
 ring_left w ring.Suspends = let less = suspend_left w in omega arith
-ring_left w ring.Dumps = omega arith
-ring_left w (ring.Looks quiet) = omega arith
-ring_left w (ring.Settles quiet) = omega arith
+ring_left w h = omega arith
 
 pub all_rings_left : (hs : List ring.Happening) (w : rings.World) → mappings_in (ring.after hs w) ≤ mappings_in w + sum_by cost_of hs
 all_rings_left [] w = omega arith

@@ -10,7 +10,7 @@ use Rattle.schedule_text.specs.declared.line.Line.{Line}
 use Rattle.schedule_text.specs.declared.line.Line.TheVariants.{Begin, End}
 use Rattle.schedule_text.specs.declared.recorder.RecordStop.{RecordStop}
 use Rattle.schedule_text.specs.declared.recorder.RecordStop.TheVariants.{OutOfMemory}
-use Rattle.schedule_text.specs.Recorder.{kept_of, RecorderSeen, Gained, StopsAmong, Adds}
+use Rattle.schedule_text.specs.Recorder.{RecorderSeen, Gained, StopsAmong, Adds}
 use Rattle.schedule_text.proofs.Adding.{gained_none, gained_twice, stopped_later}
 use Rattle.split_model.specs.Happening as ring
 use Rattle.split_model.specs.Report as ring_report
