@@ -62,7 +62,7 @@ static char keys[MOST_KEYS][2][KEY_ROOM];
 static unsigned key_count;
 static XEN_BLOCK_FRONT_DEVICE *device;
 
-static void give_up(const char *what)
+static void die(const char *what)
 {
     fprintf(stderr, "edk2: %s\n", what);
     exit(2);
@@ -103,7 +103,7 @@ static void keep_key(const char *name, const char *text)
         place++;
     }
     if (place == MOST_KEYS) {
-        give_up("too many keys");
+        die("too many keys");
     }
     key_count += place == key_count;
     strcpy(keys[place][0], name);
@@ -127,7 +127,7 @@ static void give_turn(void)
         } else if (sscanf(line, "word %u %u %u", &frame, &word, &value) == 3 && frame < FRAMES && word < WORDS) {
             guest[frame * WORDS + word] = seen[frame * WORDS + word] = value;
         } else {
-            give_up("a line that is none of the conversation");
+            die("a line that is none of the conversation");
         }
     }
     exit(0);
@@ -154,7 +154,7 @@ VOID *EFIAPI AllocatePages(IN UINTN Pages)
         made_ring = 1;
         return guest + RING_FRAME * WORDS;
     }
-    give_up("a second page was asked for");
+    die("a second page was asked for");
     return NULL;
 }
 
@@ -305,7 +305,7 @@ static XENSTORE_STATUS EFIAPI print_key(XENBUS_PROTOCOL *This, CONST XENSTORE_TR
     } else if (!strcmp(Format, "%a")) {
         printf("key %s %s\n", Node, va_arg(arguments, const char *));
     } else {
-        give_up("a format that the front didn't use");
+        die("a format that the front didn't use");
     }
     va_end(arguments);
     return XENSTORE_STATUS_SUCCESS;
@@ -400,7 +400,7 @@ static struct operation operation_of(const char *line)
     struct operation it = { 0 };
     char name[8];
     if (sscanf(line, "%7s %llu %u %u %u", name, &it.sector, &it.count, &it.offset, &it.tag) < 4 || it.offset > 7) {
-        give_up("an operation that is none");
+        die("an operation that is none");
     }
     it.is_write = !strcmp(name, "write");
     it.buffer = data_frames((it.offset + it.count + 7) / 8) + 512 * it.offset;
@@ -436,12 +436,12 @@ static void do_now(const char *line)
 static void issue(const char *line)
 {
     if (issued_count == MOST_ISSUED) {
-        give_up("too many were issued");
+        die("too many were issued");
     }
     struct operation *it = issued + issued_count++;
     *it = operation_of(line);
     if (it->count > MOST_SECTORS) {
-        give_up("a request that is too long");
+        die("a request that is too long");
     }
     it->io = (XEN_BLOCK_FRONT_IO){ .Dev = device, .Buffer = it->buffer, .Size = 512 * it->count, .Sector = it->sector, .Status = EFI_ALREADY_STARTED };
     XenPvBlockAsyncIo(&it->io, it->is_write);
@@ -467,7 +467,7 @@ static void begin(void)
     io.GrantTableAddress = (UINTN)guest;
     XenGrantTableInit(&bus_device);
     if (XenPvBlockFrontInitialization(&bus, bus.Node, &device) != EFI_SUCCESS) {
-        give_up("EDK2's front doesn't begin");
+        die("EDK2's front doesn't begin");
     }
     media.LastBlock = device->MediaInfo.Sectors - 1;
     media.ReadOnly = !device->MediaInfo.ReadWrite;
@@ -500,7 +500,7 @@ int main(void)
     char line[128];
     guest = mmap(NULL, 4 * FRAMES * WORDS, PROT_READ | PROT_WRITE, MAP_PRIVATE | MAP_ANONYMOUS, -1, 0);
     if (guest == MAP_FAILED) {
-        give_up("there is no memory");
+        die("there is no memory");
     }
     give_turn();
     begin();

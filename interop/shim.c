@@ -39,7 +39,7 @@ static uint32_t readers[GRANTS], writers[GRANTS];
 
 /* Memory. */
 
-void give_up(const char *what)
+void die(const char *what)
 {
     fprintf(stderr, "serve: %s\n", what);
     exit(1);
@@ -49,7 +49,7 @@ void *zeroed(size_t size)
 {
     void *made = calloc(1, size);
     if (!made) {
-        give_up("out of memory");
+        die("out of memory");
     }
     return made;
 }
@@ -58,7 +58,7 @@ void *aligned(size_t alignment, size_t size)
 {
     void *made = NULL;
     if (posix_memalign(&made, alignment, size)) {
-        give_up("out of memory");
+        die("out of memory");
     }
     return made;
 }
@@ -73,7 +73,7 @@ void error_setg(Error **place, const char *format, ...)
     vsnprintf(made->text, sizeof(made->text), format, rest);
     va_end(rest);
     if (place == &error_abort) {
-        give_up(made->text);
+        die(made->text);
     }
     *place = made;
 }
@@ -296,7 +296,7 @@ void qemu_iovec_init(QEMUIOVector *vector, int hint)
 void qemu_iovec_add(QEMUIOVector *vector, void *base, size_t size)
 {
     if (vector->size) {
-        give_up("a second piece of data");
+        die("a second piece of data");
     }
     *vector = (QEMUIOVector){base, size};
 }

@@ -5,8 +5,6 @@ pub mod Legal
 pub mod Order
 pub mod Cut
 pub mod Found
-pub mod Words
-pub mod Narrow
 pub mod Short
 pub mod Promised
 pub mod Protocol

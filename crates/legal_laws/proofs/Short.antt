@@ -26,10 +26,9 @@ use Rattle.schedule_text.specs.declared.line.Line.TheVariants as lines
 use Rattle.schedule_text.specs.Line.{words_of, text_of, job_words, halt_words, mover_words, back_words, mode_word, move_words}
 use Rattle.schedule_text.specs.Range.{IsInRange}
 use Rattle.report_lines.specs.Text.{HasNoLineFeed}
-use Rattle.report_laws.proofs.Inline.{is_inline}
-use Rattle.report_laws.proofs.InlineLines.{inline_of}
-use Rattle.legal_laws.proofs.Words.{is_narrow, AreNarrow, narrow_hex, within_80}
-use Rattle.legal_laws.proofs.Narrow.{shows_sector, narrow_line}
+use Rattle.report_laws.proofs.Inline.{is_inline, inline_of}
+use Rattle.schedule_text.proofs.NarrowWords.{is_narrow, AreNarrow, narrow_hex, within_80}
+use Rattle.schedule_text.proofs.Narrow.{shows_sector, narrow_line}
 
 -- ---- how many
 

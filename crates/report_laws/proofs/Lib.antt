@@ -18,7 +18,6 @@ pub mod FewPorts
 pub mod QuietRing
 pub mod States
 pub mod Inline
-pub mod InlineLines
 pub mod Texts
 pub mod Words
 pub mod Told

@@ -10,8 +10,7 @@ use Rattle.schedule_text.specs.Range.{IsInRange}
 use Rattle.schedule_text.specs.Recorder.{report_text}
 use Rattle.schedule_text.proofs.Spelling.{one_line}
 use Rattle.report_laws.specs.Grammar.{AreInGrammar, IsInGrammar}
-use Rattle.report_laws.proofs.Inline.{is_inline}
-use Rattle.report_laws.proofs.InlineLines.{inline_of}
+use Rattle.report_laws.proofs.Inline.{is_inline, inline_of}
 
 -- two texts, each ended by a line feed, with more after them
 record AreSplit (a b x y : List ℕ) : Type 0 where

@@ -1,7 +1,7 @@
 -- What was carried out, and then more.
 use Rattle.std.proofs.Common.{◌≡◌, ◌≢◌, ℕ, ◌+◌, ◌*◌, ◌<◌, ◌≤◌, List, [], ◌∷◌, ◌++◌, length, get_or, take, drop, Option, Some, None, option_to_list, Result, Ok, Err, refl, sym, ap, ◌∙◌, subst, arith, append_assoc, append-nil, length-append}
 use Rattle.std.proofs.lemmas.List.Elements.{All-push, All-nil}
-use Rattle.std.proofs.lemmas.List.{take_more, take_all, take-append-drop, length-take}
+use Rattle.std.proofs.lemmas.List.{take_more, take-append-drop, length-take}
 use Rattle.blk_io.specs.Disk.{attached_of, sectors_of}
 use Rattle.schedule_text.specs.declared.event.Event.{Event}
 use Rattle.schedule_text.specs.declared.recorder.RecordStop.{RecordStop}

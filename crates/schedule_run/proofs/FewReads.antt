@@ -27,7 +27,7 @@ use Rattle.vbd_model.specs.World.{World, start_of, frontend_of, backend_of}
 use Rattle.split_model.specs.Shown.{front_lines, back_lines, halt_lines, state_lines}
 use Rattle.split_model.specs.Happening.{is_guest_word, word_lines, ring_lines, enter_lines, front_shows, back_shows, job_shows, front_turn, back_turn, job_turn, is_guest_key}
 use Rattle.split_model.specs.Happening as ring
-use Rattle.vbd_model.specs.Happening.{Happening, FrontMoves, BackMoves, JobMoves, Closes, Submits, Notifies, Pokes, OverwritesKey, Suspends, Dumps, Looks, Settles, does, front_key, back_key, entered_at, reasons_of, halted_at, front_enters, back_halts, back_negotiates, back_bus_after, attaches, closes_does, is_fronts_ring, is_backs_ring, happens, after, all_does}
+use Rattle.vbd_model.specs.Happening.{Happening, FrontMoves, BackMoves, JobMoves, Closes, does, front_key, back_key, entered_at, reasons_of, halted_at, front_enters, back_halts, back_negotiates, back_bus_after, attaches, closes_does, is_fronts_ring, is_backs_ring, happens, after, all_does}
 use Rattle.blk_back.specs.declared.stage.Stage.{Stage as BackStage}
 use Rattle.split_model.specs.Keys.{KeyMove, negotiated_lines}
 use Rattle.vbd_model.specs.Kind.{AreOfAll, AreOfSoFar}
@@ -130,10 +130,6 @@ state_few (state.Broken word) = omega arith
 enters_few : (s : FrontState) (v : front.View) → length (enter_lines s v) ≤ 3
 enters_few s v = enters_cases (λ (after : front.View) (shown : List Line). length shown ≤ 3) s v (λ may. state_few s) (omega arith)
 
-attach_few : (b : Bool) (shown : Shown) → length (if b then Move shown ∷ [] else []) ≤ 3
-attach_few true shown = omega arith
-attach_few false shown = omega arith
-
 abbrev IsNoRead : BackAct → Type 0
 IsNoRead a = reads_at (Move a.shown) ≡ 0
 
@@ -216,16 +212,13 @@ ring_few w ring.BackMoves = short_reads (ring.lines_at w ring.BackMoves) (back_s
 ring_few w (ring.JobMoves number outcome) = let none = job_reads w number outcome (job_turn w number outcome) refl in omega arith
 ring_few w (ring.Negotiates at move) = short_reads (ring.lines_at w (ring.Negotiates at move)) (key_few w.back.stage at move w.under.keys)
 ring_few w (ring.FrontEnters s) = short_reads (ring.lines_at w (ring.FrontEnters s)) (enters_few s w.front)
-ring_few w (ring.BackAttaches shape grefs port) = short_reads (ring.lines_at w (ring.BackAttaches shape grefs port)) (attach_few (ring.attaches_at w shape grefs) (ring.layout_read w))
+ring_few w (ring.BackAttaches shape grefs port) = short_reads (ring.lines_at w (ring.BackAttaches shape grefs port)) (one_few (ring.attaches_at w shape grefs) (Move (ring.layout_read w)))
 ring_few w (ring.BackHalts why) = let few = halt_few w.back.halted (let b : back.View = back_step.halts why w.back in b.halted) in short_reads (ring.lines_at w (ring.BackHalts why)) (omega arith)
-ring_few w (ring.Submits job) = short_reads (ring.lines_at w (ring.Submits job)) (omega arith)
-ring_few w (ring.Notifies at) = short_reads (ring.lines_at w (ring.Notifies at)) (omega arith)
 ring_few w (ring.Pokes frame word value) = short_reads (ring.lines_at w (ring.Pokes frame word value)) (one_few (is_guest_word frame word) (Poke frame word value))
 ring_few w (ring.OverwritesKey name text) = short_reads (ring.lines_at w (ring.OverwritesKey name text)) (one_few (is_guest_key name text) (Key name text))
 ring_few w ring.Suspends = short_reads (ring.lines_at w ring.Suspends) (one_few (rings.may_suspend w) Epoch)
 ring_few w ring.Dumps = let none = words_reads w.under.pages 0 (1024 * 2 ^ w.front.shape.order) in omega arith
-ring_few w (ring.Looks quiet) = short_reads (ring.lines_at w (ring.Looks quiet)) (omega arith)
-ring_few w (ring.Settles quiet) = short_reads (ring.lines_at w (ring.Settles quiet)) (omega arith)
+ring_few w h = short_reads (ring.lines_at w h) (omega arith)
 
 ring_by : (hs : List ring.Happening) (w : rings.World) → reads_of (ring.lines_of hs w) ≤ tally_of hs
 ring_by [] w = omega arith
@@ -326,15 +319,7 @@ small w BackMoves =
     let b : BackView = back_bus_after w (vbd_happening.back_turn w) in
     either_small (is_backs_ring w) (ring.BackMoves ∷ []) (back_negotiates (attaches w b) w b) (alone_small ring.BackMoves) (negotiates_small (attaches w b) w b)
 small w (Closes at) = closes_small at
-small w (JobMoves number outcome) = alone_small (ring.JobMoves number outcome)
-small w (Submits job) = alone_small (ring.Submits job)
-small w (Notifies at) = alone_small (ring.Notifies at)
-small w (Pokes frame word value) = alone_small (ring.Pokes frame word value)
-small w (OverwritesKey name text) = alone_small (ring.OverwritesKey name text)
-small w Suspends = alone_small ring.Suspends
-small w Dumps = alone_small ring.Dumps
-small w (Looks quiet) = alone_small (ring.Looks quiet)
-small w (Settles quiet) = alone_small (ring.Settles quiet)
+small w h = alone_small _
 
 one_tally : (h : ring.Happening) → tally_at h ≤ 3
 one_tally (ring.JobMoves number outcome) = omega arith
@@ -353,17 +338,7 @@ does_few w (JobMoves number outcome) =
     let tally = sum_by-cons tally_at (ring.JobMoves number outcome) [] in
     let fetches = sum_by-cons fetches_at (ring.JobMoves number outcome) [] in
     (omega arith, omega arith)
-does_few w FrontMoves = by_small (small w FrontMoves)
-does_few w BackMoves = by_small (small w BackMoves)
-does_few w (Closes at) = by_small (small w (Closes at))
-does_few w (Submits job) = by_small (small w (Submits job))
-does_few w (Notifies at) = by_small (small w (Notifies at))
-does_few w (Pokes frame word value) = by_small (small w (Pokes frame word value))
-does_few w (OverwritesKey name text) = by_small (small w (OverwritesKey name text))
-does_few w Suspends = by_small (small w Suspends)
-does_few w Dumps = by_small (small w Dumps)
-does_few w (Looks quiet) = by_small (small w (Looks quiet))
-does_few w (Settles quiet) = by_small (small w (Settles quiet))
+does_few w h = by_small (small w h)
 
 all_few : (hs : List Happening) (w : World) → (tally_of (all_does hs w) ≤ 9 * others_of hs) × (fetches_of (all_does hs w) ≤ others_of hs)
 all_few [] w = (omega arith, omega arith)

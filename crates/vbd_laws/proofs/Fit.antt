@@ -41,7 +41,7 @@ use Rattle.xenbus_state.proofs.BackTurns.{back_starts}
 use Rattle.vbd_back.specs.View.{offer}
 use Rattle.split_model.proofs.Overwriting.{poke_cases, overwriting_cases}
 use Rattle.vbd_model.specs.World.{World, start_of}
-use Rattle.vbd_model.specs.Happening.{Happening, FrontMoves, BackMoves, JobMoves, Closes, Submits, Notifies, Pokes, OverwritesKey, Suspends, Dumps, Looks, Settles, happens, after}
+use Rattle.vbd_model.specs.Happening.{Happening, FrontMoves, BackMoves, JobMoves, Closes, Submits, Notifies, Pokes, OverwritesKey, Suspends, happens, after}
 use Rattle.vbd_model.specs.Fit.{FrontRests, FrontGoesWith, IsAgreed, FrontOrdered, IsUnbound, has_terms, IsOffered, SaysKey, IsFit}
 use Rattle.vbd_laws.proofs.FitChannels.{IsUnported, job_leaves, notified}
 use Rattle.vbd_laws.proofs.FitFront.{fit_front_moves, fit_front_closes}
@@ -284,9 +284,7 @@ fit_happens w (Notifies at) fit = fit_notify w at fit
 fit_happens w (Pokes frame word value) fit = fit_poke w frame word value fit
 fit_happens w (OverwritesKey name text) fit = fit_key w name text fit
 fit_happens w Suspends fit = fit_suspends w fit
-fit_happens w Dumps fit = fit
-fit_happens w (Looks quiet) fit = fit
-fit_happens w (Settles quiet) fit = fit
+fit_happens w h fit = fit
 
 -- whatever has happened
 pub fit_after : (hs : List Happening) (w : World) → IsFit w → IsFit (after hs w)

@@ -49,7 +49,7 @@ use Rattle.vbd_front.specs.View as front_view
 use Rattle.vbd_front.specs.Ask as front
 use Rattle.vbd_back.specs.Ask as back
 use Rattle.vbd_model.specs.World.{World, frontend_of, backend_of}
-use Rattle.vbd_model.specs.Happening.{Happening, FrontMoves, BackMoves, JobMoves, Closes, Submits, Notifies, Pokes, OverwritesKey, Suspends, Dumps, Looks, Settles, front_turn, back_turn, front_does, back_does, renewed_bus, does, happens}
+use Rattle.vbd_model.specs.Happening.{Happening, FrontMoves, BackMoves, JobMoves, Closes, Submits, Notifies, Pokes, OverwritesKey, Suspends, front_turn, back_turn, front_does, back_does, renewed_bus, does, happens}
 use Rattle.vbd_model.specs.Possible.{IsPossible}
 use Rattle.vbd_model.specs.Fit.{IsEndingPage, FrontRests, IsGranting, IsUnbegun, FrontGoesWith, BackGoesWith, IsFit}
 use Rattle.vbd_laws.specs.Moves.{IsNoMove}
@@ -57,7 +57,7 @@ use Rattle.vbd_laws.specs.Quiet.{IsUntouched, StatesAgree}
 use Rattle.vbd_laws.proofs.MovesTurns.{front_asks, back_asks, front_cases, back_cases}
 use Rattle.vbd_laws.proofs.MovesFront.{front_move_none}
 use Rattle.vbd_laws.proofs.MovesBack.{back_move_none}
-use Rattle.vbd_laws.proofs.ServedPossible.{closes_served}
+use Rattle.vbd_laws.proofs.ServedPossible.{served_by}
 
 -- the front is closed, and the back has halted and holds no job; the directory has their states alone, no port is there, and no event is pending
 pub record IsGone (w : World) : Type 0 where
@@ -293,18 +293,7 @@ module _ (w : World) (fit : IsFit w) (gone : IsGone w) where
       (λ quiet moves. (λ e. absurd (true≢false (sym halted ∙ e)), tt)) (λ quiet still. absurd (true≢false (sym back_moves ∙ still)))
 
   pub gone_served : (h : Happening) → IsUntouched h → IsPossible w h → ring_allowed.AreServed (does w h) w.rings
-  gone_served FrontMoves untouched is = front_served
-  gone_served BackMoves untouched is = back_served
-  gone_served (JobMoves number outcome) untouched is = (is, tt)
-  gone_served (Closes at) untouched is = closes_served w.rings at
-  gone_served (Submits job) untouched is = (is, tt)
-  gone_served (Notifies at) untouched is = (tt, tt)
-  gone_served (Pokes frame word value) untouched is = absurd untouched
-  gone_served (OverwritesKey name text) untouched is = absurd untouched
-  gone_served Suspends untouched is = (is, tt)
-  gone_served Dumps untouched is = (tt, tt)
-  gone_served (Looks quiet) untouched is = (λ e. gone_quiet, tt)
-  gone_served (Settles quiet) untouched is = (λ e. gone_quiet, tt)
+  gone_served h untouched is = served_by w front_served back_served (λ rests. gone_quiet) h untouched is
 
   -- and both ends are closed, which the directory says
   six : Some (codes "6") ≡ Some (state_text state.Closed)

@@ -85,7 +85,7 @@ use Rattle.vbd_front.specs.Step as front_step
 use Rattle.vbd_back.specs.Ask as back
 use Rattle.vbd_back.specs.Step as back_step
 use Rattle.vbd_model.specs.World.{World, start_of, frontend_of, backend_of, is_quiet}
-use Rattle.vbd_model.specs.Happening.{Happening, FrontMoves, BackMoves, JobMoves, Closes, Submits, Notifies, Pokes, OverwritesKey, Suspends, Dumps, Looks, Settles, front_turn, back_turn, entered_at, halted_at, reasons_of, front_key, front_does, back_does, is_backs_ring, attaches, back_negotiates, does, happens, after, all_does}
+use Rattle.vbd_model.specs.Happening.{Happening, FrontMoves, BackMoves, Closes, Pokes, OverwritesKey, Suspends, front_turn, back_turn, entered_at, halted_at, reasons_of, front_key, front_does, back_does, is_backs_ring, attaches, back_negotiates, does, happens, after, all_does}
 use Rattle.vbd_model.specs.Possible.{IsPossible, ArePossible}
 use Rattle.vbd_model.specs.Kind.{are_carried}
 use Rattle.vbd_model.specs.Fit.{FrontRests, FrontGoesWith, FrontOrdered, IsAborting as Aborts, IsUnmapping, is_serving, BackRests, BackReads, BackGoesWith, IsFit}
@@ -113,7 +113,7 @@ use Rattle.vbd_laws.specs.Waits.{Check, Awake, front_check_in, back_check_in}
 use Rattle.vbd_laws.proofs.WaitsFront.{Knows as FrontKnows, in_hand, knows_on as front_knows_on, knows_start as front_knows_start}
 use Rattle.vbd_laws.proofs.WaitsBack.{Knows as BackKnows, knows_on as back_knows_on, knows_start as back_knows_start}
 use Rattle.vbd_laws.proofs.AtRest.{AreWaiting, are_unled}
-use Rattle.vbd_laws.proofs.ServedPossible.{way_start, IsWord, same_is, entered_words, closes_served, Stands, stands_start, stands_on, joined_start}
+use Rattle.vbd_laws.proofs.ServedPossible.{way_start, IsWord, same_is, entered_words, served_by, Stands, stands_start, stands_on, joined_start}
 
 -- each end is somewhere in its final check
 abbrev FrontChecks : World → Type 0
@@ -635,23 +635,10 @@ module _ (config : Options) (w : World) (honest : Honest config w) (going : Goin
 pub quiet_ring : (config : Options) (w : World) → Honest config w → is_quiet w ≡ true → rings.is_quiet w.rings ≡ true
 quiet_ring config w honest quiet = elim honest.going [ inl going ↦ going_quiet config w honest going quiet | inr gone ↦ gone_quiet w honest.stands.fit gone ]
 
-going_served : (config : Options) (w : World) (h : Happening) → IsUntouched h → Honest config w → Going w → IsPossible w h → ring_allowed.AreServed (does w h) w.rings
-going_served config w FrontMoves untouched honest going is = front_served config w honest going
-going_served config w BackMoves untouched honest going is = back_served config w honest going
-going_served config w (JobMoves number outcome) untouched honest going is = (is, tt)
-going_served config w (Closes at) untouched honest going is = closes_served w.rings at
-going_served config w (Submits job) untouched honest going is = (is, tt)
-going_served config w (Notifies at) untouched honest going is = (tt, tt)
-going_served config w (Pokes frame word value) untouched honest going is = absurd untouched
-going_served config w (OverwritesKey name text) untouched honest going is = absurd untouched
-going_served config w Suspends untouched honest going is = (is, tt)
-going_served config w Dumps untouched honest going is = (tt, tt)
-going_served config w (Looks quiet) untouched honest going is = (λ e. going_quiet config w honest going (is e), tt)
-going_served config w (Settles quiet) untouched honest going is = (λ e. going_quiet config w honest going (is e), tt)
-
 served_at : (config : Options) (w : World) (h : Happening) → IsUntouched h → Honest config w → IsPossible w h → ring_allowed.AreServed (does w h) w.rings
 served_at config w h untouched honest is =
-    elim honest.going [ inl going ↦ going_served config w h untouched honest going is | inr gone ↦ gone_served w honest.stands.fit gone h untouched is ]
+    let quiet = going_quiet config w honest in
+    elim honest.going [ inl going ↦ served_by w (front_served config w honest going) (back_served config w honest going) (quiet going) h untouched is | inr gone ↦ gone_served w honest.stands.fit gone h untouched is ]
 
 -- the negotiation goes on as a run
 front_joins : (config : Options) (w : World) → Honest config w → Going w → Joined (happens w FrontMoves)

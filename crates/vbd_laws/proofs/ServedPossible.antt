@@ -1,5 +1,4 @@
 -- Whatever happens to the machine is possible for the machine of its ring.
-use Rattle.vbd_laws.proofs.Offered.{agreed_offered}
 use Rattle.std.proofs.Common.{inl, ◌≡◌, ◌∙◌, sym, ℕ, ◌^◌, ◌<◌, ◌&&◌, Bool, true, false, if◌then◌else◌, List, [], ◌∷◌, ◌++◌, map, refl, arith}
 use Rattle.std.specs.Prelude.{Option, Some, None}
 use Rattle.std.specs.List.{AllByRecursion}
@@ -30,11 +29,13 @@ use Rattle.vbd_front.specs.Step as front_step
 use Rattle.vbd_back.specs.View as back_view
 use Rattle.vbd_back.specs.Ask as back
 use Rattle.vbd_back.specs.Step as back_step
-use Rattle.vbd_model.specs.World.{World, start_of, frontend_of, backend_of}
-use Rattle.vbd_model.specs.Happening.{Happening, FrontMoves, BackMoves, Closes, Notifies, Suspends, Dumps, Looks, Settles, front_turn, back_turn, entered_at, halted_at, reasons_of, closes_does, front_does, back_does, renewed_bus, does, happens, all_does}
+use Rattle.vbd_model.specs.World.{World, start_of, frontend_of, backend_of, is_quiet}
+use Rattle.vbd_model.specs.Happening.{Happening, FrontMoves, BackMoves, Closes, Pokes, OverwritesKey, Suspends, Looks, Settles, front_turn, back_turn, entered_at, halted_at, reasons_of, closes_does, front_does, back_does, renewed_bus, does, happens, all_does}
 use Rattle.vbd_model.specs.Possible.{IsPossible, ArePossible}
 use Rattle.vbd_model.specs.Fit.{IsFit}
+use Rattle.vbd_laws.specs.Quiet.{IsUntouched}
 use Rattle.vbd_laws.proofs.Fit.{fit_start, fit_happens}
+use Rattle.vbd_laws.proofs.Offered.{agreed_offered}
 use Rattle.vbd_laws.proofs.MovesTurns.{front_asks, back_asks, back_learns, front_cases, back_cases}
 use Rattle.vbd_laws.proofs.ServedFront as fronts
 use Rattle.vbd_laws.proofs.ServedFront.{IsNewsAt, news_is, front_speaks, front_spelled, closed_speaks, suspended_speaks}
@@ -130,6 +131,18 @@ pub closes_served : (w : rings.World) (at : End) → ring_allowed.AreServed (clo
 closes_served w end.Front = (tt, tt)
 closes_served w end.Back = tt
 
+-- what happens is served where the moves of both ends are, and where the ring rests whenever the machine does
+pub served_by : (w : World) → ring_allowed.AreServed (front_does w) w.rings → ring_allowed.AreServed (back_does w) w.rings → (is_quiet w ≡ true → rings.is_quiet w.rings ≡ true)
+    → (h : Happening) → IsUntouched h → IsPossible w h → ring_allowed.AreServed (does w h) w.rings
+served_by w front back rests FrontMoves untouched is = front
+served_by w front back rests BackMoves untouched is = back
+served_by w front back rests (Closes at) untouched is = closes_served w.rings at
+served_by w front back rests (Pokes frame word value) untouched is = absurd untouched
+served_by w front back rests (OverwritesKey name text) untouched is = absurd untouched
+served_by w front back rests (Looks quiet) untouched is = (λ e. rests (is e), tt)
+served_by w front back rests (Settles quiet) untouched is = (λ e. rests (is e), tt)
+served_by w front back rests h untouched is = (is, tt)
+
 closes_possible : (w : rings.World) (at : End) → ring_allowed.ArePossible (closes_does at) w
 closes_possible w end.Front = (tt, tt)
 closes_possible w end.Back = tt
@@ -138,8 +151,6 @@ possible_at : (w : World) (h : Happening) → Stands w → IsPossible w h → ri
 possible_at w FrontMoves stands is = front_possible w stands
 possible_at w BackMoves stands is = back_possible w stands
 possible_at w (Closes at) stands is = closes_possible w.rings at
-possible_at w (Notifies at) stands is = (tt, tt)
-possible_at w Dumps stands is = (tt, tt)
 possible_at w (Looks quiet) stands is = (tt, tt)
 possible_at w (Settles quiet) stands is = (tt, tt)
 possible_at w h stands is = (is, tt)

@@ -1,4 +1,4 @@
-use Rattle.std.proofs.Common.{◌≡◌, ℕ, List, ap, sym, refl, ◌∙◌}
+use Rattle.std.proofs.Common.{ℕ, List, ap, sym, refl, ◌∙◌}
 use Rattle.hypervisor.specs.Hypervisor.{Hypervisor}
 use Rattle.hypervisor.specs.Suspend.{suspended}
 use Rattle.vbd_back.specs.View.{renewed}

@@ -1,4 +1,4 @@
--- The words of a line have at most 80 bytes, but for those of a sector.
+-- Each word of a line has at most 80 bytes, all above a space, but for those of a sector.
 use Rattle.std.proofs.Common.{◌≡◌, ℕ, Bool, true, false, List, ◌++◌, Some, None, refl, ◌&&◌, arith, true≢false}
 use Rattle.blk_base.specs.declared.operation.Abi.{Abi}
 use Rattle.blk_base.specs.declared.operation.Abi.TheVariants.{X64, X32}
@@ -26,7 +26,7 @@ use Rattle.schedule_text.specs.declared.line.Line.{Line}
 use Rattle.schedule_text.specs.declared.line.Line.TheVariants as lines
 use Rattle.schedule_text.specs.Line.{words_of, abi_word, access_word, detail_word, status_word, refusal_word, job_words, halt_words, mover_words, back_words, mode_word, move_words}
 use Rattle.schedule_text.specs.Range.{IsInRange, JobHasWidths, HaltHasWidths, MoverHasWidths, BackHasWidths, MoveHasWidths, is_halt_allowed, is_move_allowed, is_mover_allowed}
-use Rattle.legal_laws.proofs.Words.{is_narrow, AreNarrow, narrow_decimal, small, narrow_hex, narrow_signed, narrow_name, narrow_text, narrow_equals, narrow_path}
+use Rattle.schedule_text.proofs.NarrowWords.{is_narrow, AreNarrow, narrow_decimal, small, narrow_hex, narrow_signed, narrow_name, narrow_text, narrow_equals, narrow_path}
 
 narrow_abi : (abi : Abi) → is_narrow (abi_word abi) ≡ true
 narrow_abi X64 = refl
@@ -60,7 +60,7 @@ narrow_mode : (m : Mode) → is_narrow (mode_word m) ≡ true
 narrow_mode ReadOnly = refl
 narrow_mode ReadWrite = refl
 
-narrow_job : (job : Job) → JobHasWidths job → AreNarrow (job_words job)
+pub narrow_job : (job : Job) → JobHasWidths job → AreNarrow (job_words job)
 narrow_job (jobs.Read s c) h = rw (narrow_decimal s h.0, small c h.1.1) refl
 narrow_job (jobs.Write s c t) h = rw (narrow_decimal s h.0, small c h.1.1, narrow_hex t) refl
 narrow_job (jobs.Barrier s c t) h = rw (narrow_decimal s h.0, small c h.1.1, narrow_hex t) refl
