@@ -21,29 +21,32 @@ use Rattle.commands.specs.declared.words.Command.TheVariants.{Inspect, Run, Chec
 abbrev pub image_rule : Rule
 image_rule = record (new_rule (codes "image")) { required = true }
 
--- `--start`, a number of 32 bits, and 0 where there is none
-abbrev pub start_rule : Rule
-start_rule = record (new_rule (codes "start")) { long = Some (codes "start"); defaults = codes "0" ∷ []; parser = Some (parser.Unsigned 0 4294967295) }
+-- `--ID`
+abbrev pub flag_rule : Text → Rule
+flag_rule id = record (new_rule id) { long = Some id; action = Some SetTrue }
 
--- `--indirect`, a number from 0 to 960, and 0 where there is none
-abbrev pub indirect_rule : Rule
-indirect_rule = record (new_rule (codes "indirect")) { long = Some (codes "indirect"); defaults = codes "0" ∷ []; parser = Some (parser.Unsigned 0 960) }
+-- `--ID N`, a number within these bounds, and that one where there is none
+abbrev pub option_rule : Text → ℕ → ℕ → Text → Rule
+option_rule id least most default = record (new_rule id) { long = Some id; defaults = default ∷ []; parser = Some (parser.Unsigned least most) }
 
--- `--moves`
 abbrev pub moves_rule : Rule
-moves_rule = record (new_rule (codes "moves")) { long = Some (codes "moves"); action = Some SetTrue }
+moves_rule = flag_rule (codes "moves")
 
--- `--read-only`
 abbrev pub read_only_rule : Rule
-read_only_rule = record (new_rule (codes "read-only")) { long = Some (codes "read-only"); action = Some SetTrue }
+read_only_rule = flag_rule (codes "read-only")
 
--- `--abi`, a number from 32 to 64, and 64 where there is none
+-- a number of 32 bits, and 0 where there is none
+abbrev pub start_rule : Rule
+start_rule = option_rule (codes "start") 0 4294967295 (codes "0")
+
+abbrev pub indirect_rule : Rule
+indirect_rule = option_rule (codes "indirect") 0 960 (codes "0")
+
 abbrev pub abi_rule : Rule
-abi_rule = record (new_rule (codes "abi")) { long = Some (codes "abi"); defaults = codes "64" ∷ []; parser = Some (parser.Unsigned 32 64) }
+abi_rule = option_rule (codes "abi") 32 64 (codes "64")
 
--- `--order`, a number from 0 to 4, and 0 where there is none
 abbrev pub order_rule : Rule
-order_rule = record (new_rule (codes "order")) { long = Some (codes "order"); defaults = codes "0" ∷ []; parser = Some (parser.Unsigned 0 4) }
+order_rule = option_rule (codes "order") 0 4 (codes "0")
 
 -- a number of 64 bits, which has to be there
 abbrev pub number_rule : Text → Rule

@@ -3,7 +3,7 @@ ghost use Rattle.std.specs.Prelude.{◌≡◌, ℕ, IfOk, codes, map, option_map
 ghost use Rattle.std.specs.String.{string_bytes};
 ghost use Rattle.clap.specs.Words.{first_of, found_of, rows_of, subcommand_rows_of, rule_of};
 ghost use Rattle.commands.specs.Words.{wish_of, wish_by, wish_in, run_in, run_with, ring_in, bench_in, flag_in, number_in, start_of, indirect_of, layout_of, order_of};
-ghost use Rattle.commands.specs.Words.{command_set, read_set, run_set, shape_set, inspect_set, check_set, bench_set, image_rule, moves_rule, start_rule, indirect_rule, read_only_rule, abi_rule, order_rule, number_rule};
+ghost use Rattle.commands.specs.Words.{command_set, read_set, run_set, shape_set, inspect_set, check_set, bench_set, image_rule, flag_rule, option_rule, abi_rule, order_rule, number_rule};
 ghost use Rattle.commands.specs.Reading.{IsArgument, IsSet};
 
 use blk_base::{Abi, OutOfMemory};
@@ -91,9 +91,9 @@ fn run_command<'a>(alloc: Global) -> Result<clap::Command<'a>, AllocError>
     ensures { IfOk result (IsSet run_set) }
 {
     run_command_up_to_order(alloc)?
-        .arg(start_option(alloc))?
-        .arg(indirect_option(alloc))?
-        .arg(read_only_flag(alloc))
+        .arg(number_option(alloc, "start", 0, u32::MAX, "0"))?
+        .arg(number_option(alloc, "indirect", 0, 960, "0"))?
+        .arg(flag_argument(alloc, "read-only"))
 }
 
 // The first words of `run`, up to those on the shape of the ring.
@@ -102,7 +102,7 @@ fn run_command_up_to_order<'a>(alloc: Global) -> Result<clap::Command<'a>, Alloc
 {
     clap::Command::new(alloc, "run")
         .arg(image_argument(alloc))?
-        .arg(moves_flag(alloc))?
+        .arg(flag_argument(alloc, "moves"))?
         .arg(abi_option(alloc))?
         .arg(order_option(alloc))
 }
@@ -146,56 +146,33 @@ fn number_argument<'a>(alloc: Global, id: &'a str) -> Arg<'a>
         .value_parser(value_parser!(u64))
 }
 
-fn moves_flag<'a>(alloc: Global) -> Arg<'a>
-    ensures { IsArgument moves_rule result }
+// `--ID`.
+fn flag_argument<'a>(alloc: Global, id: &'a str) -> Arg<'a>
+    ensures { IsArgument (flag_rule id.now) result }
 {
-    Arg::new(alloc, "moves")
-        .long("moves")
-        .action(ArgAction::SetTrue)
+    Arg::new(alloc, id).long(id).action(ArgAction::SetTrue)
 }
 
-fn start_option<'a>(alloc: Global) -> Arg<'a>
-    ensures { IsArgument start_rule result }
+// `--ID N`, N from `least` to `most`, and `default` where there is none.
+fn number_option<'a>(alloc: Global, id: &'a str, least: u32, most: u32, default: &'a str) -> Arg<'a>
+    ensures { IsArgument (option_rule id.now least most default.now) result }
 {
-    Arg::new(alloc, "start")
-        .long("start")
-        .value_parser(value_parser!(u64).range(0..=4_294_967_295))
-        .default_value("0")
-}
-
-fn indirect_option<'a>(alloc: Global) -> Arg<'a>
-    ensures { IsArgument indirect_rule result }
-{
-    Arg::new(alloc, "indirect")
-        .long("indirect")
-        .value_parser(value_parser!(u64).range(0..=960))
-        .default_value("0")
-}
-
-fn read_only_flag<'a>(alloc: Global) -> Arg<'a>
-    ensures { IsArgument read_only_rule result }
-{
-    Arg::new(alloc, "read-only")
-        .long("read-only")
-        .action(ArgAction::SetTrue)
+    Arg::new(alloc, id)
+        .long(id)
+        .value_parser(value_parser!(u64).range(i64::from(least)..=i64::from(most)))
+        .default_value(default)
 }
 
 fn abi_option<'a>(alloc: Global) -> Arg<'a>
     ensures { IsArgument abi_rule result }
 {
-    Arg::new(alloc, "abi")
-        .long("abi")
-        .value_parser(value_parser!(u64).range(32..=64))
-        .default_value("64")
+    number_option(alloc, "abi", 32, 64, "64")
 }
 
 fn order_option<'a>(alloc: Global) -> Arg<'a>
     ensures { IsArgument order_rule result }
 {
-    Arg::new(alloc, "order")
-        .long("order")
-        .value_parser(value_parser!(u64).range(0..=4))
-        .default_value("0")
+    number_option(alloc, "order", 0, 4, "0")
 }
 
 // The command that the matches of a parse ask for.
