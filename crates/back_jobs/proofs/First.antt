@@ -11,7 +11,7 @@ use Rattle.back_jobs.specs.Task.{Work, step_of}
 use Rattle.back_jobs.specs.Jobs.{is_done, is_ordered, is_barrier, holds_barriers, holds_all}
 use Rattle.back_jobs.specs.Sound.{AreFirst, ordered_place, barrier_place}
 use Rattle.back_jobs.specs.Order.{done_with, without}
-use Rattle.back_jobs.proofs.Sizes.{step_op}
+use Rattle.back_jobs.proofs.Kept.{step_op}
 
 more_at : (b e : Bool) (n m : ℕ) → cond e (n + cond b 0 1) m ≡ (if e then (if b then n else n + 1) else m)
 more_at true true n m = grind (arith)

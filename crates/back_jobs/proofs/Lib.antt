@@ -1,5 +1,6 @@
 pub mod Served
 pub mod Hands
+pub mod Kept
 pub mod Sizes
 pub mod Order
 pub mod Numbers

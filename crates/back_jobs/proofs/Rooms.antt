@@ -1,62 +1,18 @@
 -- Each room for copied segments is spare, or a job has it.
-use Rattle.std.proofs.Common.{◌≡◌, ℕ, ◌+◌, ◌<◌, ◌≤◌, Bool, true, false, if◌then◌else◌, cond, List, [], ◌∷◌, ◌++◌, length, drop, refl, sym, ap, ◌∙◌, arith}
+use Rattle.std.proofs.Common.{◌≡◌, ℕ, ◌+◌, ◌<◌, ◌≤◌, Bool, true, false, if◌then◌else◌, cond, List, [], ◌∷◌, ◌++◌, length, refl, sym, ap, ◌∙◌, arith}
 use Rattle.std.specs.Prelude.{◌≢◌, Some, slice_get, slice_set, slice_index_or, remove, nat_lt, ◌==◌}
 use Rattle.std.specs.List.{count_by}
 use Rattle.std.proofs.lemmas.Bool.Decides.{nat_tests}
 use Rattle.std.proofs.lemmas.Option.{slice_get_within, get_or_from_slice_get}
 use Rattle.std.proofs.lemmas.List.Sums.{sum_by_push, sum_by-set, sum_by-remove, count_by-le-length}
-use Rattle.blk_base.specs.declared.parts.Mapping.{Mapping}
-use Rattle.blk_base.specs.declared.operation.Status.TheVariants.{Error}
 use Rattle.blk_base.specs.declared.ask.BackAnswer.{BackAnswer}
-use Rattle.blk_base.specs.declared.ask.BackAnswer.TheVariants as answer
-use Rattle.blk_layout.specs.declared.segment.Segment.{Segment}
-use Rattle.back_jobs.specs.declared.stage.Stage.{Stage}
-use Rattle.back_jobs.specs.declared.stage.Stage.TheVariants as stage
-use Rattle.back_jobs.specs.Task.{Work, step_of, step_at, next_sector, next_segment, sector_stage, counted, passes, judged, page_done, first_of, rest_of, last_of}
+use Rattle.back_jobs.specs.Task.{Work, step_of}
 use Rattle.back_jobs.specs.Segments.{is_paged, AreShared}
-
-either_named : (b : Bool) (x y : Work) (n : ℕ) → x.named ≡ n → y.named ≡ n → (if b then x else y).named ≡ n
-either_named true x y n p q = p
-either_named false x y n p q = q
-
-next_sector_named : (t : Work) (m : Mapping) → (next_sector t m).named ≡ t.named
-next_sector_named t m = either_named (t.within == last_of t.rest) (record t { stage = stage.Unmap m }) (record t { within = t.within + 1; stage = sector_stage t.writes m }) t.named refl refl
-
-next_segment_named : (t : Work) (rest : List Segment) → (next_segment t rest).named ≡ t.named
-next_segment_named t [] = refl
-next_segment_named t (s ∷ rest) = refl
-
-judged_named : (t : Work) → (judged t).named ≡ t.named
-judged_named t = either_named (passes t) (record t { within = first_of t.rest; stage = stage.Map }) (record t { stage = stage.Done Error }) t.named refl refl
-
-page_done_named : (t : Work) → (page_done t).named ≡ t.named
-page_done_named t = either_named (length t.rest == t.named) (judged t) (record t { pages = drop 1 t.pages; stage = stage.MapPage }) t.named (judged_named t) refl
-
-step_named_at : (s : Stage) (t : Work) (given : BackAnswer) → (step_at s t given).named ≡ t.named
-step_named_at stage.MapPage t (answer.Mapped m) = refl
-step_named_at stage.MapPage t (answer.MapRefused status) = refl
-step_named_at (stage.PageReference m) t (answer.Word word) = refl
-step_named_at (stage.PageSectors m gref) t (answer.Word word) = refl
-step_named_at (stage.UnmapPage m) t answer.Done = page_done_named t
-step_named_at stage.Map t (answer.Mapped m) = refl
-step_named_at stage.Map t (answer.MapRefused status) = refl
-step_named_at (stage.ReadWord m k) t (answer.Word word) = refl
-step_named_at (stage.DiskWrite m) t answer.Done = next_sector_named (counted t) m
-step_named_at (stage.DiskWrite m) t answer.DiskFailed = refl
-step_named_at (stage.DiskRead m) t (answer.Sector words) = refl
-step_named_at (stage.DiskRead m) t answer.DiskFailed = refl
-step_named_at (stage.WriteWord m k) t answer.Done = either_named (k == 127) (next_sector t m) (record t { stage = stage.WriteWord m (k + 1) }) t.named (next_sector_named t m) refl
-step_named_at (stage.Unmap m) t answer.Done = next_segment_named t (rest_of t.rest)
-step_named_at (stage.Abort m) t answer.Done = refl
-step_named_at stage.Flush t answer.Done = refl
-step_named_at stage.Flush t answer.DiskFailed = refl
-step_named_at (stage.Trim count) t answer.Done = refl
-step_named_at (stage.Trim count) t answer.DiskFailed = refl
-step_named_at s t given = refl
+use Rattle.back_jobs.proofs.Kept.{step_named}
 
 -- an answer leaves a job the room that it has
 step_paged : (t u : Work) (a : BackAnswer) → u ≡ step_of t a → is_paged u ≡ is_paged t
-step_paged t u a is = ap (λ n. nat_lt 0 n) (ap (λ (w : Work). w.named) is ∙ step_named_at t.stage t a)
+step_paged t u a is = ap (λ n. nat_lt 0 n) (ap (λ (w : Work). w.named) is ∙ step_named t a)
 
 abbrev rooms_of : Work → ℕ
 rooms_of t = cond (is_paged t) 1 0

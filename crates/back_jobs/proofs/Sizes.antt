@@ -1,12 +1,11 @@
 -- Every job knows the disk's size, and names only what it may.
-use Rattle.std.proofs.Common.{◌≡◌, ℕ, ◌+◌, Bool, true, false, if◌then◌else◌, cond, List, [], ◌∷◌, ◌++◌, take, drop, length, refl, sym, ap, ◌∙◌, suc, arith}
+use Rattle.std.proofs.Common.{◌≡◌, ℕ, Bool, true, false, if◌then◌else◌, cond, List, [], ◌∷◌, ◌++◌, take, refl, sym, ap, ◌∙◌, suc, arith}
 use Rattle.std.specs.Prelude.{Option, Some, None, Contains, is_some, not, remove, ◌==◌, nat_le}
 use Rattle.std.proofs.lemmas.Option.{get_or_from_slice_get, slice_get_within}
 use Rattle.std.proofs.lemmas.List.Elements.{All-tail, All-set, All-push, All-append, All-take, All-drop, All-get_or}
 use Rattle.blk_base.specs.declared.parts.Mapping.{Mapping}
 use Rattle.blk_base.specs.declared.operation.Status.TheVariants.{Error}
 use Rattle.blk_base.specs.declared.ask.BackAnswer.{BackAnswer}
-use Rattle.blk_base.specs.declared.ask.BackAnswer.TheVariants as answer
 use Rattle.blk_layout.specs.declared.segment.Segment.{Segment}
 use Rattle.blk_layout.specs.declared.request.RawRequest.{RawRequest}
 use Rattle.blk_layout.specs.declared.request.RawRequest.TheVariants.{Direct, Discard, Indirect}
@@ -14,104 +13,20 @@ use Rattle.segment_list.specs.declared.verdict.Verdict.{Verdict}
 use Rattle.segment_list.specs.declared.verdict.Verdict.TheVariants as verdict
 use Rattle.back_jobs.specs.declared.stage.Stage.{Stage}
 use Rattle.back_jobs.specs.declared.stage.Stage.TheVariants as stage
-use Rattle.back_jobs.specs.Task.{Work, ask_of, ask_at, map_ask, page_ask, passes, judged, page_done, paging, mode_of, step_of, step_at, sector_stage, next_sector, next_segment, counted, first_of, rest_of, last_of, begun, served, moving, ended, frameless}
+use Rattle.back_jobs.specs.Task.{Work, ask_at, map_ask, page_ask, paging, mode_of, step_of, begun, served, moving, ended, frameless}
 use Rattle.back_jobs.specs.Jobs.{mapping_at, work_at, told_at, after_mapping}
 use Rattle.back_jobs.specs.Sound.{AreSized, IsPlaced, StaysInPageAndDisk}
-use Rattle.back_jobs.specs.Hands.{hand_of, Names}
+use Rattle.back_jobs.specs.Hands.{Names}
 use Rattle.back_jobs.proofs.Hands.{hand_at}
+use Rattle.back_jobs.proofs.Kept.{step_size}
 
 -- the number and the disk's size that a job has
 abbrev Has : ℕ → ℕ → Work → Type 0
 Has number size t = (t.number ≡ number) × (t.size ≡ size)
 
--- an answer leaves a job its operation
-either_op : (b : Bool) (x y : Work) (op : ℕ) → x.op ≡ op → y.op ≡ op → (if b then x else y).op ≡ op
-either_op true x y op p q = p
-either_op false x y op p q = q
-
-next_sector_op : (t : Work) (m : Mapping) → (next_sector t m).op ≡ t.op
-next_sector_op t m = either_op (t.within == last_of t.rest) (record t { stage = stage.Unmap m }) (record t { within = t.within + 1; stage = sector_stage t.writes m }) t.op refl refl
-
-next_segment_op : (t : Work) (rest : List Segment) → (next_segment t rest).op ≡ t.op
-next_segment_op t [] = refl
-next_segment_op t (s ∷ rest) = refl
-
-judged_op : (t : Work) → (judged t).op ≡ t.op
-judged_op t = either_op (passes t) (record t { within = first_of t.rest; stage = stage.Map }) (record t { stage = stage.Done Error }) t.op refl refl
-
-page_done_op : (t : Work) → (page_done t).op ≡ t.op
-page_done_op t = either_op (length t.rest == t.named) (judged t) (record t { pages = drop 1 t.pages; stage = stage.MapPage }) t.op (judged_op t) refl
-
-step_op_at : (s : Stage) (t : Work) (given : BackAnswer) → (step_at s t given).op ≡ t.op
-step_op_at stage.MapPage t (answer.Mapped m) = refl
-step_op_at stage.MapPage t (answer.MapRefused status) = refl
-step_op_at (stage.PageReference m) t (answer.Word word) = refl
-step_op_at (stage.PageSectors m gref) t (answer.Word word) = refl
-step_op_at (stage.UnmapPage m) t answer.Done = page_done_op t
-step_op_at stage.Map t (answer.Mapped m) = refl
-step_op_at stage.Map t (answer.MapRefused status) = refl
-step_op_at (stage.ReadWord m k) t (answer.Word word) = refl
-step_op_at (stage.DiskWrite m) t answer.Done = next_sector_op (counted t) m
-step_op_at (stage.DiskWrite m) t answer.DiskFailed = refl
-step_op_at (stage.DiskRead m) t (answer.Sector words) = refl
-step_op_at (stage.DiskRead m) t answer.DiskFailed = refl
-step_op_at (stage.WriteWord m k) t answer.Done = either_op (k == 127) (next_sector t m) (record t { stage = stage.WriteWord m (k + 1) }) t.op (next_sector_op t m) refl
-step_op_at (stage.Unmap m) t answer.Done = next_segment_op t (rest_of t.rest)
-step_op_at (stage.Abort m) t answer.Done = refl
-step_op_at stage.Flush t answer.Done = refl
-step_op_at stage.Flush t answer.DiskFailed = refl
-step_op_at (stage.Trim count) t answer.Done = refl
-step_op_at (stage.Trim count) t answer.DiskFailed = refl
-step_op_at s t given = refl
-
-pub step_op : (t : Work) (given : BackAnswer) → (step_of t given).op ≡ t.op
-step_op t given = step_op_at t.stage t given
-
 either_has : (b : Bool) (x y : Work) (number size : ℕ) → Has number size x → Has number size y → Has number size (if b then x else y)
 either_has true x y number size p q = p
 either_has false x y number size p q = q
-
-next_sector_has : (t : Work) (m : Mapping) → Has t.number t.size (next_sector t m)
-next_sector_has t m = either_has (t.within == last_of t.rest) (record t { stage = stage.Unmap m }) (record t { within = t.within + 1; stage = sector_stage t.writes m }) t.number t.size (refl, refl) (refl, refl)
-
-next_segment_has : (t : Work) (rest : List Segment) → Has t.number t.size (next_segment t rest)
-next_segment_has t [] = (refl, refl)
-next_segment_has t (s ∷ rest) = (refl, refl)
-
-judged_has : (t : Work) → Has t.number t.size (judged t)
-judged_has t = either_has (passes t) (record t { within = first_of t.rest; stage = stage.Map }) (record t { stage = stage.Done Error }) t.number t.size (refl, refl) (refl, refl)
-
-page_done_has : (t : Work) → Has t.number t.size (page_done t)
-page_done_has t = either_has (length t.rest == t.named) (judged t) (record t { pages = drop 1 t.pages; stage = stage.MapPage }) t.number t.size (judged_has t) (refl, refl)
-
-step_has : (s : Stage) (t : Work) (given : BackAnswer) → Has t.number t.size (step_at s t given)
-step_has stage.MapPage t (answer.Mapped m) = (refl, refl)
-step_has stage.MapPage t (answer.MapRefused status) = (refl, refl)
-step_has (stage.PageReference m) t (answer.Word word) = (refl, refl)
-step_has (stage.PageSectors m gref) t (answer.Word word) = (refl, refl)
-step_has (stage.UnmapPage m) t answer.Done = page_done_has t
-step_has stage.Map t (answer.Mapped m) = (refl, refl)
-step_has stage.Map t (answer.MapRefused status) = (refl, refl)
-step_has (stage.ReadWord m k) t (answer.Word word) = (refl, refl)
-step_has (stage.DiskWrite m) t answer.Done = next_sector_has (counted t) m
-step_has (stage.DiskWrite m) t answer.DiskFailed = (refl, refl)
-step_has (stage.DiskRead m) t (answer.Sector words) = (refl, refl)
-step_has (stage.DiskRead m) t answer.DiskFailed = (refl, refl)
-step_has (stage.WriteWord m k) t answer.Done = either_has (k == 127) (next_sector t m) (record t { stage = stage.WriteWord m (k + 1) }) t.number t.size (next_sector_has t m) (refl, refl)
-step_has (stage.Unmap m) t answer.Done = next_segment_has t (rest_of t.rest)
-step_has (stage.Abort m) t answer.Done = (refl, refl)
-step_has stage.Flush t answer.Done = (refl, refl)
-step_has stage.Flush t answer.DiskFailed = (refl, refl)
-step_has (stage.Trim count) t answer.Done = (refl, refl)
-step_has (stage.Trim count) t answer.DiskFailed = (refl, refl)
-step_has s t given = (refl, refl)
-
--- an answer leaves a job its number and the disk's size
-pub step_number : (t : Work) (given : BackAnswer) → (step_of t given).number ≡ t.number
-step_number t given = (step_has t.stage t given).0
-
-pub step_size : (t : Work) (given : BackAnswer) → (step_of t given).size ≡ t.size
-step_size t given = (step_has t.stage t given).1
 
 served_has : (number : ℕ) (request : RawRequest) (size : ℕ) → Has number size (served number request size)
 served_has number (Direct op count device id sector segments) size =

@@ -10,7 +10,8 @@ use Rattle.back_jobs.specs.Sound.{AreSized, IsKept, done_numbers}
 use Rattle.back_jobs.proofs.Done.{done_after, told_done, undone}
 use Rattle.back_jobs.proofs.Listed.{noted, told_listed, listed_fewer, noting}
 use Rattle.back_jobs.proofs.Numbers.{set_ascending}
-use Rattle.back_jobs.proofs.Sizes.{step_number, told_sized}
+use Rattle.back_jobs.proofs.Kept.{step_number}
+use Rattle.back_jobs.proofs.Sizes.{told_sized}
 
 -- a job that is told an answer waits for none
 pub unheld : (held : Bool) (found : Option Work) (t : Work) (a : BackAnswer) → found ≡ Some t → IsAnswer (asked held found) a → IsAnswer (ask_of t) a
