@@ -57,7 +57,7 @@ pub fn the_front_connects_only_to_a_connected_back()
 {}
 
 /// The front ends its grants, closes its port and writes Closed only once the back has unmapped every
-/// page of the ring and its port, and has written Closed.
+/// page of the ring, closed its port and written Closed.
 pub fn the_front_leaves_after_the_back()
     ensures { LeavesAfterTheBack }
 {}

@@ -64,7 +64,7 @@ pub fn the_data_are_what_the_disk_gave()
         → AreData (ended_report_of config detail history) }
 {}
 
-/// AfterAll each move of the disk stands what came of it, by the request's id and the place in it, and
+/// After each move of the disk stands its outcome, by the request's id and the place in it, and
 /// nowhere else does such a line stand.
 pub fn the_effects_stand_after_their_moves()
     ensures report { (config : Options) (detail : Detail) (history : List Happening) → config.indirect ≤ 960
