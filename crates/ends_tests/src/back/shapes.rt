@@ -139,7 +139,7 @@ fn a_ring_of_two_pages_is_overrun_at_65(rt: HostRuntime) {
             &[
                 Step::Reads(RING, 0, 65),
                 Step::Halted(Some(Why::Overrun(65, 0))),
-                // both pages are unmapped in order, and the port
+                // both pages are unmapped in order, and the port is closed
                 Step::Does(Ask::Unmap(RING)),
                 Step::Does(Ask::Unmap(SECOND)),
                 Step::Does(Ask::ClosePort),

@@ -19,7 +19,7 @@ use blk_io::{Failed, SectorDisk};
 use event_channel::Port;
 
 impl Hypervisor {
-    /// Does what the back or a job asks, with the disk behind the back, and gives the answer; `None`,
+    /// Does what the back or a job asks, with the disk that the back serves, and gives the answer; `None`,
     /// with nothing done, exactly where the back waits and neither an event is pending nor a watch,
     /// writes a key outside its own directory, or where a job waits or asks for a key. Only a key that
     /// is set and a watch take memory: after `OutOfMemory` nothing has changed.
