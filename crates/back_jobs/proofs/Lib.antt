@@ -9,4 +9,4 @@ pub mod First
 pub mod Finding
 pub mod Listed
 pub mod Telling
-pub mod Rooms
+pub mod Spare

@@ -12,10 +12,10 @@ ghost use Rattle.ring_words.specs.Shape.{entries_of};
 mod finding;
 mod finished;
 mod order;
-mod rooms;
+mod spare;
 
 use crate::effect::Effect;
-use crate::segments::Room;
+use crate::segments::SegmentVec;
 use crate::task::Task;
 use blk_base::{BackAnswer, BackAsk, Mapping, OutOfMemory, Status};
 use blk_layout::RawRequest;
@@ -25,8 +25,8 @@ use finding::{
 use finished::{done_with, drop_first, first_done, lowest_done, note};
 use order::{first_holding, holding_after, without};
 use ring_words::RingShape;
-use rooms::{give_back, reserve_rooms, rooms_for};
 use segment_list::DiskInfo;
+use spare::{give_back, reserve_spare, vecs_for};
 use std::alloc::Global;
 use std::marker::Model;
 
@@ -48,9 +48,9 @@ pub struct Jobs {
     // how many jobs are held where there is none.
     ordered: usize,
     barrier: usize,
-    // The rooms for copied segments that no job has: where requests may be indirect there is one for
+    // The vectors for copied segments that no job has: where requests may be indirect there is one for
     // each job that there is room for.
-    rooms: Vec<Room>,
+    spare: Vec<SegmentVec>,
 }
 
 impl Model for Jobs {
@@ -65,7 +65,7 @@ impl Model for Jobs {
 
     ghost invariant = { λ j. IsKept j.ascending j.finished.items j.done_place j.room (vec_capacity j.tasks) (vec_capacity j.finished) j.info.sectors j.tasks.items
         × AreFirst j.ordered j.barrier j.tasks.items
-        × AreShared (length j.rooms.items) (vec_capacity j.rooms) j.room j.info.max_indirect j.tasks.items };
+        × AreShared (length j.spare.items) (vec_capacity j.spare) j.room j.info.max_indirect j.tasks.items };
 }
 
 impl Jobs {
@@ -75,7 +75,7 @@ impl Jobs {
         ensures { IfOk result (λ jobs. jobs ≡ none_held (entries_of shape.order) info) }
     {
         let room = shape.entries();
-        let rooms = reserve_rooms(alloc, rooms_for(info.max_indirect, room))?;
+        let spare = reserve_spare(alloc, vecs_for(info.max_indirect, room))?;
         let tasks = Vec::with_capacity(alloc, room as usize)?;
         let finished = Vec::with_capacity(alloc, room as usize)?;
         Ok(Jobs {
@@ -87,7 +87,7 @@ impl Jobs {
             done_place: 0,
             ordered: 0,
             barrier: 0,
-            rooms,
+            spare,
         })
     }
 
@@ -128,7 +128,7 @@ impl Jobs {
         requires { length self.old.works < self.old.room }
         ensures { self.new ≡ start_job self.old number request.now }
     {
-        let task = Task::begin(number, request, &self.info, &mut self.rooms);
+        let task = Task::begin(number, request, &self.info, &mut self.spare);
         let is_done = task.is_done();
         let count = self.tasks.len();
         self.done_place = done_with(self.done_place, count, is_done);
@@ -251,7 +251,7 @@ impl Jobs {
             self.finished.as_slice(),
         );
         let response = task.response();
-        give_back(&mut self.rooms, task);
+        give_back(&mut self.spare, task);
         response
     }
 
@@ -276,7 +276,7 @@ impl Jobs {
         ensures rest { self.new ≡ record self.old { works = after_mapping self.old.works } }
         ensures no_more { length self.new.works ≤ length self.old.works }
     {
-        let mapping = abort_first(&mut self.tasks, &mut self.rooms);
+        let mapping = abort_first(&mut self.tasks, &mut self.spare);
         let tasks = self.tasks.as_slice();
         // Those that are left no more go on, and are found by a walk.
         self.ascending = tasks.is_empty();
@@ -295,20 +295,20 @@ fn is_held(task: &Task, ordered: bool, barrier: bool) -> bool
     (task.is_barrier() && ordered) || (task.is_ordered() && barrier)
 }
 
-// Drops the jobs up to the lowest that has a mapping in its hand, and gives that mapping; their rooms
+// Drops the jobs up to the lowest that has a mapping in its hand, and gives that mapping; their vectors
 // are spare again.
-fn abort_first(tasks: &mut Vec<Task>, rooms: &mut Vec<Room>) -> Option<Mapping>
-    requires { length rooms.old.items + count_by is_paged tasks.old.items ≤ vec_capacity rooms.old }
+fn abort_first(tasks: &mut Vec<Task>, spare: &mut Vec<SegmentVec>) -> Option<Mapping>
+    requires { length spare.old.items + count_by is_paged tasks.old.items ≤ vec_capacity spare.old }
     ensures mapping { result ≡ first_mapping tasks.old.items }
     ensures rest { tasks.new.items ≡ after_mapping tasks.old.items }
     ensures capacity { vec_capacity tasks.new ≡ vec_capacity tasks.old }
-    ensures rooms { length rooms.new.items + count_by is_paged tasks.new.items ≡ length rooms.old.items + count_by is_paged tasks.old.items }
-    ensures kept { vec_capacity rooms.new ≡ vec_capacity rooms.old }
+    ensures spare { length spare.new.items + count_by is_paged tasks.new.items ≡ length spare.old.items + count_by is_paged tasks.old.items }
+    ensures kept { vec_capacity spare.new ≡ vec_capacity spare.old }
 {
     while !tasks.is_empty() {
         let task = tasks.remove(0);
         let mapping = task.mapping();
-        give_back(rooms, task);
+        give_back(spare, task);
         if mapping.is_some() {
             return mapping;
         }

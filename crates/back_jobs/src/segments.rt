@@ -6,15 +6,15 @@ use arrayvec::ArrayVec;
 use blk_layout::Segment;
 use std::marker::Model;
 
-/// Room for the segments that an indirect request's pages name, of as many as a request may have.
-pub(crate) type Room = Box<ArrayVec<Segment, 960>>;
+/// The segments that an indirect request's pages name, of which a request may have as many as this holds.
+pub(crate) type SegmentVec = Box<ArrayVec<Segment, 960>>;
 
 /// The segments that a job isn't done with, in order: those of an entry, or those that are copied into
-/// a room of their own.
+/// a vector of their own.
 #[derive(Drop)]
 pub struct SegmentList {
     few: ArrayVec<Segment, 11>,
-    room: Option<Room>,
+    long: Option<SegmentVec>,
 }
 
 impl Model for SegmentList {
@@ -24,29 +24,29 @@ impl Model for SegmentList {
 
     ghost Value = { Listed };
 
-    ghost view = { λ s. record { items = unwrap_or (option_map (λ b. b.value.items) s.room) s.few.items; has_room = is_some s.room } };
+    ghost view = { λ s. record { items = unwrap_or (option_map (λ b. b.value.items) s.long) s.few.items; is_long = is_some s.long } };
 }
 
 impl SegmentList {
     /// These segments of an entry.
     pub(crate) fn of(segments: &[Segment]) -> SegmentList
         requires { length segments.now ≤ 11 }
-        ensures { result ≡ record { items = segments.now; has_room = false } }
+        ensures { result ≡ record { items = segments.now; is_long = false } }
     {
         let mut few = ArrayVec::new();
         let _ = few.try_extend_from_slice(segments);
-        SegmentList { few, room: None }
+        SegmentList { few, long: None }
     }
 
-    /// No segment yet of those that are copied into this room.
-    pub(crate) fn copied_into(room: Room) -> SegmentList
-        ensures { result ≡ record { items = []; has_room = true } }
+    /// No segment yet of those that are copied into this vector.
+    pub(crate) fn copied_into(long: SegmentVec) -> SegmentList
+        ensures { result ≡ record { items = []; is_long = true } }
     {
-        let mut room = room;
-        room.clear();
+        let mut long = long;
+        long.clear();
         SegmentList {
             few: ArrayVec::new(),
-            room: Some(room),
+            long: Some(long),
         }
     }
 
@@ -55,20 +55,20 @@ impl SegmentList {
     pub(crate) fn as_slice(&self) -> &[Segment]
         ensures { result.now ≡ self.now.items }
     {
-        match &self.room {
+        match &self.long {
             None => self.few.as_slice(),
-            Some(room) => room.as_slice(),
+            Some(long) => long.as_slice(),
         }
     }
 
     /// Copies one more.
     pub(crate) fn push(&mut self, segment: Segment)
-        requires has_room { self.old.has_room ≡ true }
+        requires is_long { self.old.is_long ≡ true }
         requires fits { length self.old.items < 960 }
         ensures { self.new ≡ record self.old { items = self.old.items ++ segment ∷ [] } }
     {
-        if let Some(room) = &mut self.room {
-            room.push(segment);
+        if let Some(long) = &mut self.long {
+            long.push(segment);
         }
     }
 
@@ -76,24 +76,24 @@ impl SegmentList {
     pub(crate) fn remove_first(&mut self)
         ensures { self.new ≡ record self.old { items = rest_of self.old.items } }
     {
-        match &mut self.room {
+        match &mut self.long {
             None => {
                 if !self.few.is_empty() {
                     self.few.remove(0);
                 }
             }
-            Some(room) => {
-                if !room.is_empty() {
-                    room.remove(0);
+            Some(long) => {
+                if !long.is_empty() {
+                    long.remove(0);
                 }
             }
         }
     }
 
-    /// The room that they are in, if it is one of their own.
-    pub(crate) fn into_room(self) -> Option<Room>
-        ensures { is_some result ≡ self.has_room }
+    /// The vector that they are in, if it is one of their own.
+    pub(crate) fn into_vec(self) -> Option<SegmentVec>
+        ensures { is_some result ≡ self.is_long }
     {
-        self.room
+        self.long
     }
 }

@@ -13,7 +13,7 @@ mod begun;
 mod steps;
 
 use crate::effect::Effect;
-use crate::segments::{Room, SegmentList};
+use crate::segments::{SegmentList, SegmentVec};
 use crate::stage::Stage;
 use arrayvec::ArrayVec;
 use begun::{ended, served};
@@ -56,26 +56,26 @@ impl Model for Task {
 
     ghost view = { view_of };
 
-    ghost invariant = { λ t. IsPlaced t.stage (view_of t) × (t.rest.has_room ≡ is_paged (view_of t)) };
+    ghost invariant = { λ t. IsPlaced t.stage (view_of t) × (t.rest.is_long ≡ is_paged (view_of t)) };
 }
 
 impl Task {
     /// The job of a request that was fetched as the `number`-th, on a disk of this kind: by the
     /// verdict on it, it moves the request's sectors, flushes or trims the disk, or is done at once.
-    /// One that copies segments takes one of these rooms for them.
+    /// One that copies segments takes one of these vectors for them.
     pub(crate) fn begin(
         number: u64,
         request: &RawRequest,
         info: &DiskInfo,
-        rooms: &mut Vec<Room>,
+        spare: &mut Vec<SegmentVec>,
     ) -> Task
-        requires { info.now.max_indirect ≢ 0 → 0 < length rooms.old.items }
+        requires { info.now.max_indirect ≢ 0 → 0 < length spare.old.items }
         ensures value { result ≡ begun number request.now info.now.sectors (verdict_of request.now info.now) }
-        ensures rooms { length rooms.new.items + cond (is_paged result) 1 0 ≡ length rooms.old.items }
-        ensures capacity { vec_capacity rooms.new ≡ vec_capacity rooms.old }
+        ensures spare { length spare.new.items + cond (is_paged result) 1 0 ≡ length spare.old.items }
+        ensures capacity { vec_capacity spare.new ≡ vec_capacity spare.old }
     {
         match check(request, info) {
-            Verdict::Serve(_) => served(number, request, info, rooms),
+            Verdict::Serve(_) => served(number, request, info, spare),
             Verdict::Error(_) => ended(number, request, info.sectors, Stage::Done(Status::Error)),
             Verdict::Unsupported => {
                 ended(
@@ -116,11 +116,11 @@ impl Task {
         matches!(self.stage, Stage::Done(_))
     }
 
-    /// The room that its segments were copied into.
-    pub(crate) fn into_room(self) -> Option<Room>
+    /// The vector that its segments were copied into.
+    pub(crate) fn into_vec(self) -> Option<SegmentVec>
         ensures { is_some result ≡ is_paged self }
     {
-        self.rest.into_room()
+        self.rest.into_vec()
     }
 
     /// Whether it is at its beginning: before its first map, that of a page or of a segment, or before

@@ -18,7 +18,7 @@ use crate::told::{BackTold, Halt};
 use arrayvec::ArrayVec;
 use back_jobs::Jobs;
 use blk_base::{Abi, BackAnswer, BackAsk, Config, Endpoint, Mapping, Mode, OutOfMemory};
-use blk_layout::{Response, response_words};
+use blk_layout::{MOST_ENTRY_WORDS, Response, response_words};
 use ring_words::{BackRing, REQ_EVENT, REQ_PROD, RSP_EVENT, RSP_PROD, RingShape};
 use segment_list::DiskInfo;
 use std::alloc::Global;
@@ -33,7 +33,7 @@ struct RingInfo {
     asleep: bool,
     seen: u32,
     port: u32,
-    entry: ArrayVec<u32, 28>,
+    entry: ArrayVec<u32, MOST_ENTRY_WORDS>,
 }
 
 /// The back end of a ring, of the shape that its front's terms say (`attach`). Its jobs move apart from it.

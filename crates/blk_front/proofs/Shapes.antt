@@ -8,8 +8,8 @@ use Rattle.ring_words.specs.Shape.{entries_of, entry_words_of}
 pub few_pages : (order : ℕ) → order ≤ 4 → 2 ^ order ≤ 16
 few_pages order le = pow-le-pow_right (omega arith) le
 
--- an entry has 27 words at least
-pub wide_entries : (abi : Abi) → 27 ≤ entry_words_of abi
+-- a slot has room for the three words of a response
+pub wide_entries : (abi : Abi) → 3 ≤ entry_words_of abi
 wide_entries X64 = omega arith
 wide_entries X32 = omega arith
 

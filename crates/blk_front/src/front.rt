@@ -24,7 +24,7 @@ use crate::state::Offers;
 use crate::told::{Refusal, Told};
 use arrayvec::ArrayVec;
 use blk_base::{Abi, Config, Endpoint, FrontAnswer, FrontAsk, Job, OutOfMemory};
-use blk_layout::request_words;
+use blk_layout::{MOST_ENTRY_WORDS, request_words};
 use grant_table::GTF_PERMIT_ACCESS;
 use resume_shadow::Shadow;
 use ring_words::{FrontRing, REQ_EVENT, REQ_PROD, RSP_EVENT, RSP_PROD, RingShape};
@@ -39,7 +39,7 @@ struct RingInfo {
     indices: FrontRing,
     asleep: bool,
     seen: u32,
-    entry: ArrayVec<u32, 28>,
+    entry: ArrayVec<u32, MOST_ENTRY_WORDS>,
 }
 
 /// The front end of a ring of 1 to 16 pages under the layout of its guest, which issues reads and
@@ -185,7 +185,7 @@ impl Front {
     // Reads a word of the next response.
     #[tactic(auto, using(crate::proofs::Shapes::wide_entries))]
     fn read_response(&self, word: u32) -> FrontAsk<'_>
-        requires { word < 27 }
+        requires { word < 3 }
         ensures { Asks result (response_ask self.now word) }
     {
         let (frame, place) = place::slot(self.shape(), self.ring.indices.cons(), word);

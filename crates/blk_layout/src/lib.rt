@@ -16,4 +16,4 @@ pub use reader::read_request;
 pub use request::{DirectOp, IndirectOp, RawRequest, Request};
 pub use response::{Response, read_response, response_words};
 pub use segment::{Segment, read_segment, segment_words};
-pub use writer::request_words;
+pub use writer::{MOST_ENTRY_WORDS, request_words};

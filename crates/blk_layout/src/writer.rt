@@ -11,10 +11,14 @@ use crate::segment::{Segment, segment_words};
 use arrayvec::ArrayVec;
 use blk_base::Abi;
 
-type Words = ArrayVec<u32, 28>;
+/// How many words the longest entry has, that of the x86_64 layout (`struct blkif_request` of
+/// `io/blkif.h`, 112 bytes).
+pub const MOST_ENTRY_WORDS: usize = 28;
+
+type Words = ArrayVec<u32, MOST_ENTRY_WORDS>;
 
 /// The words of a request's entry, 28 or 27: each field at its bits, and 0 in all others.
-pub fn request_words(abi: Abi, request: &Request) -> ArrayVec<u32, 28>
+pub fn request_words(abi: Abi, request: &Request) -> ArrayVec<u32, MOST_ENTRY_WORDS>
     ensures words { result.items ≡ words_of abi (raw_of request.now) }
     ensures long { length result.items ≡ (places_of abi).end }
 {

@@ -10,7 +10,7 @@ ghost use Rattle.back_jobs.specs.declared.stage.Stage.TheVariants as stage;
 ghost use Rattle.blk_base.specs.declared.operation.Status.TheVariants.{Error};
 
 use super::Task;
-use crate::segments::{Room, SegmentList};
+use crate::segments::{SegmentList, SegmentVec};
 use crate::stage::Stage;
 use arrayvec::ArrayVec;
 use blk_base::Status;
@@ -22,13 +22,13 @@ pub(super) fn served(
     number: u64,
     request: &RawRequest,
     info: &DiskInfo,
-    rooms: &mut Vec<Room>,
+    spare: &mut Vec<SegmentVec>,
 ) -> Task
     requires served { (plan : Plan) × (verdict_of request.now info.now ≡ Verdict.Serve plan) }
-    requires has_room { info.now.max_indirect ≢ 0 → 0 < length rooms.old.items }
+    requires has_spare { info.now.max_indirect ≢ 0 → 0 < length spare.old.items }
     ensures value { result ≡ served number request.now info.now.sectors }
-    ensures rooms { length rooms.new.items + cond (is_paged result) 1 0 ≡ length rooms.old.items }
-    ensures capacity { vec_capacity rooms.new ≡ vec_capacity rooms.old }
+    ensures spare { length spare.new.items + cond (is_paged result) 1 0 ≡ length spare.old.items }
+    ensures capacity { vec_capacity spare.new ≡ vec_capacity spare.old }
 {
     match request {
         RawRequest::Direct {
@@ -70,7 +70,7 @@ pub(super) fn served(
                 *count,
                 *sector,
                 pages,
-                rooms,
+                spare,
             )
         }
     }
@@ -109,20 +109,22 @@ fn served_indirect(
     count: u16,
     sector: u64,
     pages: &[u32; 8],
-    rooms: &mut Vec<Room>,
+    spare: &mut Vec<SegmentVec>,
 ) -> Task
     requires some { 0 < count }
-    requires has_room { 0 < length rooms.old.items }
+    requires has_spare { 0 < length spare.old.items }
     ensures value { result ≡ served_paged number request.now size writes sector count pages.now }
-    ensures rooms { length rooms.new.items + cond (is_paged result) 1 0 ≡ length rooms.old.items }
-    ensures capacity { vec_capacity rooms.new ≡ vec_capacity rooms.old }
+    ensures spare { length spare.new.items + cond (is_paged result) 1 0 ≡ length spare.old.items }
+    ensures capacity { vec_capacity spare.new ≡ vec_capacity spare.old }
 {
     if count > 960 {
         return ended(number, request, size, Stage::Done(Status::Error));
     }
-    match rooms.pop() {
+    match spare.pop() {
         None => ended(number, request, size, Stage::Done(Status::Error)),
-        Some(room) => paging(number, request, size, writes, sector, count, pages, room),
+        Some(segments) => paging(
+            number, request, size, writes, sector, count, pages, segments,
+        ),
     }
 }
 
@@ -135,7 +137,7 @@ fn paging(
     disk: u64,
     count: u16,
     pages: &[u32; 8],
-    room: Room,
+    segments: SegmentVec,
 ) -> Task
     requires some { 0 < count }
     requires few { count ≤ 960 }
@@ -149,7 +151,7 @@ fn paging(
         size,
         disk,
         moved: 0,
-        rest: SegmentList::copied_into(room),
+        rest: SegmentList::copied_into(segments),
         pages: page_list(pages),
         named: u32::from(count),
         within: 0,

@@ -1,13 +1,13 @@
 use Rattle.std.proofs.Common.{rules, arith}
-use Rattle.back_jobs.proofs.Rooms.{first_shared}
+use Rattle.back_jobs.proofs.Spare.{first_shared}
 use Rattle.back_jobs.proofs.jobs.abort_first.Goals as goal
 
 pub give_back-requires : goal.give_back-requires
 give_back-requires c =
     let split = first_shared c.loop-tasks.tasks.items c.remove-task.new.self.items c.remove-task.result (search rules) c.remove-task.ensures.value c.remove-task.ensures.items in
-    omega (arith, split, c.loop-tasks.invariant.rooms, c.loop-tasks.invariant.kept, c.requires)
+    omega (arith, split, c.loop-tasks.invariant.spare, c.loop-tasks.invariant.kept, c.requires)
 
-pub returns-then-is_some-clause-rooms : goal.returns-then-is_some-clause-rooms
-returns-then-is_some-clause-rooms c =
+pub returns-then-is_some-clause-spare : goal.returns-then-is_some-clause-spare
+returns-then-is_some-clause-spare c =
     let split = first_shared c.loop-tasks.tasks.items c.remove-task.new.self.items c.remove-task.result (search rules) c.remove-task.ensures.value c.remove-task.ensures.items in
-    omega (arith, split, c.loop-tasks.invariant.rooms, c.give_back.ensures.rooms)
+    omega (arith, split, c.loop-tasks.invariant.spare, c.give_back.ensures.spare)

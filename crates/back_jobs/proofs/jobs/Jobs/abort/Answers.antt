@@ -27,7 +27,7 @@ invariant_of-self c =
       },
       record {
         has_space = rw h.kept c.self.invariant.2.has_space;
-        shared = h.rooms ∙ c.self.invariant.2.shared;
+        shared = h.spare ∙ c.self.invariant.2.shared;
       },
     )
 

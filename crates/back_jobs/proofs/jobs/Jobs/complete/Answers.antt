@@ -9,7 +9,7 @@ use Rattle.back_jobs.proofs.Listed.{kept_rise}
 use Rattle.back_jobs.proofs.Telling.{unheld, work_there, told_there, told_kept, told_room}
 use Rattle.back_jobs.proofs.Done.{undone}
 use Rattle.back_jobs.proofs.First.{told_first, ended_first}
-use Rattle.back_jobs.proofs.Rooms.{told_shared}
+use Rattle.back_jobs.proofs.Spare.{told_shared}
 use Rattle.back_jobs.proofs.jobs.Jobs.complete.Goals.{After-is_done}
 use Rattle.back_jobs.proofs.jobs.Jobs.complete.Goals as goal
 
@@ -60,7 +60,7 @@ invariant_of-self c =
           c.self.invariant.1 (here w) (sym c.is_done.ensures ∙ c.if-is_done.true)
           (c.holding_after-self-inside.ensures ∙ ap (λ (l : List Work). if c.self.inside.ordered == c.in_ok-place.place then ordered_place l else c.self.inside.ordered) c.as_slice.ensures.value)
           (c.holding_after-self-inside-then-is_done.ensures ∙ ap (λ (l : List Work). if c.self.inside.barrier == c.in_ok-place.place then barrier_place l else c.self.inside.barrier) c.as_slice-then-is_done.ensures.value),
-      told_shared (length c.self.inside.rooms.items) (vec_capacity c.self.inside.rooms) c.self.inside.room c.self.inside.info.max_indirect c.self.inside.tasks.items c.in_ok-place.place c.index_mut-task.result.now c.complete.new.self c.args.answer.now (here w) c.complete.ensures c.self.invariant.2,
+      told_shared (length c.self.inside.spare.items) (vec_capacity c.self.inside.spare) c.self.inside.room c.self.inside.info.max_indirect c.self.inside.tasks.items c.in_ok-place.place c.index_mut-task.result.now c.complete.new.self c.args.answer.now (here w) c.complete.ensures c.self.invariant.2,
     )
 
 pub invariant_of-self-else-is_done : goal.invariant_of-self-else-is_done
@@ -69,7 +69,7 @@ invariant_of-self-else-is_done c =
       told_kept c.self.inside.ascending c.self.inside.finished.items c.self.inside.finished.items c.self.inside.done_place c.self.inside.done_place c.self.inside.room c.self.inside.tasks.cap (vec_capacity c.self.inside.finished) (vec_capacity c.self.inside.finished) c.self.inside.info.sectors c.self.inside.tasks.items c.in_ok-place.place c.complete.new.self.number c.index_mut-task.result.now c.complete.new.self c.args.answer.now false c.self.invariant.0 (here w) (allowed w) c.complete.ensures (sym c.if-is_done.false ∙ c.is_done.ensures) refl refl (λ test. refl) (omega arith),
       told_first c.self.inside.tasks.items c.in_ok-place.place c.index_mut-task.result.now c.complete.new.self c.args.answer.now c.self.inside.ordered c.self.inside.barrier
           c.self.invariant.1 (here w) (undone c.index_mut-task.result.now c.args.answer.now (allowed w)) c.complete.ensures (sym c.is_done.ensures ∙ c.if-is_done.false),
-      told_shared (length c.self.inside.rooms.items) (vec_capacity c.self.inside.rooms) c.self.inside.room c.self.inside.info.max_indirect c.self.inside.tasks.items c.in_ok-place.place c.index_mut-task.result.now c.complete.new.self c.args.answer.now (here w) c.complete.ensures c.self.invariant.2,
+      told_shared (length c.self.inside.spare.items) (vec_capacity c.self.inside.spare) c.self.inside.room c.self.inside.info.max_indirect c.self.inside.tasks.items c.in_ok-place.place c.index_mut-task.result.now c.complete.new.self c.args.answer.now (here w) c.complete.ensures c.self.invariant.2,
     )
 
 pub returns-then-is_done-clause-completed : goal.returns-then-is_done-clause-completed

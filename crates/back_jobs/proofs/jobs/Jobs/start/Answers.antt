@@ -9,14 +9,14 @@ use Rattle.back_jobs.proofs.Done.{began_done}
 use Rattle.back_jobs.proofs.First.{began_first}
 use Rattle.back_jobs.proofs.Listed.{noted, began_listed, kept_rise, listed_fits, noting, was_ascending}
 use Rattle.back_jobs.proofs.Numbers.{began_ascending}
-use Rattle.back_jobs.proofs.Rooms.{began_shared, has_spare}
+use Rattle.back_jobs.proofs.Spare.{began_shared, has_spare}
 use Rattle.back_jobs.proofs.Sizes.{begun_number, begun_size, started_sized}
 use Rattle.back_jobs.proofs.jobs.Jobs.start.Goals.{After-push}
 use Rattle.back_jobs.proofs.jobs.Jobs.start.Goals as goal
 
 -- what is known of the jobs stays true, where the number is listed if its job is done
 kept : (c : After-push) (b : Bool) (now : List ℕ) (listed : ℕ) → b ≡ c.is_done-is_done.result → (c.goes_on_ascending-self-inside.result ≡ true → now ≡ noted b c.args.number c.self.inside.finished.items) → vec_capacity c.self.inside.finished ≤ listed → IsKept c.goes_on_ascending-self-inside.result now c.done_with-self-inside.result c.self.inside.room (vec_capacity c.push.new.self) listed c.self.inside.info.sectors c.push.new.self.items × AreFirst c.done_with-self-inside-2.result c.done_with-self-inside-3.result c.push.new.self.items
-    × AreShared (length c.begin-task.new.rooms.items) (vec_capacity c.begin-task.new.rooms) c.self.inside.room c.self.inside.info.max_indirect c.push.new.self.items
+    × AreShared (length c.begin-task.new.spare.items) (vec_capacity c.begin-task.new.spare) c.self.inside.room c.self.inside.info.max_indirect c.push.new.self.items
 kept c b now listed test noted_now more =
     let works = c.self.inside.tasks.items in
     let size = c.self.inside.info.sectors in
@@ -38,7 +38,7 @@ kept c b now listed test noted_now more =
         is_done = rw grown (began_done works t c.self.inside.done_place c.done_with-self-inside.result c.len-count.result c.is_done-is_done.result c.self.invariant.0.is_done counted c.is_done-is_done.ensures c.done_with-self-inside.ensures);
       },
       rw grown (began_first works t c.self.inside.ordered c.self.inside.barrier c.done_with-self-inside-2.result c.done_with-self-inside-3.result c.len-count.result c.holds.result c.holds-2.result c.self.invariant.1 counted c.holds.ensures c.holds-2.ensures c.done_with-self-inside-2.ensures c.done_with-self-inside-3.ensures),
-      rw grown (began_shared (length c.self.inside.rooms.items) (length c.begin-task.new.rooms.items) (vec_capacity c.self.inside.rooms) (vec_capacity c.begin-task.new.rooms) c.self.inside.room c.self.inside.info.max_indirect works t c.begin-task.ensures.rooms c.begin-task.ensures.capacity c.self.invariant.2),
+      rw grown (began_shared (length c.self.inside.spare.items) (length c.begin-task.new.spare.items) (vec_capacity c.self.inside.spare) (vec_capacity c.begin-task.new.spare) c.self.inside.room c.self.inside.info.max_indirect works t c.begin-task.ensures.spare c.begin-task.ensures.capacity c.self.invariant.2),
     )
 
 pub invariant_of-self : goal.invariant_of-self
@@ -63,4 +63,4 @@ note-requires-clause-has_room c = λ test.
 pub begin-task-requires : goal.begin-task-requires
 begin-task-requires c = λ some.
     let below : length c.self.inside.tasks.items < c.self.inside.room = subst (λ (h : Held). length h.works < h.room) (sym c.self.view_is) c.requires in
-    has_spare (length c.self.inside.rooms.items) (vec_capacity c.self.inside.rooms) c.self.inside.room c.self.inside.info.max_indirect c.self.inside.tasks.items c.self.invariant.2 below some
+    has_spare (length c.self.inside.spare.items) (vec_capacity c.self.inside.spare) c.self.inside.room c.self.inside.info.max_indirect c.self.inside.tasks.items c.self.invariant.2 below some

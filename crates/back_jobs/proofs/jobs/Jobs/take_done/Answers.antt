@@ -7,7 +7,7 @@ use Rattle.back_jobs.proofs.Done.{taken_done, taken_over}
 use Rattle.back_jobs.proofs.First.{removed_first}
 use Rattle.back_jobs.proofs.Listed.{taken_listed}
 use Rattle.back_jobs.proofs.Numbers.{removed_ascending}
-use Rattle.back_jobs.proofs.Rooms.{removed_shared, removed_space}
+use Rattle.back_jobs.proofs.Spare.{removed_shared, removed_space}
 use Rattle.back_jobs.proofs.Sizes.{removed_sized}
 use Rattle.back_jobs.proofs.jobs.Jobs.take_done.Goals as goal
 
@@ -28,7 +28,7 @@ invariant_of-self c =
         is_done = c.lowest_done-self-inside.ensures ∙ ap done_place c.as_slice.ensures.value;
       },
       rw h.items (removed_first works c.self.inside.done_place c.remove-task.result c.self.inside.ordered c.self.inside.barrier c.without-self-inside.result c.without-self-inside-2.result within over c.self.invariant.1 c.without-self-inside.ensures c.without-self-inside-2.ensures),
-      rw h.items (removed_shared (length c.self.inside.rooms.items) (length c.give_back.new.rooms.items) (vec_capacity c.self.inside.rooms) (vec_capacity c.give_back.new.rooms) c.self.inside.room c.self.inside.info.max_indirect works c.self.inside.done_place c.remove-task.result within here c.give_back.ensures.rooms c.give_back.ensures.capacity c.self.invariant.2),
+      rw h.items (removed_shared (length c.self.inside.spare.items) (length c.give_back.new.spare.items) (vec_capacity c.self.inside.spare) (vec_capacity c.give_back.new.spare) c.self.inside.room c.self.inside.info.max_indirect works c.self.inside.done_place c.remove-task.result within here c.give_back.ensures.spare c.give_back.ensures.capacity c.self.invariant.2),
     )
 
 pub returns-clause-taken : goal.returns-clause-taken
@@ -54,4 +54,4 @@ give_back-requires c =
     let works = c.self.inside.tasks.items in
     let within : c.self.inside.done_place < length works = search rules in
     let here : c.remove-task.result ≡ slice_index_or works c.self.inside.done_place c.remove-task.result = search rules in
-    removed_space (length c.self.inside.rooms.items) (vec_capacity c.self.inside.rooms) c.self.inside.room c.self.inside.info.max_indirect works c.self.inside.done_place c.remove-task.result within here c.self.invariant.2
+    removed_space (length c.self.inside.spare.items) (vec_capacity c.self.inside.spare) c.self.inside.room c.self.inside.info.max_indirect works c.self.inside.done_place c.remove-task.result within here c.self.invariant.2
