@@ -1,37 +1,22 @@
 -- The lines that echo a schedule: moves show none; and what a submission, an overwritten word and a look at the ring's words show answers them.
-use Rattle.std.proofs.Common.{◌≡◌, ℕ, zero, suc, List, [], ◌∷◌, ◌++◌, Option, Some, None, Result, Ok, Err, Bool, true, false, refl, ap, sym, ◌∙◌, subst, arith}
+use Rattle.std.proofs.Common.{◌≡◌, ℕ, zero, suc, List, [], ◌∷◌, ◌++◌, Result, Ok, Err, Bool, true, false, refl, ap, sym, ◌∙◌, subst, arith}
 use Rattle.std.specs.Prelude.{◌+◌, ◌*◌, ◌/◌, ◌%◌, ◌^◌, ◌<◌, ◌≤◌, filter}
 use Rattle.std.specs.List.{AllByRecursion}
 use Rattle.std.proofs.lemmas.List.{append-nil}
 use Rattle.std.proofs.Math.Nat.{pow-le-pow_right}
 use Rattle.std.proofs.lemmas.List.Elements.{filter-append}
-use Rattle.blk_front.specs.View as front
-use Rattle.blk_front.specs.Step as front_step
-use Rattle.blk_back.specs.View as back
-use Rattle.blk_back.specs.Step as back_step
 use Rattle.blk_base.specs.declared.config.Job.{Job}
-use Rattle.blk_base.specs.declared.ask.BackAnswer.{BackAnswer}
-use Rattle.blk_base.specs.declared.ask.BackAnswer.TheVariants as answers
 use Rattle.schedule_text.specs.declared.line.Detail.{Detail}
 use Rattle.schedule_text.specs.declared.line.Detail.TheVariants.{Lines, Moves}
 use Rattle.schedule_text.specs.declared.line.Line.{Line}
 use Rattle.schedule_text.specs.declared.line.Line.TheVariants as lines
-use Rattle.blk_front.specs.declared.told.Told.{Told}
-use Rattle.blk_front.specs.declared.told.Told.TheVariants as front_told
 use Rattle.blk_front.specs.declared.told.Refusal.{Refusal}
-use Rattle.blk_back.specs.declared.told.BackTold.{BackTold}
-use Rattle.blk_back.specs.declared.told.BackTold.TheVariants as back_told
-use Rattle.blk_back.specs.declared.told.Halt.{Halt}
-use Rattle.hypervisor.specs.Act.{FrontAct, BackAct, Took}
 use Rattle.plain_disk.specs.Echo.{is_echo, AnswersSubmit, AreRingWords}
 use Rattle.xen_pages.specs.Pages.{word_of}
 use Rattle.split_model.specs.World.{World, may_suspend}
-use Rattle.split_model.specs.Shown.{front_lines, back_lines, halt_lines, effect_line}
-use Rattle.split_model.specs.Happening.{Happening, FrontMoves, BackMoves, JobMoves, Negotiates, FrontEnters, BackAttaches, BackHalts, Notifies, Pokes, OverwritesKey, Suspends, Dumps, is_guest_word, is_guest_key, word_lines, ring_lines, happens, lines_at, lines_of, front_shows, back_shows, job_shows, front_turn, back_turn, job_turn, submit_line}
+use Rattle.split_model.specs.Happening.{Happening, Submits, Pokes, OverwritesKey, Suspends, Dumps, Looks, Settles, is_guest_word, is_guest_key, word_lines, ring_lines, happens, lines_at, lines_of, submit_line}
 use Rattle.schedule_text.specs.Recorder.{recorded, kept_of}
-use Rattle.split_model.proofs.Keys.{negotiated_lines_are}
-use Rattle.split_model.proofs.Attaching.{attach_lines_are}
-use Rattle.split_model.proofs.States.{enter_lines_are, state_lines_are}
+use Rattle.split_model.proofs.Showing.{MayShow, lines_are}
 
 -- the lines that echo
 abbrev pub echo_of : List Line → List Line
@@ -40,87 +25,50 @@ echo_of report = filter is_echo report
 pub echo-append : (a b : List Line) → echo_of (a ++ b) ≡ echo_of a ++ echo_of b
 echo-append a b = filter-append is_echo a b
 
--- a move of an end or of a job, what an end does with the keys, a state that the front enters, a halt of the back, or a spurious event
+-- no submission, no word or key that is overwritten, no suspend, and no look
 abbrev pub is_move : Happening → Bool
-is_move FrontMoves = true
-is_move BackMoves = true
-is_move (JobMoves number outcome) = true
-is_move (Negotiates at move) = true
-is_move (FrontEnters state) = true
-is_move (BackAttaches shape grefs port) = true
-is_move (BackHalts why) = true
-is_move (Notifies at) = true
-is_move h = false
+is_move (Submits job) = false
+is_move (Pokes frame word value) = false
+is_move (OverwritesKey name text) = false
+is_move Suspends = false
+is_move Dumps = false
+is_move (Looks quiet) = false
+is_move (Settles quiet) = false
+is_move h = true
 
-front_told_silent : (t : Option Told) → echo_of (front_lines t) ≡ []
-front_told_silent None = refl
-front_told_silent (Some (front_told.Answer id status)) = refl
-front_told_silent (Some (front_told.Sector id index words)) = refl
-front_told_silent (Some (front_told.Broken word)) = refl
-
-effect_silent : (id index : ℕ) (a : BackAnswer) → is_echo (effect_line id index a) ≡ false
-effect_silent id index answers.Event = refl
-effect_silent id index (answers.Watched path) = refl
-effect_silent id index answers.Done = refl
-effect_silent id index (answers.Word word) = refl
-effect_silent id index (answers.Mapped m) = refl
-effect_silent id index (answers.MapRefused status) = refl
-effect_silent id index answers.BindRefused = refl
-effect_silent id index (answers.Key text) = refl
-effect_silent id index (answers.Sector words) = refl
-effect_silent id index answers.DiskFailed = refl
-
-one_silent : (l : Line) → is_echo l ≡ false → echo_of (l ∷ []) ≡ []
-one_silent l e = simp e
-
-back_told_silent : (t : Option BackTold) (a : BackAnswer) → echo_of (back_lines t a) ≡ []
-back_told_silent None a = refl
-back_told_silent (Some (back_told.Effect id index)) a = one_silent (effect_line id index a) (effect_silent id index a)
-back_told_silent (Some (back_told.Flushed id)) a = refl
-back_told_silent (Some (back_told.Trimmed id)) a = refl
-back_told_silent (Some (back_told.Fault id index)) a = refl
-back_told_silent (Some (back_told.Reply id status)) a = refl
-
-halt_silent : (before now : Option Halt) → echo_of (halt_lines before now) ≡ []
-halt_silent None None = refl
-halt_silent None (Some h) = refl
-halt_silent (Some h) None = refl
-halt_silent (Some h) (Some g) = refl
-
-front_silent : (w : World) (act : Option FrontAct) → echo_of (front_shows w act) ≡ []
-front_silent w None = refl
-front_silent w (Some a) = front_told_silent (let f : front.View = front_step.step_of w.front a.answer in f.told)
+-- none of what another happening may show echoes
+silent : (h : Happening) (line : Line) → is_move h ≡ true → MayShow h line → is_echo line ≡ false
+silent (Submits job) line moves shows = absurd (cc)
+silent (Pokes frame word value) line moves shows = absurd (cc)
+silent (OverwritesKey name text) line moves shows = absurd (cc)
+silent Suspends line moves shows = absurd (cc)
+silent Dumps line moves shows = absurd (cc)
+silent (Looks quiet) line moves shows = absurd (cc)
+silent (Settles quiet) line moves shows = absurd (cc)
+silent h (lines.Submit id job) moves shows = absurd shows
+silent h (lines.Refuse refusal) moves shows = absurd shows
+silent h lines.Quiet moves shows = absurd shows
+silent h lines.Unsettled moves shows = absurd shows
+silent h lines.Busy moves shows = absurd shows
+silent h lines.Epoch moves shows = absurd shows
+silent h (lines.Poke frame word value) moves shows = absurd shows
+silent h (lines.Key name text) moves shows = absurd shows
+silent h (lines.Word frame word value) moves shows = absurd shows
+silent h lines.End moves shows = absurd shows
+silent h line moves shows = refl
 
 both_silent : (a b : List Line) → echo_of a ≡ [] → echo_of b ≡ [] → echo_of (a ++ b) ≡ []
 both_silent a b p q = echo-append a b ∙ (ap (λ l. l ++ echo_of b) p ∙ q)
 
-back_silent : (w : World) (act : Option BackAct) → echo_of (back_shows w act) ≡ []
-back_silent w None = refl
-back_silent w (Some a) =
-    let b : back.View = back_step.step_of w.back a.answer in
-    both_silent (back_lines b.told a.answer) (halt_lines w.back.halted b.halted) (back_told_silent b.told a.answer) (halt_silent w.back.halted b.halted)
+one_silent : (l : Line) → is_echo l ≡ false → echo_of (l ∷ []) ≡ []
+one_silent l e = simp e
 
-job_silent : (w : World) (number : ℕ) (act : Option BackAct) → echo_of (job_shows w number act) ≡ []
-job_silent w number None = refl
-job_silent w number (Some a) =
-    let b : back.View = back_step.job_step w.back number a.answer in
-    back_told_silent b.told a.answer
-
--- so with any lines none of which echoes
 none_silent : (shown : List Line) → AllByRecursion (λ l. is_echo l ≡ false) shown → echo_of shown ≡ []
 none_silent [] none = refl
 none_silent (l ∷ shown) none = both_silent (l ∷ []) shown (one_silent l none.0) (none_silent shown none.1)
 
 pub move_silent : (w : World) (h : Happening) → is_move h ≡ true → echo_of (lines_at w h) ≡ []
-move_silent w FrontMoves m = front_silent w (front_turn w)
-move_silent w BackMoves m = back_silent w (back_turn w Took)
-move_silent w (JobMoves number outcome) m = job_silent w number (job_turn w number outcome)
-move_silent w (Negotiates at move) m = none_silent _ (negotiated_lines_are (λ l. is_echo l ≡ false) w.back.stage at move w.under.keys (λ path. refl) (λ path text. refl) (λ path. refl) (λ path. refl))
-move_silent w (FrontEnters state) m = none_silent _ (enter_lines_are (λ l. is_echo l ≡ false) state w.front (λ may. state_lines_are (λ l. is_echo l ≡ false) state refl refl refl (λ word. refl)))
-move_silent w (BackAttaches shape grefs port) m = none_silent _ (attach_lines_are (λ l. is_echo l ≡ false) w shape grefs refl)
-move_silent w (BackHalts why) m = halt_silent w.back.halted (let b : back.View = back_step.halts why w.back in b.halted)
-move_silent w (Notifies at) m = refl
-move_silent w h m = absurd (cc)
+move_silent w h moves = none_silent (lines_at w h) (lines_are (λ l. is_echo l ≡ false) w h (λ l shows. silent h l moves shows))
 
 -- moves show no line that echoes
 pub moves_silent : (hs : List Happening) (w : World) → AllByRecursion (λ h. is_move h ≡ true) hs → echo_of (lines_of hs w) ≡ []

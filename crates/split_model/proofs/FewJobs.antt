@@ -47,10 +47,6 @@ pub record HasRoom (v : View) : Type 0 where
 -- at most 512 jobs are held
 room_few : (s : Stage) (works waiting : ℕ) → IsRoomAt s works waiting → works ≤ 512
 room_few stage.InitWait works waiting r = omega (arith, r)
-room_few (stage.Fetch k) works waiting r = omega (arith, r.0, r.1)
-room_few (stage.ReplyHigh rep) works waiting r = omega (arith, r.0, r.1)
-room_few (stage.ReplyLast rep) works waiting r = omega (arith, r.0, r.1)
-room_few (stage.Producer rep) works waiting r = omega (arith, r.0, r.1)
 room_few (stage.Abort m) works waiting r = r
 room_few stage.UnmapRing works waiting r = r
 room_few stage.ClosePort works waiting r = r

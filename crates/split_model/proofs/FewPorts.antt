@@ -2,7 +2,6 @@
 use Rattle.std.proofs.Common.{◌≡◌, ℕ, ◌+◌, ◌≤◌, List, [], ◌∷◌, refl, sym, subst, ap, arith}
 use Rattle.std.specs.Prelude.{Option, Some, None, sum_by}
 use Rattle.std.proofs.lemmas.List.Sums.{sum_by-cons}
-use Rattle.blk_base.specs.declared.parts.End.TheVariants as end
 use Rattle.blk_base.specs.declared.ask.FrontAsk.{FrontAsk}
 use Rattle.blk_base.specs.declared.ask.FrontAsk.TheVariants as ask
 use Rattle.blk_base.specs.declared.ask.FrontAnswer.{FrontAnswer}
@@ -21,11 +20,11 @@ use Rattle.blk_front.specs.State.{enters}
 use Rattle.blk_back.specs.Ask as back_ends
 use Rattle.blk_back.specs.Step.{job_ask_of}
 use Rattle.split_model.specs.World.{World, suspended}
-use Rattle.split_model.specs.Happening.{Happening, FrontMoves, BackMoves, JobMoves, FrontEnters, Submits, Notifies, Pokes, OverwritesKey, Suspends, happens, after, front_after, back_after, job_after, front_turn, back_turn, job_turn}
+use Rattle.split_model.specs.Happening.{Happening, FrontMoves, BackMoves, JobMoves, FrontEnters, BackAttaches, BackHalts, Submits, Suspends, happens, after, front_after, back_after, job_after, front_turn, back_turn, job_turn}
 use Rattle.split_model.specs.Safe.{IsPorted, due_at, ports_due}
-use Rattle.split_model.proofs.Overwriting.{poke_cases, overwriting_cases}
+use Rattle.split_model.proofs.Outside.{LeavesEnds, leaves_ends, sent_keeps}
 use Rattle.split_model.proofs.Safe.{ports_back}
-use Rattle.split_model.proofs.SafeActs.{of_front, front_keys, front_wait, IsFrontKeyAct}
+use Rattle.split_model.proofs.Acting.{FrontPort, front_acts}
 use Rattle.split_model.proofs.SafeAnswers.{IsFronts, fronts_at}
 use Rattle.split_model.proofs.Suspending.{suspend_cases}
 use Rattle.split_model.proofs.SafeFront.{IsUnported, step_fits, entered_kept, submit_kept}
@@ -49,11 +48,6 @@ none_due s none = refl
 
 one_due : (s : Stage) → due_at s ≤ 1
 one_due (stage.LeftData n) = omega arith
-one_due (stage.RingWord k) = omega arith
-one_due (stage.RingFrame page) = omega arith
-one_due (stage.RingFence page) = omega arith
-one_due (stage.RingFlags page) = omega arith
-one_due stage.NewPort = omega arith
 one_due s = omega arith
 
 -- so many ports are made at an ask
@@ -69,24 +63,8 @@ reads_ask_none : (e : Option Ending) (n : ℕ) → asks_port (read_ask e n) ≡ 
 reads_ask_none None n = refl
 reads_ask_none (Some e) n = refl
 
-abbrev Makes : ℕ → FrontAct → Type 0
-Makes n a = a.under.channels.made ≡ n
-
-key_makes : (h : Hypervisor) (x : FrontAct) → IsFrontKeyAct h x → Makes (h.channels.made + 0) x
-key_makes h x is = let same = ap (λ (u : Hypervisor). u.channels.made) is.under in omega arith
-
 ports_front : (h : Hypervisor) (a : FrontAsk) (x : FrontAct) → front_act h a ≡ Some x → x.under.channels.made ≡ h.channels.made + asks_port a
-ports_front h ask.Wait x e = front_wait (Makes (h.channels.made + 0)) h x (omega arith) (λ path. omega arith) e
-ports_front h ask.Fence x e = of_front (Makes (h.channels.made + 0)) _ x (omega arith) e
-ports_front h (ask.Read frame word) x e = of_front (Makes (h.channels.made + 0)) _ x (omega arith) e
-ports_front h (ask.Write frame word value) x e = of_front (Makes (h.channels.made + 0)) _ x (omega arith) e
-ports_front h (ask.Cas frame word old new) x e = of_front (Makes (h.channels.made + 0)) _ x (omega arith) e
-ports_front h ask.NewPort x e = of_front (Makes (h.channels.made + 1)) _ x (omega arith) e
-ports_front h ask.Send x e = of_front (Makes (h.channels.made + 0)) _ x (omega arith) e
-ports_front h ask.ClosePort x e = of_front (Makes (h.channels.made + 0)) _ x (omega arith) e
-ports_front h (ask.GetKey path) x e = front_keys (Makes (h.channels.made + 0)) h (ask.GetKey path) x tt (key_makes h) e
-ports_front h (ask.SetKey path text) x e = front_keys (Makes (h.channels.made + 0)) h (ask.SetKey path text) x tt (key_makes h) e
-ports_front h (ask.Watch path) x e = front_keys (Makes (h.channels.made + 0)) h (ask.Watch path) x tt (key_makes h) e
+ports_front h a x e = elim (front_acts h a x e) as (λ asked y acts. y.under.channels.made ≡ h.channels.made + asks_port asked) [ FrontPort ↦ omega arith | acts ↦ omega arith ]
 
 -- a step makes the port that is to be made, and no other
 step_due : (s : Stage) (v : View) (x : FrontAnswer) → v.stage ≡ s → asks_port (ask_at s v) + due_at (let f : View = step_of v x in f.stage) ≤ due_at s
@@ -153,18 +131,19 @@ job_left : (w : World) (number : ℕ) (o : Outcome) (act : Option BackAct) → j
 job_left w number o None e = omega arith
 job_left w number o (Some a) e = let made = (ports_back w.under (back_mover.Job number) (job_ask_of w.back number) o a e).0 in omega arith
 
+ports_as : (w v : World) → LeavesEnds w v → ports_of v ≡ ports_of w
+ports_as w v left = let kept = sent_keeps w.under.channels v.under.channels left.channels in cc (left.front, kept.made)
+
 pub ports_left : (w : World) (h : Happening) → ports_of (happens w h) ≤ ports_of w + allows h
 ports_left w FrontMoves = let one = front_left w (front_turn w) refl in omega arith
 ports_left w BackMoves = let one = back_left w (back_turn w Took) refl in omega arith
 ports_left w (JobMoves number outcome) = let one = job_left w number outcome (job_turn w number outcome) refl in omega arith
 ports_left w (FrontEnters state) = let due = entered_due state w.front in omega arith
 ports_left w (Submits job) = let same = ap due_at (submit_kept w.front job).stage in omega arith
-ports_left w (Pokes frame word value) = poke_cases (λ under shown. ports_of (record { front = w.front; back = w.back; under = under }) ≤ ports_of w + 0) w.under frame word value (λ framed worded. omega arith) (omega arith)
-ports_left w (OverwritesKey name text) = overwriting_cases (λ under shown. ports_of (record { front = w.front; back = w.back; under = under }) ≤ ports_of w + 0) w.under name text (λ allowed. omega arith) (omega arith)
 ports_left w Suspends = suspend_cases (λ v shown. ports_of v ≤ ports_of w + 1) w (λ may. let due = one_due (let v : World = suspended w in v.front.stage) in omega arith) (omega arith)
-ports_left w (Notifies end.Front) = omega arith
-ports_left w (Notifies end.Back) = omega arith
-ports_left w h = omega arith
+ports_left w (BackAttaches shape grefs port) = omega arith
+ports_left w (BackHalts why) = omega arith
+ports_left w h = let same = ports_as w (happens w h) (leaves_ends w h tt) in omega arith
 
 -- over all this there is one more for each suspend
 pub ports_left_after : (hs : List Happening) (w : World) → ports_of (after hs w) ≤ ports_of w + sum_by allows hs

@@ -1,13 +1,11 @@
 -- What becomes of the keys: what an end does with them.
 use Rattle.std.proofs.Common.{◌≡◌, ℕ, Bool, true, false, if◌then◌else◌, List, [], ◌∷◌, refl, sym, ap, subst}
-use Rattle.std.specs.Prelude.{Option, Some, None, Result, Ok, Err}
+use Rattle.std.specs.Prelude.{Option, Some, None}
 use Rattle.std.specs.List.{AllByRecursion}
 use Rattle.std.proofs.lemmas.Option.{none-some}
-use Rattle.blk_base.specs.declared.parts.Mode.{Mode}
 use Rattle.blk_base.specs.declared.parts.End.{End}
 use Rattle.blk_base.specs.declared.parts.End.TheVariants as end
 use Rattle.blk_base.specs.declared.ask.FrontAsk.{FrontAsk}
-use Rattle.blk_base.specs.declared.ask.FrontAsk.TheVariants as front_ask
 use Rattle.blk_base.specs.declared.ask.BackAsk.{BackAsk}
 use Rattle.blk_base.specs.declared.ask.BackAsk.TheVariants as back_ask
 use Rattle.blk_base.specs.declared.moves.BackMover.{BackMover}
@@ -15,15 +13,10 @@ use Rattle.blk_base.specs.declared.moves.BackMover.TheVariants as back_mover
 use Rattle.blk_base.specs.declared.moves.Move.TheVariants as moves
 use Rattle.schedule_text.specs.declared.line.Line.{Line}
 use Rattle.schedule_text.specs.declared.line.Line.TheVariants as lines
-use Rattle.grant_table.specs.declared.entry.MapRefusal.{MapRefusal}
-use Rattle.grant_table.specs.Table.{verdict_at}
-use Rattle.event_channel.specs.declared.channels.PortState.{PortState}
-use Rattle.event_channel.specs.declared.channels.PortState.TheVariants as port
-use Rattle.event_channel.specs.Channels.{state_of}
 use Rattle.key_directory.specs.Watches.{Watches, with_watch, next_watch, first_of, taken, taken_from}
 use Rattle.key_directory.specs.Directory.{Directory, key_of, written, watches_of, with_watches, fresh_directory}
 use Rattle.hypervisor.specs.Hypervisor.{Hypervisor}
-use Rattle.hypervisor.specs.Act.{FrontAct, BackAct, Outcome, Took, front_act, back_act, map_act, bind_act}
+use Rattle.hypervisor.specs.Act.{FrontAct, BackAct, Outcome, Took, front_act, back_act}
 use Rattle.blk_front.specs.State.{is_open}
 use Rattle.blk_front.specs.Ask as front_ends
 use Rattle.blk_back.specs.declared.stage.Stage.{Stage as BackStage}
@@ -34,7 +27,8 @@ use Rattle.split_model.specs.Keys.{KeyMove, front_path, Gets, Sets, Watches as W
 use Rattle.split_model.specs.Happening.{Happening, FrontMoves, BackMoves, JobMoves, Negotiates, Pokes, OverwritesKey, Suspends, happens, front_after, back_after, job_after, front_turn, back_turn, job_turn, is_guest_key}
 use Rattle.split_model.proofs.Suspending.{suspend_cases}
 use Rattle.split_model.proofs.Overwriting.{poke_cases, overwriting_cases}
-use Rattle.split_model.proofs.SafeActs.{of_front, of_back, of_read, of_disk, AsksBackKey, front_wait, back_wait}
+use Rattle.split_model.proofs.Acting.{FrontWatched, FrontSet, FrontWatch, front_acts, BackWatched, BackSet, BackWatch, back_acts}
+use Rattle.split_model.proofs.SafeActs.{AsksBackKey}
 use Rattle.split_model.proofs.SafeAnswers.{AsksNoKey, fronts_no_key, IsBacks, backs_of, IsJobs, jobs_of}
 
 -- where no watch fired none is taken
@@ -104,54 +98,21 @@ abbrev pub StaysTaken : (Directory → Type 0) → Type 0
 StaysTaken P = (at : End) (d : Directory) → P d → P (with_watches d at (taken (watches_of d at)))
 
 -- an ask for no key leaves the keys, and takes a watch at most
-abbrev FrontStays : (Directory → Type 0) → FrontAct → Type 0
-FrontStays P a = P a.under.keys
-
-abbrev BackStays : (Directory → Type 0) → BackAct → Type 0
-BackStays P a = P a.under.keys
-
 pub front_stays : (P : Directory → Type 0) → StaysTaken P → (h : Hypervisor) (ask : FrontAsk) (a : FrontAct) → AsksNoKey ask → P h.keys → front_act h ask ≡ Some a → P a.under.keys
-front_stays P taking h front_ask.Wait a own u e = front_wait (FrontStays P) h a u (λ path. taking end.Front h.keys u) e
-front_stays P taking h front_ask.Fence a own u e = of_front (FrontStays P) _ a u e
-front_stays P taking h (front_ask.Read frame word) a own u e = of_front (FrontStays P) _ a u e
-front_stays P taking h (front_ask.Write frame word value) a own u e = of_front (FrontStays P) _ a u e
-front_stays P taking h (front_ask.Cas frame word old new) a own u e = of_front (FrontStays P) _ a u e
-front_stays P taking h front_ask.NewPort a own u e = of_front (FrontStays P) _ a u e
-front_stays P taking h front_ask.Send a own u e = of_front (FrontStays P) _ a u e
-front_stays P taking h front_ask.ClosePort a own u e = of_front (FrontStays P) _ a u e
-front_stays P taking h (front_ask.GetKey path) a own u e = absurd own
-front_stays P taking h (front_ask.SetKey path text) a own u e = absurd own
-front_stays P taking h (front_ask.Watch path) a own u e = absurd own
-
-map_stays : (P : Directory → Type 0) (h : Hypervisor) (who : BackMover) (gref : ℕ) (mode : Mode) (verdict : Result ℕ MapRefusal) → P h.keys → BackStays P (map_act h who gref mode verdict)
-map_stays P h who gref mode (Ok frame) u = u
-map_stays P h who gref mode (Err refusal) u = u
-
-bind_stays : (P : Directory → Type 0) (h : Hypervisor) (p : ℕ) (state : PortState) → P h.keys → BackStays P (bind_act h p state)
-bind_stays P h p port.Unbound u = u
-bind_stays P h p port.Closed u = u
-bind_stays P h p port.Bound u = u
-
-same_stays : (P : Directory → Type 0) (h : Hypervisor) → P h.keys → (x : BackAct) → x.under ≡ h → BackStays P x
-same_stays P h u x same = rw same u
+front_stays P taking h ask a own u e = (elim (front_acts h ask a e) as (λ asked x acts. AsksNoKey asked → P x.under.keys) [
+  | FrontWatched path first ↦ λ own. taking end.Front h.keys u
+  | FrontSet path text is ↦ λ own. absurd own
+  | FrontWatch path ↦ λ own. absurd own
+  | acts ↦ λ own. u
+]) own
 
 pub back_stays : (P : Directory → Type 0) → StaysTaken P → (h : Hypervisor) (who : BackMover) (ask : BackAsk) (o : Outcome) (a : BackAct) → (AsksBackKey ask → ⊥) → P h.keys → back_act h who ask o ≡ Some a → P a.under.keys
-back_stays P taking h who back_ask.Wait o a own u e = back_wait (BackStays P) h who a u (λ path. taking end.Back h.keys u) e
-back_stays P taking h who back_ask.Fence o a own u e = of_back (BackStays P) _ a u e
-back_stays P taking h who (back_ask.Read m word) o a own u e = of_back (BackStays P) _ a u e
-back_stays P taking h who (back_ask.Write m word value) o a own u e = of_back (BackStays P) _ a u e
-back_stays P taking h who (back_ask.Map gref mode) o a own u e = of_back (BackStays P) _ a (map_stays P h who gref mode (verdict_at h.pages gref mode) u) e
-back_stays P taking h who (back_ask.Unmap m) o a own u e = of_back (BackStays P) _ a u e
-back_stays P taking h who (back_ask.Bind p) o a own u e = of_back (BackStays P) _ a (bind_stays P h p (state_of h.channels p) u) e
-back_stays P taking h who back_ask.Send o a own u e = of_back (BackStays P) _ a u e
-back_stays P taking h who back_ask.ClosePort o a own u e = of_back (BackStays P) _ a u e
-back_stays P taking h who (back_ask.GetKey path) o a own u e = absurd (own tt)
-back_stays P taking h who (back_ask.SetKey path text) o a own u e = absurd (own tt)
-back_stays P taking h who (back_ask.Watch path) o a own u e = absurd (own tt)
-back_stays P taking h who (back_ask.DiskRead sector) o a own u e = of_read (BackStays P) h _ o a (same_stays P h u) e
-back_stays P taking h who (back_ask.DiskWrite sector words) o a own u e = of_disk (BackStays P) h _ o a (same_stays P h u) e
-back_stays P taking h who back_ask.Flush o a own u e = of_disk (BackStays P) h _ o a (same_stays P h u) e
-back_stays P taking h who (back_ask.Trim sector count) o a own u e = of_disk (BackStays P) h _ o a (same_stays P h u) e
+back_stays P taking h who ask o a own u e = (elim (back_acts h who ask o a e) as (λ mover asked outcome x acts. (AsksBackKey asked → ⊥) → P x.under.keys) [
+  | BackWatched path first ↦ λ own. taking end.Back h.keys u
+  | BackSet path text is ↦ λ own. absurd (own tt)
+  | BackWatch path ↦ λ own. absurd (own tt)
+  | acts ↦ λ own. u
+]) own
 
 pub backs_no_key : (ask : BackAsk) → IsBacks ask → AsksBackKey ask → ⊥
 backs_no_key (back_ask.GetKey path) own asks = own

@@ -2,6 +2,7 @@ pub mod Keeping
 pub mod Running
 pub mod Moving
 pub mod SafeHands
+pub mod Acting
 pub mod SafeActs
 pub mod SafeAnswers
 pub mod SafeGrowth
@@ -20,4 +21,4 @@ pub mod FewJobs
 pub mod Tight
 pub mod Echo
 pub mod Outside
-pub mod Lines
+pub mod Showing

@@ -1,14 +1,11 @@
 -- What is true of the machine at every moment stays true, and then each ask may be carried out.
-use Rattle.std.proofs.Common.{◌≡◌, ℕ, true, ◌+◌, ◌<◌, ◌≤◌, ◌^◌, List, [], ◌∷◌, length, refl, sym, ap, ◌∙◌, arith}
-use Rattle.std.specs.Prelude.{Option, Some, None, Result, Ok, Err}
+use Rattle.std.proofs.Common.{◌≡◌, ℕ, true, ◌+◌, ◌<◌, ◌≤◌, ◌^◌, List, [], ◌∷◌, length, refl, sym, ap, subst, ◌∙◌, arith}
+use Rattle.std.specs.Prelude.{Option, Some, None}
 use Rattle.std.proofs.lemmas.Option.{none-some}
 use Rattle.std.proofs.lemmas.List.Elements.{All-nil, All-contains}
 use Rattle.blk_base.specs.Options.{Options}
 use Rattle.blk_base.specs.declared.config.Job.{Job}
 use Rattle.blk_base.specs.declared.parts.Mapping.{Mapping}
-use Rattle.blk_base.specs.declared.parts.Mode.{Mode}
-use Rattle.blk_base.specs.declared.parts.End.{End}
-use Rattle.blk_base.specs.declared.parts.End.TheVariants as end
 use Rattle.blk_base.specs.declared.ask.FrontAsk.{FrontAsk}
 use Rattle.blk_base.specs.declared.ask.FrontAsk.TheVariants as front_ask
 use Rattle.blk_base.specs.declared.ask.BackAsk.{BackAsk}
@@ -16,13 +13,10 @@ use Rattle.blk_base.specs.declared.ask.BackAsk.TheVariants as back_ask
 use Rattle.blk_base.specs.declared.moves.BackMover.{BackMover}
 use Rattle.blk_base.specs.declared.moves.BackMover.TheVariants as back_mover
 use Rattle.grant_table.specs.declared.held.Held.{Held}
-use Rattle.grant_table.specs.declared.entry.MapRefusal.{MapRefusal}
-use Rattle.grant_table.specs.Table.{GrantTable, IsLive, verdict_at}
-use Rattle.event_channel.specs.declared.channels.PortState.{PortState}
-use Rattle.event_channel.specs.declared.channels.PortState.TheVariants as port
-use Rattle.event_channel.specs.Channels.{ChannelState, state_of, sent, reset}
+use Rattle.grant_table.specs.Table.{GrantTable, IsLive}
+use Rattle.event_channel.specs.Channels.{ChannelState, reset}
 use Rattle.hypervisor.specs.Hypervisor.{Hypervisor}
-use Rattle.hypervisor.specs.Act.{FrontAct, BackAct, Outcome, Took, front_act, back_act, map_act, bind_act}
+use Rattle.hypervisor.specs.Act.{FrontAct, BackAct, Outcome, Took, front_act, back_act}
 use Rattle.hypervisor.specs.May.{FrontMay, BackMay, HasMappingLeft}
 use Rattle.blk_front.specs.declared.stage.Stage.{Stage as FrontStage}
 use Rattle.blk_front.specs.declared.stage.Stage.TheVariants as front_stage
@@ -42,10 +36,11 @@ use Rattle.blk_back.specs.Hands.{hands_at, hands_of}
 use Rattle.blk_back.proofs.Hands.{hands_after, halted_hands, job_hands_after, step_info}
 use Rattle.segment_list.specs.declared.verdict.DiskInfo.{DiskInfo}
 use Rattle.split_model.specs.World.{World, start_of, may_suspend, suspended}
-use Rattle.split_model.proofs.Overwriting.{poke_cases, overwriting_cases}
-use Rattle.split_model.specs.Happening.{Happening, FrontMoves, BackMoves, JobMoves, Negotiates, FrontEnters, BackAttaches, BackHalts, Submits, Notifies, Pokes, OverwritesKey, Suspends, Dumps, Looks, Settles, happens, after, front_after, back_after, job_after, front_turn, back_turn, job_turn, other_end}
+use Rattle.split_model.proofs.Outside.{LeavesEnds, leaves_ends, KeepsPorts, sent_keeps}
+use Rattle.split_model.specs.Happening.{Happening, FrontMoves, BackMoves, JobMoves, FrontEnters, BackAttaches, BackHalts, Submits, Suspends, happens, after, front_after, back_after, job_after, front_turn, back_turn, job_turn}
 use Rattle.split_model.specs.Safe.{AreHeld, HasNoPort, IsPorted, IsSafe}
-use Rattle.split_model.proofs.SafeActs.{of_back, of_read, of_disk, held_after, made_front, back_wait, back_keys, back_key_channels}
+use Rattle.split_model.proofs.Acting.{BackBind, BackClose, back_acts}
+use Rattle.split_model.proofs.SafeActs.{held_after, made_front}
 use Rattle.split_model.proofs.SafeAnswers.{IsFronts, IsBacks, IsJobs, fronts_at, backs_of, jobs_of, back_answered, job_answered}
 use Rattle.split_model.proofs.States.{halts_cases}
 use Rattle.split_model.proofs.Shapes.{attaches_waiting}
@@ -89,38 +84,12 @@ ported_none s c none = tt
 abbrev pub MakesNoPort : Hypervisor → BackAct → Type 0
 MakesNoPort h a = (a.under.channels.made ≡ h.channels.made) × (h.channels.ports ≡ [] → a.under.channels.ports ≡ [])
 
-bind_ports : (h : Hypervisor) (p : ℕ) (state : PortState) → MakesNoPort h (bind_act h p state)
-bind_ports h p port.Unbound = (refl, λ none. rw none refl)
-bind_ports h p port.Closed = (refl, λ none. none)
-bind_ports h p port.Bound = (refl, λ none. none)
-
-map_ports : (h : Hypervisor) (who : BackMover) (gref : ℕ) (mode : Mode) (verdict : Result ℕ MapRefusal) → MakesNoPort h (map_act h who gref mode verdict)
-map_ports h who gref mode (Ok frame) = (refl, λ none. none)
-map_ports h who gref mode (Err refusal) = (refl, λ none. none)
-
-same_ports : (h : Hypervisor) (x : BackAct) → x.under.channels ≡ h.channels → MakesNoPort h x
-same_ports h x same = (ap (λ (c : ChannelState). c.made) same, λ none. ap (λ (c : ChannelState). c.ports) same ∙ none)
-
-under_ports : (h : Hypervisor) (x : BackAct) → x.under ≡ h → MakesNoPort h x
-under_ports h x same = same_ports h x (ap (λ (u : Hypervisor). u.channels) same)
-
 pub ports_back : (h : Hypervisor) (who : BackMover) (ask : BackAsk) (o : Outcome) (a : BackAct) → back_act h who ask o ≡ Some a → MakesNoPort h a
-ports_back h who back_ask.Wait o a e = back_wait (MakesNoPort h) h who a (refl, λ none. none) (λ path. (refl, λ none. none)) e
-ports_back h who back_ask.Fence o a e = of_back (MakesNoPort h) _ a (refl, λ none. none) e
-ports_back h who (back_ask.Read m word) o a e = of_back (MakesNoPort h) _ a (refl, λ none. none) e
-ports_back h who (back_ask.Write m word value) o a e = of_back (MakesNoPort h) _ a (refl, λ none. none) e
-ports_back h who (back_ask.Map gref mode) o a e = of_back (MakesNoPort h) _ a (map_ports h who gref mode (verdict_at h.pages gref mode)) e
-ports_back h who (back_ask.Unmap m) o a e = of_back (MakesNoPort h) _ a (refl, λ none. none) e
-ports_back h who (back_ask.Bind p) o a e = of_back (MakesNoPort h) _ a (bind_ports h p (state_of h.channels p)) e
-ports_back h who back_ask.Send o a e = of_back (MakesNoPort h) _ a (refl, λ none. none) e
-ports_back h who back_ask.ClosePort o a e = of_back (MakesNoPort h) _ a (refl, λ none. rw none refl) e
-ports_back h who (back_ask.GetKey path) o a e = back_keys (MakesNoPort h) h who (back_ask.GetKey path) o a tt (λ x is. same_ports h x (back_key_channels h x is)) e
-ports_back h who (back_ask.SetKey path text) o a e = back_keys (MakesNoPort h) h who (back_ask.SetKey path text) o a tt (λ x is. same_ports h x (back_key_channels h x is)) e
-ports_back h who (back_ask.Watch path) o a e = back_keys (MakesNoPort h) h who (back_ask.Watch path) o a tt (λ x is. same_ports h x (back_key_channels h x is)) e
-ports_back h who (back_ask.DiskRead sector) o a e = of_read (MakesNoPort h) h _ o a (under_ports h) e
-ports_back h who (back_ask.DiskWrite sector words) o a e = of_disk (MakesNoPort h) h _ o a (under_ports h) e
-ports_back h who back_ask.Flush o a e = of_disk (MakesNoPort h) h _ o a (under_ports h) e
-ports_back h who (back_ask.Trim sector count) o a e = of_disk (MakesNoPort h) h _ o a (under_ports h) e
+ports_back h who ask o a e = elim (back_acts h who ask o a e) as (λ mover asked outcome x acts. MakesNoPort h x) [
+  | BackBind p unbound ↦ (refl, λ none. rw none refl)
+  | BackClose ↦ (refl, λ none. rw none refl)
+  | acts ↦ (refl, λ none. none)
+]
 
 -- so where none is there none is
 no_port : (h : Hypervisor) (a : BackAct) → MakesNoPort h a → HasNoPort h.channels → HasNoPort a.under.channels
@@ -211,33 +180,17 @@ safe_submit w job safe =
       back_told = safe.back_told;
     }
 
-notified_ports : (c : ChannelState) (at : End) → HasNoPort c → HasNoPort (sent c (other_end at))
-notified_ports c end.Front none = none
-notified_ports c end.Back none = none
-
--- a spurious event
-pub safe_notify : (w : World) (at : End) → IsSafe w → IsSafe (happens w (Notifies at))
-safe_notify w at safe = record {
-  ported = ported_as w.front.stage w.under.channels (sent w.under.channels (other_end at)) (notified_ports w.under.channels at) safe.ported;
-  held = safe.held;
-  sized = safe.sized;
-  front_told = safe.front_told;
-  back_told = safe.back_told;
-}
-
--- a word of memory that a hostile hand overwrites is all that changes
-safe_poke : (w : World) (frame word value : ℕ) → IsSafe w → IsSafe (happens w (Pokes frame word value))
-safe_poke w frame word value safe =
-    poke_cases (λ under shown. IsSafe (record { front = w.front; back = w.back; under = under })) w.under frame word value
-    (λ framed worded. record { ported = safe.ported; held = safe.held; sized = safe.sized; front_told = safe.front_told; back_told = safe.back_told })
-    (record { ported = safe.ported; held = safe.held; sized = safe.sized; front_told = safe.front_told; back_told = safe.back_told })
-
--- so is a key
-safe_key : (w : World) (name text : List ℕ) → IsSafe w → IsSafe (happens w (OverwritesKey name text))
-safe_key w name text safe =
-    overwriting_cases (λ under shown. IsSafe (record { front = w.front; back = w.back; under = under })) w.under name text
-    (λ allowed. record { ported = safe.ported; held = safe.held; sized = safe.sized; front_told = safe.front_told; back_told = safe.back_told })
-    (record { ported = safe.ported; held = safe.held; sized = safe.sized; front_told = safe.front_told; back_told = safe.back_told })
+-- what happens outside the ends leaves all that is safe
+safe_outside : (w : World) (v : World) → LeavesEnds w v → IsSafe w → IsSafe v
+safe_outside w v left safe =
+    let kept : KeepsPorts w.under.channels v.under.channels = sent_keeps w.under.channels v.under.channels left.channels in
+    record {
+      ported = ported_as v.front.stage w.under.channels v.under.channels (λ none. (subst (λ (n : ℕ). n < 4294967295) (sym kept.made) none.0, kept.ports ∙ none.1)) (subst (λ (f : front.View). IsPorted f.stage w.under.channels) (sym left.front) safe.ported);
+      held = rw (left.grants, left.back) safe.held;
+      sized = ap (λ (b : back.View). b.jobs.info.sectors) left.back ∙ (safe.sized ∙ sym (ap (λ (f : front.View). f.sectors) left.front));
+      front_told = ap (λ (f : front.View). f.told) left.front ∙ safe.front_told;
+      back_told = ap (λ (b : back.View). b.told) left.back ∙ safe.back_told;
+    }
 
 -- after a suspend nothing is mapped, and no port is there, but one may be made
 safe_suspended : (w : World) → may_suspend w ≡ true → IsSafe w → IsSafe (suspended w)
@@ -254,17 +207,11 @@ safe_suspend w safe = suspend_cases (λ v shown. IsSafe v) w (λ may. safe_suspe
 
 -- what the front asks may be carried out
 front_may_at : (h : Hypervisor) (ask : FrontAsk) → IsFronts h.channels ask → front_ends.StaysInMemory ask → FrontMay h ask
-front_may_at h front_ask.Wait own within = tt
-front_may_at h front_ask.Fence own within = tt
 front_may_at h (front_ask.Read frame word) own within = within
 front_may_at h (front_ask.Write frame word value) own within = within
 front_may_at h (front_ask.Cas frame word old new) own within = within
 front_may_at h front_ask.NewPort own within = (own.0, rw own.1 (omega arith))
-front_may_at h front_ask.Send own within = tt
-front_may_at h front_ask.ClosePort own within = tt
-front_may_at h (front_ask.GetKey path) own within = tt
-front_may_at h (front_ask.SetKey path text) own within = tt
-front_may_at h (front_ask.Watch path) own within = tt
+front_may_at h ask own within = tt
 
 pub front_may : (w : World) → IsSafe w → front_ends.StaysInMemory (front_ends.ask_of w.front) → FrontMay w.under (front_ends.ask_of w.front)
 front_may w safe within = front_may_at w.under (front_ends.ask_of w.front) (fronts_at w.under.channels w.front.stage w.front safe.ported) within
@@ -274,15 +221,10 @@ has_left table hands held made few = (made, let many = held.as_many in omega ari
 
 -- what the back asks may be carried out
 back_may_at : (h : Hypervisor) (attached : Option ℕ) (hands : List Mapping) (ask : BackAsk) → IsBacks ask → AreHeld h.grants hands → Names hands ask → h.grants.made + 1 < 2 ^ 64 → length hands ≤ 529 → BackMay h attached ask
-back_may_at h attached hands back_ask.Wait own held names made few = tt
-back_may_at h attached hands back_ask.Fence own held names made few = tt
 back_may_at h attached hands (back_ask.Read m word) own held names made few = (All-contains (IsLive h.grants) hands m held.live names.0, names.1)
 back_may_at h attached hands (back_ask.Write m word value) own held names made few = (All-contains (IsLive h.grants) hands m held.live names.0, names.1, names.2)
 back_may_at h attached hands (back_ask.Map gref mode) own held names made few = has_left h.grants hands held made few
 back_may_at h attached hands (back_ask.Unmap m) own held names made few = All-contains (IsLive h.grants) hands m held.live names
-back_may_at h attached hands (back_ask.Bind p) own held names made few = tt
-back_may_at h attached hands back_ask.Send own held names made few = tt
-back_may_at h attached hands back_ask.ClosePort own held names made few = tt
 back_may_at h attached hands (back_ask.GetKey path) own held names made few = absurd own
 back_may_at h attached hands (back_ask.SetKey path text) own held names made few = absurd own
 back_may_at h attached hands (back_ask.Watch path) own held names made few = absurd own
@@ -290,6 +232,7 @@ back_may_at h attached hands (back_ask.DiskRead sector) own held names made few 
 back_may_at h attached hands (back_ask.DiskWrite sector words) own held names made few = absurd own
 back_may_at h attached hands back_ask.Flush own held names made few = absurd own
 back_may_at h attached hands (back_ask.Trim sector count) own held names made few = absurd own
+back_may_at h attached hands ask own held names made few = tt
 
 pub back_may : (h : Hypervisor) (attached : Option ℕ) (hands : List Mapping) (v : back.View) → AreHeld h.grants hands → Names hands (back_ends.ask_of v) → h.grants.made + 1 < 2 ^ 64 → length hands ≤ 529 → BackMay h attached (back_ends.ask_of v)
 back_may h attached hands v held names made few = back_may_at h attached hands (back_ends.ask_of v) (backs_of v) held names made few
@@ -333,18 +276,12 @@ pub safe_happens : (w : World) (h : Happening) → IsSafe w → IsSafe (happens 
 safe_happens w FrontMoves safe = safe_front_turn w (front_turn w) safe refl
 safe_happens w BackMoves safe = safe_back_turn w Took (back_turn w Took) safe refl
 safe_happens w (JobMoves number outcome) safe = safe_job_turn w number outcome (job_turn w number outcome) safe refl
-safe_happens w (Negotiates at move) safe = record { ported = safe.ported; held = safe.held; sized = safe.sized; front_told = safe.front_told; back_told = safe.back_told }
 safe_happens w (FrontEnters state) safe = safe_enter w state safe
 safe_happens w (BackAttaches shape grefs port) safe = safe_attach w shape grefs port safe
 safe_happens w (BackHalts why) safe = safe_halt w why safe
 safe_happens w (Submits job) safe = safe_submit w job safe
-safe_happens w (Notifies at) safe = safe_notify w at safe
-safe_happens w (Pokes frame word value) safe = safe_poke w frame word value safe
-safe_happens w (OverwritesKey name text) safe = safe_key w name text safe
 safe_happens w Suspends safe = safe_suspend w safe
-safe_happens w Dumps safe = safe
-safe_happens w (Looks quiet) safe = safe
-safe_happens w (Settles quiet) safe = safe
+safe_happens w h safe = safe_outside w (happens w h) (leaves_ends w h tt) safe
 
 -- whatever has happened
 pub safe_after : (hs : List Happening) (w : World) → IsSafe w → IsSafe (after hs w)

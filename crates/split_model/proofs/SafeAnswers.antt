@@ -1,26 +1,17 @@
 -- Each act's answer is one that its ask allows.
 use Rattle.std.proofs.Common.{◌≡◌, ℕ, Bool, true, false, if◌then◌else◌, List, [], ◌∷◌, refl, arith}
-use Rattle.std.specs.Prelude.{Option, Some, None, Result, Ok, Err, is_some, ◌==◌, ◌||◌}
-use Rattle.std.proofs.lemmas.Option.{none-some}
+use Rattle.std.specs.Prelude.{Option, Some, None, is_some, ◌==◌, ◌||◌}
 use Rattle.blk_base.specs.declared.parts.Mapping.{Mapping}
-use Rattle.blk_base.specs.declared.parts.Mode.{Mode}
 use Rattle.blk_base.specs.declared.ask.FrontAsk.{FrontAsk}
 use Rattle.blk_base.specs.declared.ask.FrontAsk.TheVariants as front_ask
 use Rattle.blk_base.specs.declared.ask.BackAsk.{BackAsk}
 use Rattle.blk_base.specs.declared.ask.BackAsk.TheVariants as back_ask
-use Rattle.blk_base.specs.declared.ask.BackAnswer.TheVariants.{Done, DiskFailed}
-use Rattle.blk_base.specs.declared.moves.BackMover.{BackMover}
 use Rattle.blk_base.specs.declared.moves.BackMover.TheVariants as back_mover
-use Rattle.blk_base.specs.declared.moves.Move.{Move}
 use Rattle.blk_layout.specs.declared.segment.Segment.{Segment}
 use Rattle.ring_words.specs.Ring.{requests_of, responses_of}
-use Rattle.grant_table.specs.declared.entry.MapRefusal.{MapRefusal}
-use Rattle.grant_table.specs.Table.{verdict_at}
-use Rattle.event_channel.specs.declared.channels.PortState.{PortState}
-use Rattle.event_channel.specs.declared.channels.PortState.TheVariants as port
-use Rattle.event_channel.specs.Channels.{ChannelState, fresh_channels, state_of}
+use Rattle.event_channel.specs.Channels.{ChannelState, fresh_channels}
 use Rattle.hypervisor.specs.Hypervisor.{Hypervisor}
-use Rattle.hypervisor.specs.Act.{FrontAct, BackAct, Outcome, Gave, Took, Failed, front_act, back_act, map_act, bind_act, read_act, disk_act}
+use Rattle.hypervisor.specs.Act.{FrontAct, BackAct, Outcome, front_act, back_act}
 use Rattle.blk_front.specs.declared.request.Request.{Request}
 use Rattle.blk_front.specs.declared.stage.Ending.{Ending}
 use Rattle.blk_front.specs.declared.request.Transfer.{Transfer}
@@ -41,7 +32,7 @@ use Rattle.blk_back.specs.View as back
 use Rattle.blk_back.specs.Ask as back_ends
 use Rattle.blk_back.specs.Step.{job_ask_of}
 use Rattle.split_model.specs.Safe.{HasNoPort, IsPorted}
-use Rattle.split_model.proofs.SafeActs.{of_front, of_back, front_wait, back_wait}
+use Rattle.split_model.proofs.Acting.{FrontGet, FrontSet, FrontWatch, front_acts, BackActs, BackMap, BackFence, BackBind, BackBindRefused, BackSend, BackClose, BackGet, BackSet, BackWatch, DiskGives, ReadFails, DiskTakes, WriteFails, DiskFlushes, FlushFails, DiskTrims, TrimFails, back_acts}
 
 -- what the front asks: a new port only where there is none, and never for a key
 abbrev pub IsFronts : ChannelState → FrontAsk → Type 0
@@ -96,37 +87,16 @@ read_fronts c (Some e) n = tt
 
 pub fronts_at : (c : ChannelState) (s : FrontStage) (v : front.View) → IsPorted s c → IsFronts c (front_ends.ask_at s v)
 fronts_at c front_stage.NewPort v ported = ported
-fronts_at c front_stage.Initialised v ported = tt
 fronts_at c front_stage.Loop v ported = loop_fronts c v (front.next_request v)
-fronts_at c (front_stage.RingWord k) v ported = tt
-fronts_at c (front_stage.RingFrame page) v ported = tt
-fronts_at c (front_stage.RingFence page) v ported = tt
-fronts_at c (front_stage.RingFlags page) v ported = tt
 fronts_at c (front_stage.Data n) v ported = issue_data_fronts c (front.next_request v) n
 fronts_at c (front_stage.Pages n) v ported = page_fronts c (front.next_request v) n
 fronts_at c (front_stage.GrantFrame place) v ported = name_fronts c (front.next_request v) place
-fronts_at c (front_stage.GrantFence place) v ported = tt
 fronts_at c (front_stage.GrantFlags place) v ported = grant_fronts c (front.next_request v) place
-fronts_at c (front_stage.Slot k) v ported = tt
-fronts_at c front_stage.Producer v ported = tt
-fronts_at c (front_stage.ProducerFence old) v ported = tt
-fronts_at c (front_stage.RequestEvent old) v ported = tt
-fronts_at c front_stage.Send v ported = tt
-fronts_at c (front_stage.ResponseHigh low) v ported = tt
-fronts_at c (front_stage.ResponseLast low high) v ported = tt
 fronts_at c (front_stage.GrantRead place) v ported = revoke_fronts c v.ending place
 fronts_at c (front_stage.GrantEnd place seen) v ported = end_fronts c v.ending place seen
 fronts_at c (front_stage.ReadData n) v ported = read_fronts c v.ending n
 fronts_at c (front_stage.LeftData n) v ported = read_fronts c v.ending n
-fronts_at c front_stage.StoreEvent v ported = tt
-fronts_at c front_stage.EventFence v ported = tt
-fronts_at c front_stage.LookAgain v ported = tt
-fronts_at c (front_stage.RingRead page) v ported = tt
-fronts_at c (front_stage.RingEnd page seen) v ported = tt
-fronts_at c front_stage.ClosePort v ported = tt
-fronts_at c front_stage.Left v ported = tt
-fronts_at c front_stage.Closed v ported = tt
-fronts_at c (front_stage.Broken word) v ported = tt
+fronts_at c s v ported = tt
 
 none_fresh : HasNoPort fresh_channels
 none_fresh = (omega arith, refl)
@@ -140,21 +110,13 @@ ported_fresh (front_stage.RingFlags page) = none_fresh
 ported_fresh front_stage.NewPort = none_fresh
 ported_fresh s = tt
 
-abbrev AnswersFront : FrontAsk → FrontAct → Type 0
-AnswersFront ask a = front_ends.IsAnswer ask a.answer
-
 pub front_answered_at : (h : Hypervisor) (c : ChannelState) (ask : FrontAsk) (a : FrontAct) → IsFronts c ask → front_act h ask ≡ Some a → front_ends.IsAnswer ask a.answer
-front_answered_at h c front_ask.Wait a own e = front_wait (AnswersFront front_ask.Wait) h a tt (λ path. tt) e
-front_answered_at h c front_ask.Fence a own e = of_front (AnswersFront front_ask.Fence) _ a tt e
-front_answered_at h c (front_ask.Read frame word) a own e = of_front (AnswersFront (front_ask.Read frame word)) _ a tt e
-front_answered_at h c (front_ask.Write frame word value) a own e = of_front (AnswersFront (front_ask.Write frame word value)) _ a tt e
-front_answered_at h c (front_ask.Cas frame word old new) a own e = of_front (AnswersFront (front_ask.Cas frame word old new)) _ a tt e
-front_answered_at h c front_ask.NewPort a own e = of_front (AnswersFront front_ask.NewPort) _ a tt e
-front_answered_at h c front_ask.Send a own e = of_front (AnswersFront front_ask.Send) _ a tt e
-front_answered_at h c front_ask.ClosePort a own e = of_front (AnswersFront front_ask.ClosePort) _ a tt e
-front_answered_at h c (front_ask.GetKey path) a own e = absurd own
-front_answered_at h c (front_ask.SetKey path text) a own e = absurd own
-front_answered_at h c (front_ask.Watch path) a own e = absurd own
+front_answered_at h c ask a own e = (elim (front_acts h ask a e) as (λ asked x acts. IsFronts c asked → front_ends.IsAnswer asked x.answer) [
+  | FrontGet path ↦ λ own. absurd own
+  | FrontSet path text is ↦ λ own. absurd own
+  | FrontWatch path ↦ λ own. absurd own
+  | acts ↦ λ own. tt
+]) own
 
 -- the front is answered what its ask allows
 pub front_answered : (h : Hypervisor) (v : front.View) (a : FrontAct) → front_act h (front_ends.ask_of v) ≡ Some a → front_ends.IsAnswer (front_ends.ask_of v) a.answer
@@ -200,62 +162,32 @@ unmap_backs [] = tt
 unmap_backs (page ∷ pages) = tt
 
 backs_at : (s : BackStage) (v : back.View) → IsBacks (back_ends.ask_at s v)
-backs_at back_stage.InitWait v = tt
-backs_at back_stage.MapRing v = tt
-backs_at back_stage.Bind v = tt
 backs_at back_stage.Loop v = loop_backs v (back_ends.next_reply v)
-backs_at (back_stage.Fetch k) v = tt
-backs_at (back_stage.ReplyHigh r) v = tt
-backs_at (back_stage.ReplyLast r) v = tt
-backs_at (back_stage.Producer r) v = tt
-backs_at (back_stage.ProducerFence old) v = tt
-backs_at (back_stage.ResponseEvent old) v = tt
-backs_at back_stage.Send v = tt
-backs_at back_stage.StoreEvent v = tt
-backs_at back_stage.EventFence v = tt
-backs_at back_stage.LookAgain v = tt
-backs_at (back_stage.Abort m) v = tt
 backs_at back_stage.UnmapRing v = unmap_backs v.pages
-backs_at back_stage.ClosePort v = tt
 backs_at back_stage.UnmapUnbound v = unmap_backs v.pages
-backs_at back_stage.Halted v = tt
+backs_at s v = tt
 
 pub backs_of : (v : back.View) → IsBacks (back_ends.ask_of v)
 backs_of v = backs_at v.stage v
 
-abbrev AnswersBack : BackAsk → BackAct → Type 0
-AnswersBack ask a = back_ends.IsAnswer ask a.answer
-
-back_map : (h : Hypervisor) (who : BackMover) (gref : ℕ) (mode : Mode) (verdict : Result ℕ MapRefusal) → back_ends.IsAnswer (back_ask.Map gref mode) (map_act h who gref mode verdict).answer
-back_map h who gref mode (Ok frame) = (refl, refl)
-back_map h who gref mode (Err refusal) = tt
-
-back_bind : (h : Hypervisor) (p : ℕ) (state : PortState) → back_ends.IsAnswer (back_ask.Bind p) (bind_act h p state).answer
-back_bind h p port.Unbound = tt
-back_bind h p port.Closed = tt
-back_bind h p port.Bound = tt
-
-back_answered_at : (h : Hypervisor) (ask : BackAsk) (o : Outcome) (a : BackAct) → IsBacks ask → back_act h back_mover.Back ask o ≡ Some a → back_ends.IsAnswer ask a.answer
-back_answered_at h back_ask.Wait o a own e = back_wait (AnswersBack back_ask.Wait) h back_mover.Back a tt (λ path. tt) e
-back_answered_at h back_ask.Fence o a own e = of_back (AnswersBack back_ask.Fence) _ a tt e
-back_answered_at h (back_ask.Read m word) o a own e = of_back (AnswersBack (back_ask.Read m word)) _ a tt e
-back_answered_at h (back_ask.Write m word value) o a own e = of_back (AnswersBack (back_ask.Write m word value)) _ a tt e
-back_answered_at h (back_ask.Map gref mode) o a own e = of_back (AnswersBack (back_ask.Map gref mode)) _ a (back_map h back_mover.Back gref mode (verdict_at h.pages gref mode)) e
-back_answered_at h (back_ask.Unmap m) o a own e = of_back (AnswersBack (back_ask.Unmap m)) _ a tt e
-back_answered_at h (back_ask.Bind p) o a own e = of_back (AnswersBack (back_ask.Bind p)) _ a (back_bind h p (state_of h.channels p)) e
-back_answered_at h back_ask.Send o a own e = of_back (AnswersBack back_ask.Send) _ a tt e
-back_answered_at h back_ask.ClosePort o a own e = of_back (AnswersBack back_ask.ClosePort) _ a tt e
-back_answered_at h (back_ask.GetKey path) o a own e = absurd own
-back_answered_at h (back_ask.SetKey path text) o a own e = absurd own
-back_answered_at h (back_ask.Watch path) o a own e = absurd own
-back_answered_at h (back_ask.DiskRead sector) o a own e = absurd own
-back_answered_at h (back_ask.DiskWrite sector words) o a own e = absurd own
-back_answered_at h back_ask.Flush o a own e = absurd own
-back_answered_at h (back_ask.Trim sector count) o a own e = absurd own
+back_answers : (h : Hypervisor) (ask : BackAsk) (o : Outcome) (a : BackAct) → IsBacks ask → BackActs h back_mover.Back ask o a → back_ends.IsAnswer ask a.answer
+back_answers h ask o a own (BackMap gref mode frame is) = (refl, refl)
+back_answers h ask o a own (BackGet path) = absurd own
+back_answers h ask o a own (BackSet path text is) = absurd own
+back_answers h ask o a own (BackWatch path) = absurd own
+back_answers h ask o a own (DiskGives sector words) = absurd own
+back_answers h ask o a own (ReadFails sector) = absurd own
+back_answers h ask o a own (DiskTakes sector words) = absurd own
+back_answers h ask o a own (WriteFails sector words) = absurd own
+back_answers h ask o a own DiskFlushes = absurd own
+back_answers h ask o a own FlushFails = absurd own
+back_answers h ask o a own (DiskTrims sector count) = absurd own
+back_answers h ask o a own (TrimFails sector count) = absurd own
+back_answers h ask o a own acts = tt
 
 -- the back is answered what its ask allows
 pub back_answered : (h : Hypervisor) (v : back.View) (o : Outcome) (a : BackAct) → back_act h back_mover.Back (back_ends.ask_of v) o ≡ Some a → back_ends.IsAnswer (back_ends.ask_of v) a.answer
-back_answered h v o a e = back_answered_at h (back_ends.ask_of v) o a (backs_of v) e
+back_answered h v o a e = back_answers h (back_ends.ask_of v) o a (backs_of v) (back_acts h back_mover.Back (back_ends.ask_of v) o a e)
 
 -- what a job asks: memory, mappings and the disk
 abbrev pub IsJobs : BackAsk → Type 0
@@ -278,19 +210,8 @@ page_jobs (gref ∷ pages) = tt
 
 jobs_at : (s : JobStage) (t : task.Work) → IsJobs (task.ask_at s t)
 jobs_at job_stage.MapPage t = page_jobs t.pages
-jobs_at (job_stage.PageReference m) t = tt
-jobs_at (job_stage.PageSectors m gref) t = tt
-jobs_at (job_stage.UnmapPage m) t = tt
 jobs_at job_stage.Map t = map_jobs t.rest t.writes
-jobs_at (job_stage.ReadWord m k) t = tt
-jobs_at (job_stage.DiskWrite m) t = tt
-jobs_at (job_stage.DiskRead m) t = tt
-jobs_at (job_stage.WriteWord m k) t = tt
-jobs_at (job_stage.Unmap m) t = tt
-jobs_at (job_stage.Abort m) t = tt
-jobs_at job_stage.Flush t = tt
-jobs_at (job_stage.Trim count) t = tt
-jobs_at (job_stage.Done status) t = tt
+jobs_at s t = tt
 
 jobs_asked : (held : Bool) (t : Option task.Work) → IsJobs (asked held t)
 jobs_asked held None = tt
@@ -304,42 +225,15 @@ jobs_if false ask own = own
 pub jobs_of : (v : back.View) (k : ℕ) → IsJobs (job_ask_of v k)
 jobs_of v k = jobs_if (is_some v.halted) (ask_job v.jobs k) (jobs_asked (waits v.jobs.works k) (work_of v.jobs.works k))
 
-abbrev AnswersJob : BackAsk → BackAct → Type 0
-AnswersJob ask a = task.IsAnswer ask a.answer
-
-job_map : (h : Hypervisor) (who : BackMover) (gref : ℕ) (mode : Mode) (verdict : Result ℕ MapRefusal) → task.IsAnswer (back_ask.Map gref mode) (map_act h who gref mode verdict).answer
-job_map h who gref mode (Ok frame) = (refl, refl)
-job_map h who gref mode (Err refusal) = tt
-
-job_read : (h : Hypervisor) (sector : ℕ) (shown : Move) (o : Outcome) (a : BackAct) → read_act h shown o ≡ Some a → task.IsAnswer (back_ask.DiskRead sector) a.answer
-job_read h sector shown (Gave words) a e = of_back (AnswersJob (back_ask.DiskRead sector)) _ a tt e
-job_read h sector shown Failed a e = of_back (AnswersJob (back_ask.DiskRead sector)) _ a tt e
-job_read h sector shown Took a e = absurd (none-some a e)
-
--- a call of the disk that gives no words is done, or failed
-job_call : (ask : BackAsk) (h : Hypervisor) (shown : Move) (o : Outcome) (a : BackAct) → task.IsAnswer ask Done → task.IsAnswer ask DiskFailed → disk_act h shown o ≡ Some a → task.IsAnswer ask a.answer
-job_call ask h shown Took a done failed e = of_back (AnswersJob ask) _ a done e
-job_call ask h shown Failed a done failed e = of_back (AnswersJob ask) _ a failed e
-job_call ask h shown (Gave other) a done failed e = absurd (none-some a e)
-
-job_answered_at : (h : Hypervisor) (k : ℕ) (ask : BackAsk) (o : Outcome) (a : BackAct) → IsJobs ask → back_act h (back_mover.Job k) ask o ≡ Some a → task.IsAnswer ask a.answer
-job_answered_at h k back_ask.Wait o a own e = absurd (none-some a e)
-job_answered_at h k back_ask.Fence o a own e = absurd own
-job_answered_at h k (back_ask.Read m word) o a own e = of_back (AnswersJob (back_ask.Read m word)) _ a tt e
-job_answered_at h k (back_ask.Write m word value) o a own e = of_back (AnswersJob (back_ask.Write m word value)) _ a tt e
-job_answered_at h k (back_ask.Map gref mode) o a own e = of_back (AnswersJob (back_ask.Map gref mode)) _ a (job_map h (back_mover.Job k) gref mode (verdict_at h.pages gref mode)) e
-job_answered_at h k (back_ask.Unmap m) o a own e = of_back (AnswersJob (back_ask.Unmap m)) _ a tt e
-job_answered_at h k (back_ask.Bind p) o a own e = absurd own
-job_answered_at h k back_ask.Send o a own e = absurd own
-job_answered_at h k back_ask.ClosePort o a own e = absurd own
-job_answered_at h k (back_ask.GetKey path) o a own e = absurd own
-job_answered_at h k (back_ask.SetKey path text) o a own e = absurd own
-job_answered_at h k (back_ask.Watch path) o a own e = absurd own
-job_answered_at h k (back_ask.DiskRead sector) o a own e = job_read h sector _ o a e
-job_answered_at h k (back_ask.DiskWrite sector words) o a own e = job_call (back_ask.DiskWrite sector words) h _ o a tt tt e
-job_answered_at h k back_ask.Flush o a own e = job_call back_ask.Flush h _ o a tt tt e
-job_answered_at h k (back_ask.Trim sector count) o a own e = job_call (back_ask.Trim sector count) h _ o a tt tt e
+job_answers : (h : Hypervisor) (k : ℕ) (ask : BackAsk) (o : Outcome) (a : BackAct) → IsJobs ask → BackActs h (back_mover.Job k) ask o a → task.IsAnswer ask a.answer
+job_answers h k ask o a own (BackMap gref mode frame is) = (refl, refl)
+job_answers h k ask o a own BackFence = absurd own
+job_answers h k ask o a own (BackBind p unbound) = absurd own
+job_answers h k ask o a own (BackBindRefused p) = absurd own
+job_answers h k ask o a own BackSend = absurd own
+job_answers h k ask o a own BackClose = absurd own
+job_answers h k ask o a own acts = tt
 
 -- a job is answered what its ask allows
 pub job_answered : (h : Hypervisor) (v : back.View) (k : ℕ) (o : Outcome) (a : BackAct) → back_act h (back_mover.Job k) (job_ask_of v k) o ≡ Some a → task.IsAnswer (job_ask_of v k) a.answer
-job_answered h v k o a e = job_answered_at h k (job_ask_of v k) o a (jobs_of v k) e
+job_answered h v k o a e = job_answers h k (job_ask_of v k) o a (jobs_of v k) (back_acts h (back_mover.Job k) (job_ask_of v k) o a e)

@@ -44,24 +44,18 @@ page_number : (t : Work) → (task.page_done t).number ≡ t.number
 page_number t = either_number (length t.rest == t.named) (task.judged t) (record t { pages = drop 1 t.pages; stage = job_stage.MapPage }) t.number (judged_number t) refl
 
 number_at : (s : JobStage) (t : Work) (a : BackAnswer) → (task.step_at s t a).number ≡ t.number
-number_at job_stage.MapPage t (answer.Mapped m) = refl
 number_at job_stage.MapPage t (answer.MapRefused status) = refl
 number_at (job_stage.PageReference m) t (answer.Word word) = refl
 number_at (job_stage.PageSectors m gref) t (answer.Word word) = refl
 number_at (job_stage.UnmapPage m) t answer.Done = page_number t
-number_at job_stage.Map t (answer.Mapped m) = refl
 number_at job_stage.Map t (answer.MapRefused status) = refl
 number_at (job_stage.ReadWord m k) t (answer.Word word) = refl
 number_at (job_stage.DiskWrite m) t answer.Done = next_sector_number (task.counted t) m
-number_at (job_stage.DiskWrite m) t answer.DiskFailed = refl
-number_at (job_stage.DiskRead m) t (answer.Sector words) = refl
 number_at (job_stage.DiskRead m) t answer.DiskFailed = refl
 number_at (job_stage.WriteWord m k) t answer.Done = either_number (k == 127) (task.next_sector t m) (record t { stage = job_stage.WriteWord m (k + 1) }) t.number (next_sector_number t m) refl
 number_at (job_stage.Unmap m) t answer.Done = segment_number t (task.rest_of t.rest)
 number_at (job_stage.Abort m) t answer.Done = refl
-number_at job_stage.Flush t answer.Done = refl
 number_at job_stage.Flush t answer.DiskFailed = refl
-number_at (job_stage.Trim count) t answer.Done = refl
 number_at (job_stage.Trim count) t answer.DiskFailed = refl
 number_at s t a = refl
 

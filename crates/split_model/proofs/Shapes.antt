@@ -96,22 +96,6 @@ front_shape (stage.LeftData n) v (answer.Word word) = left_shape v v.ending n wo
 front_shape stage.LookAgain v (answer.Word word) = looked_shape v word (record v { ring = record v.ring { seen = word; asleep = true }; stage = stage.Loop }) refl
 front_shape (stage.RingRead page) v (answer.Word word) = either (is_mapped word) (broken word v) (at (stage.RingEnd page word) v) v.shape refl refl
 front_shape (stage.RingEnd page before) v (answer.Word word) = either (word == before) (at (ring_left v page) v) (broken word v) v.shape refl refl
-front_shape (stage.RingWord k) v x = refl
-front_shape (stage.RingFrame page) v x = refl
-front_shape (stage.RingFence page) v x = refl
-front_shape (stage.RingFlags page) v x = refl
-front_shape stage.NewPort v x = refl
-front_shape (stage.Data n) v x = refl
-front_shape (stage.Pages n) v x = refl
-front_shape (stage.GrantFrame place) v x = refl
-front_shape (stage.GrantFence place) v x = refl
-front_shape (stage.Slot k) v x = refl
-front_shape stage.Producer v x = refl
-front_shape (stage.ProducerFence old) v x = refl
-front_shape stage.Send v x = refl
-front_shape stage.StoreEvent v x = refl
-front_shape stage.EventFence v x = refl
-front_shape stage.ClosePort v x = refl
 front_shape s v x = refl
 
 -- whatever the front is told
@@ -167,25 +151,12 @@ loop_back v None back_answer.Event = refl
 loop_back v None x = refl
 
 back_shape_at : (s : BackStage) (v : back.View) (x : BackAnswer) → (back_step.step_at s v x).shape ≡ v.shape
-back_shape_at back_stage.MapRing v (back_answer.Mapped m) = refl
 back_shape_at back_stage.MapRing v (back_answer.MapRefused status) = refl
-back_shape_at back_stage.Bind v back_answer.Done = refl
 back_shape_at back_stage.Bind v back_answer.BindRefused = refl
 back_shape_at back_stage.Loop v x = loop_back v (next_reply v) x
 back_shape_at (back_stage.Fetch k) v (back_answer.Word word) = either_back (k + 1 == entry_words_of v.shape.abi) (back_step.fetched v (v.ring.entry ++ word ∷ [])) (record v { ring = record v.ring { entry = v.ring.entry ++ word ∷ [] }; stage = back_stage.Fetch (k + 1) }) v.shape refl refl
 back_shape_at (back_stage.ResponseEvent old) v (back_answer.Word event) = refl
 back_shape_at back_stage.LookAgain v (back_answer.Word word) = looked_back v word (record v { ring = record v.ring { seen = word; asleep = true }; stage = back_stage.Loop }) refl
-back_shape_at (back_stage.ReplyHigh r) v x = refl
-back_shape_at (back_stage.ReplyLast r) v x = refl
-back_shape_at (back_stage.Producer r) v x = refl
-back_shape_at (back_stage.ProducerFence old) v x = refl
-back_shape_at back_stage.Send v x = refl
-back_shape_at back_stage.StoreEvent v x = refl
-back_shape_at back_stage.EventFence v x = refl
-back_shape_at (back_stage.Abort m) v x = refl
-back_shape_at back_stage.UnmapRing v x = refl
-back_shape_at back_stage.ClosePort v x = refl
-back_shape_at back_stage.UnmapUnbound v x = refl
 back_shape_at s v x = refl
 
 -- whatever the back is told

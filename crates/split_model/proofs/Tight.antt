@@ -12,7 +12,7 @@ use Rattle.blk_back.specs.View as back
 use Rattle.blk_back.specs.View.{info_of}
 use Rattle.segment_list.specs.declared.verdict.DiskInfo.{DiskInfo}
 use Rattle.split_model.specs.World.{World, start_of, new_back, suspended}
-use Rattle.split_model.specs.Happening.{Happening, FrontMoves, BackMoves, JobMoves, FrontEnters, BackAttaches, BackHalts, Submits, Suspends, Dumps, Looks, Settles, happens, after, front_after, back_after, job_after, front_turn, back_turn, job_turn}
+use Rattle.split_model.specs.Happening.{Happening, FrontMoves, BackMoves, JobMoves, FrontEnters, BackAttaches, BackHalts, Submits, Suspends, happens, after, front_after, back_after, job_after, front_turn, back_turn, job_turn}
 use Rattle.split_model.proofs.FewFront.{IsShort, IsModest, step_modest, entered_modest, submit_modest, suspended_modest}
 use Rattle.split_model.proofs.SafeFront.{start_front, entered_kept, submit_kept}
 use Rattle.split_model.proofs.Suspending.{suspend_cases, front_kept, begun_back, back_cases}
@@ -70,9 +70,6 @@ tight_happens w (BackAttaches shape grefs port) t = record { front = t.front; st
 tight_happens w (BackHalts why) t = record { front = t.front; start = t.start; back = halted_room why w.back t.back }
 tight_happens w (Submits job) t = record { front = submit_modest w.front job t.front; start = rw (submit_kept w.front job).start t.start; back = t.back }
 tight_happens w Suspends t = suspend_cases (λ v shown. IsTight v) w (λ may. tight_suspended w t) t
-tight_happens w Dumps t = t
-tight_happens w (Looks quiet) t = t
-tight_happens w (Settles quiet) t = t
 tight_happens w h t = record { front = t.front; start = t.start; back = t.back }
 
 pub tight_after : (hs : List Happening) (w : World) → IsTight w → IsTight (after hs w)
