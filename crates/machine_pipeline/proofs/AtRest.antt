@@ -1,5 +1,5 @@
 -- Where all is quiet, whether the ends serve or have left: the ring is read, and nothing is left.
-use Rattle.std.proofs.Common.{◌≡◌, ◌≢◌, ℕ, ◌⊎◌, inl, inr, not, Bool, true, false, [], length, refl, ap, sym, true≢false}
+use Rattle.std.proofs.Common.{◌≡◌, ◌≢◌, ℕ, ◌⊎◌, inl, inr, not, Bool, true, [], length, refl, ap, sym, true≢false}
 use Rattle.blk_base.specs.Options.{Options}
 use Rattle.blk_front.specs.declared.stage.Stage.{Stage as FrontStage}
 use Rattle.blk_front.specs.declared.stage.Stage.TheVariants as front
@@ -9,11 +9,12 @@ use Rattle.blk_front.specs.Submit.{is_led, is_wait, is_idle}
 use Rattle.blk_back.specs.declared.stage.Stage.{Stage as BackStage}
 use Rattle.split_model.specs.World.{World, is_quiet}
 use Rattle.machine_pipeline.proofs.Flow.{has_ring}
-use Rattle.machine_pipeline.proofs.Over.{IsDrained, IsLeaving, IsKept}
-use Rattle.machine_pipeline.proofs.Drained.{no_element, drained_at}
+use Rattle.machine_pipeline.proofs.Over.{IsDrained, IsLeaving}
+use Rattle.machine_pipeline.proofs.Drained.{drained_at}
 use Rattle.line_text.proofs.Both.{both_true}
 use Rattle.machine_pipeline.proofs.Together.{IsStanding}
 use Rattle.machine_pipeline.proofs.Quiet.{AreQuiet, all_quiet, IsCaughtUp, caught_up_at}
+use Rattle.std.proofs.lemmas.List.{nil_from_length}
 
 -- a front that made its port in this epoch left no entry and no response unread; it is in its loop or closed, and no request and no job is left
 pub record IsIdleRing (w : World) : Type 0 where
@@ -35,25 +36,22 @@ waits_at connected made order w b v front.ClosePort p free waits = absurd (true�
 waits_at connected made order w b v s p free waits = absurd p
 
 pub quiet_rests : (config : Options) (w : World) → is_quiet w ≡ true → IsStanding config w → IsIdleRing w
-quiet_rests config w quiet stands = by_kept stands.kept
-  where
-    idle : is_idle w.front ≡ true
-    idle = let parts : AreQuiet (is_idle w.front) _ _ _ = all_quiet _ _ _ _ quiet in parts.front
-
-    by_kept : IsKept config w stands.pipeline → IsIdleRing w
-    by_kept (inl held) =
-        let rest : IsCaughtUp w = caught_up_at config w held.0 stands.pipeline quiet (record { safe = stands.safe; holds = held.1 }) in
-        record {
-          ring = λ made. drained_at config w held.0 stands.pipeline w.front.stage w.back.stage held.1 (ap has_ring rest.looping) rest.no_request;
-          front_at = inl rest.looping;
-          no_job = no_element w.back.jobs.works rest.no_job;
-          no_request = no_element w.front.requests rest.no_request;
-        }
-    by_kept (inr over) =
-        let waiting = both_true (not (is_led w.front.stage)) (is_wait (ask_at w.front.stage w.front)) idle in
-        record {
-          ring = λ some. over.ring (λ none. some (no_element w.under.channels.ports none));
-          front_at = waits_at stands.pipeline.front.connected (length w.under.channels.ports) w.front.shape.order w w.back.stage w.front w.front.stage over.front_at waiting.0 waiting.1;
-          no_job = over.no_job;
-          no_request = over.no_request;
-        }
+quiet_rests config w quiet stands = elim stands.kept [
+  | inl held ↦
+      let rest : IsCaughtUp w = caught_up_at config w held.0 stands.pipeline quiet (record { safe = stands.safe; holds = held.1 }) in
+      record {
+        ring = λ made. drained_at config w held.0 stands.pipeline w.front.stage w.back.stage held.1 (ap has_ring rest.looping) rest.no_request;
+        front_at = inl rest.looping;
+        no_job = nil_from_length w.back.jobs.works rest.no_job;
+        no_request = nil_from_length w.front.requests rest.no_request;
+      }
+  | inr over ↦
+      let parts : AreQuiet (is_idle w.front) _ _ _ = all_quiet _ _ _ _ quiet in
+      let waiting = both_true (not (is_led w.front.stage)) (is_wait (ask_at w.front.stage w.front)) parts.front in
+      record {
+        ring = λ some. over.ring (λ none. some (nil_from_length w.under.channels.ports none));
+        front_at = waits_at stands.pipeline.front.connected (length w.under.channels.ports) w.front.shape.order w w.back.stage w.front w.front.stage over.front_at waiting.0 waiting.1;
+        no_job = over.no_job;
+        no_request = over.no_request;
+      }
+]

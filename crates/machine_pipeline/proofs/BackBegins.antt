@@ -1,10 +1,10 @@
 -- The job that the back makes of an entry.
 use Rattle.std.proofs.Common.{◌≡◌, ℕ, zero, suc, ◌+◌, ◌-◌, ◌/◌, ◌^◌, ◌<◌, ◌≤◌, ◌==◌, Bool, true, false, List, [], ◌∷◌, ◌++◌, get_or, refl, ap, sym, ◌∙◌, arith}
-use Rattle.std.specs.Prelude.{All, Option, Some, None, map, take, length, slice_get, nat_lt, nat_le, if◌then◌else◌}
+use Rattle.std.specs.Prelude.{All, Option, Some, None, map, length, slice_get, nat_lt, nat_le, if◌then◌else◌}
 use Rattle.std.specs.List.{range_with_len}
 use Rattle.std.proofs.lemmas.List.FromFn.{length-map-range_with_len}
 use Rattle.machine_pipeline.proofs.Lists.{all_at}
-use Rattle.std.proofs.lemmas.Bool.{true≢false}
+use Rattle.std.proofs.lemmas.Bool.{false≢true, true≢false}
 use Rattle.std.proofs.lemmas.Bool.Decides.{nat_tests}
 use Rattle.std.proofs.lemmas.List.Elements.{All-push}
 use Rattle.std.proofs.lemmas.List.Quantifiers.{all_pairs_push}
@@ -73,33 +73,23 @@ in_range sectors k r sized few s = by_way r.transfer s.sector s.numbers s.shaped
         let none = counted.none refl in
         let direct : is_indirect r.count ≡ false = rw none refl in
         rw direct (omega arith, omega arith, omega arith, omega arith, omega arith, number, omega (arith, numbers), eleven r, ranged r s.frames)
-    by_way transfer.Read within numbers counted = moves 0 (omega arith) within (counted.some refl) counted.few (is_indirect r.count) refl
-    by_way (transfer.Write tag) within numbers counted = moves 1 (omega arith) within (counted.some refl) counted.few (is_indirect r.count) refl
-    by_way (transfer.Barrier tag) within numbers counted = moves 2 (omega arith) within (counted.some refl) counted.few (is_indirect r.count) refl
+    by_way way within numbers counted = moves (operation_of way) (omega arith) within (counted.some refl) counted.few (is_indirect r.count) refl
 
 -- a request that moves sectors passes the tests of its segments
-record Passes (config : Options) (r : Request) : Type 0 where
-  pub some : (frames_for r.count == 0) ≡ false
-  pub on_disk : nat_lt config.sectors (r.sector + sectors_of (own_segments r)) ≡ false
-
-passes : (config : Options) (r : Request) → r.sector + r.count ≤ config.sectors → IsShaped r → is_moving r.transfer ≡ true → Passes config r
+passes : (config : Options) (r : Request) → r.sector + r.count ≤ config.sectors → IsShaped r → is_moving r.transfer ≡ true
+    → ((frames_for r.count == 0) ≡ false) × (nat_lt config.sectors (r.sector + sectors_of (own_segments r)) ≡ false)
 passes config r within shaped moves =
     let least = shaped.counted.some moves in
     let all = own_sectors r shaped in
-    record { some = grind (arith, nat_tests); on_disk = grind (arith, nat_tests) }
+    (grind (arith, nat_tests), grind (arith, nat_tests))
 
 -- its indirect pages name as many segments as the back takes
-record IsLarge (config : Options) (r : Request) : Type 0 where
-  pub some : (frames_for r.count == 0) ≡ false
-  pub published : (config.indirect == 0) ≡ false
-  pub few : nat_lt config.indirect (frames_for r.count) ≡ false
-  pub room : nat_le (frames_for r.count) 960 ≡ true
-
-is_large : (config : Options) (r : Request) → IsShaped r → is_moving r.transfer ≡ true → frames_for r.count ≤ config.indirect → IsLarge config r
-is_large config r shaped moves limit =
+large_passes : (config : Options) (r : Request) → IsShaped r → is_moving r.transfer ≡ true → frames_for r.count ≤ config.indirect
+    → ((frames_for r.count == 0) ≡ false) × ((config.indirect == 0) ≡ false) × (nat_lt config.indirect (frames_for r.count) ≡ false) × (nat_le (frames_for r.count) 960 ≡ true)
+large_passes config r shaped moves limit =
     let least = shaped.counted.some moves in
     let most = shaped.counted.few in
-    record { some = grind (arith, nat_tests); published = grind (arith, nat_tests); few = grind (arith, nat_tests); room = grind (arith, nat_tests) }
+    (grind (arith, nat_tests), grind (arith, nat_tests), grind (arith, nat_tests), grind (arith, nat_tests))
 
 -- the job of a request: that of a read, a write or a barrier moves its sectors, once it copied its segments where they lie in indirect pages
 abbrev pub moving_as : Bool → Transfer → (number size : ℕ) → Request → Work
@@ -115,74 +105,64 @@ job_as way number size r = moving_as (is_indirect r.count) way number size r
 abbrev direct_entry : ℕ → Request → RawRequest
 direct_entry op r = Direct op (frames_for r.count) 51712 r.number r.sector (segments_of r)
 
-by_entry : (config : Options) (number size : ℕ) (r : Request) (entry : RawRequest) (writes : Bool)
-    → entry_request r ≡ entry
-    → begun number entry size (verdict_of entry (info_of config)) ≡ moving number entry size writes r.sector (own_segments r)
-    → begun number (entry_request r) size (verdict_of (entry_request r) (info_of config)) ≡ moving number (entry_request r) size writes r.sector (own_segments r)
-by_entry config number size r entry writes is serves =
-    ap (λ (e : RawRequest). begun number e size (verdict_of e (info_of config))) is
-    ∙ (serves ∙ sym (ap (λ (e : RawRequest). moving number e size writes r.sector (own_segments r)) is))
+module _ (config : Options) (number size : ℕ) (r : Request) (shaped : IsShaped r) where
+  -- the job that is begun of its entry
+  abbrev job_begun : Work
+  job_begun = begun number (entry_request r) size (verdict_of (entry_request r) (info_of config))
 
--- each request is served where the disk may be written, and a read on each disk
-serves : (config : Options) (number size : ℕ) (r : Request) (way : Transfer)
-    → r.transfer ≡ way
-    → (is_write way ≡ true → config.read_only ≡ false)
-    → (is_moving way ≡ false → config.read_only ≡ false)
-    → (is_indirect r.count ≡ true → frames_for r.count ≤ config.indirect)
-    → r.sector + named_of way r.count ≤ config.sectors
-    → AreNumbers way r.sector
-    → IsShaped r
-    → begun number (entry_request r) size (verdict_of (entry_request r) (info_of config)) ≡ job_as way number size r
-serves config number size r transfer.Flush way writable served limit within numbers shaped =
-    let direct : is_indirect r.count ≡ false = rw (shaped.counted.none (ap is_moving way)) refl in
-    let bare : (frames_for r.count == 0) ≡ true = grind (arith, nat_tests) in
-    rw (way, direct, served refl, bare) refl
-serves config number size r (transfer.Discard sectors) way writable served limit within numbers shaped =
-    let some : (sectors == 0) ≡ false = grind (arith, nat_tests, numbers.0) in
-    let on_disk : nat_lt config.sectors (r.sector + sectors) ≡ false = grind (arith, nat_tests) in
-    rw (way, served refl, some, on_disk) refl
-serves config number size r transfer.Read way writable served limit within numbers shaped = by_size (is_indirect r.count) refl
-  where
-    may : Passes config r
-    may = passes config r within shaped (ap is_moving way)
+  direct : (way : Transfer) → r.transfer ≡ way → is_moving way ≡ true → (is_write way ≡ true → config.read_only ≡ false) → r.sector + r.count ≤ config.sectors → is_indirect r.count ≡ false
+      → job_begun ≡ moving_as false way number size r
+  direct transfer.Flush is moves writable within small = absurd (false≢true moves)
+  direct (transfer.Discard sectors) is moves writable within small = absurd (false≢true moves)
+  direct transfer.Read is moves writable within small =
+      let entry : entry_request r ≡ direct_entry 0 r = rw (is, small) refl in
+      let own = own_direct r (grind (arith, nat_tests)) in
+      let may = passes config r within shaped (ap is_moving is) in
+      rw entry (rw (own, may.0, small, own_sound r shaped, may.1) (ap (λ (l : List Segment). moving number (direct_entry 0 r) size false r.sector l) own))
+  direct way is moves writable within small =
+      let entry : entry_request r ≡ direct_entry (operation_of way) r = rw (is, small) refl in
+      let own = own_direct r (grind (arith, nat_tests)) in
+      let may = passes config r within shaped (ap is_moving is) in
+      rw entry (rw (own, writable refl, may.0, small, own_sound r shaped, may.1) (ap (λ (l : List Segment). moving number (direct_entry (operation_of way) r) size true r.sector l) own))
 
-    by_size : (b : Bool) → is_indirect r.count ≡ b → begun number (entry_request r) size (verdict_of (entry_request r) (info_of config)) ≡ moving_as b transfer.Read number size r
-    by_size true large =
-        let its : IsLarge config r = is_large config r shaped (ap is_moving way) (limit large) in
-        rw (way, large, its.some, its.published, its.few, its.room) refl
-    by_size false direct =
-        let own : take (frames_for r.count) (segments_of r) ≡ own_segments r = own_direct r (grind (arith, nat_tests)) in
-        let serves : begun number (direct_entry 0 r) size (verdict_of (direct_entry 0 r) (info_of config)) ≡ moving number (direct_entry 0 r) size false r.sector (own_segments r) =
-        rw (own, may.some, direct, own_sound r shaped, may.on_disk) (ap (λ (l : List Segment). moving number (direct_entry 0 r) size false r.sector l) own) in
-        by_entry config number size r (direct_entry 0 r) false (rw (way, direct) refl) serves
-serves config number size r (transfer.Write tag) way writable served limit within numbers shaped = by_size (is_indirect r.count) refl
-  where
-    may : Passes config r
-    may = passes config r within shaped (ap is_moving way)
+  indirect : (way : Transfer) → r.transfer ≡ way → is_moving way ≡ true → (is_write way ≡ true → config.read_only ≡ false) → frames_for r.count ≤ config.indirect → is_indirect r.count ≡ true
+      → job_begun ≡ moving_as true way number size r
+  indirect transfer.Read is moves writable few large =
+      let its = large_passes config r shaped (ap is_moving is) few in
+      rw (is, large, its.0, its.1, its.2, its.3) refl
+  indirect (transfer.Write tag) is moves writable few large =
+      let its = large_passes config r shaped (ap is_moving is) few in
+      rw (is, large, writable refl, its.0, its.1, its.2, its.3) refl
+  indirect (transfer.Barrier tag) is moves writable few large = let short = shaped.counted.direct (ap may_be_indirect is) in absurd (grind (arith, nat_tests))
+  indirect way is moves writable few large = absurd (false≢true moves)
 
-    by_size : (b : Bool) → is_indirect r.count ≡ b → begun number (entry_request r) size (verdict_of (entry_request r) (info_of config)) ≡ moving_as b (transfer.Write tag) number size r
-    by_size true large =
-        let its : IsLarge config r = is_large config r shaped (ap is_moving way) (limit large) in
-        rw (way, large, writable refl, its.some, its.published, its.few, its.room) refl
-    by_size false direct =
-        let own : take (frames_for r.count) (segments_of r) ≡ own_segments r = own_direct r (grind (arith, nat_tests)) in
-        let serves : begun number (direct_entry 1 r) size (verdict_of (direct_entry 1 r) (info_of config)) ≡ moving number (direct_entry 1 r) size true r.sector (own_segments r) =
-        rw (own, writable refl, may.some, direct, own_sound r shaped, may.on_disk) (ap (λ (l : List Segment). moving number (direct_entry 1 r) size true r.sector l) own) in
-        by_entry config number size r (direct_entry 1 r) true (rw (way, direct) refl) serves
-serves config number size r (transfer.Barrier tag) way writable served limit within numbers shaped =
-    let may = passes config r within shaped (ap is_moving way) in
-    let short = shaped.counted.direct (ap may_be_indirect way) in
-    let direct : is_indirect r.count ≡ false = grind (arith, nat_tests) in
-    let own : take (frames_for r.count) (segments_of r) ≡ own_segments r = own_direct r (omega arith) in
-    let serves : begun number (direct_entry 2 r) size (verdict_of (direct_entry 2 r) (info_of config)) ≡ moving number (direct_entry 2 r) size true r.sector (own_segments r) =
-    rw (own, writable refl, may.some, direct, own_sound r shaped, may.on_disk) (ap (λ (l : List Segment). moving number (direct_entry 2 r) size true r.sector l) own) in
-    by_entry config number size r (direct_entry 2 r) true (rw (way, direct) refl) serves ∙ sym (rw direct refl)
+  -- each request is served where the disk may be written, and a read on each disk
+  serves : (way : Transfer) → r.transfer ≡ way
+      → (is_write way ≡ true → config.read_only ≡ false)
+      → (is_moving way ≡ false → config.read_only ≡ false)
+      → (is_indirect r.count ≡ true → frames_for r.count ≤ config.indirect)
+      → r.sector + named_of way r.count ≤ config.sectors
+      → AreNumbers way r.sector
+      → job_begun ≡ job_as way number size r
+  serves transfer.Flush is writable served limit within numbers =
+      let small : is_indirect r.count ≡ false = rw (shaped.counted.none (ap is_moving is)) refl in
+      let bare : (frames_for r.count == 0) ≡ true = grind (arith, nat_tests) in
+      rw (is, small, served refl, bare) refl
+  serves (transfer.Discard sectors) is writable served limit within numbers =
+      let some : (sectors == 0) ≡ false = grind (arith, nat_tests, numbers.0) in
+      let on_disk : nat_lt config.sectors (r.sector + sectors) ≡ false = grind (arith, nat_tests) in
+      rw (is, served refl, some, on_disk) refl
+  serves way is writable served limit within numbers = by_size (is_indirect r.count) refl
+    where
+      by_size : (b : Bool) → is_indirect r.count ≡ b → job_begun ≡ moving_as b way number size r
+      by_size true large = indirect way is refl writable (limit large) large
+      by_size false small = direct way is refl writable within small
 
 -- the job of the entry's words
 pub entry_job : (abi : Abi) (config : Options) (number size k : ℕ) (r : Request) → IsPlain config → k < 2 ^ 32 → IsSubmitted config.sectors k r → (is_write r.transfer ≡ true → config.read_only ≡ false) → (is_moving r.transfer ≡ false → config.read_only ≡ false) → (is_indirect r.count ≡ true → frames_for r.count ≤ config.indirect) → begun number (request_of abi (entry_of abi r)) size (verdict_of (request_of abi (entry_of abi r)) (info_of config)) ≡ job_as r.transfer number size r
 entry_job abi config number size k r plain few s writable served limit =
     ap (λ (x : RawRequest). begun number x size (verdict_of x (info_of config))) (reads_back abi (entry_request r) (in_range config.sectors k r plain.sectors few s))
-    ∙ serves config number size r r.transfer refl writable served limit s.sector s.numbers s.shaped
+    ∙ serves config number size r s.shaped r.transfer refl writable served limit s.sector s.numbers
 
 -- its number, its id and its operation are those of the request; it begins with none of its sectors moved; it waits at its beginning, if at all
 pub record IsJobOf (way : Transfer) (number : ℕ) (r : Request) (t : Work) : Type 0 where
@@ -200,88 +180,47 @@ is_job way number size r shaped is = by_way way is
     none pages y = record { counted = refl; few = omega arith; sectors = λ i ws none. absurd (none-some ws none) }
 
     moves : (b : Bool) → is_indirect r.count ≡ b → (way : Transfer) → r.transfer ≡ way → is_moving way ≡ true → IsJobOf way number r (moving_as b way number size r)
-    moves true large transfer.Read is t = rw (is, large) (record { numbered = refl; id = refl; op = refl; unmoved = refl; unhindered = λ u undone begun. absurd (true≢false begun); unread = none })
-    moves true large (transfer.Write tag) is t = rw (is, large) (record { numbered = refl; id = refl; op = refl; unmoved = refl; unhindered = λ u undone begun. absurd (true≢false begun); unread = none })
-    moves true large (transfer.Barrier tag) is t = rw (is, large) (record { numbered = refl; id = refl; op = refl; unmoved = refl; unhindered = λ u undone begun. absurd (true≢false begun); unread = none })
-    moves false direct transfer.Read is t = rw (is, direct) (record { numbered = refl; id = refl; op = refl; unmoved = refl; unhindered = λ u undone begun. absurd (true≢false begun); unread = none })
-    moves false direct (transfer.Write tag) is t = rw (is, direct) (record { numbered = refl; id = refl; op = refl; unmoved = refl; unhindered = λ u undone begun. absurd (true≢false begun); unread = none })
-    moves false direct (transfer.Barrier tag) is t = rw (is, direct) (record { numbered = refl; id = refl; op = refl; unmoved = refl; unhindered = λ u undone begun. absurd (true≢false begun); unread = none })
-    moves b e transfer.Flush is t = absurd (true≢false (sym t))
-    moves b e (transfer.Discard sectors) is t = absurd (true≢false (sym t))
+    moves b e transfer.Flush is t = absurd (false≢true t)
+    moves b e (transfer.Discard sectors) is t = absurd (false≢true t)
+    moves true large way is t = rw (is, large) (record { numbered = refl; id = refl; op = refl; unmoved = refl; unhindered = λ u undone begun. absurd (true≢false begun); unread = none })
+    moves false small way is t = rw (is, small) (record { numbered = refl; id = refl; op = refl; unmoved = refl; unhindered = λ u undone begun. absurd (true≢false begun); unread = none })
 
     by_way : (way : Transfer) → r.transfer ≡ way → IsJobOf way number r (job_as way number size r)
-    by_way transfer.Flush is = rw (is, direct) (record { numbered = refl; id = refl; op = refl; unmoved = refl; unhindered = λ u undone begun. refl; unread = none })
-      where
-        direct : is_indirect r.count ≡ false
-        direct = let none = shaped.counted.none (ap is_moving is) in rw none refl
+    by_way transfer.Flush is =
+        let small : is_indirect r.count ≡ false = rw (shaped.counted.none (ap is_moving is)) refl in
+        rw (is, small) (record { numbered = refl; id = refl; op = refl; unmoved = refl; unhindered = λ u undone begun. refl; unread = none })
     by_way (transfer.Discard sectors) is = rw is (record { numbered = refl; id = refl; op = refl; unmoved = refl; unhindered = λ u undone begun. absurd (true≢false begun); unread = none })
-    by_way transfer.Read is = moves (is_indirect r.count) refl transfer.Read is refl
-    by_way (transfer.Write tag) is = moves (is_indirect r.count) refl (transfer.Write tag) is refl
-    by_way (transfer.Barrier tag) is = moves (is_indirect r.count) refl (transfer.Barrier tag) is refl
+    by_way way is = moves (is_indirect r.count) refl way is refl
 
 -- a request that moves sectors begins at its first segment, or at its first indirect page
-begins_moving : (writes : Bool) (number size : ℕ) (r : Request) → IsShaped r → is_moving r.transfer ≡ true → is_write r.transfer ≡ writes → (let t : Work = moving number (entry_request r) size writes r.sector (own_segments r) in AtWork r t job.Map)
-begins_moving writes number size r shaped moves same = (
-  record {
-    place = 0;
-    here = frames;
-    writes = sym same;
-    rest = refl;
-    within = omega (arith, first);
-    moved = omega (arith, first);
-    disk = omega arith;
-    words = refl;
-  },
-  first,
-)
-  where
-    frames : 1 ≤ frames_for r.count
-    frames = let some = shaped.counted.some moves in omega arith
-
-    first : first_of (own_segments r) ≡ 0
-    first = ap first_of (own_here r 0 shaped frames)
-
-begins_copying : (writes : Bool) (number size : ℕ) (r : Request) → is_indirect r.count ≡ true → r.sector + r.count ≤ size → is_write r.transfer ≡ writes
-    → (let t : Work = paging number (entry_request r) size writes r.sector (frames_for r.count) (page_references r) in AtWork r t job.MapPage)
-begins_copying writes number size r large fits same =
-    let many : 11 < frames_for r.count = grind (arith, nat_tests) in
-    let pages : pages_for r.count ≡ (frames_for r.count + 511) / 512 = rw large refl in (
-      0,
+begins_moving : (way : Transfer) (number size : ℕ) (r : Request) (b : Bool) → is_indirect r.count ≡ b → r.transfer ≡ way → is_moving way ≡ true → IsShaped r → r.sector + r.count ≤ size
+    → (let t : Work = moving_as b way number size r in AtWork r t t.stage)
+begins_moving way number size r false small is moves shaped fits =
+    let some = shaped.counted.some (ap is_moving is ∙ moves) in
+    let first : first_of (own_segments r) ≡ 0 = ap first_of (own_here r 0 shaped (omega arith)) in (
       record {
+        place = 0;
         here = omega arith;
-        large = large;
-        writes = sym same;
-        named = refl;
+        writes = sym (ap is_write is);
         rest = refl;
-        few = omega arith;
-        pages = refl;
-        moved = refl;
-        disk = refl;
-        fits = fits;
+        within = omega arith;
+        moved = omega arith;
+        disk = omega arith;
         words = refl;
       },
-      refl,
-      omega arith,
+      first,
     )
+begins_moving way number size r true large is moves shaped fits =
+    let many : 11 < frames_for r.count = grind (arith, nat_tests) in
+    let pages : pages_for r.count ≡ (frames_for r.count + 511) / 512 = rw large refl in
+    let some : 0 < pages_for r.count = omega arith in
+    let few : 0 ≤ frames_for r.count = omega arith in
+    (0, assumption (sym (ap is_write is)), refl, omega arith)
 
 at_begin : (way : Transfer) (number size : ℕ) (r : Request) → r.transfer ≡ way → IsShaped r → r.sector + named_of way r.count ≤ size → (let t : Work = job_as way number size r in AtWork r t t.stage)
 at_begin transfer.Flush number size r is shaped fits = (is, refl)
 at_begin (transfer.Discard sectors) number size r is shaped fits = (is, refl, refl)
-at_begin transfer.Read number size r is shaped fits = moves (is_indirect r.count) refl
-  where
-    moves : (b : Bool) → is_indirect r.count ≡ b → (let t : Work = moving_as b transfer.Read number size r in AtWork r t t.stage)
-    moves true large = begins_copying false number size r large fits (ap is_write is)
-    moves false direct = begins_moving false number size r shaped (ap is_moving is) (ap is_write is)
-at_begin (transfer.Write tag) number size r is shaped fits = moves (is_indirect r.count) refl
-  where
-    moves : (b : Bool) → is_indirect r.count ≡ b → (let t : Work = moving_as b (transfer.Write tag) number size r in AtWork r t t.stage)
-    moves true large = begins_copying true number size r large fits (ap is_write is)
-    moves false direct = begins_moving true number size r shaped (ap is_moving is) (ap is_write is)
-at_begin (transfer.Barrier tag) number size r is shaped fits = moves (is_indirect r.count) refl
-  where
-    moves : (b : Bool) → is_indirect r.count ≡ b → (let t : Work = moving_as b (transfer.Barrier tag) number size r in AtWork r t t.stage)
-    moves true large = begins_copying true number size r large fits (ap is_write is)
-    moves false direct = begins_moving true number size r shaped (ap is_moving is) (ap is_write is)
+at_begin way number size r is shaped fits = begins_moving way number size r (is_indirect r.count) refl is refl shaped fits
 
 -- that job is the one of the request, which stands at that index
 pub is_work : {series : List Request} (submitted : List Request) (fetched size sectors : ℕ) (number : ℕ) (r : Request)

@@ -1,9 +1,9 @@
 -- The back's fences, and its look at the event word of the front.
-use Rattle.std.proofs.Common.{◌≡◌, ℕ, ◌+◌, ◌-◌, ◌^◌, ◌<◌, ◌≤◌, ◌==◌, Bool, true, false, if◌then◌else◌, List, [], ◌∷◌, ◌++◌, length, refl, ap, sym, ◌∙◌, inr, arith}
-use Rattle.std.specs.Prelude.{All, None, IsSomeAnd, slice_index_or}
+use Rattle.std.proofs.Common.{◌≡◌, ℕ, ◌+◌, ◌-◌, ◌^◌, ◌<◌, ◌≤◌, Bool, true, false, if◌then◌else◌, List, ◌∷◌, ◌++◌, length, refl, ap, ◌∙◌, inr, arith}
+use Rattle.std.specs.Prelude.{All, None, slice_index_or}
 use Rattle.std.proofs.lemmas.Nat.{pow_pos}
 use Rattle.std.proofs.lemmas.Bool.{false≢true}
-use Rattle.std.proofs.lemmas.List.Elements.{All-head, All-tail, All-contains, Contains-append_right, Contains-get_or}
+use Rattle.std.proofs.lemmas.List.Elements.{All-contains, Contains-append_right, Contains-get_or}
 use Rattle.blk_base.specs.Options.{Options}
 use Rattle.blk_base.specs.Distance.{distance_of}
 use Rattle.blk_base.specs.declared.parts.Mapping.{Mapping}
@@ -14,36 +14,29 @@ use Rattle.pipeline_laws.specs.Pipeline.{Pipeline}
 use Rattle.ring_words.specs.Ring.{notifies}
 use Rattle.xen_pages.specs.Pages.{word_of}
 use Rattle.grant_table.specs.declared.held.Held.{Held}
-use Rattle.grant_table.specs.Table.{GrantTable, held_of, frame_in, frame_of}
+use Rattle.grant_table.specs.Table.{GrantTable, frame_of, IsLive}
 use Rattle.back_jobs.specs.Hands.{hands_in}
 use Rattle.blk_back.specs.declared.stage.Stage.{Stage as BackStage}
 use Rattle.blk_back.specs.declared.stage.Stage.TheVariants as stage
-use Rattle.blk_back.specs.View.{View, no_page, page_of}
+use Rattle.blk_back.specs.View.{no_page, page_of}
 use Rattle.blk_back.specs.Hands.{hands_at}
 use Rattle.split_model.specs.World.{World}
 use Rattle.split_model.specs.Safe.{AreHeld}
 use Rattle.split_model.specs.Shown.{back_lines, halt_lines}
-use Rattle.machine_pipeline.proofs.Flow.{Flow, wrapped, is_bound_back, reply_at}
+use Rattle.machine_pipeline.proofs.Flow.{Flow, wrapped, is_bound_back}
 use Rattle.machine_pipeline.proofs.Holds.{Holds}
 use Rattle.machine_pipeline.proofs.Turns.{BackGoes, Goes}
 use Rattle.machine_pipeline.proofs.BackStill.{BackStands}
-use Rattle.machine_pipeline.proofs.BackQuiet.{IsBetween, goes_still, quiet, all_mapped}
-
--- a mapping that lives is of the reference that is 6 above its frame
-found_framed : (number : ℕ) (live : List Held) (m : Mapping) → All (λ (h : Held). h.mapping.gref ≡ h.frame + 6) live → IsSomeAnd (held_of number live) (λ h. h.mapping ≡ m) → m.gref ≡ frame_in (held_of number live) + 6
-found_framed number [] m all found = absurd found
-found_framed number (h ∷ live) m all found = by_test (h.mapping.number == number) refl (found_framed number live m (All-tail (λ (h : Held). h.mapping.gref ≡ h.frame + 6) h live all)) found
-  where
-    by_test : (same : Bool) → (h.mapping.number == number) ≡ same → (IsSomeAnd (held_of number live) (λ h. h.mapping ≡ m) → m.gref ≡ frame_in (held_of number live) + 6) → IsSomeAnd (held_of number (h ∷ live)) (λ h. h.mapping ≡ m) → m.gref ≡ frame_in (held_of number (h ∷ live)) + 6
-    by_test true t later here = rw t (ap (λ (x : Mapping). x.gref) (sym (rw t at here)) ∙ All-head (λ (h : Held). h.mapping.gref ≡ h.frame + 6) h live all)
-    by_test false t later here = rw t (later (rw t at here))
+use Rattle.machine_pipeline.proofs.BackQuiet.{all_mapped, goes_quiet, between}
+use Rattle.machine_pipeline.proofs.Mapped.{frame_live}
 
 -- a page of the ring is in its frame
-pub page_frame : (table : GrantTable) (others pages : List Mapping) (page : ℕ) → AreHeld table (others ++ pages) → All (λ (h : Held). h.mapping.gref ≡ h.frame + 6) table.live → page < length pages → (slice_index_or pages page no_page).gref ≡ 8 + page → frame_of table (slice_index_or pages page no_page) ≡ 2 + page
+page_frame : (table : GrantTable) (others pages : List Mapping) (page : ℕ) → AreHeld table (others ++ pages) → All (λ (h : Held). h.mapping.gref ≡ h.frame + 6) table.live → page < length pages
+    → (slice_index_or pages page no_page).gref ≡ 8 + page → frame_of table (slice_index_or pages page no_page) ≡ 2 + page
 page_frame table others pages page held framed within named =
     let m : Mapping = slice_index_or pages page no_page in
-    let live = All-contains (λ (m : Mapping). IsSomeAnd (held_of m.number table.live) (λ h. h.mapping ≡ m)) (others ++ pages) m held.live (Contains-append_right others pages m (Contains-get_or pages page no_page within)) in
-    omega (arith, found_framed m.number table.live m framed live)
+    let live = All-contains (IsLive table) (others ++ pages) m held.live (Contains-append_right others pages m (Contains-get_or pages page no_page within)) in
+    frame_live table m (2 + page) live framed (omega (arith, named))
 
 -- so it is where the back is bound to its port
 pub frame_is : (config : Options) (w : World) (g : Flow) (d : Pipeline) (b : BackStage) (page : ℕ) → BackStands config w g d b → is_bound_back b ≡ true → hands_at b w.back ≡ hands_in w.back.jobs.works ++ w.back.pages → page < 2 ^ g.shape.order → frame_of w.under.grants (page_of w.back page) ≡ 2 + page
@@ -56,20 +49,15 @@ frame_is config w g d b page p bound hands within =
 pub first_frame : (config : Options) (w : World) (g : Flow) (d : Pipeline) (b : BackStage) → BackStands config w g d b → is_bound_back b ≡ true → hands_at b w.back ≡ hands_in w.back.jobs.works ++ w.back.pages → frame_of w.under.grants (page_of w.back 0) ≡ 2
 first_frame config w g d b p bound hands = frame_is config w g d b 0 p bound hands (pow_pos g.shape.order)
 
-pub between : (b : BackStage) (v : View) → is_bound_back b ≡ true → reply_at b ≡ None → hands_at b v ≡ hands_in v.jobs.works ++ v.pages → IsBetween b v
-between b v bound none hands = record { bound = bound; none = none; hands = hands }
-
 pub goes_producer_fence : (config : Options) (w : World) (g : Flow) (d : Pipeline) (old : ℕ) → BackStands config w g d (stage.ProducerFence old) → BackGoes config w d (stage.ProducerFence old)
 goes_producer_fence config w g d old p =
-    let h : Holds config w g d w.front.stage (stage.ProducerFence old) = p.holds in
-    goes_still config w g d (stage.ProducerFence old) (stage.ResponseEvent old) w.back w.under.pages w.under.channels g.back_seen _ _ p
-    (quiet config w g d (stage.ProducerFence old) (stage.ResponseEvent old) h (between (stage.ProducerFence old) w.back refl refl refl) (between (stage.ResponseEvent old) w.back refl refl refl) h.stations h.back_at (λ t r. inr (inr r)) (λ t. t) (λ t. cc))
+    goes_quiet config w g d (stage.ProducerFence old) (stage.ResponseEvent old) _ _ p (between (stage.ProducerFence old) w.back refl refl refl)
+    (between (stage.ResponseEvent old) w.back refl refl refl) p.holds.stations p.holds.back_at (λ t r. inr (inr r)) (λ t. t) (λ t. cc)
 
 pub goes_event_fence : (config : Options) (w : World) (g : Flow) (d : Pipeline) → BackStands config w g d stage.EventFence → BackGoes config w d stage.EventFence
 goes_event_fence config w g d p =
-    let h : Holds config w g d w.front.stage stage.EventFence = p.holds in
-    goes_still config w g d stage.EventFence stage.LookAgain w.back w.under.pages w.under.channels g.back_seen _ _ p
-    (quiet config w g d stage.EventFence stage.LookAgain h (between stage.EventFence w.back refl refl refl) (between stage.LookAgain w.back refl refl refl) h.stations h.back_at (λ t r. absurd r) (λ t. refl) (λ t. h.back_sleep.may refl))
+    goes_quiet config w g d stage.EventFence stage.LookAgain _ _ p (between stage.EventFence w.back refl refl refl) (between stage.LookAgain w.back refl refl refl) p.holds.stations p.holds.back_at
+    (λ t r. absurd r) (λ t. refl) (λ t. p.holds.back_sleep.may refl)
 
 -- where the front sleeps and this response is its first new one, its event word asks for it
 notified : (start replied taken old prod event : ℕ) → 1 ≤ replied → old ≡ wrapped start (replied - 1) → prod ≡ wrapped start replied → event ≡ wrapped start (taken + 1) → replied ≡ taken + 1 → notifies old prod event ≡ true
@@ -83,13 +71,11 @@ goes_by : (config : Options) (w : World) (g : Flow) (d : Pipeline) (old : ℕ) (
     → (w.front.ring.asleep ≡ true → g.replied ≡ g.taken + 1 → sends ≡ true)
     → Goes config (Move shown ∷ back_lines w.back.told given ++ halt_lines w.back.halted w.back.halted) (record { front = w.front; back = record w.back { stage = if sends then stage.Send else stage.Loop; told = None }; under = w.under }) d
 goes_by config w g d old shown given true p asks =
-    let h : Holds config w g d w.front.stage (stage.ResponseEvent old) = p.holds in
-    goes_still config w g d (stage.ResponseEvent old) stage.Send w.back w.under.pages w.under.channels g.back_seen shown given p
-    (quiet config w g d (stage.ResponseEvent old) stage.Send h (between (stage.ResponseEvent old) w.back refl refl refl) (between stage.Send w.back refl refl refl) h.stations tt (λ t r. inr (inr tt)) (λ t. t) (λ t. cc))
+    goes_quiet config w g d (stage.ResponseEvent old) stage.Send shown given p (between (stage.ResponseEvent old) w.back refl refl refl) (between stage.Send w.back refl refl refl) p.holds.stations tt
+    (λ t r. inr (inr tt)) (λ t. t) (λ t. cc)
 goes_by config w g d old shown given false p asks =
-    let h : Holds config w g d w.front.stage (stage.ResponseEvent old) = p.holds in
-    goes_still config w g d (stage.ResponseEvent old) stage.Loop w.back w.under.pages w.under.channels g.back_seen shown given p
-    (quiet config w g d (stage.ResponseEvent old) stage.Loop h (between (stage.ResponseEvent old) w.back refl refl refl) (between stage.Loop w.back refl refl refl) h.stations tt (λ t r. absurd (false≢true (asks t r))) (λ t. t) (λ t. cc))
+    goes_quiet config w g d (stage.ResponseEvent old) stage.Loop shown given p (between (stage.ResponseEvent old) w.back refl refl refl) (between stage.Loop w.back refl refl refl) p.holds.stations tt
+    (λ t r. absurd (false≢true (asks t r))) (λ t. t) (λ t. cc)
 
 pub goes_response_event : (config : Options) (w : World) (g : Flow) (d : Pipeline) (old : ℕ) → BackStands config w g d (stage.ResponseEvent old) → BackGoes config w d (stage.ResponseEvent old)
 goes_response_event config w g d old p =

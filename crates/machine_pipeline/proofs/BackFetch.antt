@@ -1,6 +1,6 @@
 -- The back copies the entry of the next request, word by word.
 use Rattle.std.proofs.Common.{◌≡◌, ℕ, ◌+◌, ◌<◌, ◌≤◌, ◌==◌, false, List, [], ◌∷◌, ◌++◌, length, take, refl, ap, sym, ◌∙◌, inl, inr, arith}
-use Rattle.std.specs.Prelude.{Some, slice_get, slice_index, None}
+use Rattle.std.specs.Prelude.{Some, slice_get, slice_index}
 use Rattle.std.proofs.lemmas.Bool.{false≢true}
 use Rattle.blk_base.specs.Options.{Options}
 use Rattle.blk_base.specs.Distance.{distance_of}
@@ -24,19 +24,18 @@ use Rattle.blk_back.specs.declared.stage.Stage.TheVariants as stage
 use Rattle.blk_back.specs.View.{slot_page}
 use Rattle.blk_back.specs.Step.{fetched}
 use Rattle.split_model.specs.World.{World}
-use Rattle.machine_pipeline.proofs.Slots.{some_words}
+use Rattle.machine_pipeline.proofs.Slots.{some_words, more_words}
 use Rattle.machine_pipeline.proofs.Lists.{get_within}
-use Rattle.machine_pipeline.proofs.Flow.{Flow, wrapped, is_issuing, ending_at, telling_at}
+use Rattle.machine_pipeline.proofs.Flow.{Flow, wrapped, is_back_arming, may_back_sleep}
 use Rattle.machine_pipeline.proofs.Holds.{Holds, slot_of}
 use Rattle.machine_pipeline.proofs.BackStill.{BackStands}
-use Rattle.machine_pipeline.proofs.BackQuiet.{IsBetween, bound_terms, goes_moved, quiet_with, front_sleep_at, back_sleep_at}
-use Rattle.machine_pipeline.proofs.BackFences.{between}
+use Rattle.machine_pipeline.proofs.BackQuiet.{IsBetween, bound_terms, between, goes_seen}
 use Rattle.machine_pipeline.proofs.BackWrites.{slot_is}
 use Rattle.machine_pipeline.proofs.BackLooks.{LooksAs}
 use Rattle.machine_pipeline.proofs.StationsBack.{begins_fetch}
 use Rattle.machine_pipeline.proofs.Turns.{does_step}
 use Rattle.split_model.specs.Shown.{back_lines, halt_lines}
-use Rattle.blk_front.specs.Submit.{is_ready}
+use Rattle.machine_pipeline.proofs.Kept.{turns_as}
 
 -- where the back saw more than it fetched
 some_requests : (start fetched seen word : ℕ) (ring : Ring) → ring.cons ≡ wrapped start fetched → word ≡ wrapped start seen → fetched ≤ seen → (requests_of ring word == 0) ≡ false → fetched < seen
@@ -80,10 +79,6 @@ length_entry X32 r = length-words_of X32 (entry_request r)
 pub one_more : (abi : Abi) (r : Request) (k word : ℕ) (entry : List ℕ) → k < entry_words_of abi → entry ≡ take k (entry_of abi r) → word ≡ slice_index (entry_of abi r) k → entry ++ word ∷ [] ≡ take (k + 1) (entry_of abi r)
 one_more abi r k word entry lt begun here = rw (begun, here) (sym (take_more (entry_of abi r) k 0 (let all = length_entry abi r in omega arith)))
 
-many_words : (abi : Abi) → 1 < entry_words_of abi
-many_words X64 = omega arith
-many_words X32 = omega arith
-
 -- the entry's first word is read in the loop
 pub goes_first : (config : Options) (w : World) (g : Flow) (d : Pipeline) (shown : Shown) (given : BackAnswer) (word : ℕ)
     → word ≡ entry_word w 0
@@ -97,10 +92,8 @@ goes_first config w g d shown given word read awake some p =
     let i : IsBetween stage.Loop w.back = between stage.Loop w.back refl refl refl in
     let more : g.fetched < g.back_seen = some_requests g.start g.fetched g.back_seen w.back.ring.seen w.back.ring.indices x.fetched x.back_saw x.back_from some in
     let n : IsNext w g = next_pushed config w g d stage.Loop p i more in
-    let s = begins_fetch config g d (is_ready w.front.stage) (is_issuing w.front.stage) (ending_at w.front.stage w.front.ending) (telling_at w.front.stage) None w.front.requests w.back.jobs.works w.under.pages n.r h.queue.ordered n.known (omega (arith, more, x.back_to)) h.stations in
-    goes_moved config w g d (s.step ∷ []) stage.Loop (stage.Fetch 1) (record w.back { ring = record w.back.ring { entry = word ∷ [] } }) w.under.pages w.under.channels g.back_seen shown given (does_step shown (back_lines w.back.told given ++ halt_lines w.back.halted w.back.halted) (rw (p.untold, h.unhalted) refl) s) p
-    (quiet_with config w g d stage.Loop (stage.Fetch 1) w.back.ring.asleep w.back.ring.seen (word ∷ []) w.under.channels g.back_seen h i (between (stage.Fetch 1) w.back refl refl refl) s.now x
-    (omega arith, many_words g.shape.abi, more, (n.r, n.known, one_more g.shape.abi n.r 0 word [] (some_words g.shape.abi) refl (read ∙ n.words 0 (some_words g.shape.abi))))
-    (front_sleep_at g.start g.taken g.replied w.under.pages w.front.ring.asleep w.under.channels.front_pending w.front.stage stage.Loop (stage.Fetch 1) (λ t s. absurd s) h.front_sleep)
-    (back_sleep_at g.start g.fetched g.pushed w.under.pages w.back.ring.asleep w.under.channels.back_pending w.front.stage stage.Loop (stage.Fetch 1) (λ t. absurd (false≢true t)) (λ t. awake) h.back_sleep)
-    refl refl)
+    let s = begins_fetch n.r h.queue.ordered n.known (omega (arith, more, x.back_to)) h.stations in
+    goes_seen config w g d (s.step ∷ []) stage.Loop (stage.Fetch 1) w.back.ring.asleep w.back.ring.seen (word ∷ []) g.back_seen shown given
+    (does_step shown (back_lines w.back.told given ++ halt_lines w.back.halted w.back.halted) (rw (p.untold, h.unhalted) refl) s) p i (between (stage.Fetch 1) w.back refl refl refl) s.now x
+    (omega arith, more_words g.shape.abi, more, (n.r, n.known, one_more g.shape.abi n.r 0 word [] (some_words g.shape.abi) refl (read ∙ n.words 0 (some_words g.shape.abi))))
+    (λ s. s) (turns_as (is_back_arming (stage.Fetch 1)) (may_back_sleep (stage.Fetch 1)) (λ t. absurd (false≢true t)) (λ t. awake) h.back_sleep)

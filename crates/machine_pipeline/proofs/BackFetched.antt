@@ -1,11 +1,10 @@
 -- The last word of an entry is read: its job is begun.
 use Rattle.std.proofs.Common.{◌≡◌, ◌≢◌, ℕ, ◌+◌, ◌-◌, ◌%◌, ◌^◌, ◌<◌, ◌==◌, Bool, true, false, if◌then◌else◌, List, [], ◌∷◌, ◌++◌, length, take, refl, ap, sym, subst, ◌∙◌, arith, length-append}
-use Rattle.std.specs.Prelude.{Some, None, slice_get, slice_index, count_by}
+use Rattle.std.specs.Prelude.{Some, None, slice_get, slice_index}
 use Rattle.std.proofs.lemmas.Option.{same_Some, slice_get_within}
 use Rattle.std.proofs.lemmas.Bool.{false≢true}
 use Rattle.std.proofs.lemmas.Bool.Decides.{nat_tests}
 use Rattle.blk_base.specs.Options.{Options}
-use Rattle.blk_base.specs.declared.parts.Mapping.{Mapping}
 use Rattle.blk_base.specs.declared.ask.BackAnswer.{BackAnswer}
 use Rattle.blk_base.specs.declared.moves.Move.{Move as Shown}
 use Rattle.pipeline_laws.specs.Pipeline.{Pipeline}
@@ -16,22 +15,21 @@ use Rattle.back_jobs.specs.Task.{Work}
 use Rattle.blk_front.specs.declared.request.Request.{Request}
 use Rattle.blk_front.specs.declared.stage.Stage.{Stage as FrontStage}
 use Rattle.blk_front.specs.Entry.{entry_of}
-use Rattle.blk_front.specs.Submit.{ending_of, is_ready}
+use Rattle.blk_front.specs.Submit.{is_ready}
 use Rattle.blk_back.specs.declared.stage.Reply.{Reply}
 use Rattle.blk_back.specs.declared.stage.Stage.TheVariants as stage
 use Rattle.blk_back.specs.Step.{fetched}
 use Rattle.split_model.specs.World.{World}
 use Rattle.split_model.specs.Shown.{back_lines, halt_lines}
 use Rattle.machine_pipeline.specs.Step.{IsSame}
-use Rattle.machine_pipeline.proofs.Flow.{Flow, is_issuing, ending_at, telling_at}
+use Rattle.machine_pipeline.proofs.Flow.{Flow, is_issuing, ending_at, telling_at, is_back_arming, may_back_sleep}
 use Rattle.machine_pipeline.proofs.Series.{numbered_more}
 use Rattle.machine_pipeline.proofs.Stations.{AreStations}
 use Rattle.machine_pipeline.proofs.StationsBack.{fetches}
-use Rattle.machine_pipeline.proofs.Holds.{Holds, AreIndices, IsSubmitted, IsWork, AreReplies, AreSlots}
-use Rattle.machine_pipeline.proofs.Turns.{BackGoes, Stepped, does_step, goes_by}
+use Rattle.machine_pipeline.proofs.Holds.{Holds, AreIndices, IsSubmitted, IsWork, AreReplies, AreSlots, AreMapped, BackSends}
+use Rattle.machine_pipeline.proofs.Turns.{BackGoes, Stepped, does_step, goes_by, silent}
 use Rattle.machine_pipeline.proofs.BackStill.{BackStands}
-use Rattle.machine_pipeline.proofs.BackQuiet.{IsBetween, goes_still, quiet_with, paged_at, front_sleep_at, back_sleep_at}
-use Rattle.machine_pipeline.proofs.BackFences.{between}
+use Rattle.machine_pipeline.proofs.BackQuiet.{IsBetween, paged_at, between, goes_seen}
 use Rattle.std.proofs.lemmas.List.{take_all}
 use Rattle.blk_base.specs.declared.operation.Abi.{Abi}
 use Rattle.blk_layout.specs.Entry.{request_of}
@@ -44,6 +42,8 @@ use Rattle.machine_pipeline.proofs.Wrapped.{next_wrapped}
 use Rattle.machine_pipeline.proofs.BackLooks.{LooksAs}
 use Rattle.machine_pipeline.proofs.BackFetch.{IsNext, entry_word, next_pushed, one_more, length_entry}
 use Rattle.machine_pipeline.proofs.BackBegins.{job_as, entry_job, IsJobOf, is_job, is_work, works_with}
+use Rattle.back_jobs.specs.Hands.{hands_in}
+use Rattle.machine_pipeline.proofs.Kept.{awake_back, sends_as, turns_as}
 
 -- one request more was fetched
 indices_with : (g : Flow) (front_ring back_ring : Ring) (front_seen back_seen number last waiting unfinished ending : ℕ) → g.fetched < g.back_seen → AreIndices g front_ring back_ring front_seen back_seen number last waiting unfinished ending → AreIndices (record g { fetched = g.fetched + 1 }) front_ring (record back_ring { cons = next_of back_ring.cons }) front_seen back_seen ((number + 1) % 2 ^ 64) last waiting unfinished ending
@@ -70,30 +70,18 @@ goes_fetched : (config : Options) (w : World) (g : Flow) (d : Pipeline) (k : ℕ
     → words ≡ entry_of w.back.shape.abi r
     → LooksAs config w d shown given (fetched w.back words)
 goes_fetched config w g d k shown given r words p known e = subst (λ (ws : List ℕ). LooksAs config w d shown given (fetched w.back ws)) (sym e) (goes_by {g = record g { fetched = g.fetched + 1 }} (does_step shown (back_lines w.back.told given ++ halt_lines w.back.halted w.back.halted) (rw (p.untold, h.unhalted) refl) s)
-    (record {
-      settled = h.settled;
-      indices = indices_with g w.front.ring.indices w.back.ring.indices w.front.ring.seen w.back.ring.seen w.back.fetched w.front.last w.front.waiting (length w.front.requests) (ending_of w.front.stage) h.back_at.2 h.indices;
-      queue = h.queue;
-      pool = h.pool;
-      stations = s.now;
-      works = works_with g.submitted w.front.sectors w.front.last g.fetched w.back.jobs.works t r h.queue.ordered h.submitted h.works is known it.id it.unhindered;
-      counted = omega (arith, length-append w.back.jobs.works (t ∷ []), h.counted);
-      replies = replies_with g.fetched g.taken g.replied g.replies h.replies;
-      front_at = h.front_at;
-      offered = h.offered;
-      back_at = tt;
-      memory = h.memory;
-      ring = h.ring;
-      slots = slots_with g.shape g.start g.fetched g.pushed g.taken g.replied g.series g.replies w.under.pages w.front.stage k h.slots;
-      frames = h.frames;
-      telling = h.telling;
-      entries = h.entries;
-      mapped = record { counted = λ test. h.mapped.counted test ∙ ap (λ (l : List Mapping). count_by test (l ++ w.back.pages)) (sym (started_hands w.back.jobs (next_number w.back) (request_of w.back.shape.abi (entry_of w.back.shape.abi r)))); framed = h.mapped.framed };
-      paged = paged_at g.shape w.back.shape w.back.ring.indices.entries w.back.grefs w.back.ring.port (g.before + 1) w.back.pages (stage.Fetch k) stage.Loop refl refl h.paged;
-      front_sleep = front_sleep_at g.start g.taken g.replied w.under.pages w.front.ring.asleep w.under.channels.front_pending w.front.stage (stage.Fetch k) stage.Loop (λ u s. absurd s) h.front_sleep;
-      back_sleep = record { arming = λ u. absurd (false≢true u); armed = λ u. absurd (false≢true (sym awake ∙ u)); may = λ u. awake; woken = λ u. absurd (false≢true (sym awake ∙ u)) };
-      ports = h.ports;
-    }))
+    (assumption (
+      s.now,
+      counted,
+      indices_with g _ _ _ _ _ _ _ _ _ h.back_at.2 h.indices,
+      works_with g.submitted w.front.sectors w.front.last g.fetched w.back.jobs.works t r h.queue.ordered h.submitted h.works is known it.id it.unhindered,
+      replies_with g.fetched g.taken g.replied g.replies h.replies,
+      slots_with _ _ _ _ _ _ _ _ _ _ k h.slots,
+      mapped,
+      paged_at _ _ _ _ _ _ _ (stage.Fetch k) stage.Loop refl refl h.paged,
+      sends_as (BackSends stage.Loop g.replied g.taken) (λ u s. absurd s) h.front_sleep,
+      awake_back g.start (g.fetched + 1) g.pushed w.under.pages w.back.ring.asleep w.under.channels.back_pending w.front.stage stage.Loop awake refl,
+    )))
   where
     h : Holds config w g d w.front.stage (stage.Fetch k)
     h = p.holds
@@ -101,11 +89,17 @@ goes_fetched config w g d k shown given r words p known e = subst (λ (ws : List
     awake : w.back.ring.asleep ≡ false
     awake = h.back_sleep.may refl
 
-    number : next_number w.back ≡ g.fetched + 1
-    number = omega (arith, h.indices.count, h.indices.few, h.indices.all, h.indices.given, h.indices.fetched_pushed)
-
     t : Work
     t = begun (next_number w.back) (request_of w.back.shape.abi (entry_of w.back.shape.abi r)) w.back.jobs.info.sectors (verdict_of (request_of w.back.shape.abi (entry_of w.back.shape.abi r)) w.back.jobs.info)
+
+    counted : length (w.back.jobs.works ++ t ∷ []) + 0 + g.replied ≡ g.fetched + 1
+    counted = omega (arith, length-append w.back.jobs.works (t ∷ []), h.counted)
+
+    mapped : AreMapped w.under.grants.live (hands_in (w.back.jobs.works ++ t ∷ []) ++ w.back.pages)
+    mapped = rw (started_hands w.back.jobs (next_number w.back) (request_of w.back.shape.abi (entry_of w.back.shape.abi r))) h.mapped
+
+    number : next_number w.back ≡ g.fetched + 1
+    number = omega (arith, h.indices.count, h.indices.few, h.indices.all, h.indices.given, h.indices.fetched_pushed)
 
     asked : slice_get g.submitted (r.number - 1) ≡ Some r
     asked = h.queue.ordered.known g.fetched r known
@@ -126,7 +120,7 @@ goes_fetched config w g d k shown given r words p known e = subst (λ (ws : List
     is = subst (λ (u : Work). IsWork g.submitted g.series (g.fetched + 1) u) (sym made) (is_work g.submitted g.fetched w.back.jobs.info.sectors config.sectors (next_number w.back) r number known asked sub (ap (λ (i : DiskInfo). i.sectors) h.info))
 
     s : Stepped None IsSame d [] (λ p. AreStations config (record g { fetched = g.fetched + 1 }) p (is_ready w.front.stage) (is_issuing w.front.stage) false (ending_at w.front.stage w.front.ending) (telling_at w.front.stage) None w.front.requests (w.back.jobs.works ++ t ∷ []) w.under.pages)
-    s = fetches config g d (is_ready w.front.stage) (is_issuing w.front.stage) (ending_at w.front.stage w.front.ending) (telling_at w.front.stage) None w.front.requests w.back.jobs.works w.under.pages t r h.queue.ordered known (omega (arith, h.indices.back_to, h.back_at.2)) it.id it.unmoved (it.unread w.under.pages) h.stations
+    s = fetches t r h.queue.ordered known (omega (arith, h.indices.back_to, h.back_at.2)) it.id it.unmoved (it.unread w.under.pages) h.stations
 
 goes_further : (config : Options) (w : World) (g : Flow) (d : Pipeline) (k word : ℕ) (shown : Shown) (given : BackAnswer) (last : Bool)
     → (k + 1 == entry_words_of w.back.shape.abi) ≡ last
@@ -169,12 +163,10 @@ goes_further config w g d k word shown given last tested read p = by_test last t
         let apart : k + 1 ≢ entry_words_of w.back.shape.abi = grind (arith, nat_tests) in
         let words : entry_words_of w.back.shape.abi ≡ entry_words_of g.shape.abi = ap entry_words_of abi in
         let awake : w.back.ring.asleep ≡ false = h.back_sleep.may refl in
-        goes_still config w g d (stage.Fetch k) (stage.Fetch (k + 1)) (record w.back { ring = record w.back.ring { entry = w.back.ring.entry ++ word ∷ [] } }) w.under.pages w.under.channels g.back_seen shown given p
-        (quiet_with config w g d (stage.Fetch k) (stage.Fetch (k + 1)) w.back.ring.asleep w.back.ring.seen (w.back.ring.entry ++ word ∷ []) w.under.channels g.back_seen h i (between (stage.Fetch (k + 1)) w.back refl refl refl) h.stations h.indices
-        (omega arith, omega arith, h.back_at.2, (r, h.back_at.3.1, more))
-        (front_sleep_at g.start g.taken g.replied w.under.pages w.front.ring.asleep w.under.channels.front_pending w.front.stage (stage.Fetch k) (stage.Fetch (k + 1)) (λ t s. absurd s) h.front_sleep)
-        (back_sleep_at g.start g.fetched g.pushed w.under.pages w.back.ring.asleep w.under.channels.back_pending w.front.stage (stage.Fetch k) (stage.Fetch (k + 1)) (λ t. absurd (false≢true t)) (λ t. awake) h.back_sleep)
-        refl refl)
+        goes_seen config w g d [] (stage.Fetch k) (stage.Fetch (k + 1)) w.back.ring.asleep w.back.ring.seen (w.back.ring.entry ++ word ∷ []) g.back_seen shown given
+        (silent shown w.back.told w.back.halted given d p.untold h.unhalted) p i
+        (between (stage.Fetch (k + 1)) w.back refl refl refl) h.stations h.indices (omega arith, omega arith, h.back_at.2, (r, h.back_at.3.1, more)) (λ s. s)
+        (turns_as (is_back_arming (stage.Fetch (k + 1))) (may_back_sleep (stage.Fetch (k + 1))) (λ t. absurd (false≢true t)) (λ t. awake) h.back_sleep)
 
 pub goes_fetch : (config : Options) (w : World) (g : Flow) (d : Pipeline) (k : ℕ) → BackStands config w g d (stage.Fetch k) → BackGoes config w d (stage.Fetch k)
 goes_fetch config w g d k p = goes_further config w g d k (entry_word w k) _ _ (k + 1 == entry_words_of w.back.shape.abi) refl refl p

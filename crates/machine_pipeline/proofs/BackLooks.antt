@@ -1,5 +1,5 @@
 -- The back reads the producer of the requests, in its loop and before it sleeps.
-use Rattle.std.proofs.Common.{◌≡◌, ℕ, ◌+◌, ◌≤◌, ◌==◌, Bool, true, false, if◌then◌else◌, ◌∷◌, ◌++◌, length, refl, ap, sym, ◌∙◌, inl, arith}
+use Rattle.std.proofs.Common.{◌≡◌, ℕ, ◌+◌, ◌≤◌, ◌==◌, Bool, true, false, if◌then◌else◌, ◌∷◌, ◌++◌, length, refl, ap, sym, ◌∙◌, inl, arith, [], true≢false}
 use Rattle.std.specs.Prelude.{Some, None}
 use Rattle.std.proofs.lemmas.Bool.{false≢true}
 use Rattle.std.proofs.lemmas.Bool.Decides.{nat_tests}
@@ -24,14 +24,14 @@ use Rattle.blk_back.specs.Step.{abort, looked}
 use Rattle.split_model.specs.World.{World}
 use Rattle.split_model.specs.Shown.{back_lines, halt_lines}
 use Rattle.machine_pipeline.proofs.Slots.{few_entries}
-use Rattle.machine_pipeline.proofs.Flow.{Flow, wrapped, has_ring, is_fetching}
+use Rattle.machine_pipeline.proofs.Flow.{Flow, wrapped, has_ring, is_fetching, is_back_arming, may_back_sleep}
 use Rattle.machine_pipeline.proofs.Holds.{Holds, AreIndices, BackSends}
-use Rattle.machine_pipeline.proofs.Turns.{BackGoes, Goes}
-use Rattle.machine_pipeline.proofs.BackStill.{BackStands}
-use Rattle.machine_pipeline.proofs.BackQuiet.{IsBetween, goes_still, quiet_with, bound_terms, front_sleep_at, back_sleep_at, stations_between}
-use Rattle.machine_pipeline.proofs.BackFences.{between}
-use Rattle.machine_pipeline.proofs.BackWrites.{first_at}
+use Rattle.machine_pipeline.proofs.Turns.{BackGoes, Goes, silent}
+use Rattle.machine_pipeline.proofs.BackStill.{BackStands, StationsOf}
+use Rattle.machine_pipeline.proofs.BackQuiet.{IsBetween, bound_terms, between, goes_seen}
 use Rattle.machine_pipeline.proofs.Wrapped.{same_wrapped}
+use Rattle.machine_pipeline.proofs.BackFences.{first_frame}
+use Rattle.machine_pipeline.proofs.Kept.{turns_as}
 
 -- an honest front is never further ahead than the ring has entries
 no_overrun : (start replied pushed word entries : ℕ) (ring : Ring) → entries ≤ 512 → ring.entries ≡ entries → ring.prod ≡ wrapped start replied → word ≡ wrapped start pushed → replied ≤ pushed → pushed ≤ replied + entries → overruns ring word ≡ false
@@ -77,16 +77,15 @@ looks_by config w g d b word shown given otherwise true same p i unfetching unse
 looks_by config w g d b word shown given otherwise false true p i unfetching unsent l bounded none = none refl
 looks_by config w g d b word shown given otherwise false false p i unfetching unsent l bounded none =
     let h : Holds config w g d w.front.stage b = p.holds in
-    goes_still config w g d b stage.Loop (record w.back { ring = record w.back.ring { seen = word } }) w.under.pages w.under.channels g.pushed shown given p
-    (quiet_with config w g d b stage.Loop w.back.ring.asleep word w.back.ring.entry w.under.channels g.pushed h i (between stage.Loop w.back refl refl refl) (stations_between config w g d b h unfetching i.none) l.indices tt
-    (front_sleep_at g.start g.taken g.replied w.under.pages w.front.ring.asleep w.under.channels.front_pending w.front.stage b stage.Loop (λ t s. absurd (unsent s)) h.front_sleep)
-    (back_sleep_at g.start g.fetched g.pushed w.under.pages w.back.ring.asleep w.under.channels.back_pending w.front.stage b stage.Loop (λ t. absurd (false≢true t)) (λ t. absurd (false≢true (sym t))) h.back_sleep)
-    refl refl)
+    let stations : StationsOf config w g d false None w.back.jobs.works w.under.pages = rw (unfetching, i.none) at h.stations in
+    goes_seen config w g d [] b stage.Loop w.back.ring.asleep word w.back.ring.entry g.pushed shown given (silent shown w.back.told w.back.halted given d p.untold h.unhalted) p i
+    (between stage.Loop w.back refl refl refl)
+    stations l.indices tt unsent (turns_as (is_back_arming stage.Loop) (may_back_sleep stage.Loop) (λ t. absurd (false≢true t)) (λ t. absurd (true≢false t)) h.back_sleep)
 
 -- the producer stands in word 0 of the ring's first page
 producer : (config : Options) (w : World) (g : Flow) (d : Pipeline) (b : BackStage) → BackStands config w g d b → IsBetween b w.back → word_of w.under.pages (frame_of w.under.grants (page_of w.back 0)) 0 ≡ wrapped g.start g.pushed
 producer config w g d b p i =
-    ap (λ (f : ℕ). word_of w.under.pages f 0) (first_at config w g d b p i) ∙ p.holds.ring.requests (rung w.front.stage p.connected)
+    ap (λ (f : ℕ). word_of w.under.pages f 0) (first_frame config w g d b p i.bound i.hands) ∙ p.holds.ring.requests (rung w.front.stage p.connected)
   where
     rung : (s : FrontStage) → is_connected s ≡ true → has_ring s ≡ true
     rung (front.RingWord k) c = c
@@ -103,11 +102,9 @@ goes_look_again config w g d p =
     looks_by config w g d stage.LookAgain word _ _ (record w.back { ring = record w.back.ring { seen = word; asleep = true }; stage = stage.Loop }) (overruns w.back.ring.indices word) (word == w.back.ring.indices.cons) p i refl (λ s. s) l l.bounded
     (λ same.
     let e : g.pushed ≡ g.fetched = l.none (grind (arith, nat_tests)) in
-    goes_still config w g d stage.LookAgain stage.Loop (record w.back { ring = record w.back.ring { seen = word; asleep = true } }) w.under.pages w.under.channels g.pushed _ _ p
-    (quiet_with config w g d stage.LookAgain stage.Loop true word w.back.ring.entry w.under.channels g.pushed h i (between stage.Loop w.back refl refl refl) h.stations l.indices tt
-    (front_sleep_at g.start g.taken g.replied w.under.pages w.front.ring.asleep w.under.channels.front_pending w.front.stage stage.LookAgain stage.Loop (λ t s. absurd s) h.front_sleep)
-    (record { arming = λ t. absurd (false≢true t); armed = λ t. h.back_sleep.arming refl; may = λ t. absurd (false≢true (sym t)); woken = λ t. inl e })
-    refl refl))
+    goes_seen config w g d [] stage.LookAgain stage.Loop true word w.back.ring.entry g.pushed _ _ (silent _ w.back.told w.back.halted _ d p.untold h.unhalted) p i
+    (between stage.Loop w.back refl refl refl) h.stations l.indices tt (λ s. s)
+    (record { arming = λ t. absurd (false≢true t); armed = λ t. h.back_sleep.arming refl; may = λ t. absurd (true≢false t); woken = λ t. inl e }))
 
 -- in the loop with nothing at hand: where nothing is new the back stores its event word
 pub goes_loop_look : (config : Options) (w : World) (g : Flow) (d : Pipeline) (shown : Shown) (given : BackAnswer) (word : ℕ) → word ≡ word_of w.under.pages (frame_of w.under.grants (page_of w.back 0)) 0 → w.back.ring.asleep ≡ false → BackStands config w g d stage.Loop → LooksAs config w d shown given (looked w.back word (record w.back { ring = record w.back.ring { seen = word }; stage = stage.StoreEvent }))
@@ -117,8 +114,6 @@ goes_loop_look config w g d shown given word read awake p =
     let l : IsLook w g word = look config w g d stage.Loop word h i (read ∙ producer config w g d stage.Loop p i) in
     looks_by config w g d stage.Loop word shown given (record w.back { ring = record w.back.ring { seen = word }; stage = stage.StoreEvent }) (overruns w.back.ring.indices word) (word == w.back.ring.indices.cons) p i refl (λ s. s) l l.bounded
     (λ same.
-    goes_still config w g d stage.Loop stage.StoreEvent (record w.back { ring = record w.back.ring { seen = word } }) w.under.pages w.under.channels g.pushed shown given p
-    (quiet_with config w g d stage.Loop stage.StoreEvent w.back.ring.asleep word w.back.ring.entry w.under.channels g.pushed h i (between stage.StoreEvent w.back refl refl refl) h.stations l.indices tt
-    (front_sleep_at g.start g.taken g.replied w.under.pages w.front.ring.asleep w.under.channels.front_pending w.front.stage stage.Loop stage.StoreEvent (λ t s. absurd s) h.front_sleep)
-    (back_sleep_at g.start g.fetched g.pushed w.under.pages w.back.ring.asleep w.under.channels.back_pending w.front.stage stage.Loop stage.StoreEvent (λ t. absurd (false≢true t)) (λ t. awake) h.back_sleep)
-    refl refl))
+    goes_seen config w g d [] stage.Loop stage.StoreEvent w.back.ring.asleep word w.back.ring.entry g.pushed shown given (silent shown w.back.told w.back.halted given d p.untold h.unhalted) p i
+    (between stage.StoreEvent w.back refl refl refl)
+    h.stations l.indices tt (λ s. s) (turns_as (is_back_arming stage.StoreEvent) (may_back_sleep stage.StoreEvent) (λ t. absurd (false≢true t)) (λ t. awake) h.back_sleep))

@@ -32,8 +32,7 @@ use Rattle.machine_pipeline.proofs.Holds.{Holds, IsFrontSleep}
 use Rattle.machine_pipeline.proofs.Turns.{BackGoes, Goes, no_move}
 use Rattle.machine_pipeline.proofs.Keyed.{goes_keyed}
 use Rattle.machine_pipeline.proofs.BackStill.{BackStands}
-use Rattle.machine_pipeline.proofs.BackQuiet.{IsBetween, goes_still, quiet_with, quiet}
-use Rattle.machine_pipeline.proofs.BackFences.{between}
+use Rattle.machine_pipeline.proofs.BackQuiet.{IsBetween, goes_still, quiet_with, between, goes_quiet}
 use Rattle.machine_pipeline.proofs.BackWrites.{slot_is}
 use Rattle.machine_pipeline.proofs.Slots.{response_fits}
 use Rattle.blk_base.specs.declared.ask.BackAsk.{BackAsk}
@@ -82,11 +81,9 @@ goes_woken config w g d shown given c pending made ports p =
 goes_watched : (config : Options) (w : World) (g : Flow) (d : Pipeline) (shown : Shown) (given : BackAnswer) → BackStands config w g d stage.Loop
     → Goes config (Move shown ∷ back_lines w.back.told given ++ halt_lines w.back.halted w.back.halted) (record { front = w.front; back = record w.back { told = None }; under = w.under }) d
 goes_watched config w g d shown given p =
-    let h : Holds config w g d w.front.stage stage.Loop = p.holds in
     let i : IsBetween stage.Loop w.back = between stage.Loop w.back refl refl refl in
     subst (λ (s : BackStage). Goes config (Move shown ∷ back_lines w.back.told given ++ halt_lines w.back.halted w.back.halted) (record { front = w.front; back = record w.back { stage = s; told = None }; under = w.under }) d) (sym p.at)
-    (goes_still config w g d stage.Loop stage.Loop w.back w.under.pages w.under.channels g.back_seen shown given p
-    (quiet config w g d stage.Loop stage.Loop h i i h.stations tt (λ t r. inr (inr r)) (λ t. t) (λ t. cc)))
+    (goes_quiet config w g d stage.Loop stage.Loop shown given p i i p.holds.stations tt (λ t r. inr (inr r)) (λ t. t) (λ t. cc))
 
 waits : (config : Options) (w : World) (g : Flow) (d : Pipeline) (pending : Bool) (next : Option (List ℕ)) → BackStands config w g d stage.Loop
     → ActGoes config w d (loop_step w.back None) (if pending then Some (record { answer = answer.Event; under = (let u : Hypervisor = w.under in record u { channels = taken w.under.channels end.Back }); shown = moves.Event mover.Back }) else back_watched w.under next)

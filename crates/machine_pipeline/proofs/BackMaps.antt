@@ -1,12 +1,11 @@
 -- The back waits for the terms of its front, maps the pages of the ring, and is bound to the front's port.
-use Rattle.std.proofs.Common.{◌≡◌, ◌≢◌, ℕ, ◌+◌, ◌-◌, ◌*◌, ◌/◌, ◌%◌, ◌^◌, ◌<◌, ◌≤◌, ◌==◌, if◌then◌else◌, cond, Bool, true, false, List, [], ◌∷◌, ◌++◌, length, refl, ap, sym, subst, ◌∙◌, inl, inr, arith, length-set, length-append}
+use Rattle.std.proofs.Common.{◌≡◌, ◌≢◌, ℕ, ◌+◌, ◌-◌, ◌*◌, ◌/◌, ◌%◌, ◌^◌, ◌<◌, ◌≤◌, if◌then◌else◌, Bool, true, false, List, [], ◌∷◌, ◌++◌, length, refl, ap, sym, subst, ◌∙◌, inl, inr, arith, length-set, length-append}
 use Rattle.std.specs.Prelude.{All, Option, Some, None, Result, Ok, nat_lt, slice_index_or}
 use Rattle.std.proofs.lemmas.Option.{none-some}
 use Rattle.std.proofs.lemmas.Bool.{false≢true, cases_eq}
 use Rattle.std.proofs.lemmas.Bool.Decides.{nat_tests}
 use Rattle.std.proofs.lemmas.List.{append-nil, append_assoc, get_or_append_left, get_or-append-add}
 use Rattle.std.proofs.lemmas.List.FromFn.{length-range_with_len, get_or-range_with_len}
-use Rattle.std.proofs.lemmas.List.Sums.{sum_by_push}
 use Rattle.blk_base.specs.Options.{Options}
 use Rattle.blk_base.specs.declared.parts.Mapping.{Mapping}
 use Rattle.blk_base.specs.declared.parts.End.TheVariants as end
@@ -23,7 +22,7 @@ use Rattle.ring_words.specs.Shape.{Shape}
 use Rattle.grant_table.specs.declared.held.Held.{Held}
 use Rattle.grant_table.specs.declared.entry.MapRefusal.{MapRefusal}
 use Rattle.grant_table.specs.Entry.{mapped_entry}
-use Rattle.grant_table.specs.Table.{entry_word0, entry_word1, mappings_of, verdict_at, next_mapping, with_entry_word0}
+use Rattle.grant_table.specs.Table.{entry_word0, entry_word1, verdict_at, next_mapping, with_entry_word0}
 use Rattle.event_channel.specs.Channels.{ChannelState, state_of, bound, taken}
 use Rattle.event_channel.specs.declared.channels.PortState.{PortState}
 use Rattle.event_channel.specs.declared.channels.PortState.TheVariants.{Unbound}
@@ -34,7 +33,7 @@ use Rattle.back_jobs.specs.Hands.{hands_in}
 use Rattle.blk_front.specs.declared.request.Request.{Request}
 use Rattle.blk_front.specs.declared.stage.Stage.{Stage as FrontStage}
 use Rattle.blk_front.specs.Request.{frame_at}
-use Rattle.blk_front.specs.Submit.{is_ready, is_connected}
+use Rattle.blk_front.specs.Submit.{is_connected}
 use Rattle.blk_back.specs.declared.stage.Stage.{Stage as BackStage}
 use Rattle.blk_back.specs.declared.stage.Stage.TheVariants as stage
 use Rattle.blk_back.specs.View.{no_page}
@@ -43,19 +42,19 @@ use Rattle.blk_back.specs.Step.{step_at}
 use Rattle.blk_back.specs.Hands.{aborted}
 use Rattle.split_model.specs.World.{World}
 use Rattle.split_model.specs.Shown.{back_lines, halt_lines}
-use Rattle.machine_pipeline.proofs.Flow.{Flow, frames_of, has_terms, is_back_arming, is_bound_back, is_fetching, reply_at, is_issuing, ending_at, telling_at}
-use Rattle.machine_pipeline.proofs.Holds.{Holds, BackAt, PagesAt, IsPooled, PortsAt, IsGranted, IsFrontSleep, flags_with}
+use Rattle.machine_pipeline.proofs.Flow.{Flow, frames_of, has_terms, is_back_arming, is_bound_back, is_fetching, reply_at, reply_count, may_back_sleep}
+use Rattle.machine_pipeline.proofs.Holds.{Holds, BackAt, PagesAt, IsPooled, PortsAt, IsGranted, IsFrontSleep, flags_with, AreRingWords, AreEntries, AreMapped, BackSends}
 use Rattle.machine_pipeline.proofs.Turns.{BackGoes, Goes, silent, goes_by}
 use Rattle.machine_pipeline.proofs.Slots.{few_pages}
-use Rattle.machine_pipeline.proofs.Kept.{SameFrame, SameEntry, SameGrants, other_frame, other_entry, slots_kept, front_sleep_kept, back_sleep_kept}
+use Rattle.machine_pipeline.proofs.Kept.{SameFrame, SameEntry, SameGrants, other_frame, other_entry, slots_kept, awake_back, sends_as, sleep_kept, turns_as}
 use Rattle.machine_pipeline.proofs.ReadsKept.{stations_elsewhere}
 use Rattle.machine_pipeline.proofs.Frames.{is_submitted}
 use Rattle.machine_pipeline.proofs.Lists.{all_at, all_from}
 use Rattle.machine_pipeline.proofs.Data.{pooled_at}
-use Rattle.machine_pipeline.proofs.Mapped.{mapped_more}
+use Rattle.machine_pipeline.proofs.Mapped.{mapped_more, mapped_beside}
 use Rattle.machine_pipeline.proofs.Keyed.{goes_keyed}
-use Rattle.machine_pipeline.proofs.BackStill.{BackStands, ending_submitted, revoking_ends, frames_elsewhere, told_elsewhere}
-use Rattle.machine_pipeline.proofs.BackQuiet.{goes_still, slots_at, front_sleep_at, back_sleep_at}
+use Rattle.machine_pipeline.proofs.BackStill.{BackStands, ending_submitted, revoking_ends, frames_elsewhere, told_elsewhere, IsRingless, StationsOf}
+use Rattle.machine_pipeline.proofs.BackQuiet.{goes_still, slots_at}
 use Rattle.machine_pipeline.proofs.BackWrites.{begun, named_to, granted_to}
 use Rattle.machine_pipeline.proofs.BackLoop.{ActGoes, stays}
 
@@ -65,15 +64,6 @@ maps_ring pages page few flags frame =
     let low : nat_lt (2 + page) 2 ≡ false = grind (arith, nat_tests) in
     let high : nat_lt 1023 (2 + page) ≡ false = grind (arith, nat_tests) in
     rw (flags, frame, reached, low, high) refl
-
-abbrev as_mapped : ℕ → Held → ℕ
-as_mapped gref h = cond (h.mapping.gref == gref) 1 0
-
--- a mapping of a page of the ring is none of a request's frame
-mapped_beside : (live : List Held) (h : Held) (gref : ℕ) → h.mapping.gref ≢ gref → mappings_of gref (live ++ h ∷ []) ≡ mappings_of gref live
-mapped_beside live h gref apart =
-    let none : as_mapped gref h ≡ 0 = grind (arith, nat_tests) in
-    omega (arith, (sum_by_push (as_mapped gref) live h), none)
 
 -- the entries of a request stay as they are where a mapping of a page of the ring is made
 granted_still : {series : List Request} (pushed : ℕ) (old new : List ℕ) (live : List Held) (h : Held) (s : FrontStage) (r : Request)
@@ -103,9 +93,6 @@ pub record IsSetting (b : BackStage) : Type 0 where
   pub unbound : is_bound_back b ≡ false
   pub given : aborted b ≡ []
 
-setting : (b : BackStage) → has_terms b ≡ true → is_fetching b ≡ false → reply_at b ≡ None → is_back_arming b ≡ false → is_bound_back b ≡ false → aborted b ≡ [] → IsSetting b
-setting b terms fetching replying unarmed unbound given = record { terms = terms; fetching = fetching; replying = replying; unarmed = unarmed; unbound = unbound; given = given }
-
 back_at_setting : (b : BackStage) (shape : Shape) (start fetched back_seen replied : ℕ) (series : List Request) (works : List Work) (entry : List ℕ) → IsSetting b → fetched ≡ 0 → BackAt shape start fetched back_seen replied series works entry b
 back_at_setting stage.MapRing shape start fetched back_seen replied series works entry i none = none
 back_at_setting stage.Bind shape start fetched back_seen replied series works entry i none = none
@@ -113,24 +100,16 @@ back_at_setting stage.InitWait shape start fetched back_seen replied series work
 back_at_setting b shape start fetched back_seen replied series works entry i none = absurd (cc)
 
 -- one page more is mapped
-gref_more : (pages : List Mapping) (m : Mapping) → ((page : ℕ) → page < length pages → (slice_index_or pages page no_page).gref ≡ 8 + page) → m.gref ≡ 8 + length pages → (page : ℕ) → page < length (pages ++ m ∷ []) → (slice_index_or (pages ++ m ∷ []) page no_page).gref ≡ 8 + page
-gref_more pages m all last page within = elim (cases_eq page (length pages)) [
+pages_more : {X : Type 0} (f : Mapping → X) (value : ℕ → X) (pages : List Mapping) (m : Mapping) → ((page : ℕ) → page < length pages → f (slice_index_or pages page no_page) ≡ value page)
+    → f m ≡ value (length pages) → (page : ℕ) → page < length (pages ++ m ∷ []) → f (slice_index_or (pages ++ m ∷ []) page no_page) ≡ value page
+pages_more f value pages m all last page within = elim (cases_eq page (length pages)) [
   | inl e ↦
       let at : slice_index_or (pages ++ m ∷ []) (length pages + 0) no_page ≡ m = get_or-append-add pages (m ∷ []) 0 no_page in
-      ap (λ (x : Mapping). x.gref) (subst (λ (n : ℕ). slice_index_or (pages ++ m ∷ []) n no_page ≡ m) (omega arith) at) ∙ (last ∙ omega arith)
+      let end : length pages + 0 ≡ length pages = omega arith in
+      rw (e, rw end at at) last
   | inr apart ↦
       let before : page < length pages = omega (arith, length-append pages (m ∷ [])) in
-      ap (λ (x : Mapping). x.gref) (get_or_append_left pages (m ∷ []) no_page page before) ∙ all page before
-]
-
-mode_more : (pages : List Mapping) (m : Mapping) → ((page : ℕ) → page < length pages → (slice_index_or pages page no_page).mode ≡ ReadWrite) → m.mode ≡ ReadWrite → (page : ℕ) → page < length (pages ++ m ∷ []) → (slice_index_or (pages ++ m ∷ []) page no_page).mode ≡ ReadWrite
-mode_more pages m all last page within = elim (cases_eq page (length pages)) [
-  | inl e ↦
-      let at : slice_index_or (pages ++ m ∷ []) (length pages + 0) no_page ≡ m = get_or-append-add pages (m ∷ []) 0 no_page in
-      ap (λ (x : Mapping). x.mode) (subst (λ (n : ℕ). slice_index_or (pages ++ m ∷ []) n no_page ≡ m) (omega arith) at) ∙ last
-  | inr apart ↦
-      let before : page < length pages = omega (arith, length-append pages (m ∷ [])) in
-      ap (λ (x : Mapping). x.mode) (get_or_append_left pages (m ∷ []) no_page page before) ∙ all page before
+      rw (get_or_append_left pages (m ∷ []) no_page page before) (all page before)
 ]
 
 maps : (config : Options) (w : World) (g : Flow) (d : Pipeline) (verdict : Result ℕ MapRefusal) (b' : BackStage)
@@ -142,55 +121,32 @@ maps : (config : Options) (w : World) (g : Flow) (d : Pipeline) (verdict : Resul
     → PagesAt b' g.shape.order (length w.back.pages + 1)
     → ActGoes config w d (step_at stage.MapRing w.back) (Some (map_act w.under back_mover.Back (next_gref w.back) ReadWrite verdict))
 maps config w g d verdict b' p e named stepped i mapped = subst (λ (x : Result ℕ MapRefusal). ActGoes config w d (step_at stage.MapRing w.back) (Some (map_act w.under back_mover.Back (next_gref w.back) ReadWrite x))) (sym e)
-    (subst (λ (s : BackStage). Goes config (Move (moves.Map back_mover.Back gref ReadWrite (w.under.grants.made + 1) (2 + length w.back.pages)) ∷ back_lines w.back.told (answer.Mapped mapping) ++ halt_lines w.back.halted w.back.halted) (record { front = w.front; back = record w.back { pages = w.back.pages ++ mapping ∷ []; stage = s; told = None }; under = under }) d) (sym stepped) (goes_by {g = g} (silent (moves.Map back_mover.Back gref ReadWrite (w.under.grants.made + 1) (2 + length w.back.pages)) w.back.told w.back.halted (answer.Mapped mapping) d p.untold p.holds.unhalted)
-    (record {
-      settled = p.holds.settled;
-      indices = p.holds.indices;
-      queue = p.holds.queue;
-      pool = p.holds.pool;
-      stations = rw (i.fetching, i.replying) (stations_elsewhere config g d (is_ready w.front.stage) (is_issuing w.front.stage) false (ending_at w.front.stage w.front.ending) (telling_at w.front.stage) None w.front.requests w.back.jobs.works w.under.pages new w.front.sectors w.front.last p.holds.submitted (λ f low high. others f (omega arith)) p.holds.stations);
-      works = p.holds.works;
-      counted = rw (i.replying) p.holds.counted;
-      replies = p.holds.replies;
-      front_at = p.holds.front_at;
-      offered = p.holds.offered;
-      back_at = back_at_setting b' g.shape g.start g.fetched g.back_seen g.replied g.series w.back.jobs.works w.back.ring.entry i p.holds.back_at;
-      memory = length-set w.under.pages (gref / 512 * 1024 + 2 * (gref % 512)) value ∙ p.holds.memory;
-      ring = record {
-        begun = begun g.start new w.front.stage p.connected;
-        requests = λ t. others 2 (omega arith) 0 (omega arith) ∙ p.holds.ring.requests t;
-        responses = λ t. others 2 (omega arith) 2 (omega arith) ∙ p.holds.ring.responses t;
-        named = λ page lt from. (let x = beside page (let all = named_to w.front.stage (2 ^ g.shape.order) p.connected in omega arith) (let long = more in omega arith) in x.frame) ∙ p.holds.ring.named page lt (let long = more in omega arith);
-        granted = λ page lt from. (let x = beside page (let all = granted_to w.front.stage (2 ^ g.shape.order) p.connected in omega arith) (let long = more in omega arith) in x.flags) ∙ p.holds.ring.granted page lt (let long = more in omega arith);
-      };
-      slots = slots_at g.shape g.start g.fetched g.pushed g.taken g.replied g.series g.replies new w.front.stage stage.MapRing b' (λ rep t k lt. absurd (none-some rep (sym i.replying ∙ t))) (slots_kept g.shape g.start g.fetched g.pushed g.taken g.replied g.series g.replies w.under.pages new w.front.stage stage.MapRing p.holds.shaped.narrow (λ f v from to within after. others f (omega arith) v within) p.holds.slots);
-      frames = frames_elsewhere config w g d w.front.stage stage.MapRing new p.holds (λ f low high. others f (omega arith));
-      telling = told_elsewhere config w g d w.front.stage stage.MapRing new p.holds (λ f low high. others f (omega arith));
-      entries = record {
-        each = all_from (IsGranted g.series g.pushed new (w.under.grants.live ++ made ∷ []) w.front.stage) w.front.requests (λ k r at.
-            let is = is_submitted config w g d w.front.stage stage.MapRing p.holds k r at in
-            granted_still g.pushed w.under.pages new w.under.grants.live made w.front.stage r
-            (λ place lt. let pooled = pooled_at r is.frames place in omega (arith, pooled.0, low))
-            (entry_beside w.under.pages gref value r low is.frames)
-            (all_at (IsGranted g.series g.pushed w.under.pages w.under.grants.live w.front.stage) w.front.requests k r p.holds.entries.each at));
-        ending = λ e at place from lt.
-            let is = ending_submitted config w g d w.front.stage stage.MapRing e p.holds (revoking_ends w.front.stage w.front.ending e at) in
-            (entry_beside w.under.pages gref value e.request low is.frames place lt).flags ∙ p.holds.entries.ending e at place from lt;
-      };
-      mapped = mapped_more w.under.grants.live (hands_in w.back.jobs.works ++ w.back.pages) (aborted b' ++ (hands_in w.back.jobs.works ++ (w.back.pages ++ mapping ∷ []))) mapping (2 + length w.back.pages) (omega (arith, named)) (record { front = hands_in w.back.jobs.works ++ w.back.pages; rest = []; without = sym (append-nil (hands_in w.back.jobs.works ++ w.back.pages)); with_it = ap (λ (l : List Mapping). l ++ (hands_in w.back.jobs.works ++ (w.back.pages ++ mapping ∷ []))) i.given ∙ sym (append_assoc (hands_in w.back.jobs.works) w.back.pages (mapping ∷ [])) }) p.holds.mapped;
-      paged = record {
-        shaped = λ t. p.holds.paged.shaped refl;
-        entries_are = λ t. p.holds.paged.entries_are refl;
-        grefs_are = λ t. p.holds.paged.grefs_are refl;
-        port_is = λ t. p.holds.paged.port_is refl;
-        mapped = subst (PagesAt b' g.shape.order) (sym more) mapped;
-        gref = gref_more w.back.pages mapping p.holds.paged.gref named;
-        mode = mode_more w.back.pages mapping p.holds.paged.mode refl;
-      };
-      front_sleep = front_sleep_at g.start g.taken g.replied new w.front.ring.asleep w.under.channels.front_pending w.front.stage stage.MapRing b' (λ t s. absurd s) (front_sleep_kept g.start g.taken g.replied w.under.pages new w.front.ring.asleep w.under.channels.front_pending w.front.stage stage.MapRing (others 2 (omega arith) 3 (omega arith)) p.holds.front_sleep);
-      back_sleep = back_sleep_at g.start g.fetched g.pushed new w.back.ring.asleep w.under.channels.back_pending w.front.stage stage.MapRing b' (λ t. absurd (false≢true (sym i.unarmed ∙ t))) (λ t. p.holds.back_sleep.may refl) (back_sleep_kept g.start g.fetched g.pushed w.under.pages new w.back.ring.asleep w.under.channels.back_pending w.front.stage stage.MapRing (others 2 (omega arith) 1 (omega arith)) p.holds.back_sleep);
-      ports = subst (λ (bound : Bool). PortsAt g.before (is_connected w.front.stage) bound w.under.channels.made w.under.channels.ports) (sym i.unbound) p.holds.ports;
-    })))
+    (subst (λ (s : BackStage). Goes config (Move shown ∷ back_lines w.back.told (answer.Mapped mapping) ++ halt_lines w.back.halted w.back.halted) (mapped_at s) d) (sym stepped)
+    (goes_by {g = g} (silent shown w.back.told w.back.halted (answer.Mapped mapping) d p.untold p.holds.unhalted)
+    (assumption (
+      stations,
+      counted,
+      entries,
+      ring,
+      hands,
+      back_at_setting b' g.shape g.start g.fetched g.back_seen g.replied g.series w.back.jobs.works w.back.ring.entry i p.holds.back_at,
+      length-set w.under.pages (gref / 512 * 1024 + 2 * (gref % 512)) value ∙ p.holds.memory,
+      slots_at _ _ _ _ _ _ _ _ new _ _ b' (λ rep t k lt. absurd (none-some rep (sym i.replying ∙ t)))
+          (slots_kept _ _ _ _ _ _ _ _ _ new _ _ p.holds.shaped.narrow (λ f v from to within after. others f (omega arith) v within) p.holds.slots),
+      frames_elsewhere config w g d w.front.stage stage.MapRing new p.holds pool,
+      told_elsewhere config w g d w.front.stage stage.MapRing new p.holds pool,
+      p.holds.paged.shaped refl,
+      p.holds.paged.entries_are refl,
+      p.holds.paged.grefs_are refl,
+      p.holds.paged.port_is refl,
+      subst (PagesAt b' g.shape.order) (sym more) mapped,
+      pages_more (λ (x : Mapping). x.gref) (λ (page : ℕ). 8 + page) w.back.pages mapping p.holds.paged.gref named,
+      pages_more (λ (x : Mapping). x.mode) (λ (page : ℕ). ReadWrite) w.back.pages mapping p.holds.paged.mode refl,
+      sends_as (BackSends b' g.replied g.taken) (λ t s. absurd s) (sleep_kept (others 2 (omega arith) 3 (omega arith)) p.holds.front_sleep),
+      turns_as (is_back_arming b') (may_back_sleep b') (λ t. absurd (false≢true (sym i.unarmed ∙ t))) (λ t. p.holds.back_sleep.may refl)
+          (sleep_kept (others 2 (omega arith) 1 (omega arith)) p.holds.back_sleep),
+      subst (λ (bound : Bool). PortsAt g.before (is_connected w.front.stage) bound w.under.channels.made w.under.channels.ports) (sym i.unbound) p.holds.ports,
+    ))))
   where
     gref : ℕ
     gref = next_gref w.back
@@ -210,8 +166,15 @@ maps config w g d verdict b' p e named stepped i mapped = subst (λ (x : Result 
     made : Held
     made = record { mapping = mapping; frame = 2 + length w.back.pages }
 
-    under : Hypervisor
-    under = let u : Hypervisor = w.under in record u { grants = record { made = u.grants.made + 1; live = u.grants.live ++ made ∷ [] }; pages = new }
+    shown : Shown
+    shown = moves.Map back_mover.Back gref ReadWrite (w.under.grants.made + 1) (2 + length w.back.pages)
+
+    mapped_at : BackStage → World
+    mapped_at s = record {
+      front = w.front;
+      back = record w.back { pages = w.back.pages ++ mapping ∷ []; stage = s; told = None };
+      under = record w.under { grants = record { made = w.under.grants.made + 1; live = w.under.grants.live ++ made ∷ [] }; pages = new };
+    }
 
     more : length (w.back.pages ++ mapping ∷ []) ≡ length w.back.pages + 1
     more = length-append w.back.pages (mapping ∷ [])
@@ -219,18 +182,64 @@ maps config w g d verdict b' p e named stepped i mapped = subst (λ (x : Result 
     others : (f : ℕ) → f ≢ 0 → SameFrame w.under.pages new f
     others f apart = other_frame w.under.pages (gref / 512) (2 * (gref % 512)) value f (omega (arith, low)) (omega (arith, low))
 
-    beside : (page : ℕ) → page < 2 ^ g.shape.order → length w.back.pages + 1 ≤ page → SameEntry w.under.pages new (8 + page)
-    beside page few from = let all = few_pages g.shape.order p.holds.shaped.narrow in other_entry w.under.pages gref (8 + page) value (omega (arith, low)) (omega arith) (omega (arith, named))
+    pool : (f : ℕ) → 18 ≤ f → f < 1018 → SameFrame w.under.pages new f
+    pool f from to = others f (omega arith)
+
+    beside : (page : ℕ) → page < 2 ^ g.shape.order → length (w.back.pages ++ mapping ∷ []) ≤ page → SameEntry w.under.pages new (8 + page)
+    beside page few from =
+        let all = few_pages g.shape.order p.holds.shaped.narrow in
+        other_entry w.under.pages gref (8 + page) value (omega (arith, low)) (omega arith) (omega (arith, named, more))
+
+    counted : length w.back.jobs.works + reply_count (reply_at b') + g.replied ≡ g.fetched
+    counted = rw i.replying p.holds.counted
+
+    stations : StationsOf config w g d (is_fetching b') (reply_at b') w.back.jobs.works new
+    stations = rw (i.fetching, i.replying) (stations_elsewhere _ _ _ _ _ _ _ _ _ _ _ _ new _ _ p.holds.submitted pool p.holds.stations)
+
+    ring : AreRingWords g.shape.order g.start g.pushed g.replied new w.front.stage (length (w.back.pages ++ mapping ∷ []))
+    ring =
+        let all = named_to w.front.stage (2 ^ g.shape.order) p.connected in
+        let granted = granted_to w.front.stage (2 ^ g.shape.order) p.connected in
+        record {
+          begun = begun g.start new w.front.stage p.connected;
+          requests = λ t. others 2 (omega arith) 0 (omega arith) ∙ p.holds.ring.requests t;
+          responses = λ t. others 2 (omega arith) 2 (omega arith) ∙ p.holds.ring.responses t;
+          named = λ page lt from. (beside page (omega arith) from).frame ∙ p.holds.ring.named page lt (omega (arith, more));
+          granted = λ page lt from. (beside page (omega arith) from).flags ∙ p.holds.ring.granted page lt (omega (arith, more));
+        }
+
+    entries : AreEntries g.series g.pushed new (w.under.grants.live ++ made ∷ []) w.front.stage w.front.ending w.front.requests
+    entries = record {
+      each = all_from (IsGranted g.series g.pushed new (w.under.grants.live ++ made ∷ []) w.front.stage) w.front.requests (λ k r at.
+          let is = is_submitted config w g d w.front.stage stage.MapRing p.holds k r at in
+          granted_still g.pushed w.under.pages new w.under.grants.live made w.front.stage r (λ place lt. omega (arith, (pooled_at r is.frames place).0, low))
+          (entry_beside w.under.pages gref value r low is.frames)
+          (all_at (IsGranted g.series g.pushed w.under.pages w.under.grants.live w.front.stage) w.front.requests k r p.holds.entries.each at));
+      ending = λ e at place from lt.
+          let is = ending_submitted config w g d w.front.stage stage.MapRing e p.holds (revoking_ends w.front.stage w.front.ending e at) in
+          (entry_beside w.under.pages gref value e.request low is.frames place lt).flags ∙ p.holds.entries.ending e at place from lt;
+    }
+
+    hands : AreMapped (w.under.grants.live ++ made ∷ []) (aborted b' ++ (hands_in w.back.jobs.works ++ (w.back.pages ++ mapping ∷ [])))
+    hands = rw i.given (mapped_more _ (hands_in w.back.jobs.works ++ w.back.pages) (hands_in w.back.jobs.works ++ (w.back.pages ++ mapping ∷ [])) mapping _ (omega (arith, named))
+        (record {
+          front = hands_in w.back.jobs.works ++ w.back.pages;
+          rest = [];
+          without = sym (append-nil (hands_in w.back.jobs.works ++ w.back.pages));
+          with_it = sym (append_assoc (hands_in w.back.jobs.works) w.back.pages (mapping ∷ []));
+        }) p.holds.mapped)
 
 -- whether another page is to be mapped
 maps_by : (config : Options) (w : World) (g : Flow) (d : Pipeline) (more : Bool) → BackStands config w g d stage.MapRing → (length w.back.grefs ≡ 2 ^ g.shape.order) → next_gref w.back ≡ 8 + length w.back.pages → verdict_at w.under.pages (next_gref w.back) ReadWrite ≡ Ok (2 + length w.back.pages) → nat_lt (length w.back.pages + 1) (length w.back.grefs) ≡ more
     → BackGoes config w d stage.MapRing
 maps_by config w g d true p all named verdict further =
     let lt : length w.back.pages + 1 < length w.back.grefs = grind (arith, nat_tests) in
-    maps config w g d (verdict_at w.under.pages (next_gref w.back) ReadWrite) stage.MapRing p verdict named (rw further refl) (setting stage.MapRing refl refl refl refl refl refl) (omega arith)
+    maps config w g d (verdict_at w.under.pages (next_gref w.back) ReadWrite) stage.MapRing p verdict named (rw further refl)
+    (record { terms = refl; fetching = refl; replying = refl; unarmed = refl; unbound = refl; given = refl }) (omega arith)
 maps_by config w g d false p all named verdict further =
     let last : length w.back.pages + 1 ≡ 2 ^ g.shape.order = grind (arith, nat_tests, p.holds.paged.mapped) in
-    maps config w g d (verdict_at w.under.pages (next_gref w.back) ReadWrite) stage.Bind p verdict named (rw further refl) (setting stage.Bind refl refl refl refl refl refl) last
+    maps config w g d (verdict_at w.under.pages (next_gref w.back) ReadWrite) stage.Bind p verdict named (rw further refl)
+    (record { terms = refl; fetching = refl; replying = refl; unarmed = refl; unbound = refl; given = refl }) last
 
 pub goes_map_ring : (config : Options) (w : World) (g : Flow) (d : Pipeline) → BackStands config w g d stage.MapRing → BackGoes config w d stage.MapRing
 goes_map_ring config w g d p =
@@ -251,43 +260,33 @@ own_place before = omega arith
 own_made : (before : ℕ) → nat_lt (before + 1 - 1) (before + 1) ≡ true
 own_made before = grind (arith, nat_tests)
 
-waits_bound : (before : ℕ) (c : ChannelState) (connected : Bool) → connected ≡ true → PortsAt before connected false c.made c.ports → state_of c (before + 1) ≡ Unbound
-waits_bound before c false is at = absurd (false≢true is)
-waits_bound before c true is at = rw (at.0, at.1) (rw (own_made before, own_place before) refl)
+waits_bound : (before : ℕ) (c : ChannelState) → PortsAt before true false c.made c.ports → state_of c (before + 1) ≡ Unbound
+waits_bound before c at = rw (at.0, at.1) (rw (own_made before, own_place before) refl)
 
-is_bound_now : (before : ℕ) (c : ChannelState) (connected : Bool) → connected ≡ true → PortsAt before connected false c.made c.ports → PortsAt before connected true (let b : ChannelState = bound c (before + 1) in b.made) (let b : ChannelState = bound c (before + 1) in b.ports)
-is_bound_now before c false is at = absurd (false≢true is)
-is_bound_now before c true is at = (at.0, rw (at.0, at.1) (rw (own_place before) refl))
+is_bound_now : (before : ℕ) (c : ChannelState) → PortsAt before true false c.made c.ports → PortsAt before true true (bound c (before + 1)).made (bound c (before + 1)).ports
+is_bound_now before c at = (at.0, rw (at.0, at.1) (rw (own_place before) refl))
 
 binds : (config : Options) (w : World) (g : Flow) (d : Pipeline) (port : ℕ) (state : PortState) → BackStands config w g d stage.Bind → port ≡ g.before + 1 → state ≡ Unbound → ActGoes config w d (step_at stage.Bind w.back) (Some (bind_act w.under port state))
 binds config w g d port state p one e =
     let h : Holds config w g d w.front.stage stage.Bind = p.holds in
+    let same : (f : ℕ) → IsRingless f → SameFrame w.under.pages w.under.pages f = λ f apart k lt. refl in
+    let ports : PortsAt g.before (is_connected w.front.stage) true (bound w.under.channels (g.before + 1)).made (bound w.under.channels (g.before + 1)).ports =
+    rw p.connected (is_bound_now g.before w.under.channels (rw p.connected at h.ports)) in
     subst (λ (n : ℕ). ActGoes config w d (step_at stage.Bind w.back) (Some (bind_act w.under n state))) (sym one)
     (subst (λ (x : PortState). ActGoes config w d (step_at stage.Bind w.back) (Some (bind_act w.under (g.before + 1) x))) (sym e)
-    (goes_still config w g d stage.Bind stage.Loop w.back w.under.pages (bound w.under.channels (g.before + 1)) g.back_seen _ _ p (record {
-      indices = h.indices;
-      stations = h.stations;
-      works = h.works;
-      counted = h.counted;
-      info = refl;
-      back_at = tt;
-      unhalted = h.unhalted;
-      memory = h.memory;
-      others = λ f apart k lt. refl;
-      ring = h.ring;
-      slots = slots_at g.shape g.start g.fetched g.pushed g.taken g.replied g.series g.replies w.under.pages w.front.stage stage.Bind stage.Loop (λ rep t i lt. cc) h.slots;
-      hands = refl;
-      paged = record { shaped = λ t. h.paged.shaped refl; entries_are = λ t. h.paged.entries_are refl; grefs_are = λ t. h.paged.grefs_are refl; port_is = λ t. h.paged.port_is refl; mapped = h.paged.mapped; gref = h.paged.gref; mode = h.paged.mode };
-      front_sleep = front_sleep_at g.start g.taken g.replied w.under.pages w.front.ring.asleep w.under.channels.front_pending w.front.stage stage.Bind stage.Loop (λ t s. absurd s) h.front_sleep;
-      back_sleep = back_sleep_at g.start g.fetched g.pushed w.under.pages w.back.ring.asleep w.under.channels.back_pending w.front.stage stage.Bind stage.Loop (λ t. t) (λ t. h.back_sleep.may refl) h.back_sleep;
-      ports = is_bound_now g.before w.under.channels (is_connected w.front.stage) p.connected h.ports;
-    })))
+    (goes_still config w g d stage.Bind stage.Loop w.back w.under.pages (bound w.under.channels (g.before + 1)) g.back_seen _ _ p (assumption (
+      same,
+      slots_at _ _ _ _ _ _ _ _ _ _ stage.Bind stage.Loop (λ rep t i lt. absurd (none-some rep t)) h.slots,
+      sends_as (BackSends stage.Loop g.replied g.taken) (λ t s. absurd s) h.front_sleep,
+      turns_as (is_back_arming stage.Loop) (may_back_sleep stage.Loop) (λ t. t) (λ t. h.back_sleep.may refl) h.back_sleep,
+      ports,
+    ))))
 
 pub goes_bind : (config : Options) (w : World) (g : Flow) (d : Pipeline) → BackStands config w g d stage.Bind → BackGoes config w d stage.Bind
 goes_bind config w g d p =
     let h : Holds config w g d w.front.stage stage.Bind = p.holds in
     binds config w g d w.back.ring.port (state_of w.under.channels w.back.ring.port) p (h.paged.port_is refl)
-    (ap (state_of w.under.channels) (h.paged.port_is refl) ∙ waits_bound g.before w.under.channels (is_connected w.front.stage) p.connected h.ports)
+    (ap (state_of w.under.channels) (h.paged.port_is refl) ∙ waits_bound g.before w.under.channels (rw p.connected at h.ports))
 
 -- an event or a watch leaves a back that waits for terms as it is
 goes_waited : (config : Options) (w : World) (g : Flow) (d : Pipeline) (shown : Shown) (given : BackAnswer) (c : ChannelState)
@@ -299,25 +298,12 @@ goes_waited : (config : Options) (w : World) (g : Flow) (d : Pipeline) (shown : 
 goes_waited config w g d shown given c pending made ports p =
     let h : Holds config w g d w.front.stage stage.InitWait = p.holds in
     let awake : w.back.ring.asleep ≡ false = h.back_sleep.may refl in
+    let same : (f : ℕ) → IsRingless f → SameFrame w.under.pages w.under.pages f = λ f apart k lt. refl in
+    let sleeps : IsFrontSleep g.start g.taken g.replied w.under.pages w.front.ring.asleep c.front_pending w.front.stage stage.InitWait = rw pending h.front_sleep in
+    let ports : PortsAt g.before (is_connected w.front.stage) false c.made c.ports = rw (made, ports) h.ports in
     subst (λ (s : BackStage). Goes config (Move shown ∷ back_lines w.back.told given ++ halt_lines w.back.halted w.back.halted) (record { front = w.front; back = record w.back { stage = s; told = None }; under = (let u : Hypervisor = w.under in record u { channels = c }) }) d) (sym p.at)
-    (goes_still config w g d stage.InitWait stage.InitWait w.back w.under.pages c g.back_seen shown given p (record {
-      indices = h.indices;
-      stations = h.stations;
-      works = h.works;
-      counted = h.counted;
-      info = refl;
-      back_at = h.back_at;
-      unhalted = h.unhalted;
-      memory = h.memory;
-      others = λ f apart k lt. refl;
-      ring = h.ring;
-      slots = h.slots;
-      hands = refl;
-      paged = h.paged;
-      front_sleep = subst (λ (b : Bool). IsFrontSleep g.start g.taken g.replied w.under.pages w.front.ring.asleep b w.front.stage stage.InitWait) (sym pending) h.front_sleep;
-      back_sleep = record { arming = λ t. absurd (false≢true t); armed = λ t. absurd (false≢true (sym awake ∙ t)); may = λ t. awake; woken = λ t. absurd (false≢true (sym awake ∙ t)) };
-      ports = rw (made, ports) h.ports;
-    }))
+    (goes_still config w g d stage.InitWait stage.InitWait w.back w.under.pages c g.back_seen shown given p
+    (assumption (same, sleeps, ports, awake_back g.start g.fetched g.pushed w.under.pages w.back.ring.asleep c.back_pending w.front.stage stage.InitWait awake refl)))
 
 waits_on : (config : Options) (w : World) (g : Flow) (d : Pipeline) (pending : Bool) (next : Option (List ℕ)) → BackStands config w g d stage.InitWait
     → ActGoes config w d (step_at stage.InitWait w.back) (if pending then Some (record { answer = answer.Event; under = (let u : Hypervisor = w.under in record u { channels = taken w.under.channels end.Back }); shown = moves.Event mover.Back }) else back_watched w.under next)

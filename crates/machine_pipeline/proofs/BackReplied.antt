@@ -1,9 +1,9 @@
 -- The back pushes a response.
-use Rattle.std.proofs.Common.{◌≡◌, ℕ, zero, suc, ◌+◌, ◌-◌, ◌<◌, Bool, true, List, [], ◌∷◌, ◌++◌, length, refl, ap, sym, subst, ◌∙◌, inl, inr, arith, ◌≢◌, ◌^◌, ◌≤◌, length-append, false}
-use Rattle.std.specs.Prelude.{Option, Some, None, slice_get, ◌⊎◌}
-use Rattle.std.proofs.lemmas.Option.{none-some, same_Some, slice_get-get_or}
+use Rattle.std.proofs.Common.{◌≡◌, ℕ, ◌+◌, ◌-◌, ◌<◌, Bool, true, List, [], ◌∷◌, ◌++◌, length, refl, ap, sym, ◌∙◌, inl, inr, arith, ◌≢◌, ◌^◌, ◌≤◌, length-append, false, true≢false}
+use Rattle.std.specs.Prelude.{Option, Some, None, slice_get}
+use Rattle.std.proofs.lemmas.Option.{slice_get-get_or}
 use Rattle.blk_base.specs.Options.{Options}
-use Rattle.pipeline_laws.specs.Pipeline.{Pipeline, after_steps}
+use Rattle.pipeline_laws.specs.Pipeline.{Pipeline, next}
 use Rattle.ring_words.specs.Ring.{Ring, next_of}
 use Rattle.xen_pages.specs.Pages.{with_word}
 use Rattle.grant_table.specs.Table.{frame_of}
@@ -13,7 +13,6 @@ use Rattle.blk_front.specs.declared.stage.Stage.{Stage as FrontStage}
 use Rattle.blk_front.specs.declared.stage.Stage.TheVariants as front
 use Rattle.ring_words.specs.Shape.{Shape}
 use Rattle.blk_back.specs.View.{page_of}
-use Rattle.blk_front.specs.View.{next_request}
 use Rattle.blk_front.specs.Submit.{is_ready, is_connected, ending_of}
 use Rattle.blk_back.specs.declared.stage.Reply.{Reply}
 use Rattle.blk_back.specs.declared.stage.Stage.TheVariants as stage
@@ -21,13 +20,13 @@ use Rattle.blk_back.specs.Ask.{response_word}
 use Rattle.blk_back.specs.Step.{fetched}
 use Rattle.split_model.specs.World.{World}
 use Rattle.split_model.specs.Shown.{halt_lines}
-use Rattle.machine_pipeline.proofs.Flow.{Flow, wrapped, ending_at, is_issuing, telling_at}
-use Rattle.machine_pipeline.proofs.Holds.{Holds, AreIndices, IsReply, AreReplies, IsEnding, IsTaken, FrontAt, AreRingWords, AreSlots, slot_of, IsFrontSleep}
+use Rattle.machine_pipeline.proofs.Flow.{Flow, wrapped, ending_at, is_issuing, telling_at, is_back_arming, may_back_sleep}
+use Rattle.machine_pipeline.proofs.Holds.{Holds, AreIndices, IsReply, AreReplies, IsTaken, FrontAt, AreRingWords, AreSlots, slot_of, IsFrontSleep, IsEndingAt}
 use Rattle.machine_pipeline.proofs.Turns.{BackGoes, Stepped, does_step, goes_by}
-use Rattle.machine_pipeline.proofs.Kept.{front_sleep_kept, back_sleep_kept}
+use Rattle.machine_pipeline.proofs.Kept.{SameFrame, sleep_kept, turns_as}
 use Rattle.machine_pipeline.proofs.ReadsKept.{stations_elsewhere}
-use Rattle.machine_pipeline.proofs.BackStill.{BackStands, told_elsewhere, frames_beside, entries_beside}
-use Rattle.machine_pipeline.proofs.BackQuiet.{paged_at, back_sleep_at}
+use Rattle.machine_pipeline.proofs.BackStill.{BackStands, told_elsewhere, frames_beside, entries_beside, StationsOf}
+use Rattle.machine_pipeline.proofs.BackQuiet.{paged_at}
 use Rattle.machine_pipeline.proofs.BackFences.{first_frame}
 use Rattle.schedule_text.specs.declared.line.Line.TheVariants as lines
 use Rattle.machine_pipeline.proofs.BackWrites.{RingWritten, ring_written, begun, named_to, granted_to, slots_beside}
@@ -41,28 +40,21 @@ use Rattle.machine_pipeline.specs.Step.{IsSame}
 use Rattle.machine_pipeline.proofs.Series.{HasNumber}
 use Rattle.machine_pipeline.proofs.Stations.{AreStations, apart, finishing, finishing_kind}
 use Rattle.machine_pipeline.proofs.StationsBack.{replies}
+use Rattle.machine_pipeline.proofs.Growing.{push_was}
 
 -- one response more was pushed
 indices_replied : (g : Flow) (replies : List Reply) (front_ring back_ring : Ring) (front_seen back_seen number last waiting unfinished ending : ℕ) → g.replied < g.fetched → AreIndices g front_ring back_ring front_seen back_seen number last waiting unfinished ending → AreIndices (record g { replied = g.replied + 1; replies = replies }) front_ring (record back_ring { prod = next_of back_ring.prod }) front_seen back_seen number last waiting unfinished ending
 indices_replied g replies front_ring back_ring front_seen back_seen number last waiting unfinished ending owed x = let pushed = next_wrapped g.start g.replied back_ring.prod x.replied in omega (arith, x)
 
--- an element of a list with one more is one of the list's, or the last
-last_or_before : (replies : List Reply) (rep r : Reply) (k : ℕ) → slice_get (replies ++ rep ∷ []) k ≡ Some r → (slice_get replies k ≡ Some r) ⊎ ((k ≡ length replies) × (rep ≡ r))
-last_or_before [] rep r zero e = inr (refl, same_Some rep r e)
-last_or_before [] rep r (suc k) e = absurd (none-some r e)
-last_or_before (x ∷ replies) rep r zero e = inl e
-last_or_before (x ∷ replies) rep r (suc k) e = elim (last_or_before replies rep r k e) [ inl h ↦ inl h | inr h ↦ inr (let at = h.0 in omega arith, h.1) ]
-
 slots_replied : (shape : Shape) (start fetched pushed taken replied old : ℕ) (series : List Request) (replies : List Reply) (pages : List ℕ) (s : FrontStage) (rep : Reply) → length replies + taken ≡ replied → AreSlots shape start fetched pushed taken replied series replies pages s (stage.Producer rep) → AreSlots shape start fetched pushed taken (replied + 1) series (replies ++ rep ∷ []) pages s (stage.ProducerFence old)
 slots_replied shape start fetched pushed taken replied old series replies pages s rep counted h = record {
   entries = h.entries;
   entry = h.entry;
-  responses = λ k r e i lt. elim (last_or_before replies rep r k e) [
+  responses = λ k r e i lt. elim (push_was replies rep k r e) [
     | inl before ↦ h.responses k r before i lt
     | inr last ↦
         let at : taken + k ≡ replied = omega (arith, last.0) in
-        subst (λ (x : Reply). slot_of pages shape (wrapped start (taken + k)) i ≡ response_word x i) last.1
-        (ap (λ (n : ℕ). slot_of pages shape (wrapped start n) i) at ∙ h.response rep refl i lt)
+        ap (λ (n : ℕ). slot_of pages shape (wrapped start n) i) at ∙ (h.response rep refl i lt ∙ ap (λ (x : Reply). response_word x i) (sym last.1))
   ];
   response = λ r e i lt. cc;
 }
@@ -92,12 +84,10 @@ replies_more {series} fetched taken replied replies rep positive reached op othe
   distinct = all_pairs_push (λ (a b : Reply). a.id ≢ b.id) replies rep h.distinct (λ i x lt. others i _ (slice_get-get_or replies i x lt));
 }
 
-ending_still : (submitted : List Request) (replies : List Reply) (rep : Reply) (e : Ending) → rep.id ≢ e.request.number → IsEnding submitted replies e → IsEnding submitted (replies ++ rep ∷ []) e
-ending_still submitted before rep e other h = record {
-  known = h.known;
-  positive = h.positive;
-  alone = All-push (λ (x : Reply). x.id ≢ e.request.number) before rep h.alone other;
-}
+ending_at_still : {submitted : List Request} {ending : Option Ending} {P : Ending → Type 0} (replies : List Reply) (rep : Reply) → ((e : Ending) → ending ≡ Some e → rep.id ≢ e.request.number)
+    → IsEndingAt submitted replies ending P → IsEndingAt submitted (replies ++ rep ∷ []) ending P
+ending_at_still replies rep other (e, at, h, its) =
+    (e, at, record { known = h.known; positive = h.positive; alone = All-push (λ (x : Reply). x.id ≢ e.request.number) replies rep h.alone (other e at) }, its)
 
 abbrev taken_still : (taken seen : ℕ) (replies : List Reply) (rep : Reply) → IsTaken taken seen replies → IsTaken taken seen (replies ++ rep ∷ [])
 taken_still taken seen replies rep t = record { rep = t.rep; oldest = get_append replies (rep ∷ []) 0 t.rep t.oldest; seen = t.seen }
@@ -110,42 +100,32 @@ front_still : (shape : Shape) (start pushed taken seen : ℕ) (submitted : List 
 front_still shape start pushed taken seen submitted before next entry ending (front.ResponseHigh low) rep other h = (taken_still taken seen before rep h.0, h.1)
 front_still shape start pushed taken seen submitted before next entry ending (front.ResponseLast low high) rep other h =
     (taken_still taken seen before rep h.0, h.1, h.2)
-front_still shape start pushed taken seen submitted before next entry ending (front.GrantRead place) rep other h =
-    (h.0, h.1, ending_still submitted before rep h.0 (other h.0 h.1) h.2, h.3)
-front_still shape start pushed taken seen submitted before next entry ending (front.GrantEnd place old) rep other h =
-    (h.0, h.1, ending_still submitted before rep h.0 (other h.0 h.1) h.2, h.3)
-front_still shape start pushed taken seen submitted before next entry ending (front.ReadData n) rep other h =
-    (h.0, h.1, ending_still submitted before rep h.0 (other h.0 h.1) h.2, h.3)
-front_still shape start pushed taken seen submitted before next entry ending (front.LeftData n) rep other h =
-    (h.0, h.1, ending_still submitted before rep h.0 (other h.0 h.1) h.2, h.3)
+front_still shape start pushed taken seen submitted before next entry ending (front.GrantRead place) rep other h = ending_at_still before rep other h
+front_still shape start pushed taken seen submitted before next entry ending (front.GrantEnd place old) rep other h = ending_at_still before rep other h
+front_still shape start pushed taken seen submitted before next entry ending (front.ReadData n) rep other h = ending_at_still before rep other h
+front_still shape start pushed taken seen submitted before next entry ending (front.LeftData n) rep other h = ending_at_still before rep other h
 front_still shape start pushed taken seen submitted before next entry ending s rep other h = h
 
 pub goes_producer : (config : Options) (w : World) (g : Flow) (d : Pipeline) (rep : Reply) → BackStands config w g d (stage.Producer rep) → BackGoes config w d (stage.Producer rep)
 goes_producer config w g d rep p = goes_by {g = flow} (does_step _ (lines.Reply rep.id rep.status ∷ halt_lines w.back.halted w.back.halted) (rw h.unhalted refl) s)
-    (record {
-      settled = h.settled;
-      indices = indices_replied g (g.replies ++ rep ∷ []) w.front.ring.indices w.back.ring.indices w.front.ring.seen w.back.ring.seen w.back.fetched w.front.last w.front.waiting (length w.front.requests) (ending_of w.front.stage) owed x;
-      queue = h.queue;
-      pool = h.pool;
-      stations = stations_elsewhere config flow (after_steps (s.step ∷ []) d) (is_ready w.front.stage) (is_issuing w.front.stage) false (ending_at w.front.stage w.front.ending) (telling_at w.front.stage) None w.front.requests w.back.jobs.works w.under.pages new w.front.sectors w.front.last h.submitted (λ f low high. wrote.others f (inr low)) s.now;
-      works = h.works;
-      counted = omega (arith, h.counted);
-      replies = replies_more g.fetched g.taken g.replied g.replies rep h.back_at.positive h.back_at.reached h.back_at.op others h.replies;
-      front_at = front_still g.shape g.start g.pushed g.taken g.front_seen g.submitted g.replies (next_request w.front) w.front.ring.entry w.front.ending w.front.stage rep ending_other h.front_at;
-      offered = h.offered;
-      back_at = (omega arith, x.replied ∙ ap (λ (i : ℕ). wrapped g.start i) (omega arith));
-      memory = wrote.memory;
-      ring = ring_replied g.shape.order g.start g.pushed g.replied (length w.back.pages) word w.under.pages new w.front.stage wrote next p.connected h.paged.mapped h.ring;
-      slots = slots_replied g.shape g.start g.fetched g.pushed g.taken g.replied w.back.ring.indices.prod g.series g.replies new w.front.stage rep h.replies.counted (slots_beside g.shape g.start g.fetched g.pushed g.taken g.replied 2 word g.series g.replies w.under.pages new w.front.stage (stage.Producer rep) wrote (omega arith) h.shaped.narrow h.slots);
-      frames = frames_beside config w g d w.front.stage (stage.Producer rep) new h wrote.others;
-      telling = told_elsewhere config w g d w.front.stage (stage.Producer rep) new h (λ f low high. wrote.others f (inr low));
-      entries = entries_beside config w g d w.front.stage (stage.Producer rep) new h wrote.others;
-      mapped = h.mapped;
-      paged = paged_at g.shape w.back.shape w.back.ring.indices.entries w.back.grefs w.back.ring.port (g.before + 1) w.back.pages (stage.Producer rep) (stage.ProducerFence w.back.ring.indices.prod) refl refl h.paged;
-      front_sleep = front_sleep_replied g.start g.taken g.replied w.back.ring.indices.prod new w.front.ring.asleep w.under.channels.front_pending w.front.stage rep (front_sleep_kept g.start g.taken g.replied w.under.pages new w.front.ring.asleep w.under.channels.front_pending w.front.stage (stage.Producer rep) (wrote.words 2 3 (omega arith)) h.front_sleep);
-      back_sleep = back_sleep_at g.start g.fetched g.pushed new w.back.ring.asleep w.under.channels.back_pending w.front.stage (stage.Producer rep) (stage.ProducerFence w.back.ring.indices.prod) (λ t. t) (λ t. cc) (back_sleep_kept g.start g.fetched g.pushed w.under.pages new w.back.ring.asleep w.under.channels.back_pending w.front.stage (stage.Producer rep) (wrote.words 2 1 (omega arith)) h.back_sleep);
-      ports = h.ports;
-    })
+    (assumption (
+      counted,
+      stands,
+      indices_replied g (g.replies ++ rep ∷ []) _ _ _ _ _ _ _ _ _ owed x,
+      replies_more g.fetched g.taken g.replied g.replies rep h.back_at.positive h.back_at.reached h.back_at.op others h.replies,
+      front_still _ _ _ _ _ _ _ _ _ _ w.front.stage rep ending_other h.front_at,
+      back_at,
+      wrote.memory,
+      ring_replied _ _ _ _ _ word w.under.pages new _ wrote is_next p.connected h.paged.mapped h.ring,
+      slots_replied _ _ _ _ _ _ w.back.ring.indices.prod _ _ _ _ rep h.replies.counted (slots_beside _ _ _ _ _ _ 2 word _ _ _ new _ _ wrote (omega arith) h.shaped.narrow h.slots),
+      frames_beside config w g d w.front.stage (stage.Producer rep) new h wrote.others,
+      told_elsewhere config w g d w.front.stage (stage.Producer rep) new h pool,
+      entries_beside config w g d w.front.stage (stage.Producer rep) new h wrote.others,
+      paged_at _ _ _ _ _ _ _ (stage.Producer rep) (stage.ProducerFence w.back.ring.indices.prod) refl refl h.paged,
+      front_sleep_replied g.start g.taken g.replied w.back.ring.indices.prod new w.front.ring.asleep w.under.channels.front_pending w.front.stage rep (sleep_kept (wrote.words 2 3 (omega arith)) h.front_sleep),
+      turns_as (is_back_arming (stage.ProducerFence w.back.ring.indices.prod)) (may_back_sleep (stage.ProducerFence w.back.ring.indices.prod)) (λ t. t) (λ t. absurd (true≢false t))
+          (sleep_kept (wrote.words 2 1 (omega arith)) h.back_sleep),
+    ))
   where
     flow : Flow
     flow = record g { replied = g.replied + 1; replies = g.replies ++ rep ∷ [] }
@@ -157,7 +137,7 @@ goes_producer config w g d rep p = goes_by {g = flow} (does_step _ (lines.Reply 
     x = h.indices
 
     s : Stepped None IsSame d (lines.Reply rep.id rep.status ∷ []) (λ x. AreStations config (record g { replied = g.replied + 1; replies = g.replies ++ rep ∷ [] }) x (is_ready w.front.stage) (is_issuing w.front.stage) false (ending_at w.front.stage w.front.ending) (telling_at w.front.stage) None w.front.requests w.back.jobs.works w.under.pages)
-    s = replies config g d (is_ready w.front.stage) (is_issuing w.front.stage) false (ending_at w.front.stage w.front.ending) (telling_at w.front.stage) w.front.requests w.back.jobs.works w.under.pages rep h.back_at.positive h.replies.counted h.stations
+    s = replies rep h.back_at.positive h.replies.counted h.stations
 
     -- no response that waits names its request, nor is its grant being ended
     others : (i : ℕ) (other : Reply) → slice_get g.replies i ≡ Some other → other.id ≢ rep.id
@@ -178,11 +158,23 @@ goes_producer config w g d rep p = goes_by {g = flow} (does_step _ (lines.Reply 
     word : ℕ
     word = next_of w.back.ring.indices.prod
 
-    next : word ≡ wrapped g.start (g.replied + 1)
-    next = next_wrapped g.start g.replied w.back.ring.indices.prod x.replied
+    is_next : word ≡ wrapped g.start (g.replied + 1)
+    is_next = next_wrapped g.start g.replied w.back.ring.indices.prod x.replied
 
     new : List ℕ
     new = with_word w.under.pages frame 2 word
 
     wrote : RingWritten w.under.pages new 2 2 word
     wrote = ring_written w.under.pages frame 2 2 word in_two (omega arith) (omega arith) (omega arith) h.memory
+
+    counted : length w.back.jobs.works + 0 + (g.replied + 1) ≡ g.fetched
+    counted = omega (arith, h.counted)
+
+    back_at : (1 ≤ g.replied + 1) × (w.back.ring.indices.prod ≡ wrapped g.start (g.replied + 1 - 1))
+    back_at = (omega arith, x.replied ∙ ap (λ (i : ℕ). wrapped g.start i) (omega arith))
+
+    pool : (f : ℕ) → 18 ≤ f → f < 1018 → SameFrame w.under.pages new f
+    pool f low high = wrote.others f (inr low)
+
+    stands : StationsOf config w flow (next d s.step) false None w.back.jobs.works new
+    stands = stations_elsewhere _ _ _ _ _ _ _ _ _ _ _ _ new _ _ h.submitted pool s.now

@@ -31,12 +31,12 @@ use Rattle.machine_pipeline.proofs.Flow.{Flow, wrapped, is_back_arming, may_back
 use Rattle.machine_pipeline.proofs.Holds.{Holds, AreIndices, AreWorks, AreSlots, slot_of, BackSends, BackAt, PortsAt}
 use Rattle.machine_pipeline.proofs.Turns.{BackGoes, Goes, silent}
 use Rattle.machine_pipeline.proofs.Slots.{response_fits, slot_at, slot_from, slot_frame_from, slot_frame_to, slot_to, slots_apart, same_slot}
-use Rattle.machine_pipeline.proofs.Kept.{front_sleep_kept, back_sleep_kept}
 use Rattle.machine_pipeline.proofs.BackStill.{BackStands}
-use Rattle.machine_pipeline.proofs.BackQuiet.{goes_moved, bound_terms, all_mapped, paged_at, front_sleep_at, back_sleep_at}
+use Rattle.machine_pipeline.proofs.BackQuiet.{goes_moved, bound_terms, all_mapped, paged_at}
 use Rattle.machine_pipeline.proofs.BackWrites.{RingWritten, ring_written, ring_beside, slot_is}
 use Rattle.machine_pipeline.specs.Step.{Does, IsSame}
 use Rattle.machine_pipeline.proofs.Stations.{AreStations}
+use Rattle.machine_pipeline.proofs.Kept.{sleep_kept, sends_as, turns_as}
 
 -- word i of the response at hand
 slots_written : (shape : Shape) (start fetched pushed taken replied last i : ℕ) (rep : Reply) (series : List Request) (replies : List Reply) (old new : List ℕ) (s : FrontStage) (b b' : BackStage)
@@ -106,24 +106,20 @@ pub goes_word : (config : Options) (w : World) (g : Flow) (d : Pipeline) (steps 
     → hands_at b' (with_jobs w.back jobs) ≡ hands_at b w.back
     → Goes config (Move shown ∷ back_lines w.back.told given ++ halt_lines w.back.halted w.back.halted) (record { front = w.front; back = record w.back { jobs = jobs; stage = b'; told = None }; under = with_pages w.under (with_word w.under.pages frame (slot_word w.back.shape w.back.ring.indices.prod i) (response_word rep i)) }) d
 goes_word config w g d steps b b' rep i jobs frame shown given does p a placed unsent before stations works counted info at hands =
-    goes_moved config w g d steps b b' (with_jobs w.back jobs) new w.under.channels g.back_seen shown given does p (record {
-      indices = h.indices;
-      stations = stations;
-      works = works;
-      counted = ap (λ (r : Option Reply). length jobs.works + reply_count r + g.replied) a.here ∙ counted;
-      info = info;
-      back_at = at;
-      unhalted = h.unhalted;
-      memory = r.memory;
-      others = r.others;
-      ring = ring_beside g.shape.order g.start g.pushed g.replied (length w.back.pages) (slot_frame g.shape index i) (slot_word g.shape index i) (response_word rep i) w.under.pages new w.front.stage r (omega (arith, after)) (omega (arith, after)) p.connected (all_mapped b g.shape.order (length w.back.pages) a.bound h.paged.mapped) h.ring;
-      slots = slots_written g.shape g.start g.fetched g.pushed g.taken g.replied (length g.series) i rep g.series g.replies w.under.pages new w.front.stage b b' r h.shaped.narrow a.few a.here a.upto before (omega arith) x.fetched_pushed (omega (arith, x.all)) (omega (arith, x.held, x.room)) refl h.replies.counted h.slots;
-      hands = hands;
-      paged = paged_at g.shape w.back.shape w.back.ring.indices.entries w.back.grefs w.back.ring.port (g.before + 1) w.back.pages b b' a.bound a.bound_still h.paged;
-      front_sleep = front_sleep_at g.start g.taken g.replied new w.front.ring.asleep w.under.channels.front_pending w.front.stage b b' (λ t s. absurd (unsent s)) (front_sleep_kept g.start g.taken g.replied w.under.pages new w.front.ring.asleep w.under.channels.front_pending w.front.stage b (r.words 2 3 (omega (arith, after))) h.front_sleep);
-      back_sleep = back_sleep_at g.start g.fetched g.pushed new w.back.ring.asleep w.under.channels.back_pending w.front.stage b b' (λ t. absurd (false≢true (sym a.unarmed ∙ t))) (λ t. absurd (false≢true (sym t ∙ a.sleeps))) (back_sleep_kept g.start g.fetched g.pushed w.under.pages new w.back.ring.asleep w.under.channels.back_pending w.front.stage b (r.words 2 1 (omega (arith, after))) h.back_sleep);
-      ports = subst (λ (bound : Bool). PortsAt g.before (is_connected w.front.stage) bound w.under.channels.made w.under.channels.ports) (a.bound ∙ sym a.bound_still) h.ports;
-    })
+    goes_moved config w g d steps b b' (with_jobs w.back jobs) new w.under.channels g.back_seen shown given does p
+    (assumption (
+      ap (λ (r : Option Reply). length jobs.works + reply_count r + g.replied) a.here ∙ counted,
+      r.memory,
+      r.others,
+      ring_beside _ _ _ _ _ _ _ _ _ new _ r (omega (arith, after)) (omega (arith, after)) p.connected (all_mapped b g.shape.order (length w.back.pages) a.bound h.paged.mapped) h.ring,
+      slots_written _ _ _ _ _ _ (length g.series) i rep _ _ _ new _ _ b' r h.shaped.narrow a.few a.here a.upto before (omega arith) x.fetched_pushed (omega (arith, x.all))
+          (omega (arith, x.held, x.room)) refl h.replies.counted h.slots,
+      paged_at _ _ _ _ _ _ _ b b' a.bound a.bound_still h.paged,
+      sends_as (BackSends b' g.replied g.taken) (λ t s. absurd (unsent s)) (sleep_kept (r.words 2 3 (omega (arith, after))) h.front_sleep),
+      turns_as (is_back_arming b') (may_back_sleep b') (λ t. absurd (false≢true (sym a.unarmed ∙ t))) (λ t. absurd (false≢true (sym t ∙ a.sleeps)))
+          (sleep_kept (r.words 2 1 (omega (arith, after))) h.back_sleep),
+      subst (λ (bound : Bool). PortsAt g.before (is_connected w.front.stage) bound w.under.channels.made w.under.channels.ports) (a.bound ∙ sym a.bound_still) h.ports,
+    ))
   where
     h : Holds config w g d w.front.stage b
     h = p.holds

@@ -1,5 +1,5 @@
 -- In the loop the lowest job that is done is taken, and its response begun.
-use Rattle.std.proofs.Common.{◌≡◌, ◌≢◌, ℕ, ◌+◌, ◌-◌, ◌<◌, List, [], ◌∷◌, ◌++◌, length, refl, ap, sym, subst, ◌∙◌, inl, inr, arith, get_or, false}
+use Rattle.std.proofs.Common.{◌≡◌, ◌≢◌, ℕ, ◌-◌, ◌<◌, List, [], ◌∷◌, ◌++◌, length, refl, ap, sym, subst, ◌∙◌, arith, false}
 use Rattle.std.specs.Prelude.{All, AllPairs, Option, Some, None, slice_get, option_and_then, position}
 use Rattle.std.specs.List.{remove}
 use Rattle.std.proofs.lemmas.Option.{none-some, same_Some, slice_get_within, get_or_from_slice_get}
@@ -22,46 +22,29 @@ use Rattle.blk_back.specs.Ask.{response_word, next_reply, reply_of}
 use Rattle.blk_back.specs.Step.{fetched}
 use Rattle.split_model.specs.World.{World}
 use Rattle.split_model.specs.Shown.{back_lines, halt_lines}
-use Rattle.machine_pipeline.proofs.Flow.{Flow, is_issuing, ending_at, worked, telling_at}
+use Rattle.machine_pipeline.proofs.Flow.{Flow, worked}
 use Rattle.machine_pipeline.proofs.Holds.{Holds, IsUnhindered, AreSubmitted, AreWorks, IsWork, IsReplying}
-use Rattle.blk_front.specs.Submit.{is_ready}
 use Rattle.machine_pipeline.specs.Step.{IsSame}
 use Rattle.machine_pipeline.proofs.Turns.{Goes, Stepped, does_step}
-use Rattle.machine_pipeline.proofs.Lists.{all_at}
-use Rattle.machine_pipeline.proofs.Stations.{AreStations}
-use Rattle.machine_pipeline.proofs.StationsBack.{begins_response}
-use Rattle.machine_pipeline.proofs.BackStill.{BackStands}
-use Rattle.std.proofs.lemmas.Bool.{cases_lt}
-use Rattle.std.proofs.lemmas.List.Edits.{length-remove, get_or-remove_below, get_or-remove_above}
+use Rattle.machine_pipeline.proofs.Lists.{all_at, all_from}
+use Rattle.machine_pipeline.proofs.StationsBack.{begins_response, other_id}
+use Rattle.machine_pipeline.proofs.BackStill.{BackStands, StationsOf}
+use Rattle.std.proofs.lemmas.List.Edits.{length-remove}
 use Rattle.back_jobs.specs.declared.stage.Stage.{Stage as JobStage}
 use Rattle.back_jobs.specs.declared.stage.Stage.TheVariants as job
 use Rattle.back_jobs.specs.Jobs.{is_done, work_at, response_of, response_at, removed_at, without_done}
 use Rattle.back_jobs.proofs.Hands.{done_hands}
 use Rattle.machine_pipeline.proofs.BackBegins.{small_operation}
 use Rattle.machine_pipeline.proofs.BackReplies.{goes_word}
+use Rattle.machine_pipeline.proofs.Removals.{removed_was}
 
 -- what holds of each element holds of those but one
-all_remove : {X : Type 0} → (P : X → Type 0) (xs : List X) (n : ℕ) → n < length xs → All P xs → All P (remove xs n)
-all_remove P xs n within all k x lt = elim (cases_lt k n) [
-  | inl before ↦ rw (get_or-remove_below xs n x k before within) (all k x (omega arith))
-  | inr after ↦ rw (get_or-remove_above xs n x k after within) (all (k + 1) x (let one = length-remove xs n within in omega arith))
-]
+all_remove : {X : Type 0} → (P : X → Type 0) (xs : List X) (n : ℕ) → All P xs → All P (remove xs n)
+all_remove P xs n all = all_from P (remove xs n) (λ i y e. let was = removed_was xs n i y e in all_at P xs was.0 y all was.2)
 
 -- in an ascending list each other number is another one
 others_apart : (works : List Work) (n : ℕ) (t : Work) → slice_get works n ≡ Some t → AllPairs (λ (a b : Work). a.id < b.id) works → All (λ (u : Work). u.id ≢ t.id) (remove works n)
-others_apart works n t at up k x lt = elim (cases_lt k n) [
-  | inl before ↦ rw (get_or-remove_below works n x k before within) (λ same. let below = apart k n x before within in let e = here x in omega arith)
-  | inr after ↦ rw (get_or-remove_above works n x k after within) (λ same. let below = apart n (k + 1) x (omega arith) (let one = length-remove works n within in omega arith) in let e = here x in omega arith)
-]
-  where
-    within : n < length works
-    within = slice_get_within works n t at
-
-    apart : (i j : ℕ) (x : Work) → i < j → j < length works → (let a : Work = get_or works i x in a.id) < (let b : Work = get_or works j x in b.id)
-    apart i j x first second = up i j x first second
-
-    here : (x : Work) → (let a : Work = get_or works n x in a.id) ≡ t.id
-    here x = ap (λ (a : Work). a.id) (get_or_from_slice_get works n t x at)
+others_apart works n t at up = all_from (λ (u : Work). u.id ≢ t.id) (remove works n) (λ i u e. let was = removed_was works n i u e in other_id works n was.0 t u up was.1 at was.2)
 
 -- the lowest job that is done, whose response this is
 pub record IsLowestDone (works : List Work) (rep : Reply) : Type 0 where
@@ -119,7 +102,11 @@ goes_reply config w g d rep frame shown given p placed e =
     (record { few = omega arith; here = refl; upto = refl; bound = refl; bound_still = refl; unarmed = refl; sleeps = refl })
     placed (λ s. s) (λ j lt. absurd (omega arith))
     (rw gone s.now)
-    (rw gone (record { each = all_remove (IsWork g.submitted g.series g.fetched) works l.place within h.works.each; ascending = all_pairs_remove (λ (a b : Work). a.id < b.id) works l.place within h.works.ascending; clear = all_pairs_remove IsUnhindered works l.place within h.works.clear }))
+    (rw gone (record {
+      each = all_remove (IsWork g.submitted g.series g.fetched) works l.place h.works.each;
+      ascending = all_pairs_remove (λ (a b : Work). a.id < b.id) works l.place within h.works.ascending;
+      clear = all_pairs_remove IsUnhindered works l.place within h.works.clear;
+    }))
     (rw gone (omega (arith, length-remove works l.place within, h.counted)))
     refl
     (rw gone (replying g.submitted w.front.sectors w.front.last g.fetched works rep l h.submitted h.works))
@@ -143,5 +130,6 @@ goes_reply config w g d rep frame shown given p placed e =
     is : IsWork g.submitted g.series g.fetched l.t
     is = all_at (IsWork g.submitted g.series g.fetched) works l.place l.t h.works.each l.at
 
-    s : Stepped None IsSame d [] (λ x. AreStations config g x (is_ready w.front.stage) (is_issuing w.front.stage) false (ending_at w.front.stage w.front.ending) (telling_at w.front.stage) (Some rep) w.front.requests (remove works l.place) w.under.pages)
-    s = begins_response config g d (is_ready w.front.stage) (is_issuing w.front.stage) false (ending_at w.front.stage w.front.ending) (telling_at w.front.stage) w.front.requests works w.under.pages l.place l.t rep l.at (ap (λ (j : JobStage). let u : Work = l.t in worked j u.moved) l.stage) l.id h.works.ascending (λ i u at. let work = all_at (IsWork g.submitted g.series g.fetched) works i u h.works.each at in work.positive) h.stations
+    s : Stepped None IsSame d [] (λ x. StationsOf config w g x false (Some rep) (remove works l.place) w.under.pages)
+    s = begins_response l.place l.t rep l.at (ap (λ (j : JobStage). worked j l.t.moved) l.stage) l.id h.works.ascending
+        (λ i u at. (all_at (IsWork g.submitted g.series g.fetched) works i u h.works.each at).positive) h.stations

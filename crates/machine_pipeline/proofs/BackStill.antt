@@ -1,9 +1,8 @@
 -- A move of the back that leaves the pipeline as it is: what it changes, and that all else that holds goes on holding.
-use Rattle.std.proofs.Common.{◌≡◌, ℕ, ◌+◌, ◌-◌, ◌<◌, ◌≤◌, true, List, length, ap, sym, ◌∙◌, inl, inr, arith}
-use Rattle.std.specs.Prelude.{All, Option, Some, None, count_by, ◌⊎◌}
+use Rattle.std.proofs.Common.{◌≡◌, ℕ, ◌+◌, ◌-◌, ◌<◌, ◌≤◌, true, List, length, sym, ◌∙◌, inl, inr, arith, subst, Bool}
+use Rattle.std.specs.Prelude.{All, Option, Some, None, ◌⊎◌}
 use Rattle.std.proofs.lemmas.Option.{none-some}
 use Rattle.blk_base.specs.Options.{Options}
-use Rattle.blk_base.specs.declared.parts.Mapping.{Mapping}
 use Rattle.pipeline_laws.specs.Pipeline.{Pipeline}
 use Rattle.event_channel.specs.Channels.{ChannelState}
 use Rattle.blk_front.specs.declared.request.Request.{Request}
@@ -20,12 +19,14 @@ use Rattle.split_model.specs.Safe.{AreHeld}
 use Rattle.machine_pipeline.specs.Plain.{IsPlain}
 use Rattle.machine_pipeline.proofs.Flow.{Flow, ending_at, revoking_at, is_bound_back, reply_at, reply_count, is_issuing, is_fetching, telling_at}
 use Rattle.machine_pipeline.proofs.Stations.{AreStations, saw_more}
-use Rattle.machine_pipeline.proofs.Holds.{Holds, IsEnding, AreIndices, IsSubmitted, AreWorks, AreRingWords, AreSlots, IsPooled, IsFilled, AreDataWords, AreEntries, ArePaged, IsFrontSleep, IsBackSleep, BackAt, PortsAt}
+use Rattle.machine_pipeline.proofs.Holds.{Holds, IsEnding, AreIndices, IsSubmitted, AreWorks, AreRingWords, AreSlots, IsPooled, IsFilled, AreDataWords, AreEntries, ArePaged, IsFrontSleep, IsBackSleep, BackAt, PortsAt, AreMapped}
 use Rattle.machine_pipeline.proofs.Lists.{all_from}
 use Rattle.machine_pipeline.proofs.Frames.{ending_is, told_few, is_submitted}
 use Rattle.machine_pipeline.proofs.Data.{SameData, pooled_at}
 use Rattle.machine_pipeline.proofs.Kept.{SameFrame, SameGrants, data_same, same_entry, frames_kept, data_kept, entries_kept}
 use Rattle.machine_pipeline.proofs.ReadsKept.{stations_elsewhere}
+use Rattle.blk_back.specs.declared.stage.Reply.{Reply}
+use Rattle.back_jobs.specs.Task.{Work}
 
 -- the premises of each move of the back at a stage
 pub record BackStands (config : Options) (w : World) (g : Flow) (d : Pipeline) (b : BackStage) : Type 0 where
@@ -39,6 +40,11 @@ pub record BackStands (config : Options) (w : World) (g : Flow) (d : Pipeline) (
 -- a frame that is none of the ring's
 abbrev pub IsRingless : ℕ → Type 0
 IsRingless f = (f < 2) ⊎ (18 ≤ f)
+
+-- the stations of a world where an entry is being copied or not, and this response is being written, with these jobs and this memory
+abbrev pub StationsOf : Options → World → Flow → Pipeline → (fetching : Bool) → Option Reply → List Work → List ℕ → Type 0
+StationsOf config w g d fetching replying works pages =
+    AreStations config g d (is_ready w.front.stage) (is_issuing w.front.stage) fetching (ending_at w.front.stage w.front.ending) (telling_at w.front.stage) replying w.front.requests works pages
 
 -- what a move changes: the back's view, the ring's frames, the marks of events, and the producer as the back last saw it
 pub record Moves (config : Options) (w : World) (g : Flow) (d : Pipeline) (s : FrontStage) (b b' : BackStage) (v : View) (pages : List ℕ) (channels : ChannelState) (seen : ℕ) : Type 0 where
@@ -117,35 +123,13 @@ pub still : (config : Options) (w : World) (g : Flow) (d d' : Pipeline) (s : Fro
     → Holds config w g d s b
     → Moves config w g d' s b b' v pages channels seen
     → Holds config (record { front = w.front; back = v; under = record w.under { pages = pages; channels = channels } }) (record g { back_seen = seen }) d' s b'
-still config w g d d' s b b' v pages channels seen h m = record {
-  settled = record {
-    started = h.started;
-    shaped = h.shaped;
-    sized = h.sized;
-    submitted = h.submitted;
-    info = m.info ∙ h.info;
-    unhalted = m.unhalted;
-  };
-  indices = m.indices;
-  queue = h.queue;
-  pool = h.pool;
-  stations = saw_more config g g.front_seen seen d' (is_ready s) (is_issuing s) (is_fetching b') (ending_at s w.front.ending) (telling_at s) (reply_at b') w.front.requests v.jobs.works pages
-      (stations_elsewhere config g d' (is_ready s) (is_issuing s) (is_fetching b') (ending_at s w.front.ending) (telling_at s) (reply_at b') w.front.requests v.jobs.works w.under.pages pages w.front.sectors w.front.last h.submitted (λ f low high. m.others f (inr low)) m.stations);
-  works = m.works;
-  counted = m.counted;
-  replies = h.replies;
-  front_at = h.front_at;
-  offered = h.offered;
-  back_at = m.back_at;
-  memory = m.memory;
-  ring = m.ring;
-  slots = m.slots;
-  frames = frames_beside config w g d s b pages h m.others;
-  telling = told_elsewhere config w g d s b pages h (λ f low high. m.others f (inr low));
-  entries = entries_beside config w g d s b pages h m.others;
-  mapped = record { counted = λ test. h.mapped.counted test ∙ ap (λ (l : List Mapping). count_by test l) (sym m.hands); framed = h.mapped.framed };
-  paged = m.paged;
-  front_sleep = m.front_sleep;
-  back_sleep = m.back_sleep;
-  ports = m.ports;
-}
+still config w g d d' s b b' v pages channels seen h m =
+    let stands = stations_elsewhere _ _ _ _ _ _ _ _ _ _ _ _ pages _ _ h.submitted (λ f low high. m.others f (inr low)) m.stations in
+    assumption (
+      m.info ∙ h.info,
+      saw_more _ _ g.front_seen seen _ _ _ _ _ _ _ _ _ _ stands,
+      subst (AreMapped w.under.grants.live) (sym m.hands) h.mapped,
+      frames_beside config w g d s b pages h m.others,
+      told_elsewhere config w g d s b pages h (λ f low high. m.others f (inr low)),
+      entries_beside config w g d s b pages h m.others,
+    )

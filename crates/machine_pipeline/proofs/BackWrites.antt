@@ -1,6 +1,5 @@
 -- What a write of the back to a page of the ring leaves as it was.
 use Rattle.std.proofs.Common.{◌≡◌, ◌≢◌, ℕ, ◌+◌, ◌*◌, ◌^◌, ◌<◌, ◌≤◌, Bool, true, false, if◌then◌else◌, List, ◌++◌, length, refl, sym, subst, ◌∙◌, inl, inr, arith, length-set, get_or-set_other}
-use Rattle.std.proofs.lemmas.Nat.{pow_pos}
 use Rattle.std.specs.List.{list_any}
 use Rattle.std.proofs.lemmas.Bool.{false≢true}
 use Rattle.blk_base.specs.Options.{Options}
@@ -25,14 +24,15 @@ use Rattle.blk_back.specs.View.{page_of, slot_page}
 use Rattle.blk_back.specs.Hands.{hands_at}
 use Rattle.blk_back.proofs.Slots.{slot_within}
 use Rattle.split_model.specs.World.{World}
-use Rattle.machine_pipeline.proofs.Flow.{Flow, wrapped, named_pages, granted_pages, is_bound_back}
-use Rattle.machine_pipeline.proofs.Holds.{Holds, RingBegun, AreRingWords, AreSlots, PortsAt}
+use Rattle.machine_pipeline.proofs.Flow.{Flow, wrapped, named_pages, granted_pages, is_bound_back, is_back_arming, may_back_sleep}
+use Rattle.machine_pipeline.proofs.Holds.{Holds, RingBegun, AreRingWords, AreSlots, PortsAt, IsBackSleep, BackSends}
 use Rattle.machine_pipeline.proofs.Turns.{BackGoes}
 use Rattle.machine_pipeline.proofs.Wrapped.{next_wrapped}
-use Rattle.machine_pipeline.proofs.Kept.{SameFrame, other_frame, written, slots_kept, front_sleep_kept}
+use Rattle.machine_pipeline.proofs.Kept.{SameFrame, other_frame, written, slots_kept, sends_as, sleep_kept, turns_as}
 use Rattle.machine_pipeline.proofs.BackStill.{BackStands, IsRingless}
-use Rattle.machine_pipeline.proofs.BackQuiet.{IsBetween, goes_still, quiet_with, bound_terms, paged_at, slots_at, front_sleep_at, back_sleep_at}
-use Rattle.machine_pipeline.proofs.BackFences.{frame_is, first_frame, between}
+use Rattle.machine_pipeline.proofs.BackQuiet.{goes_still, quiet_with, bound_terms, paged_at, slots_at, between}
+use Rattle.machine_pipeline.proofs.BackFences.{frame_is, first_frame}
+use Rattle.std.proofs.lemmas.Option.{none-some}
 
 -- one word of a frame of the ring was written
 pub record RingWritten (old new : List ℕ) (frame word value : ℕ) : Type 0 where
@@ -98,31 +98,24 @@ pub slots_beside : (shape : Shape) (start fetched pushed taken replied word valu
 slots_beside shape start fetched pushed taken replied word value series replies old new s b r low narrow h =
     slots_kept shape start fetched pushed taken replied series replies old new s b narrow (λ f w from to within after. r.words f w (λ same. omega arith)) h
 
--- a page of the ring is in its frame
-pub page_at : (config : Options) (w : World) (g : Flow) (d : Pipeline) (b : BackStage) (page : ℕ) → BackStands config w g d b → IsBetween b w.back → page < 2 ^ g.shape.order → frame_of w.under.grants (page_of w.back page) ≡ 2 + page
-page_at config w g d b page p i within = frame_is config w g d b page p i.bound i.hands within
-
-pub first_at : (config : Options) (w : World) (g : Flow) (d : Pipeline) (b : BackStage) → BackStands config w g d b → IsBetween b w.back → frame_of w.under.grants (page_of w.back 0) ≡ 2
-first_at config w g d b p i = page_at config w g d b 0 p i (pow_pos g.shape.order)
-
--- and a word of an entry where the front has it
+-- a word of an entry is where the front has it
 pub slot_is : (config : Options) (w : World) (g : Flow) (d : Pipeline) (b : BackStage) (k i : ℕ) → BackStands config w g d b → is_bound_back b ≡ true → hands_at b w.back ≡ hands_in w.back.jobs.works ++ w.back.pages → i < entry_words_of g.shape.abi → frame_of w.under.grants (slot_page w.back k i) ≡ slot_frame g.shape k i
 slot_is config w g d b k i p bound hands lt =
     rw (p.holds.paged.shaped (bound_terms b bound)) (frame_is config w g d b (slot_word_of g.shape k i).0 p bound hands (slot_within g.shape k i lt))
 
 -- the back sends the front an event
-bound_pending : (before made : ℕ) (ports : List PortState) (pending : Bool) (c : Bool) → c ≡ true → PortsAt before c true made ports → (if list_any is_bound_port ports then true else pending) ≡ true
-bound_pending before made ports pending false c at = absurd (false≢true c)
-bound_pending before made ports pending true c at = rw at.1 refl
+bound_pending : (before made : ℕ) (ports : List PortState) (pending : Bool) → PortsAt before true true made ports → (if list_any is_bound_port ports then true else pending) ≡ true
+bound_pending before made ports pending at = rw at.1 refl
 
 pub goes_send : (config : Options) (w : World) (g : Flow) (d : Pipeline) → BackStands config w g d stage.Send → BackGoes config w d stage.Send
 goes_send config w g d p =
     let h : Holds config w g d w.front.stage stage.Send = p.holds in
     let c : ChannelState = sent w.under.channels end.Back in
+    let sends = bound_pending g.before w.under.channels.made w.under.channels.ports w.under.channels.front_pending (rw p.connected at h.ports) in
     goes_still config w g d stage.Send stage.Loop w.back w.under.pages c g.back_seen _ _ p
     (quiet_with config w g d stage.Send stage.Loop w.back.ring.asleep w.back.ring.seen w.back.ring.entry c g.back_seen h (between stage.Send w.back refl refl refl) (between stage.Loop w.back refl refl refl) h.stations h.indices tt
-    (record { arming = h.front_sleep.arming; armed = h.front_sleep.armed; may = h.front_sleep.may; woken = λ t. inr (inl (bound_pending g.before w.under.channels.made w.under.channels.ports w.under.channels.front_pending (is_connected w.front.stage) p.connected h.ports)) })
-    (back_sleep_at g.start g.fetched g.pushed w.under.pages w.back.ring.asleep w.under.channels.back_pending w.front.stage stage.Send stage.Loop (λ t. t) (λ t. cc) h.back_sleep)
+    (record { arming = h.front_sleep.arming; armed = h.front_sleep.armed; may = h.front_sleep.may; woken = λ t. inr (inl sends) })
+    (turns_as (is_back_arming stage.Loop) (may_back_sleep stage.Loop) (λ t. t) (λ t. cc) h.back_sleep)
     refl refl)
 
 -- the back stores its event word: it wants to hear of the next request
@@ -135,21 +128,15 @@ goes_store_event config w g d p =
     let r : RingWritten w.under.pages new 2 1 (next_of w.back.ring.indices.cons) = ring_written w.under.pages frame 2 1 (next_of w.back.ring.indices.cons) in_two (omega arith) (omega arith) (omega arith) h.memory in
     let event : word_of new 2 1 ≡ wrapped g.start (g.fetched + 1) = r.here ∙ next_wrapped g.start g.fetched w.back.ring.indices.cons h.indices.fetched in
     let awake : w.back.ring.asleep ≡ false = h.back_sleep.may refl in
-    goes_still config w g d stage.StoreEvent stage.EventFence w.back new w.under.channels g.back_seen _ _ p (record {
-      indices = h.indices;
-      stations = h.stations;
-      works = h.works;
-      counted = h.counted;
-      info = refl;
-      back_at = tt;
-      unhalted = h.unhalted;
-      memory = r.memory;
-      others = r.others;
-      ring = ring_beside g.shape.order g.start g.pushed g.replied (length w.back.pages) 2 1 (next_of w.back.ring.indices.cons) w.under.pages new w.front.stage r (omega arith) (omega arith) p.connected h.paged.mapped h.ring;
-      slots = slots_at g.shape g.start g.fetched g.pushed g.taken g.replied g.series g.replies new w.front.stage stage.StoreEvent stage.EventFence (λ rep t i lt. cc) (slots_beside g.shape g.start g.fetched g.pushed g.taken g.replied 1 (next_of w.back.ring.indices.cons) g.series g.replies w.under.pages new w.front.stage stage.StoreEvent r (omega arith) h.shaped.narrow h.slots);
-      hands = refl;
-      paged = paged_at g.shape w.back.shape w.back.ring.indices.entries w.back.grefs w.back.ring.port (g.before + 1) w.back.pages stage.StoreEvent stage.EventFence refl refl h.paged;
-      front_sleep = front_sleep_at g.start g.taken g.replied new w.front.ring.asleep w.under.channels.front_pending w.front.stage stage.StoreEvent stage.EventFence (λ t s. absurd s) (front_sleep_kept g.start g.taken g.replied w.under.pages new w.front.ring.asleep w.under.channels.front_pending w.front.stage stage.StoreEvent (r.words 2 3 (omega arith)) h.front_sleep);
-      back_sleep = record { arming = λ t. event; armed = λ t. event; may = λ t. awake; woken = λ t. absurd (false≢true (sym awake ∙ t)) };
-      ports = h.ports;
-    })
+    let sleep : IsBackSleep g.start g.fetched g.pushed new w.back.ring.asleep w.under.channels.back_pending w.front.stage stage.EventFence = record
+    { arming = λ t. event; armed = λ t. event; may = λ t. awake; woken = λ t. absurd (false≢true (sym awake ∙ t)) } in
+    goes_still config w g d stage.StoreEvent stage.EventFence w.back new w.under.channels g.back_seen _ _ p
+    (assumption (
+      sleep,
+      r.memory,
+      r.others,
+      ring_beside _ _ _ _ _ _ _ _ _ new _ r (omega arith) (omega arith) p.connected h.paged.mapped h.ring,
+      slots_at _ _ _ _ _ _ _ _ _ _ _ stage.EventFence (λ rep t i lt. absurd (none-some rep t)) (slots_beside _ _ _ _ _ _ 1 _ _ _ _ _ _ _ r (omega arith) h.shaped.narrow h.slots),
+      paged_at _ _ _ _ _ _ _ stage.StoreEvent stage.EventFence refl refl h.paged,
+      sends_as (BackSends stage.EventFence g.replied g.taken) (λ t s. absurd s) (sleep_kept (r.words 2 3 (omega arith)) h.front_sleep),
+    ))

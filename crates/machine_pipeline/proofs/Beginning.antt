@@ -8,7 +8,7 @@ use Rattle.pipeline_laws.specs.Pipeline.{Pipeline, next}
 use Rattle.blk_front.specs.declared.request.Request.{Request}
 use Rattle.blk_front.specs.declared.request.Transfer.{Transfer}
 use Rattle.blk_front.specs.declared.request.Transfer.TheVariants as transfer
-use Rattle.blk_front.specs.Request.{is_write, is_moving, is_indirect, frames_for, pages_for, frame_at, filling_at}
+use Rattle.blk_front.specs.Request.{is_write, is_moving, is_indirect, frames_for, frame_at, filling_at}
 use Rattle.blk_front.specs.Entry.{entry_of}
 use Rattle.blk_front.specs.declared.stage.Stage.{Stage as FrontStage}
 use Rattle.blk_front.specs.declared.stage.Stage.TheVariants as front
@@ -22,7 +22,7 @@ use Rattle.machine_pipeline.specs.Step.{IsSame}
 use Rattle.machine_pipeline.proofs.Flow.{Flow, wrapped, frames_of, is_own, may_front_sleep, is_fetching, reply_at}
 use Rattle.machine_pipeline.proofs.Holds.{IsFilled, AreEntries, Holds}
 use Rattle.machine_pipeline.proofs.Kept.{SameGrants}
-use Rattle.machine_pipeline.proofs.Issuing.{issuing, with_front}
+use Rattle.machine_pipeline.proofs.Issuing.{issuing, with_front, unrevoked}
 use Rattle.machine_pipeline.proofs.Entering.{word_entered, slot_same}
 use Rattle.machine_pipeline.proofs.Slots.{with_slot, some_words, more_words}
 use Rattle.xen_pages.specs.Pages.{with_word}
@@ -74,15 +74,12 @@ entries_bare submitted requests pushed waiting old new live s s' ending r i' nex
       let only = next.only (get_or requests k d) in
       record {
         named = λ le place in_it. let entry = here place in_it in entry.frame ∙ was.named le place in_it;
-        named_next = λ e place t in_it. absurd (none (get_or requests k d) (only e) place in_it);
+        named_next = λ e place t in_it. absurd (omega (arith, bare, ap frames_of (only e)));
         flags = λ le place in_it. let entry = here place in_it in entry.flags ∙ was.flags le place in_it;
-        flags_next = λ e place t in_it. absurd (none (get_or requests k d) (only e) place in_it);
+        flags_next = λ e place t in_it. absurd (omega (arith, bare, ap frames_of (only e)));
       };
-  ending = λ e t. let i = issuing s' i' in absurd (i.unrevoked ending e t);
+  ending = λ e t. absurd (unrevoked s' ending e (issuing s' i').ended t);
 }
-  where
-    none : (q : Request) → q ≡ r → (place : ℕ) → place < frames_of q → ⊥
-    none q is place in_it = let same_number : ◌≡◌ {A = ℕ} (frames_of q) (frames_of r) = ap frames_of is in omega arith
 
 -- the pipeline begins its entry
 begun : (config : Options) (w : World) (g : Flow) (d : Pipeline) (r : Request)
@@ -114,9 +111,7 @@ bare_goes config w g d r safe e still unwritten h = goes_by {g = g} (does_step _
     direct = rw none refl
 
     bare : frames_of r ≡ 0
-    bare =
-        let pages : pages_for r.count ≡ 0 = rw direct refl in
-        omega (arith, none, following.shape.frames)
+    bare = rw (following.shape.frames, none) refl
 
     s : Stepped None IsSame d [] (λ p. AreStations config g p true true (is_fetching w.back.stage) None None (reply_at w.back.stage) w.front.requests w.back.jobs.works w.under.pages)
     s = begun config w g d r h following
@@ -170,28 +165,22 @@ pages_begin config w g d r safe e reads large h =
     (filled_on config w g d (next d s.step) front.Loop (front.Pages 1) r (1024 * frames_for r.count + 0) refl refl h s.now e refl (page_in r 0 following.shape large (omega arith))
     (λ m own upto other. absurd (true≢false (sym (own_before r m own (omega arith)).0 ∙ ap is_write reads))) refl refl refl (r, e, (omega arith, large)) (λ sends. sends)))
 
+abbrev request_of : (number sector count : ℕ) → List ℕ → Transfer → Request
+request_of number sector count frames way = record { number = number; sector = sector; count = count; transfer = way; frames = record { items = frames } }
+
 begins : (config : Options) (w : World) (g : Flow) (d : Pipeline) (number sector count : ℕ) (frames : List ℕ) (way : Transfer) → IsSafe w
-    → (let r : Request = record { number = number; sector = sector; count = count; transfer = way; frames = record { items = frames } } in
-    next_request w.front ≡ Some r)
+    → next_request w.front ≡ Some (request_of number sector count frames way)
     → Holds config w g d front.Loop w.back.stage
-    → (let r : Request = record { number = number; sector = sector; count = count; transfer = way; frames = record { items = frames } } in
-    LoopGoes config w d (Some r) (loop_ask w.front (Some r)))
-begins config w g d number sector count frames (transfer.Write tag) safe e h =
-    data_goes config w g d (record { number = number; sector = sector; count = count; transfer = transfer.Write tag; frames = record { items = frames } }) safe e refl refl h
-begins config w g d number sector count frames (transfer.Barrier tag) safe e h =
-    data_goes config w g d (record { number = number; sector = sector; count = count; transfer = transfer.Barrier tag; frames = record { items = frames } }) safe e refl refl h
+    → LoopGoes config w d (Some (request_of number sector count frames way)) (loop_ask w.front (Some (request_of number sector count frames way)))
+begins config w g d number sector count frames (transfer.Write tag) safe e h = data_goes config w g d (request_of number sector count frames (transfer.Write tag)) safe e refl refl h
+begins config w g d number sector count frames (transfer.Barrier tag) safe e h = data_goes config w g d (request_of number sector count frames (transfer.Barrier tag)) safe e refl refl h
 begins config w g d number sector count frames transfer.Read safe e h = by_size (is_indirect count) refl
   where
-    r : Request
-    r = record { number = number; sector = sector; count = count; transfer = transfer.Read; frames = record { items = frames } }
-
-    by_size : (b : Bool) → is_indirect count ≡ b → ReadGoes config w d r b
-    by_size true large = pages_begin config w g d r safe e refl large h
-    by_size false direct = grants_begin config w g d r safe e refl direct h
-begins config w g d number sector count frames transfer.Flush safe e h =
-    bare_goes config w g d (record { number = number; sector = sector; count = count; transfer = transfer.Flush; frames = record { items = frames } }) safe e refl refl h
-begins config w g d number sector count frames (transfer.Discard sectors) safe e h =
-    bare_goes config w g d (record { number = number; sector = sector; count = count; transfer = transfer.Discard sectors; frames = record { items = frames } }) safe e refl refl h
+    by_size : (b : Bool) → is_indirect count ≡ b → ReadGoes config w d (request_of number sector count frames transfer.Read) b
+    by_size true large = pages_begin config w g d (request_of number sector count frames transfer.Read) safe e refl large h
+    by_size false direct = grants_begin config w g d (request_of number sector count frames transfer.Read) safe e refl direct h
+begins config w g d number sector count frames transfer.Flush safe e h = bare_goes config w g d (request_of number sector count frames transfer.Flush) safe e refl refl h
+begins config w g d number sector count frames (transfer.Discard sectors) safe e h = bare_goes config w g d (request_of number sector count frames (transfer.Discard sectors)) safe e refl refl h
 
 -- the loop where a request waits
 pub loop_issues : (config : Options) (w : World) (g : Flow) (d : Pipeline) (r : Request) → IsSafe w → next_request w.front ≡ Some r → Holds config w g d front.Loop w.back.stage → FrontGoes config w d front.Loop

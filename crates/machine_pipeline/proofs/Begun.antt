@@ -1,5 +1,5 @@
 -- The first lines of what happens last: with those of what happened before they are the lines of a run of the pipeline too.
-use Rattle.std.proofs.Common.{◌≡◌, ℕ, inl, inr, ◌⊎◌, List, [], ◌∷◌, ◌++◌, refl, ap, sym, ◌∙◌, subst, append_assoc}
+use Rattle.std.proofs.Common.{◌≡◌, ℕ, inl, inr, ◌⊎◌, List, [], ◌∷◌, ◌++◌, refl, sym, ◌∙◌, subst, append_assoc}
 use Rattle.std.specs.Prelude.{Option, Some, None}
 use Rattle.std.specs.Option.{option_to_list}
 use Rattle.std.proofs.lemmas.List.{append-nil}
@@ -23,17 +23,14 @@ use Rattle.machine_pipeline.specs.Submissions.{submitted_at, submitted_of}
 use Rattle.machine_pipeline.specs.Step.{CallAt}
 use Rattle.machine_pipeline.proofs.Sectors.{SectorsGo, SectorsRun, sectors_run}
 use Rattle.machine_pipeline.proofs.Together.{always_steps}
-use Rattle.machine_pipeline.proofs.Runs.{steps_of, allowed_of, lines_shown, submits_of, disk_of, IsRunFrom, goes_none, called, submitted_first, IsRunUpTo, run_up_to, shown_calls}
+use Rattle.machine_pipeline.proofs.Runs.{goes_some, steps_of, allowed_of, lines_shown, submits_of, disk_of, IsRunFrom, called, submitted_first, IsRunUpTo, run_up_to, shown_calls}
 
 -- a step shows a line at most
 abbrev IsShort : List Line → Type 0
 IsShort shown = (shown ≡ []) ⊎ ((line : Line) × (shown ≡ line ∷ []))
 
 step_short : (p : Pipeline) (s : Step) → IsShort (step_lines p s)
-step_short p (Moves k x move) = elim (move_shows k move) [
-  | inl none ↦ inl none
-  | inr one ↦ inr (one.0, one.1)
-]
+step_short p (Moves k x move) = elim (move_shows k move) [ inl none ↦ inl none | inr one ↦ inr (one.0, one.1) ]
 step_short p s = inr (_, refl)
 
 -- the first of these steps, whose lines these are
@@ -49,18 +46,12 @@ first_of steps p [] rest e = record { first = []; later = steps; whole = refl; s
 first_of [] p (x ∷ part) rest e = absurd (cc)
 first_of (s ∷ steps) p (x ∷ part) rest e = elim (step_short p s) [
   | inl none ↦
-      let its = first_of steps (next p s) (x ∷ part) rest (e ∙ ap (λ (ls : List Line). ls ++ lines_of steps (next p s)) none) in
-      record { first = s ∷ its.first; later = its.later; whole = ap (λ (more : List Step). s ∷ more) its.whole; shows = its.shows ∙ sym (ap (λ (ls : List Line). ls ++ lines_of its.first (next p s)) none) }
+      let its = first_of steps (next p s) (x ∷ part) rest (rw none at e) in
+      record { first = s ∷ its.first; later = its.later; whole = rw its.whole refl; shows = rw none its.shows }
   | inr one ↦
-      let all : x ∷ (part ++ rest) ≡ one.0 ∷ lines_of steps (next p s) = e ∙ ap (λ (ls : List Line). ls ++ lines_of steps (next p s)) one.1 in
-      let head : x ≡ one.0 = cc in
+      let all : x ∷ (part ++ rest) ≡ one.0 ∷ lines_of steps (next p s) = rw one.1 at e in
       let its = first_of steps (next p s) part rest cc in
-      record {
-        first = s ∷ its.first;
-        later = its.later;
-        whole = ap (λ (more : List Step). s ∷ more) its.whole;
-        shows = ap (λ (y : Line). y ∷ part) head ∙ (ap (λ (ls : List Line). one.0 ∷ ls) its.shows ∙ sym (ap (λ (ls : List Line). ls ++ lines_of its.first (next p s)) one.1));
-      }
+      record { first = s ∷ its.first; later = its.later; whole = rw its.whole refl; shows = rw one.1 (cc (all, its.shows)) }
 ]
 
 -- what holds of steps holds of the first of them
@@ -73,30 +64,22 @@ runs_first [] later a b runs = (a, refl)
 runs_first (s ∷ first) later a b runs = let its = runs_first first later runs.0 b runs.2 in (its.0, (runs.0, runs.1, its.1))
 
 -- steps that show what happened, and these lines of what happens last
-record HasPart (hs : List Happening) (last : Happening) (w : World) (p : Pipeline) (part : List Line) : Type 0 where
-  steps : List Step
-  allowed : StepsAllowed steps p
-  shows : lines_of steps p ≡ shown_by hs w ++ part
-  more : List Job
-  submits : steps_submit steps ++ more ≡ submitted_of (hs ++ last ∷ [])
-  disk : (a : List (List ℕ)) (now : Option (List (List ℕ))) → SectorsRun (hs ++ last ∷ []) w (Some a) now → (b : List (List ℕ)) × DiskRuns steps a b
+pub record HasPart (hs : List Happening) (last : Happening) (w : World) (p : Pipeline) (part : List Line) : Type 0 where
+  pub steps : List Step
+  pub allowed : StepsAllowed steps p
+  pub shows : lines_of steps p ≡ shown_by hs w ++ part
+  pub more : List Job
+  pub submits : steps_submit steps ++ more ≡ submitted_of (hs ++ last ∷ [])
+  pub runs : (a : List (List ℕ)) (now : Option (List (List ℕ))) → SectorsRun (hs ++ last ∷ []) w (Some a) now → (b : List (List ℕ)) × DiskRuns steps a b
 
 -- a disk that exposes its sectors does so all along
 first_runs : (hs : List Happening) (last : Happening) (w : World) (a : List (List ℕ)) (now : Option (List (List ℕ))) → SectorsRun (hs ++ last ∷ []) w (Some a) now
     → (b : List (List ℕ)) × SectorsRun hs w (Some a) (Some b) × ((c : List (List ℕ)) × SectorsGo (after hs w) last (Some b) (Some c))
-first_runs [] last w a now runs = by_between runs.0 runs.1
-  where
-    by_between : (x : Option (List (List ℕ))) → SectorsGo w last (Some a) x → (b : List (List ℕ)) × (Some b ≡ Some a) × ((c : List (List ℕ)) × SectorsGo w last (Some b) (Some c))
-    by_between None goes = absurd (goes_none w last a goes)
-    by_between (Some c) goes = (a, refl, (c, goes))
-first_runs (h ∷ hs) last w a now runs = by_between runs.0 runs.1 (λ d rest. first_runs hs last (happens w h) d now rest) runs.2
-  where
-    by_between : (x : Option (List (List ℕ))) → SectorsGo w h (Some a) x
-        → ((d : List (List ℕ)) → SectorsRun (hs ++ last ∷ []) (happens w h) (Some d) now → (b : List (List ℕ)) × SectorsRun hs (happens w h) (Some d) (Some b) × ((c : List (List ℕ)) × SectorsGo (after hs (happens w h)) last (Some b) (Some c)))
-        → SectorsRun (hs ++ last ∷ []) (happens w h) x now
-        → (b : List (List ℕ)) × SectorsRun (h ∷ hs) w (Some a) (Some b) × ((c : List (List ℕ)) × SectorsGo (after hs (happens w h)) last (Some b) (Some c))
-    by_between None goes later rest = absurd (goes_none w h a goes)
-    by_between (Some d) goes later rest = let its = later d rest in (its.0, (Some d, goes, its.1), its.2)
+first_runs [] last w a now runs = let c = goes_some w last a runs.0 runs.1 in (a, refl, (c.0, c.1))
+first_runs (h ∷ hs) last w a now runs =
+    let d = goes_some w h a runs.0 runs.1 in
+    let its = first_runs hs last (happens w h) d.0 now (subst (λ (x : Option (List (List ℕ))). SectorsRun (hs ++ last ∷ []) (happens w h) x now) d.2 runs.2) in
+    (its.0, (Some d.0, d.1, its.1), its.2)
 
 -- the first of the steps that the last happening is
 has_part : (hs : List Happening) (last : Happening) (w : World) (p : Pipeline) (part : List Line) (steps : List Step) (r : IsRunFrom hs w p)
@@ -108,17 +91,20 @@ has_part : (hs : List Happening) (last : Happening) (w : World) (p : Pipeline) (
 has_part hs last w p part steps r f allowed asks goes = record {
   steps = r.steps ++ f.first;
   allowed = allowed_append r.steps f.first p r.allowed (allowed_first f.first f.later (after_steps r.steps p) (subst (λ (all : List Step). StepsAllowed all (after_steps r.steps p)) (sym f.whole) allowed));
-  shows =
-      lines_append r.steps f.first p
-      ∙ (ap (λ (ls : List Line). ls ++ lines_of f.first (after_steps r.steps p)) r.shows
-      ∙ ap (λ (ls : List Line). shown_by hs w ++ ls) (sym f.shows));
+  shows = rw (lines_append r.steps f.first p, r.shows, f.shows) refl;
   more = steps_submit f.later;
-  submits =
-      ap (λ (js : List Job). js ++ steps_submit f.later) (submitted_append r.steps f.first ∙ ap (λ (js : List Job). js ++ steps_submit f.first) r.submits)
-      ∙ (append_assoc (submitted_of hs) (steps_submit f.first) (steps_submit f.later)
-      ∙ (ap (λ (js : List Job). submitted_of hs ++ js) (sym (submitted_append f.first f.later) ∙ (ap steps_submit f.whole ∙ (asks ∙ (sym (append-nil (option_to_list (submitted_at last))) ∙ sym (submitted_first last [])))))
-      ∙ sym (filter_map-append submitted_at hs (last ∷ []))));
-  disk = λ a now runs.
+  submits = rw (
+    submitted_append r.steps f.first,
+    r.submits,
+    append_assoc,
+    ← submitted_append f.first f.later,
+    f.whole,
+    asks,
+    filter_map-append submitted_at hs (last ∷ []),
+    submitted_first last [],
+    append-nil,
+  ) refl;
+  runs = λ a now runs.
       let its = first_runs hs last w a now runs in
       let one = runs_first f.first f.later its.0 its.2.0 (subst (λ (all : List Step). DiskRuns all its.0 its.2.0) (sym f.whole) (goes its.0 its.2.0 (called (after hs w) last its.0 its.2.0 its.2.1))) in
       (one.0, runs_append r.steps f.first a its.0 one.0 (r.disk a its.0 its.1) one.1);
@@ -140,15 +126,12 @@ part_consistent : (config : Options) (hs : List Happening) (last : Happening) (p
     → IsOfADisk config.sectors before (shown_by hs (start_of config) ++ part)
     → AreConsistent config.sectors h.steps before None
 part_consistent config hs last part None now h long runs of = shown_calls config h.steps (shown_by hs (start_of config) ++ part) h.allowed h.shows of
-part_consistent config hs last part (Some a) now h long runs of = let its = h.disk a now runs in record { content = a; sized = long; begins = refl; later = its.0; runs = its.1; ends = tt }
+part_consistent config hs last part (Some a) now h long runs of = let its = h.runs a now runs in record { content = a; sized = long; begins = refl; later = its.0; runs = its.1; ends = tt }
 
 -- steps that the pipeline allows from its start, which show what the history shows and these lines of what happens last; what they submit begins what all this submits
 pub record IsPartRun (config : Options) (history : List Happening) (last : Happening) (part : List Line) (before : Option (List (List ℕ))) : Type 0 where
-  pub steps : List Step
-  pub allowed : StepsAllowed steps (pipeline_of config)
-  pub shows : lines_of steps (pipeline_of config) ≡ shown_by history (start_of config) ++ part
-  pub more : List Job
-  pub submits : steps_submit steps ++ more ≡ submitted_of (history ++ last ∷ [])
+  pub first : HasPart history last (start_of config) (pipeline_of config) part
+  pub open first use *
   pub disk : AreConsistent config.sectors steps before None
 
 pub part_run : (config : Options) (history : List Happening) (last : Happening) (part rest : List Line) (before now : DiskSeen)
@@ -162,11 +145,4 @@ pub part_run : (config : Options) (history : List Happening) (last : Happening) 
 part_run config history last part rest before now plain may long runs e of =
     let u = run_up_to history last (start_of config) (pipeline_of config) (always_steps config (history ++ last ∷ []) plain may) in
     let h = part_shown history last (start_of config) (pipeline_of config) part rest u e in
-    record {
-      steps = h.steps;
-      allowed = h.allowed;
-      shows = h.shows;
-      more = h.more;
-      submits = h.submits;
-      disk = part_consistent config history last part before.content now.content h long (sectors_run (history ++ last ∷ []) (start_of config) before now runs) of;
-    }
+    record { first = h; disk = part_consistent config history last part before.content now.content h long (sectors_run (history ++ last ∷ []) (start_of config) before now runs) of }

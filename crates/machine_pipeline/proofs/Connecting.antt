@@ -1,5 +1,6 @@
 -- A front that made its ring and its port waits until it is connected: it takes events and watches, and is as it was. Once it is connected the pipeline is ready, and once it closes the pipeline does.
-use Rattle.std.proofs.Common.{◌≡◌, ℕ, ◌≤◌, ◌&&◌, not, if◌then◌else◌, Bool, true, false, List, [], ◌∷◌, length, refl, ap, sym, ◌∙◌, subst, arith, true≢false}
+use Rattle.std.proofs.lemmas.Bool.Decides.{nat_tests}
+use Rattle.std.proofs.Common.{◌≡◌, ℕ, ◌&&◌, not, if◌then◌else◌, Bool, true, false, List, [], ◌∷◌, length, refl, ap, sym, ◌∙◌, subst, arith, true≢false}
 use Rattle.std.specs.Prelude.{Option, Some, None, is_some, nat_le}
 use Rattle.blk_base.specs.Options.{Options}
 use Rattle.blk_base.specs.declared.moves.Move.TheVariants as moves
@@ -27,12 +28,12 @@ use Rattle.line_text.proofs.Both.{both_true}
 use Rattle.machine_pipeline.specs.Plain.{IsPlain}
 use Rattle.machine_pipeline.specs.Allowed.{ArePublished, MayEnter}
 use Rattle.machine_pipeline.specs.Step.{IsSame}
-use Rattle.machine_pipeline.proofs.Flow.{Flow, wrapped, is_issuing, is_fetching, ending_at, telling_at, reply_at}
-use Rattle.machine_pipeline.proofs.Holds.{AreIndices, IsOffered, BackAt, Holds}
+use Rattle.machine_pipeline.proofs.Flow.{Flow, may_front_sleep, wrapped, is_issuing, is_fetching, ending_at, telling_at, reply_at}
+use Rattle.machine_pipeline.proofs.Holds.{AreOffered, AreIndices, IsOffered, BackAt, Holds}
 use Rattle.machine_pipeline.proofs.Turns.{Goes, FrontGoes, front_says, front_next, said_nothing, Stepped, does_alone, goes_by}
-use Rattle.machine_pipeline.proofs.Keyed.{untold, watched_goes, marked}
+use Rattle.machine_pipeline.proofs.Keyed.{untold, watched_goes, beside}
 use Rattle.machine_pipeline.proofs.JobMoves.{stays}
-use Rattle.machine_pipeline.proofs.Resting.{at_loop, slots_rest, frames_rest, entries_rest, data_rests, unrevoked}
+use Rattle.machine_pipeline.proofs.Issuing.{idle_turned}
 use Rattle.machine_pipeline.proofs.Stations.{AreStations}
 use Rattle.machine_pipeline.proofs.StationsFront.{connects, starts_to_close}
 
@@ -59,95 +60,46 @@ waits_goes config w g d told e h = by_pending w.under.channels.front_pending (wa
     by_pending false (Some path) = watched_goes config w g d path told here
     by_pending true next = goes_by (said_nothing d (moves.Event mover.Front) w.front.told told)
         (subst (λ (x : World). Holds config x g d x.front.stage x.back.stage) (untold unmarked told)
-        (marked config w g d w.front.stage w.back.stage false w.under.channels.back_pending
+        (beside config w g d w.front.stage w.back.stage w.under.keys false w.under.channels.back_pending
         (let sleep = here.front_sleep in record { arming = sleep.arming; armed = sleep.armed; may = sleep.may; woken = λ t. absurd (true≢false (sym t ∙ awake)) })
         here.back_sleep here))
 
 -- it is connected, and knows what its back published
 becomes_ready : (config : Options) (w : World) (g : Flow) (d : Pipeline) (offers : Offers) → ArePublished w offers → Holds config w g d front.Initialised w.back.stage
     → Goes config (lines.Ready ∷ []) (record { front = (let v : View = w.front in record v { offers = offers; stage = front.Loop }); back = w.back; under = w.under }) d
-becomes_ready config w g d offers published h = goes_by {g = g} (does_alone s)
-    (record {
-      settled = h.settled;
-      indices = h.indices;
-      queue = h.queue;
-      pool = h.pool;
-      stations = s.now;
-      works = h.works;
-      counted = h.counted;
-      replies = h.replies;
-      front_at = tt;
-      offered = record {
-        barrier = published.barrier ∙ ap (λ (i : DiskInfo). i.barrier) h.info;
-        flush = published.flush ∙ ap (λ (i : DiskInfo). i.flush) h.info;
-        discard = published.discard ∙ ap (λ (i : DiskInfo). i.discard) h.info;
-        indirect = published.indirect ∙ ap (λ (i : DiskInfo). i.max_indirect) h.info;
-      };
-      back_at = h.back_at;
-      memory = h.memory;
-      ring = h.ring;
-      slots = slots_rest g.shape g.start g.fetched g.pushed g.taken g.replied g.series g.replies w.under.pages front.Initialised front.Loop w.back.stage at_loop h.slots;
-      frames = frames_rest g.pushed w.under.pages front.Initialised front.Loop w.front.requests at_loop h.frames;
-      telling = data_rests w.under.pages w.under.pages w.front.words w.front.ending w.front.ending front.Initialised front.Loop refl h.telling;
-      entries = entries_rest g.pushed w.under.pages w.under.grants.live front.Initialised front.Loop w.front.ending w.front.ending w.front.requests at_loop
-          (λ e same. absurd (unrevoked front.Loop w.front.ending e refl same)) h.entries;
-      mapped = h.mapped;
-      paged = h.paged;
-      front_sleep = (let was = h.front_sleep in record { arming = was.arming; armed = was.armed; may = λ t. was.may refl; woken = was.woken });
-      back_sleep = (let was = h.back_sleep in record { arming = was.arming; armed = was.armed; may = was.may; woken = was.woken });
-      ports = h.ports;
-    })
+becomes_ready config w g d offers published h =
+    let offered : AreOffered config.read_only config.indirect offers = record {
+      barrier = published.barrier ∙ ap (λ (i : DiskInfo). i.barrier) h.info;
+      flush = published.flush ∙ ap (λ (i : DiskInfo). i.flush) h.info;
+      discard = published.discard ∙ ap (λ (i : DiskInfo). i.discard) h.info;
+      indirect = published.indirect ∙ ap (λ (i : DiskInfo). i.max_indirect) h.info;
+    } in
+    goes_by {g = g} (does_alone s)
+    (assumption (
+      s.now,
+      offered,
+      idle_turned h w.under.pages front.Loop w.front.ending refl (λ f x from to in_it after. refl) (λ n x lt k l. refl) (λ n x lt a in_it. record { flags = refl; frame = refl }) h.entries.ending,
+      λ (t : may_front_sleep front.Loop ≡ false). h.front_sleep.may refl,
+    ))
   where
     s : Stepped None IsSame d (lines.Ready ∷ []) (λ p. AreStations config g p true false (is_fetching w.back.stage) None None (reply_at w.back.stage) w.front.requests w.back.jobs.works w.under.pages)
     s = connects config g d false (is_fetching w.back.stage) None None (reply_at w.back.stage) w.front.requests w.back.jobs.works w.under.pages h.stations
 
 pub initialised_is : (s : FrontStage) → is_initialised s ≡ true → s ≡ front.Initialised
 initialised_is front.Initialised t = refl
-initialised_is s t = absurd (true≢false (sym t))
+initialised_is s t = cc
 
 -- it begins to close
 begins_to_close : (config : Options) (w : World) (g : Flow) (d : Pipeline) → w.front.closing ≡ false → Holds config w g d w.front.stage w.back.stage
     → Goes config (lines.Closing ∷ []) (record { front = (let v : View = w.front in record v { closing = true }); back = w.back; under = w.under }) d
-begins_to_close config w g d stays_open h = goes_by {g = record g { closing = true }} (does_alone s)
-    (record {
-      settled = record {
-        started = (let was = h.started in record { whole = was.whole; known = was.known; closing = refl });
-        shaped = h.shaped;
-        sized = h.sized;
-        submitted = h.submitted;
-        info = h.info;
-        unhalted = h.unhalted;
-      };
-      indices = (let was = h.indices in omega (arith, was));
-      queue = h.queue;
-      pool = h.pool;
-      stations = s.now;
-      works = h.works;
-      counted = h.counted;
-      replies = h.replies;
-      front_at = h.front_at;
-      offered = h.offered;
-      back_at = h.back_at;
-      memory = h.memory;
-      ring = h.ring;
-      slots = h.slots;
-      frames = h.frames;
-      telling = h.telling;
-      entries = h.entries;
-      mapped = h.mapped;
-      paged = h.paged;
-      front_sleep = h.front_sleep;
-      back_sleep = h.back_sleep;
-      ports = h.ports;
-    })
+begins_to_close config w g d stays_open h = goes_by {g = record g { closing = true }} (does_alone s) (assumption s.now)
   where
     s : Stepped None IsSame d (lines.Closing ∷ []) (λ p. AreStations config (record g { closing = true }) p (is_ready w.front.stage) (is_issuing w.front.stage) (is_fetching w.back.stage) (ending_at w.front.stage w.front.ending) (telling_at w.front.stage) (reply_at w.back.stage) w.front.requests w.back.jobs.works w.under.pages)
     s = starts_to_close config g d (is_ready w.front.stage) (is_issuing w.front.stage) (is_fetching w.back.stage) (ending_at w.front.stage w.front.ending) (telling_at w.front.stage) (reply_at w.back.stage) w.front.requests w.back.jobs.works w.under.pages (h.started.closing ∙ stays_open) h.stations
 
 -- a front that may begin to close doesn't yet
 pub yet_open : (closing rest : Bool) → (not closing && rest) ≡ true → closing ≡ false
-yet_open false rest t = refl
-yet_open true rest t = absurd (true≢false (sym t))
+yet_open closing rest t = grind (arith, nat_tests)
 
 -- the front's terms, as an order that is agreed makes them
 abbrev on_terms : View → (order entries prod cons seen : ℕ) → View
@@ -156,22 +108,20 @@ on_terms v order entries prod cons seen = record v { shape = record v.shape { or
 -- the order that it wished leaves a front as it is that hasn't begun its ring
 agreed_same : (v : View) (order : ℕ) → order ≡ v.shape.order → v.ring.indices.entries ≡ entries_of v.shape.order → v.ring.indices.prod ≡ v.start → v.ring.indices.cons ≡ v.start → v.ring.seen ≡ v.start → in_state (states.Agreed order) v ≡ v
 agreed_same v order wished entries prod cons seen =
-    ap (λ (n : ℕ). on_terms v n (entries_of n) v.start v.start v.start) wished
-    ∙ (ap (λ (n : ℕ). on_terms v v.shape.order n v.start v.start v.start) (sym entries)
-    ∙ (ap (λ (n : ℕ). on_terms v v.shape.order v.ring.indices.entries n v.start v.start) (sym prod)
-    ∙ (ap (λ (n : ℕ). on_terms v v.shape.order v.ring.indices.entries v.ring.indices.prod n v.start) (sym cons)
-    ∙ ap (λ (n : ℕ). on_terms v v.shape.order v.ring.indices.entries v.ring.indices.prod v.ring.indices.cons n) (sym seen))))
+    let same : on_terms v order (entries_of order) v.start v.start v.start ≡ on_terms v v.shape.order v.ring.indices.entries v.ring.indices.prod v.ring.indices.cons v.ring.seen = cc in
+    same
 
-pub unmade_unready : (s : FrontStage) → is_unmade s ≡ true → is_ready s ≡ false
+unmade_unready : (s : FrontStage) → is_unmade s ≡ true → is_ready s ≡ false
 unmade_unready (front.RingWord k) t = refl
-unmade_unready s t = absurd (true≢false (sym t))
+unmade_unready s t = cc
 
 -- at the start nothing was pushed, and all its indices are the first one
 agrees : (config : Options) (w : World) (g : Flow) (d : Pipeline) (order : ℕ) → IsPlain config → order ≡ w.front.shape.order → is_unmade w.front.stage ≡ true → Holds config w g d w.front.stage w.back.stage
     → Goes config [] (record { front = in_state (states.Agreed order) w.front; back = w.back; under = w.under }) d
 agrees config w g d order plain wished unmade h =
     subst (λ (v : View). Goes config [] (record { front = v; back = w.back; under = w.under }) d)
-    (sym (agreed_same w.front order wished (x.front_entries ∙ ap (λ (s : Shape). entries_of s.order) (sym h.shaped.known)) (x.pushed ∙ first g.pushed none) (x.taken ∙ first g.taken (omega (arith, pushed.0, none))) (x.front_saw ∙ first g.front_seen (omega (arith, pushed.1, none)))))
+    (sym (agreed_same w.front order wished (x.front_entries ∙ ap (λ (s : Shape). entries_of s.order) (sym h.shaped.known)) (x.pushed ∙ first g.pushed none) (x.taken ∙ first g.taken
+    (omega (arith, x.taken_replied, x.replied_fetched, x.fetched_pushed, none))) (x.front_saw ∙ first g.front_seen (omega (arith, x.front_to, x.replied_fetched, x.fetched_pushed, none)))))
     (stays IsSame config w g d (λ a b same. same) h)
   where
     x : AreIndices g w.front.ring.indices w.back.ring.indices w.front.ring.seen w.back.ring.seen w.back.fetched w.front.last w.front.waiting (length w.front.requests) (ending_of w.front.stage)
@@ -179,9 +129,6 @@ agrees config w g d order plain wished unmade h =
 
     none : g.pushed ≡ 0
     none = (subst (λ (b : Bool). IsOffered b config.read_only config.indirect w.front.offers g.pushed) (unmade_unready w.front.stage unmade) h.offered)
-
-    pushed : (g.taken ≤ g.pushed) × (g.front_seen ≤ g.pushed)
-    pushed = (omega (arith, x.taken_replied, x.replied_fetched, x.fetched_pushed), omega (arith, x.front_to, x.replied_fetched, x.fetched_pushed))
 
     first : (n : ℕ) → n ≡ 0 → wrapped g.start n ≡ w.front.start
     first n e = let small = plain.start in let whole = h.started.whole in let known = h.started.known in omega arith

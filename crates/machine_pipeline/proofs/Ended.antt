@@ -1,6 +1,5 @@
 -- The front reads a grant entry, ends it, and tells the answer: what all that holds becomes.
-use Rattle.std.proofs.Common.{◌≡◌, ◌≢◌, ℕ, ◌+◌, ◌-◌, ◌*◌, ◌<◌, ◌≤◌, ◌==◌, inl, inr, if◌then◌else◌, Bool, true, List, [], ◌∷◌, refl, ap, sym, ◌∙◌, subst, arith, true≢false, length-set, false, length, ◌^◌}
-use Rattle.std.proofs.lemmas.Bool.{cases_eq}
+use Rattle.std.proofs.Common.{◌≡◌, ◌≢◌, ℕ, ◌+◌, ◌-◌, ◌*◌, ◌<◌, ◌≤◌, ◌==◌, if◌then◌else◌, Bool, true, List, [], ◌∷◌, refl, ap, sym, ◌∙◌, subst, arith, length-set, false, length}
 use Rattle.std.specs.Prelude.{Option, Some, None, slice_get, nat_lt}
 use Rattle.std.proofs.lemmas.Option.{none-some, same_Some}
 use Rattle.std.proofs.lemmas.Bool.Decides.{nat_tests}
@@ -17,7 +16,7 @@ use Rattle.blk_base.specs.declared.operation.Status.TheVariants.{Okay}
 use Rattle.blk_front.specs.declared.request.Request.{Request}
 use Rattle.blk_front.specs.declared.request.Transfer.{Transfer}
 use Rattle.blk_front.specs.declared.request.Transfer.TheVariants as transfer
-use Rattle.blk_front.specs.Request.{grant_flags, flags_at, frames_for, pages_for, has_data, frame_at, words_in, IsShaped}
+use Rattle.blk_front.specs.Request.{grant_flags, flags_at, frames_for, has_data, frame_at, words_in, IsShaped}
 use Rattle.blk_front.specs.Ask.{revoke_ask, end_ask}
 use Rattle.blk_front.specs.Pool.{with_all_free}
 use Rattle.blk_front.specs.Submit.{is_ready, ending_of}
@@ -29,21 +28,21 @@ use Rattle.blk_front.specs.View.{View, entry_frame, entry_word, next_request}
 use Rattle.blk_front.specs.Step.{at as at_stage, broken, is_mapped, end_step, finished, ended, revoked as revoked_by, exchanged}
 use Rattle.split_model.specs.World.{World}
 use Rattle.split_model.specs.Shown.{front_lines}
-use Rattle.machine_pipeline.proofs.Flow.{Flow, frames_of, is_fetching, reply_at, ending_at, telling_at, is_issuing, is_bound_back, may_front_sleep, is_front_arming}
-use Rattle.machine_pipeline.proofs.Holds.{Holds, FrontAt, IsOffered, PortsAt, IsPooled, ArePooled, IsSubmitted, IsEnding, AreEntries, AreRevoked, AreDataWords}
+use Rattle.machine_pipeline.proofs.Flow.{Flow, frames_of, is_fetching, reply_at, ending_at, telling_at, is_issuing, may_front_sleep, is_front_arming}
+use Rattle.machine_pipeline.proofs.Holds.{Holds, FrontAt, IsPooled, ArePooled, IsSubmitted, IsEnding, AreEntries, AreRevoked, AreDataWords}
 use Rattle.machine_pipeline.proofs.Turns.{Goes, FrontGoes, front_says, front_next, said_nothing, does_step, goes_by}
 use Rattle.machine_pipeline.proofs.Lists.{all_from, same_number}
-use Rattle.machine_pipeline.proofs.Data.{SameData, pooled_at}
-use Rattle.machine_pipeline.proofs.Kept.{as_connected, SameFrame, SameEntry, SameGrants, data_same, other_frame, other_entry, slots_kept, frames_kept, entries_kept, SameRing}
+use Rattle.machine_pipeline.proofs.Data.{pooled_at}
+use Rattle.machine_pipeline.proofs.Kept.{as_connected, awake_front, SameFrame, SameEntry, SameGrants, other_frame, other_entry, SameRing}
 use Rattle.machine_pipeline.proofs.Hands.{ending_apart, ending_own_apart}
 use Rattle.machine_pipeline.proofs.Frames.{is_submitted}
-use Rattle.machine_pipeline.proofs.Resting.{IsResting, at_loop, at_read, at_end, at_data, data_rests, slots_rest, frames_rest, entries_rest, back_sleep_rests}
+use Rattle.machine_pipeline.proofs.Resting.{is_resting, resting, data_rests}
+use Rattle.machine_pipeline.proofs.Issuing.{idle, ring_turned, slots_turned, frames_turned, entries_turned, frames_elsewhere, back_sleep_turned}
 use Rattle.machine_pipeline.proofs.Ending.{pooled_free}
 use Rattle.machine_pipeline.proofs.Stations.{AreStations}
-use Rattle.machine_pipeline.proofs.StationsFront.{answers, answers_read}
+use Rattle.machine_pipeline.proofs.StationsFront.{answers, unread, read_well}
 use Rattle.machine_pipeline.proofs.ReadsKept.{stations_elsewhere}
 use Rattle.machine_pipeline.proofs.Indices.{indices_room}
-use Rattle.machine_pipeline.proofs.Slots.{few_pages}
 
 -- the machine with the front at another stage, with that ending request, that pool, those words of data, and that memory
 abbrev pub finishing_at : World → FrontStage → Option Ending → List Bool → (words pages : List ℕ) → World
@@ -55,7 +54,7 @@ finishing_at w s ending pool words pages = record {
 
 -- while a request ends, at most a grant entry changes
 pub ends_on : (config : Options) (w : World) (g : Flow) (d d' : Pipeline) (s s' : FrontStage) (ending : Option Ending) (pool : List Bool) (words pages : List ℕ)
-    → IsResting s → IsResting s'
+    → is_resting s ≡ true → is_resting s' ≡ true
     → may_front_sleep s ≡ false → is_front_arming s' ≡ false → ending_of s' ≤ ending_of s
     → Holds config w g d s w.back.stage
     → AreStations config g d' (is_ready s') (is_issuing s') (is_fetching w.back.stage) (ending_at s' ending) (telling_at s') (reply_at w.back.stage) w.front.requests w.back.jobs.works pages
@@ -67,55 +66,29 @@ pub ends_on : (config : Options) (w : World) (g : Flow) (d d' : Pipeline) (s s' 
     → ((f : ℕ) → 2 ≤ f → SameFrame w.under.pages pages f)
     → SameRing w.under.pages pages
     → Holds config (finishing_at w s' ending pool words pages) g d' s' w.back.stage
-ends_on config w g d d' s s' ending pool words pages i i' restless unarmed fewer h stations pooled at told entries sized frames entry = record {
-  settled = h.settled;
-  indices = indices_room g w.front.ring.indices w.back.ring.indices w.front.ring.seen w.back.ring.seen w.back.fetched w.front.last w.front.waiting (length w.front.requests) (ending_of s) (ending_of s') (let was = h.indices in let room = was.room in omega arith) h.indices;
-  queue = h.queue;
-  pool = pooled;
-  stations = stations;
-  works = h.works;
-  counted = h.counted;
-  replies = h.replies;
-  front_at = at;
-  offered = subst (λ (b : Bool). IsOffered b config.read_only config.indirect w.front.offers g.pushed) (i.ready ∙ sym i'.ready) h.offered;
-  back_at = h.back_at;
-  memory = sized;
-  ring = (let was = h.ring in record {
-    begun = i'.begun g.start pages;
-    requests = λ t. frames 2 (omega arith) 0 (omega arith) ∙ was.requests i.ring;
-    responses = λ t. frames 2 (omega arith) 2 (omega arith) ∙ was.responses i.ring;
-    named = λ page lt unmapped. let kept = entry page (among page (let all = i'.named (2 ^ g.shape.order) in omega arith)) in kept.frame ∙ was.named page (subst (λ (n : ℕ). page < n) (i'.named (2 ^ g.shape.order) ∙ sym (i.named (2 ^ g.shape.order))) lt) unmapped;
-    granted = λ page lt unmapped. let kept = entry page (among page (let all = i'.granted (2 ^ g.shape.order) in omega arith)) in kept.flags ∙ was.granted page (subst (λ (n : ℕ). page < n) (i'.granted (2 ^ g.shape.order) ∙ sym (i.granted (2 ^ g.shape.order))) lt) unmapped;
-  });
-  slots = slots_rest g.shape g.start g.fetched g.pushed g.taken g.replied g.series g.replies pages s s' w.back.stage i' (slots_kept g.shape g.start g.fetched g.pushed g.taken g.replied g.series g.replies w.under.pages pages s w.back.stage h.shaped.narrow (λ f x from to within after. frames f from x within) h.slots);
-  frames = frames_rest g.pushed pages s s' w.front.requests i' (frames_kept g.pushed w.under.pages pages s w.front.requests
-      (all_from (SameData w.under.pages pages) w.front.requests
-      (λ j r e. let is = is_submitted config w g d s w.back.stage h j r e in data_same w.under.pages pages r is.frames
-      (λ f low high. frames f (omega arith)))) h.frames);
-  telling = told;
-  entries = entries;
-  mapped = h.mapped;
-  paged = h.paged;
-  front_sleep = (let was = h.front_sleep in record { arming = λ t. absurd (true≢false (sym t ∙ unarmed)); armed = λ t. absurd (true≢false (sym t ∙ was.may restless)); may = λ t. was.may restless; woken = was.woken });
-  back_sleep = back_sleep_rests g.start g.fetched g.pushed w.under.pages pages w.back.ring.asleep w.under.channels.back_pending w.under.channels.back_pending s s' w.back.stage (frames 2 (omega arith) 1 (omega arith)) refl (i.quiet g.pushed g.fetched) h.back_sleep;
-  ports = subst (λ (b : Bool). PortsAt g.before b (is_bound_back w.back.stage) w.under.channels.made w.under.channels.ports) (as_connected s s' i.ready i'.ready) h.ports;
-}
-  where
-    among : (page : ℕ) → page < 2 ^ g.shape.order → page < 16
-    among page lt = let few = few_pages g.shape.order h.shaped.narrow in omega arith
+ends_on config w g d d' s s' ending pool words pages t t' restless unarmed fewer h stations pooled at told entries sized frames entry =
+    let i = resting s t in
+    let i' = resting s' t' in
+    assumption (
+      indices_room g w.front.ring.indices w.back.ring.indices w.front.ring.seen w.back.ring.seen w.back.fetched w.front.last w.front.waiting (length w.front.requests)
+          (ending_of s) (ending_of s') (omega (arith, h.indices.room)) h.indices,
+      rw (i.ready ∙ sym i'.ready) at h.offered,
+      ring_turned h pages s' i.ready i'.ready (λ x other lt. frames 2 (omega arith) x (omega arith)) entry,
+      slots_turned h pages s' (λ f x from to within after. frames f from x within) (idle s' i'.unissued).unentered,
+      frames_turned h pages s' (λ n. omega (arith, (idle s' i'.unissued).unfilled n)) (frames_elsewhere h pages s' (λ f from. frames f (omega arith))),
+      awake_front g.start g.taken g.replied pages w.front.ring.asleep w.under.channels.front_pending s' w.back.stage (h.front_sleep.may restless) unarmed,
+      back_sleep_turned h pages s' w.under.channels.back_pending (frames 2 (omega arith) 1 (omega arith)) refl (λ asleep sends. absurd (i.quiet g.pushed g.fetched sends)),
+      rw (as_connected s s' i.ready i'.ready) at h.ports,
+    )
 
 -- a granted frame isn't mapped
-unmapped_way : (way : Transfer) → is_mapped (grant_flags way) ≡ false
-unmapped_way (transfer.Write tag) = refl
-unmapped_way (transfer.Barrier tag) = refl
-unmapped_way way = refl
-
 unmapped_flags : (r : Request) (place : ℕ) → is_mapped (flags_at r place) ≡ false
-unmapped_flags r place = by_place (nat_lt place (frames_for r.count))
+unmapped_flags r place = by_way r.transfer (nat_lt place (frames_for r.count))
   where
-    by_place : (b : Bool) → is_mapped (if b then grant_flags r.transfer else 5) ≡ false
-    by_place true = unmapped_way r.transfer
-    by_place false = refl
+    by_way : (way : Transfer) (b : Bool) → is_mapped (if b then grant_flags way else 5) ≡ false
+    by_way transfer.Read true = refl
+    by_way way true = refl
+    by_way way false = refl
 
 -- the moves at these stages, by the request that is ending
 abbrev pub ActGoes : Options → World → Pipeline → FrontStage → FrontAsk → Type 0
@@ -130,11 +103,10 @@ grant_read_goes config w g d place told h =
     subst (λ (x : Option Ending). ActGoes config w d (front.GrantRead place) (revoke_ask x place)) (sym h.front_at.1)
     (subst (λ (x : View). Goes config (lines.Move (moves.FrontRead (entry_frame frame) (entry_word frame) word) ∷ front_lines x.told) (record { front = record x { told = None }; back = w.back; under = w.under }) d) (sym stepped)
     (goes_by (said_nothing d (moves.FrontRead (entry_frame frame) (entry_word frame) word) w.front.told told)
-    (ends_on config w g d d (front.GrantRead place) (front.GrantEnd place flags) w.front.ending w.front.pool w.front.words w.under.pages (at_read place) (at_end place flags) refl refl (omega arith) h
+    (ends_on config w g d d (front.GrantRead place) (front.GrantEnd place flags) w.front.ending w.front.pool w.front.words w.under.pages refl refl refl refl (omega arith) h
     h.stations h.pool (e, h.front_at.1, h.front_at.2, (h.front_at.3, refl)) (data_rests w.under.pages w.under.pages w.front.words w.front.ending w.front.ending
     (front.GrantRead place) (front.GrantEnd place flags) refl h.telling)
-    (entries_rest g.pushed w.under.pages w.under.grants.live (front.GrantRead place)
-    (front.GrantEnd place flags) w.front.ending w.front.ending w.front.requests (at_end place flags) h.entries.ending h.entries)
+    (entries_turned h w.under.pages (front.GrantEnd place flags) w.front.ending (omega arith) (omega arith) (λ n x lt a in_it. record { flags = refl; frame = refl }) h.entries.ending)
     h.memory (λ f from x lt. refl) (λ page lt. record { flags = refl; frame = refl }))))
   where
     e : Ending
@@ -155,16 +127,12 @@ grant_read_goes config w g d place told h =
 
 -- a request that has a frame has a word of data
 some_word : (r : Request) (place : ℕ) → IsShaped r → place < frames_of r → 0 < words_in r
-some_word r place shaped within = elim (cases_eq r.count 0) [
-  | inl none ↦ (let frames = shaped.frames in let pages : pages_for r.count ≡ 0 = rw none refl in omega arith)
-  | inr some ↦ omega arith
-]
+some_word r place shaped within = grind (arith, shaped.frames)
 
 -- a read that went well has data, and nothing else has
 data_are : (way : Transfer) (status : Status) → has_data way status ≡ true → (way ≡ transfer.Read) × (status ≡ Okay)
 data_are transfer.Read Okay t = (refl, refl)
-data_are transfer.Read status t = absurd (true≢false (sym t))
-data_are way status t = absurd (true≢false (sym t))
+data_are way status t = first_of (assumption, cc)
 
 -- the entry is exchanged for none: the next grant is ended, or the answer told, and the data of a read that went well are told next
 pub grant_end_goes : (config : Options) (w : World) (g : Flow) (d : Pipeline) (place before : ℕ)
@@ -227,14 +195,10 @@ grant_end_goes config w g d place before untold h =
         let apart = ending_apart w.front.pool w.front.requests e j r owned there a place lt h.front_at.3.0 in_pool in
         apart_entry (frame_at r a + 6) (let top = in_pool.1 in omega arith) (λ same. apart (omega arith))
 
-    entries_end : (s : FrontStage) (ending : Option Ending) → IsResting s → AreRevoked pages s ending
-        → AreEntries g.series g.pushed pages w.under.grants.live s ending w.front.requests
+    entries_end : (s : FrontStage) (ending : Option Ending) → is_issuing s ≡ false → AreRevoked pages s ending → AreEntries g.series g.pushed pages w.under.grants.live s ending w.front.requests
     entries_end s ending i left =
-        entries_rest g.pushed pages w.under.grants.live front.Loop s w.front.ending ending w.front.requests i left
-        (entries_kept g.pushed w.under.pages pages w.under.grants.live front.Loop w.front.ending w.front.requests
-        (all_from (SameGrants w.under.pages pages) w.front.requests same_grants) (λ x same. absurd (none-some x same))
-        (entries_rest g.pushed w.under.pages w.under.grants.live
-        (front.GrantEnd place before) front.Loop w.front.ending w.front.ending w.front.requests at_loop (λ x same. absurd (none-some x same)) h.entries))
+        let begun = idle s i in
+        entries_turned h pages s ending (omega (arith, begun.unnamed)) (omega (arith, begun.ungranted)) (all_from (SameGrants w.under.pages pages) w.front.requests same_grants) left
 
     -- and so are those of its own frames that are left
     left : AreRevoked pages (front.GrantRead (place + 1)) w.front.ending
@@ -261,30 +225,32 @@ grant_end_goes config w g d place before untold h =
         else record (finished e w.front) { told = Some (told.Answer e.request.number e.status) }) pages
     by_data false t =
         let s = answers config g d true false (is_fetching w.back.stage)
-        (reply_at w.back.stage) w.front.requests w.back.jobs.works w.under.pages e is.known is.positive t stations in
+        (reply_at w.back.stage) w.front.requests w.back.jobs.works w.under.pages e None is.known is.positive
+        (unread e.request.transfer e.request.sector e.request.count e.status t) (λ x. cc) stations in
         goes_by (does_step (moves.FrontCas (entry_frame frame) (entry_word frame) before 0 word) (lines.Answer e.request.number e.status ∷ []) refl s)
-        (ends_on config w g d (next d s.step) (front.GrantEnd place before) front.Loop None (with_all_free w.front.pool e.request.frames.items) w.front.words pages (at_end place before) at_loop refl refl (omega arith) h
+        (ends_on config w g d (next d s.step) (front.GrantEnd place before) front.Loop None (with_all_free w.front.pool e.request.frames.items) w.front.words pages refl refl refl refl (omega arith) h
         (elsewhere (next d s.step) None None s.now) (pooled_free w.front.pool w.front.requests e its.frames owned) tt
         (data_rests w.under.pages pages w.front.words w.front.ending None (front.GrantEnd place before) front.Loop refl h.telling)
-        (entries_end front.Loop None at_loop (λ x same. absurd (none-some x same))) sized words ring_kept)
+        (entries_end front.Loop None refl (λ x same. absurd (none-some x same))) sized words ring_kept)
     by_data true t =
         let read = data_are e.request.transfer e.status t in
-        let s = answers_read config g d true false (is_fetching w.back.stage) (reply_at w.back.stage) w.front.requests w.back.jobs.works w.under.pages e is.known is.positive read.0 read.1 stations in
+        let s = answers config g d true false (is_fetching w.back.stage) (reply_at w.back.stage) w.front.requests w.back.jobs.works w.under.pages e (Some 0) is.known is.positive
+        (read_well e.request.transfer e.request.sector e.request.count e.status t) (λ x. read.1) stations in
         goes_by (does_step (moves.FrontCas (entry_frame frame) (entry_word frame) before 0 word) (lines.Answer e.request.number e.status ∷ []) refl s)
-        (ends_on config w g d (next d s.step) (front.GrantEnd place before) (front.ReadData 0) w.front.ending w.front.pool w.front.words pages (at_end place before) (at_data 0) refl refl (omega arith) h
+        (ends_on config w g d (next d s.step) (front.GrantEnd place before) (front.ReadData 0) w.front.ending w.front.pool w.front.words pages refl refl refl refl (omega arith) h
         (subst (λ (x : Option Ending). AreStations config g (next d s.step) true false (is_fetching w.back.stage) x (Some 0)
         (reply_at w.back.stage) w.front.requests w.back.jobs.works pages) (sym h.front_at.1) (elsewhere (next d s.step) (Some e) (Some 0) s.now))
         h.pool (e, h.front_at.1, is, (some_word e.request place its.shaped h.front_at.3.0, read.0, read.1))
         (let was = h.telling in record { size = was.size; so_far = λ x same k lt. absurd (omega arith) })
-        (entries_end (front.ReadData 0) w.front.ending (at_data 0) (λ x same. absurd (none-some x same))) sized words ring_kept)
+        (entries_end (front.ReadData 0) w.front.ending refl (λ x same. absurd (none-some x same))) sized words ring_kept)
 
     by_more : (b : Bool) → nat_lt (place + 1) (frames_of e.request) ≡ b
         → Becomes (if b then at_stage (front.GrantRead (place + 1)) w.front else ended e w.front) pages
     by_more true t = goes_by (said_nothing d (moves.FrontCas (entry_frame frame) (entry_word frame) before 0 word) w.front.told untold)
         (ends_on config w g d d (front.GrantEnd place before) (front.GrantRead (place + 1)) w.front.ending w.front.pool w.front.words pages
-        (at_end place before) (at_read (place + 1)) refl refl (omega arith) h
+        refl refl refl refl (omega arith) h
         (elsewhere d w.front.ending None h.stations) h.pool (e, h.front_at.1, is, (grind (arith, nat_tests)))
         (data_rests w.under.pages pages w.front.words w.front.ending w.front.ending (front.GrantEnd place before)
         (front.GrantRead (place + 1)) refl h.telling)
-        (entries_end (front.GrantRead (place + 1)) w.front.ending (at_read (place + 1)) left) sized words ring_kept)
+        (entries_end (front.GrantRead (place + 1)) w.front.ending refl left) sized words ring_kept)
     by_more false t = by_data (has_data e.request.transfer e.status) refl

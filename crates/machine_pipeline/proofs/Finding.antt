@@ -1,6 +1,6 @@
 -- The front finds the request that a response names.
-use Rattle.std.proofs.Common.{◌≡◌, ℕ, ◌+◌, ◌-◌, ◌*◌, ◌/◌, ◌^◌, ◌<◌, ◌≤◌, ◌==◌, ◌⊎◌, inl, inr, Bool, true, false, List, [], ◌∷◌, length, take, refl, ap, sym, ◌∙◌, subst, arith}
-use Rattle.std.specs.Prelude.{Option, Some, None, slice_get, option_map, position, Result, Ok, Err, nat_lt}
+use Rattle.std.proofs.Common.{◌≡◌, ℕ, ◌+◌, ◌-◌, ◌*◌, ◌/◌, ◌^◌, ◌<◌, ◌==◌, ◌⊎◌, inl, inr, true, [], ◌∷◌, length, take, ap, sym, ◌∙◌, subst, arith}
+use Rattle.std.specs.Prelude.{Option, Some, None, slice_get, option_map, position, Result, Ok, Err}
 use Rattle.std.specs.List.{list_any}
 use Rattle.std.proofs.lemmas.Option.{none-some, slice_get_within}
 use Rattle.std.proofs.lemmas.Bool.Decides.{nat_tests}
@@ -26,16 +26,14 @@ use Rattle.machine_pipeline.proofs.Lists.{place_of_any, same_number}
 use Rattle.machine_pipeline.proofs.Removals.{taken_was, taken_has, found_somewhere}
 use Rattle.machine_pipeline.proofs.Lists.{found_at as placed_at}
 use Rattle.machine_pipeline.proofs.Stations.{StandsAt}
+use Rattle.std.proofs.lemmas.Bool.{cases_lt}
 
 -- the response as its three words have it
 abbrev pub response_for : Reply → Response
 response_for rep = record { id = rep.id; op = rep.op; status = rep.status }
 
-same_three : (a b c x y z : ℕ) → a ≡ x → b ≡ y → c ≡ z → ◌≡◌ {A = List ℕ} (a ∷ b ∷ c ∷ []) (x ∷ y ∷ z ∷ [])
-same_three a b c x y z e f g = rw (e, f, g) refl
-
 pub read_back : (rep : Reply) (low high last : ℕ) → rep.op < 2 ^ 8 → low ≡ response_word rep 0 → high ≡ response_word rep 1 → last ≡ response_word rep 2 → response_of (low ∷ high ∷ last ∷ []) ≡ Ok (response_for rep)
-read_back rep low high last op e f g = ap response_of (same_three low high last (response_word rep 0) (response_word rep 1) (response_word rep 2) e f g) ∙ response_back (response_for rep) op
+read_back rep low high last op e f g = rw (e, f, g) (response_back (response_for rep) op)
 
 -- its id is that of its first two words
 abbrev id_of : Result Response ℕ → ℕ
@@ -74,28 +72,21 @@ pub finds : (config : Options) (w : World) (g : Flow) (d : Pipeline) (s : FrontS
     → IsFound w g rep.id
 finds config w g d s rep h none is was = by_place (h.stations.opened.held (rep.id - 1) was.q was.at (ap is_finished was.there))
   where
-    test : Request → Bool
-    test r = r.number == rep.id
-
     early_of : (i : ℕ) (r : Request) → slice_get w.front.requests i ≡ Some r → r.number ≡ rep.id → i < length w.front.requests - w.front.waiting
-    early_of i r e same = by_test (nat_lt i (length w.front.requests - w.front.waiting)) refl
-      where
-        by_test : (b : Bool) → nat_lt i (length w.front.requests - w.front.waiting) ≡ b → i < length w.front.requests - w.front.waiting
-        by_test true t = grind (arith, nat_tests)
-        by_test false t =
-            let late : length w.front.requests - w.front.waiting ≤ i = grind (arith, nat_tests) in
-            let within = slice_get_within w.front.requests i r e in
-            let queue = h.queue in
-            let order = h.indices.fetched_pushed in
-            let reached = is.reached in
-            let at = queue.next (i - (length w.front.requests - w.front.waiting)) r (omega arith) (ap (slice_get w.front.requests) (omega arith) ∙ e) in
-            absurd (among_apart g.submitted g.series g.pushed (g.pushed + (i - (length w.front.requests - w.front.waiting))) reached.r r queue.ordered (among_more g.fetched g.pushed reached.r order reached.among) at (omega arith) (reached.same ∙ sym same))
+    early_of i r e same = elim (cases_lt i (length w.front.requests - w.front.waiting)) [
+      | inl early ↦ early
+      | inr late ↦
+          let within = slice_get_within w.front.requests i r e in
+          let at = h.queue.next (i - (length w.front.requests - w.front.waiting)) r (omega arith) (ap (slice_get w.front.requests) (omega arith) ∙ e) in
+          absurd (among_apart g.submitted g.series g.pushed (g.pushed + (i - (length w.front.requests - w.front.waiting))) is.reached.r r h.queue.ordered
+          (among_more g.fetched g.pushed is.reached.r h.indices.fetched_pushed is.reached.among) at (omega arith) (is.reached.same ∙ sym same))
+    ]
 
     by_place : (list_any (λ (r : Request). r.number == rep.id - 1 + 1) w.front.requests ≡ true) ⊎ ((e : Ending) × (ending_at s w.front.ending ≡ Some e) × (e.request.number ≡ rep.id - 1 + 1)) → IsFound w g rep.id
     by_place (inl any) =
         let at = place_of_any (λ (r : Request). r.number == rep.id - 1 + 1) w.front.requests any in
-        let same : (let r : Request = at.1 in r.number) ≡ rep.id = numbers at.1.number rep.id is.positive at.3 in
-        let passes : (let r : Request = at.1 in (r.number == rep.id)) ≡ true = same_number at.1.number rep.id same in
+        let same : at.1.number ≡ rep.id = grind (arith, nat_tests, at.3, is.positive) in
+        let passes = same_number at.1.number rep.id same in
         let few = length w.front.requests - w.front.waiting in
         let early = early_of at.0 at.1 at.2 same in
         let first = found_somewhere (λ (r : Request). r.number == rep.id) (take few w.front.requests) at.0 at.1 (taken_has few w.front.requests at.0 at.1 at.2 early) passes in
@@ -106,13 +97,7 @@ finds config w g d s rep h none is was = by_place (h.stations.opened.held (rep.i
           r = it.0;
           here = whole.1;
           early = whole.0;
-          number = tested (let r : Request = it.0 in r.number) rep.id it.2;
+          number = grind (arith, nat_tests, it.2);
           found = found_with w.front rep.id first.0 it.0 first.1 whole.1;
         }
-      where
-        numbers : (n id : ℕ) → 1 ≤ id → (n == id - 1 + 1) ≡ true → n ≡ id
-        numbers n id le t = grind (arith, nat_tests)
-
-        tested : (n id : ℕ) → (n == id) ≡ true → n ≡ id
-        tested n id t = grind (arith, nat_tests)
     by_place (inr other) = absurd (none-some other.0 (sym none ∙ other.1))

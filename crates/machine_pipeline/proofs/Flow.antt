@@ -1,9 +1,9 @@
 -- What passes through the ring, by whole indices in place of its wrapped words: whole indices, each request that was ever submitted, those of this epoch, and the responses on their way.
-use Rattle.std.specs.Prelude.{ℕ, ◌+◌, ◌-◌, ◌*◌, ◌/◌, ◌%◌, ◌^◌, ◌==◌, ◌&&◌, Bool, true, false, List, [], length, map, max, count_by, Option, Some, None, if◌then◌else◌, nat_lt}
+use Rattle.std.specs.Prelude.{option_map, is_some, ℕ, ◌+◌, ◌-◌, ◌*◌, ◌/◌, ◌%◌, ◌^◌, ◌==◌, ◌&&◌, Bool, true, false, List, [], length, map, max, count_by, Option, Some, None, if◌then◌else◌, nat_lt}
 use Rattle.std.specs.List.{range_with_len}
 use Rattle.blk_base.specs.declared.config.Job.{Job}
 use Rattle.blk_base.specs.declared.config.Job.TheVariants as jobs
-use Rattle.ring_words.specs.Shape.{Shape}
+use Rattle.ring_words.specs.Shape.{Shape, entry_words_of}
 use Rattle.blk_layout.specs.declared.segment.Segment.{Segment}
 use Rattle.blk_front.specs.declared.request.Request.{Request}
 use Rattle.blk_front.specs.declared.request.Transfer.{Transfer}
@@ -19,6 +19,7 @@ use Rattle.blk_back.specs.declared.stage.Reply.{Reply}
 use Rattle.blk_back.specs.declared.stage.Stage.{Stage as BackStage}
 use Rattle.blk_back.specs.declared.stage.Stage.TheVariants as back
 use Rattle.pipeline_laws.specs.Station.{Station, Working, Failed, Ended}
+use Rattle.blk_base.specs.declared.operation.Abi.TheVariants.{X64}
 
 -- the ring's shape and its first index; how many ports were made before this epoch; how many requests were pushed, how many of them fetched, how many of these replied to, and how many of the responses taken; how many responses and requests the front and the back saw in the producers; the requests, number 1 first; those of this epoch, in the order in which they are pushed; the responses that the front hasn't taken, oldest first; and whether the front began to close
 pub record Flow : Type 0 where
@@ -54,15 +55,7 @@ has_ring (front.LeftData n) = false
 has_ring (front.RingWord k) = false
 has_ring s = true
 
--- how many frames of the ring stand in their grant entries, and how many are granted, of a ring of so many pages
-abbrev pub named_pages : FrontStage → (pages : ℕ) → ℕ
-named_pages (front.LeftData n) pages = 0
-named_pages (front.RingWord k) pages = 0
-named_pages (front.RingFrame page) pages = page
-named_pages (front.RingFence page) pages = page + 1
-named_pages (front.RingFlags page) pages = page + 1
-named_pages s pages = pages
-
+-- how many frames of the ring are granted, and how many stand in their grant entries, of a ring of so many pages
 abbrev pub granted_pages : FrontStage → (pages : ℕ) → ℕ
 granted_pages (front.LeftData n) pages = 0
 granted_pages (front.RingWord k) pages = 0
@@ -70,6 +63,11 @@ granted_pages (front.RingFrame page) pages = page
 granted_pages (front.RingFence page) pages = page
 granted_pages (front.RingFlags page) pages = page
 granted_pages s pages = pages
+
+abbrev pub named_pages : FrontStage → (pages : ℕ) → ℕ
+named_pages (front.RingFence page) pages = page + 1
+named_pages (front.RingFlags page) pages = page + 1
+named_pages s pages = granted_pages s pages
 
 -- a request is being issued: its data, its indirect pages, its grants, its entry, and then the producer
 abbrev pub is_issuing : FrontStage → Bool
@@ -86,12 +84,7 @@ is_issuing s = false
 abbrev pub filled : FrontStage → (frames : ℕ) → ℕ
 filled (front.Data n) frames = n
 filled (front.Pages n) frames = 1024 * frames + n
-filled (front.GrantFrame place) frames = 1024 * frames + 1920
-filled (front.GrantFence place) frames = 1024 * frames + 1920
-filled (front.GrantFlags place) frames = 1024 * frames + 1920
-filled (front.Slot k) frames = 1024 * frames + 1920
-filled front.Producer frames = 1024 * frames + 1920
-filled s frames = 0
+filled s frames = if is_issuing s then 1024 * frames + 1920 else 0
 
 abbrev pub named_frames : FrontStage → ℕ
 named_frames (front.GrantFrame place) = place
@@ -111,16 +104,8 @@ granted_frames s = 0
 
 abbrev pub entered : FrontStage → ℕ
 entered (front.Slot k) = k
-entered front.Producer = 28
+entered front.Producer = entry_words_of X64
 entered s = 0
-
--- the request whose grants are being ended, or whose data are told
-abbrev pub ending_at : FrontStage → Option Ending → Option Ending
-ending_at (front.GrantRead place) ending = ending
-ending_at (front.GrantEnd place before) ending = ending
-ending_at (front.ReadData n) ending = ending
-ending_at (front.LeftData n) ending = ending
-ending_at s ending = None
 
 -- the request whose grants are being ended
 abbrev pub revoking_at : FrontStage → Option Ending → Option Ending
@@ -128,23 +113,27 @@ revoking_at (front.GrantRead place) ending = ending
 revoking_at (front.GrantEnd place before) ending = ending
 revoking_at s ending = None
 
+-- or whose data are told
+abbrev pub ending_at : FrontStage → Option Ending → Option Ending
+ending_at (front.ReadData n) ending = ending
+ending_at (front.LeftData n) ending = ending
+ending_at s ending = revoking_at s ending
+
 -- how many of its grants were ended
 abbrev pub revoked : FrontStage → ℕ
 revoked (front.GrantRead place) = place
 revoked (front.GrantEnd place before) = place
 revoked s = 0
 
--- the sector that is told next, of an answered read
-abbrev pub telling_at : FrontStage → Option ℕ
-telling_at (front.ReadData n) = Some (n / 128)
-telling_at (front.LeftData n) = Some (n / 128)
-telling_at s = None
-
--- and the word of its data that is read next
+-- the word that is read next, of the data of an answered read
 abbrev pub word_at : FrontStage → Option ℕ
 word_at (front.ReadData n) = Some n
 word_at (front.LeftData n) = Some n
 word_at s = None
+
+-- and the sector that is told next
+abbrev pub telling_at : FrontStage → Option ℕ
+telling_at s = option_map (λ (n : ℕ). n / 128) (word_at s)
 
 abbrev pub count_of : Option Ending → ℕ
 count_of None = 0
@@ -173,17 +162,10 @@ is_front_arming s = false
 
 abbrev pub may_front_sleep : FrontStage → Bool
 may_front_sleep front.Loop = true
-may_front_sleep (front.Data n) = true
-may_front_sleep (front.Pages n) = true
-may_front_sleep (front.GrantFrame place) = true
-may_front_sleep (front.GrantFence place) = true
-may_front_sleep (front.GrantFlags place) = true
-may_front_sleep (front.Slot k) = true
-may_front_sleep front.Producer = true
 may_front_sleep (front.ProducerFence old) = true
 may_front_sleep (front.RequestEvent old) = true
 may_front_sleep front.Send = true
-may_front_sleep s = false
+may_front_sleep s = is_issuing s
 
 -- the response that is being written, and how many of its words were
 abbrev pub reply_at : BackStage → Option Reply
@@ -209,13 +191,10 @@ is_back_arming s = false
 
 abbrev pub may_back_sleep : BackStage → Bool
 may_back_sleep back.Loop = true
-may_back_sleep (back.ReplyHigh r) = true
-may_back_sleep (back.ReplyLast r) = true
-may_back_sleep (back.Producer r) = true
 may_back_sleep (back.ProducerFence old) = true
 may_back_sleep (back.ResponseEvent old) = true
 may_back_sleep back.Send = true
-may_back_sleep s = false
+may_back_sleep s = is_some (reply_at s)
 
 -- an entry is being copied
 abbrev pub is_fetching : BackStage → Bool

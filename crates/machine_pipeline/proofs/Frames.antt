@@ -18,13 +18,12 @@ use Rattle.back_jobs.specs.Jobs.{mapping_at}
 use Rattle.back_jobs.specs.Hands.{hands_in}
 use Rattle.blk_back.specs.declared.stage.Reply.{Reply}
 use Rattle.blk_back.specs.declared.stage.Stage.{Stage as BackStage}
-use Rattle.blk_back.specs.declared.stage.Stage.TheVariants as back
 use Rattle.blk_back.specs.View.{no_page}
 use Rattle.blk_back.specs.Hands.{aborted, hands_at}
 use Rattle.split_model.specs.World.{World}
-use Rattle.machine_pipeline.proofs.Flow.{Flow, ending_at, word_at, telling_at, reply_at, named_pages, worked, frames_of}
+use Rattle.machine_pipeline.proofs.Flow.{Flow, ending_at, word_at, telling_at, named_pages, worked, frames_of}
 use Rattle.machine_pipeline.proofs.Stations.{worked_kind}
-use Rattle.machine_pipeline.proofs.Holds.{Holds, FrontAt, IsToldAt, BackAt, IsReplying, IsEnding, IsSubmitted, IsWork}
+use Rattle.machine_pipeline.proofs.Holds.{Holds, FrontAt, IsToldAt, IsEnding, IsSubmitted, IsWork}
 use Rattle.machine_pipeline.proofs.Data.{pooled_at}
 use Rattle.machine_pipeline.proofs.Lists.{all_at}
 use Rattle.machine_pipeline.proofs.Hands.{IsQueued, queued, frames_apart, work_hand, hands_none, pages_none, mapped_few, nothing_aborted}
@@ -46,12 +45,8 @@ few_words shape start pushed taken front_seen submitted replies next entry endin
 
 -- frames of the ring that are named are its own
 pub named_at : (shape : Shape) (start pushed taken front_seen : ℕ) (submitted : List Request) (replies : List Reply) (next : Option Request) (entry : List ℕ) (ending : Option Ending) (s : FrontStage) → shape.order ≤ 4 → FrontAt shape start pushed taken front_seen submitted replies next entry ending s → named_pages s (2 ^ shape.order) ≤ 16
-named_at shape start pushed taken front_seen submitted replies next entry ending (front.RingWord k) narrow h = omega arith
-named_at shape start pushed taken front_seen submitted replies next entry ending (front.RingFrame page) narrow h = let few = few_pages shape.order narrow in omega (arith, h)
-named_at shape start pushed taken front_seen submitted replies next entry ending (front.RingFence page) narrow h = let few = few_pages shape.order narrow in omega (arith, h)
-named_at shape start pushed taken front_seen submitted replies next entry ending (front.RingFlags page) narrow h = let few = few_pages shape.order narrow in omega (arith, h)
-named_at shape start pushed taken front_seen submitted replies next entry ending (front.LeftData n) narrow h = omega arith
-named_at shape start pushed taken front_seen submitted replies next entry ending s narrow h = few_pages shape.order narrow
+named_at shape start pushed taken front_seen submitted replies next entry ending front.Loop narrow h = few_pages shape.order narrow
+named_at shape start pushed taken front_seen submitted replies next entry ending s narrow h = let few = few_pages shape.order narrow in omega arith
 
 -- the data of the ending request that are told have so many words
 told_fewer : (submitted : List Request) (replies : List Reply) (ending : Option Ending) (m n : ℕ) (e : Ending) → IsToldAt submitted replies ending m → Some m ≡ Some n → ending ≡ Some e → n < words_in e.request
@@ -98,12 +93,9 @@ none_in_hands config w g d s b h j r here a in_r works others test apart =
         let number = h.submitted.each (t.id - 1) work.r work.known in
         let hand = work_hand g.submitted g.fetched t m work number.shaped f in
         let differs = other.2 in
-        let places : its.place ≢ j = λ same. differs (numbers work.r.number t.id r.number number.number work.positive (ap (λ (x : Request). x.number) (same_Some work.r r (sym its.at ∙ (ap (slice_get w.front.requests) same ∙ here))))) in
+        let places : its.place ≢ j = λ same. differs (omega (arith, number.number, work.positive, ap (λ (x : Request). x.number) (same_Some work.r r (sym its.at ∙ (ap (slice_get w.front.requests) same ∙ here))))) in
         let frames = frames_apart w.front.pool w.front.requests (ending_at s w.front.ending) its.place j work.r r h.pool places its.at here hand.place a hand.here in_r (pooled_at work.r number.frames hand.place) in
         apart m (λ same. frames (let gref = hand.hand.gref in omega arith))
-      where
-        numbers : (n t r : ℕ) → n ≡ t - 1 + 1 → 1 ≤ t → n ≡ r → t ≡ r
-        numbers n t r e le same = omega arith
 
 -- so such a request isn't mapped, whichever of its mappings are counted
 pub unmapped : (config : Options) (w : World) (g : Flow) (d : Pipeline) (s : FrontStage) (b : BackStage) → Holds config w g d s b

@@ -1,25 +1,19 @@
 -- The front grants the frames of the request that it issues, one by one.
-use Rattle.std.proofs.Common.{◌≡◌, ◌≢◌, ℕ, ◌+◌, ◌-◌, ◌*◌, ◌/◌, ◌%◌, ◌<◌, ◌≤◌, ◌==◌, Bool, true, false, List, [], ◌∷◌, length, get_or, refl, sym, ◌∙◌, subst, arith, length-set, get_or-set_other, ap}
-use Rattle.std.specs.Prelude.{All, Option, Some, None, nat_lt, if◌then◌else◌}
+use Rattle.blk_back.specs.declared.stage.Stage.{Stage as BackStage}
+use Rattle.std.proofs.lemmas.Bool.{cases_eq}
+use Rattle.std.proofs.Common.{inl, inr, ◌≡◌, ◌≢◌, ℕ, ◌+◌, ◌-◌, ◌*◌, ◌/◌, ◌%◌, ◌<◌, ◌≤◌, Bool, true, false, List, length, get_or, refl, sym, ◌∙◌, subst, arith, length-set, get_or-set_other, ap}
+use Rattle.std.specs.Prelude.{All, Option, Some, nat_lt, if◌then◌else◌}
 use Rattle.std.proofs.lemmas.Bool.Decides.{nat_tests}
-use Rattle.blk_base.specs.declared.moves.Move.TheVariants as moves
-use Rattle.hypervisor.specs.Act.{FrontAct, front_act}
-use Rattle.hypervisor.specs.Hypervisor.{Hypervisor}
-use Rattle.schedule_text.specs.declared.line.Line.{Line}
-use Rattle.schedule_text.specs.declared.line.Line.TheVariants as lines
-use Rattle.split_model.specs.Shown.{front_lines}
 use Rattle.blk_base.specs.Options.{Options}
 use Rattle.xen_pages.specs.Pages.{with_word}
-use Rattle.grant_table.specs.declared.held.Held.{Held}
 use Rattle.grant_table.specs.Table.{entry_word0, entry_word1}
 use Rattle.pipeline_laws.specs.Pipeline.{Pipeline}
 use Rattle.blk_front.specs.declared.request.Request.{Request}
 use Rattle.blk_front.specs.Request.{flags_at, frame_at}
 use Rattle.blk_front.specs.Ask.{name_ask, grant_ask}
-use Rattle.blk_front.specs.declared.stage.Ending.{Ending}
 use Rattle.blk_front.specs.declared.stage.Stage.{Stage as FrontStage}
 use Rattle.blk_front.specs.declared.stage.Stage.TheVariants as front
-use Rattle.blk_front.specs.View.{View, next_request}
+use Rattle.blk_front.specs.View.{next_request}
 use Rattle.blk_front.specs.Entry.{entry_of}
 use Rattle.blk_front.specs.Step.{at, granted}
 use Rattle.split_model.specs.World.{World}
@@ -30,11 +24,11 @@ use Rattle.machine_pipeline.proofs.Holds.{IsPooled, FrontAt, IsFilled, IsGranted
 use Rattle.machine_pipeline.proofs.Kept.{SameFrame, SameEntry, SameGrants, written, other_word, other_frame, other_entry}
 use Rattle.machine_pipeline.proofs.Data.{SameData, pooled_at}
 use Rattle.machine_pipeline.proofs.Lists.{all_at, less_number}
-use Rattle.machine_pipeline.proofs.Next.{FramesDiffer, IsNext, next_is}
-use Rattle.machine_pipeline.proofs.Turns.{Goes, FrontGoes, said_nothing, goes_by}
-use Rattle.machine_pipeline.proofs.Issuing.{issuing, frames_elsewhere, slots_turned, frames_turned, entries_turned, with_front, issue_moved, issue_kept}
+use Rattle.machine_pipeline.proofs.Next.{FramesDiffer, IsNext}
+use Rattle.machine_pipeline.proofs.Turns.{FrontGoes, said_nothing, goes_by}
+use Rattle.machine_pipeline.proofs.Issuing.{unrevoked, stations_turned, issuing, frames_elsewhere, slots_turned, frames_turned, issue_moved, issue_on, with_front, next_here, AskGoes}
 use Rattle.ring_words.specs.Shape.{Shape}
-use Rattle.machine_pipeline.proofs.Stations.{AreStations, turned}
+use Rattle.machine_pipeline.proofs.Stations.{AreStations}
 use Rattle.machine_pipeline.proofs.ReadsKept.{stations_elsewhere}
 use Rattle.blk_front.specs.Submit.{is_ready}
 use Rattle.machine_pipeline.proofs.Slots.{some_words}
@@ -64,31 +58,40 @@ with_name pages frame value = with_word pages ((frame + 6) / 512) (2 * ((frame +
 abbrev pub with_flags : List ℕ → (frame value : ℕ) → List ℕ
 with_flags pages frame value = with_word pages ((frame + 6) / 512) (2 * ((frame + 6) % 512)) value
 
+-- those of the others of a request's frames are among them
+entries_beside : (old new : List ℕ) (r : Request) (place : ℕ) → All IsPooled r.frames.items → FramesDiffer r → place < frames_of r
+    → SameOthers old new (frame_at r place + 6) → (a : ℕ) → a ≢ place → a < frames_of r → SameEntry old new (frame_at r a + 6)
+entries_beside old new r place pooled own here others a apart in_it = others (frame_at r a + 6) (omega (arith, (pooled_at r pooled a).1)) (λ same. (own a place apart in_it here) (omega arith))
+
+name_aside : (pages : List ℕ) (frame value : ℕ) → frame < 1018 → SameOthers pages (with_name pages frame value) (frame + 6)
+name_aside pages frame value low other lt apart = other_named pages (frame + 6) other value (omega arith) lt apart
+
+flags_aside : (pages : List ℕ) (frame value : ℕ) → frame < 1018 → SameOthers pages (with_flags pages frame value) (frame + 6)
+flags_aside pages frame value low other lt apart = other_entry pages (frame + 6) other value (omega arith) lt apart
+
 -- the other requests' entries are as they were, the next one's as it is now
-entries_with : {series : List Request} (submitted requests : List Request) (pushed waiting : ℕ) (old new : List ℕ) (live : List Held) (s s' : FrontStage) (ending : Option Ending)
-    (r : Request) (place : ℕ)
+entries_with : {config : Options} {w : World} {g : Flow} {d : Pipeline} {s : FrontStage} {b : BackStage} {r : Request} (h : Holds config w g d s b) (place : ℕ) (new : List ℕ) (s' : FrontStage)
     → may_front_sleep s' ≡ true
-    → IsNext submitted series requests pushed waiting r
+    → IsNext g.submitted g.series w.front.requests g.pushed w.front.waiting r
     → place < frames_of r
-    → SameOthers old new (frame_at r place + 6)
-    → AreNamed new r (named_frames s')
-    → AreGranted new r (granted_frames s')
-    → AreEntries series pushed old live s ending requests
-    → AreEntries series pushed new live s' ending requests
-entries_with {series} submitted requests pushed waiting old new live s s' ending r place i' next within others named granted h = record {
+    → SameOthers w.under.pages new (frame_at r place + 6)
+    → AreNamed new r (named_frames s') → AreGranted new r (granted_frames s')
+    → AreEntries g.series g.pushed new w.under.grants.live s' w.front.ending w.front.requests
+entries_with {w = w} {g = g} h place new s' i' next within others named granted = record {
   each = λ k d lt.
-      let was = h.each k d lt in
-      let only = next.only (get_or requests k d) in
-      let elsewhere : IsAmong series pushed (get_or requests k d) → SameGrants old new (get_or requests k d) = λ le a in_it.
-      let differs = (next.apart k d lt) (next.late (get_or requests k d) le) a place in_it within in
-      others (frame_at (get_or requests k d) a + 6) (omega (arith, (pooled_at (get_or requests k d) (next.pooled k d lt) a).1)) (λ same. differs (omega arith)) in
+      let q : Request = get_or w.front.requests k d in
+      let was = h.entries.each k d lt in
+      let only = next.only q in
+      let elsewhere : IsAmong g.series g.pushed q → SameGrants w.under.pages new q = λ le a in_it.
+      let differs = (next.apart k d lt) (next.late q le) a place in_it within in
+      others (frame_at q a + 6) (omega (arith, (pooled_at q (next.pooled k d lt) a).1)) (λ same. differs (omega arith)) in
       record {
-        named = λ le a in_it. let here = elsewhere le a in_it in here.frame ∙ was.named le a in_it;
+        named = λ le a in_it. (elsewhere le a in_it).frame ∙ was.named le a in_it;
         named_next = λ e. subst (λ (q : Request). AreNamed new q (named_frames s')) (sym (only e)) named;
-        flags = λ le a in_it. let here = elsewhere le a in_it in here.flags ∙ was.flags le a in_it;
+        flags = λ le a in_it. (elsewhere le a in_it).flags ∙ was.flags le a in_it;
         flags_next = λ e. subst (λ (q : Request). AreGranted new q (granted_frames s')) (sym (only e)) granted;
       };
-  ending = λ e t. let i = issuing s' i' in absurd (i.unrevoked ending e t);
+  ending = λ e t. absurd (unrevoked s' w.front.ending e (issuing s' i').ended t);
 }
 
 -- what holds goes on holding where a word of the grant entry of one of the next request's frames alone changes
@@ -112,190 +115,99 @@ entry_moved config w g d d' s s' r place entry word value i i' h stations next i
     let pooled : IsPooled (frame_at r place) = pooled_at r next.frames place in
     let low = pooled.0 in
     let high = pooled.1 in
-    let elsewhere : (f : ℕ) → f ≢ gref / 512 → SameFrame w.under.pages (with_word w.under.pages (gref / 512) word value) f = λ f other. other_frame w.under.pages (gref / 512) word value f within other in
-    issue_moved config w g d d' s s' entry (with_word w.under.pages (gref / 512) word value) i i' h
-    (stations_elsewhere config g d' (is_ready s') (is_issuing s') (is_fetching w.back.stage) (ending_at s' w.front.ending) (telling_at s') (reply_at w.back.stage) w.front.requests w.back.jobs.works w.under.pages _ w.front.sectors w.front.last h.submitted (λ f from to. elsewhere f (omega arith)) stations) at
+    let new : List ℕ = with_word w.under.pages (gref / 512) word value in
+    let elsewhere : (f : ℕ) → f ≢ gref / 512 → SameFrame w.under.pages new f = λ f other. other_frame w.under.pages (gref / 512) word value f within other in
+    issue_moved config w g d d' s s' entry new i i' h
+    (stations_elsewhere config g d' (is_ready s') (is_issuing s') (is_fetching w.back.stage) (ending_at s' w.front.ending) (telling_at s') (reply_at w.back.stage) w.front.requests w.back.jobs.works
+    w.under.pages new w.front.sectors w.front.last h.submitted (λ f from to. elsewhere f (omega arith)) stations) at
     (length-set w.under.pages (gref / 512 * 1024 + word) value ∙ h.memory)
     (λ x lt. elsewhere 2 (omega arith) x (omega arith))
     (λ page lt. others (8 + page) (omega arith) (omega arith))
-    (slots_turned g.shape g.start g.fetched g.pushed g.taken g.replied g.series g.replies w.under.pages _ s s' w.back.stage h.shaped.narrow (λ f x from to in_it after. elsewhere f (omega arith) x in_it) none h.slots)
-    (filled_so _ (frames_elsewhere config w g d s w.back.stage h _ (λ f from. elsewhere f (omega arith))))
-    (entries_with g.submitted w.front.requests g.pushed w.front.waiting w.under.pages _ w.under.grants.live s s' w.front.ending r place i' next in_it others
-    named granted h.entries)
+    (slots_turned h new s' (λ f x from to in_it after. elsewhere f (omega arith) x in_it) none)
+    (filled_so new (frames_elsewhere h new s' (λ f from. elsewhere f (omega arith))))
+    (entries_with h place new s' i' next in_it others named granted)
     (λ t sends. absurd (unsent sends))
-
--- where the pipeline stays, and so many words of data
-entry_on : (config : Options) (w : World) (g : Flow) (d : Pipeline) (s s' : FrontStage) (r : Request) (place : ℕ) (entry : List ℕ) (word value : ℕ)
-    → may_front_sleep s ≡ true → may_front_sleep s' ≡ true → is_issuing s' ≡ is_issuing s
-    → Holds config w g d s w.back.stage
-    → IsNext g.submitted g.series w.front.requests g.pushed w.front.waiting r
-    → place < frames_of r
-    → word < 1024
-    → SameOthers w.under.pages (with_word w.under.pages ((frame_at r place + 6) / 512) word value) (frame_at r place + 6)
-    → ((frames : ℕ) → filled s' frames ≤ filled s frames) → entered s' ≡ 0
-    → FrontAt g.shape g.start g.pushed g.taken g.front_seen g.submitted g.replies (next_request w.front) entry w.front.ending s'
-    → AreNamed (with_word w.under.pages ((frame_at r place + 6) / 512) word value) r (named_frames s')
-    → AreGranted (with_word w.under.pages ((frame_at r place + 6) / 512) word value) r (granted_frames s')
-    → (FrontSends s g.pushed g.fetched → ⊥)
-    → Holds config (with_front w s' entry (with_word w.under.pages ((frame_at r place + 6) / 512) word value)) g d s' w.back.stage
-entry_on config w g d s s' r place entry word value m m' same h next in_it within others less =
-    let i = issuing s m in
-    let i' = issuing s' m' in
-    entry_moved config w g d d s s' r place entry word value m m' h
-    (turned config g d (is_ready s) (is_ready s') (is_issuing s) (is_issuing s') (is_fetching w.back.stage) (ending_at s w.front.ending) (ending_at s' w.front.ending) (telling_at s) (telling_at s') (reply_at w.back.stage) w.front.requests w.back.jobs.works w.under.pages (i'.ready ∙ sym i.ready) same (i'.ending w.front.ending ∙ sym (i.ending w.front.ending)) (i'.untelling ∙ sym i.untelling) h.stations)
-    next in_it within others
-    (λ new kept. frames_turned g.pushed w.under.pages new s s' w.front.requests less kept h.frames)
 
 -- the frame of this place stands in its entry now, and those before it do still
 pub named_now : (pages : List ℕ) (r : Request) (place : ℕ) → length pages ≡ 1114112 → All IsPooled r.frames.items → FramesDiffer r → place < frames_of r
     → AreNamed pages r place
     → AreNamed (with_name pages (frame_at r place) (frame_at r place)) r (place + 1)
-named_now pages r place sized pooled own here before a upto in_it = by_test (a == place) refl
-  where
-    pool : (b : ℕ) → frame_at r b < 1018
-    pool b = let its = pooled_at r pooled b in its.1
-
-    by_test : (t : Bool) → (a == place) ≡ t
-        → entry_word1 (with_name pages (frame_at r place) (frame_at r place)) (frame_at r a + 6) ≡ frame_at r a
-    by_test true t =
-        let same : a ≡ place = grind (arith, nat_tests) in
-        let high = pool place in
-        rw same (written pages ((frame_at r place + 6) / 512) (2 * ((frame_at r place + 6) % 512) + 1) (frame_at r place) sized (omega arith) (omega arith))
-    by_test false t =
-        let other : a ≢ place = grind (arith, nat_tests) in
-        let entry = other_named pages (frame_at r place + 6) (frame_at r a + 6) (frame_at r place) (omega (arith, pool place)) (omega (arith, pool a))
-        (λ same. (own a place other in_it here) (omega arith)) in
-        entry.frame ∙ before a (omega arith) in_it
-
--- the flags of those before it are as they were
-flags_still : (pages : List ℕ) (r : Request) (place value : ℕ) → All IsPooled r.frames.items → FramesDiffer r → place < frames_of r
-    → AreGranted pages r place
-    → AreGranted (with_name pages (frame_at r place) value) r place
-flags_still pages r place value pooled own here before a upto in_it =
-    let its = pooled_at r pooled a in
-    let entry = other_named pages (frame_at r place + 6) (frame_at r a + 6) value (omega (arith, (pooled_at r pooled place).1)) (omega (arith, its.1))
-    (λ same. (own a place (omega arith) in_it here) (omega arith)) in
-    entry.flags ∙ before a upto in_it
-
--- the frame of this place is granted now, and those before it are still, and stand in their entries
-granted_now : (pages : List ℕ) (r : Request) (place : ℕ) → length pages ≡ 1114112 → All IsPooled r.frames.items → FramesDiffer r → place < frames_of r
-    → AreNamed pages r (place + 1)
-    → AreGranted pages r place
-    → (a : ℕ) → a < place + 1 → a < frames_of r
-    → (entry_word1 (with_flags pages (frame_at r place) (flags_at r place)) (frame_at r a + 6) ≡ frame_at r a)
-    × (entry_word0 (with_flags pages (frame_at r place) (flags_at r place)) (frame_at r a + 6) ≡ flags_at r a)
-granted_now pages r place sized pooled own here named before a upto in_it = by_test (a == place) refl
-  where
-    pool : (b : ℕ) → frame_at r b < 1018
-    pool b = let its = pooled_at r pooled b in its.1
-
-    new : List ℕ
-    new = with_flags pages (frame_at r place) (flags_at r place)
-
-    by_test : (t : Bool) → (a == place) ≡ t → (entry_word1 new (frame_at r a + 6) ≡ frame_at r a)
-        × (entry_word0 new (frame_at r a + 6) ≡ flags_at r a)
-    by_test true t =
-        let same : a ≡ place = grind (arith, nat_tests) in
-        let high = pool place in
-        rw same (
-          other_word pages ((frame_at r place + 6) / 512) (2 * ((frame_at r place + 6) % 512)) (flags_at r place) (2 * ((frame_at r place + 6) % 512) + 1) (omega arith) ∙ named place (omega arith) here,
-          written pages ((frame_at r place + 6) / 512) (2 * ((frame_at r place + 6) % 512)) (flags_at r place) sized (omega arith) (omega arith),
-        )
-    by_test false t =
-        let other : a ≢ place = grind (arith, nat_tests) in
-        let entry = other_entry pages (frame_at r place + 6) (frame_at r a + 6) (flags_at r place) (omega (arith, pool place)) (omega (arith, pool a))
-        (λ same. (own a place other in_it here) (omega arith)) in
-        (entry.frame ∙ named a upto in_it, entry.flags ∙ before a (omega arith) in_it)
-
--- what the front does to the grant entry of a frame, by the request that is issued next
-abbrev entry_says : World → Option FrontAct → List Line
-entry_says w None = []
-entry_says w (Some a) = lines.Move a.shown ∷ front_lines w.front.told
-
-abbrev named_next : World → ℕ → Option FrontAct → World
-named_next w place None = w
-named_next w place (Some a) = record { front = record (at (front.GrantFence place) w.front) { told = None }; back = w.back; under = a.under }
-
-abbrev NameGoes : Options → World → Pipeline → ℕ → Option Request → Type 0
-NameGoes config w d place next = Goes config (entry_says w (front_act w.under (name_ask next place)))
-    (named_next w place (front_act w.under (name_ask next place))) d
+named_now pages r place sized pooled own here before a upto in_it =
+    let high = (pooled_at r pooled place).1 in
+    elim (cases_eq a place) [
+      | inl same ↦ rw same (written pages ((frame_at r place + 6) / 512) (2 * ((frame_at r place + 6) % 512) + 1) (frame_at r place) sized (omega arith) (omega arith))
+      | inr other ↦ (entries_beside pages _ r place pooled own here (name_aside pages (frame_at r place) (frame_at r place) high) a other in_it).frame ∙ before a (omega arith) in_it
+    ]
 
 pub frame_goes : (config : Options) (w : World) (g : Flow) (d : Pipeline) (place : ℕ) → IsSafe w → Holds config w g d (front.GrantFrame place) w.back.stage → FrontGoes config w d (front.GrantFrame place)
-frame_goes config w g d place safe h = subst (λ (q : Option Request). NameGoes config w d place q) (sym h.front_at.1) (
+frame_goes config w g d place safe h = subst (λ (q : Option Request). AskGoes config w d (name_ask q place) (at (front.GrantFence place) w.front)) (sym h.front_at.1) (
     let r : Request = h.front_at.0 in
-    let next : IsNext g.submitted g.series w.front.requests g.pushed w.front.waiting r = next_is w.front g.submitted w.front.sectors w.front.last g.pushed _ r h.queue h.submitted h.pool h.front_at.1 in
-    let was : IsGranted g.series g.pushed w.under.pages w.under.grants.live (front.GrantFrame place) r = all_at (IsGranted g.series g.pushed w.under.pages w.under.grants.live (front.GrantFrame place)) w.front.requests (length w.front.requests - w.front.waiting) r h.entries.each next.place in
+    let next = next_here h h.front_at.1 in
+    let was = all_at (IsGranted g.series g.pushed w.under.pages w.under.grants.live (front.GrantFrame place)) w.front.requests (length w.front.requests - w.front.waiting) r h.entries.each next.place in
+    let aside = name_aside w.under.pages (frame_at r place) (frame_at r place) (pooled_at r next.frames place).1 in
     goes_by (said_nothing d _ w.front.told safe.front_told)
-    (entry_on config w g d (front.GrantFrame place) (front.GrantFence place) r place w.front.ring.entry (2 * ((frame_at r place + 6) % 512) + 1) (frame_at r place) refl refl refl h next h.front_at.2 (omega arith)
-    (λ other lt apart. other_named w.under.pages (frame_at r place + 6) other (frame_at r place) (omega (arith, (pooled_at r next.frames place).1)) lt apart)
-    (λ frames. omega arith) refl h.front_at
+    (entry_moved config w g d d (front.GrantFrame place) (front.GrantFence place) r place w.front.ring.entry (2 * ((frame_at r place + 6) % 512) + 1) (frame_at r place) refl refl h h.stations
+    next h.front_at.2 (omega arith) aside (λ new. frames_turned h new (front.GrantFence place) (λ n. omega arith)) refl h.front_at
     (named_now w.under.pages r place h.memory next.frames next.own h.front_at.2 (was.named_next next.at))
-    (flags_still w.under.pages r place (frame_at r place) next.frames next.own h.front_at.2 (was.flags_next next.at))
+    (λ a upto in_it. (entries_beside w.under.pages _ r place next.frames next.own h.front_at.2 aside a (omega arith) in_it).flags ∙ was.flags_next next.at a upto in_it)
     (λ sends. sends)))
 
 pub fence_goes : (config : Options) (w : World) (g : Flow) (d : Pipeline) (place : ℕ) → IsSafe w → Holds config w g d (front.GrantFence place) w.back.stage → FrontGoes config w d (front.GrantFence place)
-fence_goes config w g d place safe h = goes_by (said_nothing d _ w.front.told safe.front_told)
-    (issue_kept config w g d (front.GrantFence place) (front.GrantFlags place) w.front.ring.entry w.under.pages refl refl refl h h.front_at h.memory (λ f low high x lt. refl) (λ x lt. refl) (λ page lt. record { flags = refl; frame = refl })
-    (slots_turned g.shape g.start g.fetched g.pushed g.taken g.replied g.series g.replies w.under.pages w.under.pages (front.GrantFence place) (front.GrantFlags place) w.back.stage h.shaped.narrow (λ f x from to in_it after. refl) refl h.slots)
-    (frames_turned g.pushed w.under.pages w.under.pages (front.GrantFence place) (front.GrantFlags place) w.front.requests (λ frames. omega arith) (λ n x lt i l. refl) h.frames)
-    (entries_turned g.pushed w.under.pages w.under.pages w.under.grants.live (front.GrantFence place) (front.GrantFlags place) w.front.ending w.front.requests refl (omega arith) (omega arith) (λ n x lt a in_it. record { flags = refl; frame = refl }) h.entries)
-    (λ t sends. sends))
-
-abbrev granted_next : World → Option Request → ℕ → Option FrontAct → World
-granted_next w next place None = w
-granted_next w next place (Some a) = record { front = record (granted next place w.front) { told = None }; back = w.back; under = a.under }
-
-abbrev granted_says : World → Option Request → ℕ → Option FrontAct → List Line
-granted_says w next place None = []
-granted_says w next place (Some a) = lines.Move a.shown ∷ front_lines (let v : View = granted next place w.front in v.told)
-
-abbrev GrantGoes : Options → World → Pipeline → ℕ → Option Request → Type 0
-GrantGoes config w d place next = Goes config (granted_says w next place (front_act w.under (grant_ask next place)))
-    (granted_next w next place (front_act w.under (grant_ask next place))) d
+fence_goes config w g d place safe h =
+    goes_by (said_nothing d _ w.front.told safe.front_told)
+    (issue_on config w g d (front.GrantFence place) (front.GrantFlags place) refl refl refl h h.front_at (λ n. omega arith) refl (omega arith) (omega arith) (λ t sends. sends))
 
 pub flags_goes : (config : Options) (w : World) (g : Flow) (d : Pipeline) (place : ℕ) → IsSafe w → Holds config w g d (front.GrantFlags place) w.back.stage → FrontGoes config w d (front.GrantFlags place)
-flags_goes config w g d place safe h = subst (λ (q : Option Request). GrantGoes config w d place q) (sym h.front_at.1)
+flags_goes config w g d place safe h = subst (λ (q : Option Request). AskGoes config w d (grant_ask q place) (granted q place w.front)) (sym h.front_at.1)
     (by_test (nat_lt (place + 1) (frames_of r)) refl)
   where
     r : Request
     r = h.front_at.0
 
     next : IsNext g.submitted g.series w.front.requests g.pushed w.front.waiting r
-    next = next_is w.front g.submitted w.front.sectors w.front.last g.pushed _ r h.queue h.submitted h.pool h.front_at.1
+    next = next_here h h.front_at.1
 
     was : IsGranted g.series g.pushed w.under.pages w.under.grants.live (front.GrantFlags place) r
     was = all_at (IsGranted g.series g.pushed w.under.pages w.under.grants.live (front.GrantFlags place)) w.front.requests (length w.front.requests - w.front.waiting) r h.entries.each next.place
 
+    high : (a : ℕ) → frame_at r a < 1018
+    high a = (pooled_at r next.frames a).1
+
     new : List ℕ
     new = with_flags w.under.pages (frame_at r place) (flags_at r place)
 
-    now : (a : ℕ) → a < place + 1 → a < frames_of r → (entry_word1 new (frame_at r a + 6) ≡ frame_at r a)
-        × (entry_word0 new (frame_at r a + 6) ≡ flags_at r a)
-    now = granted_now w.under.pages r place h.memory next.frames next.own h.front_at.2 (was.named_next next.at) (was.flags_next next.at)
+    -- the frame of this place is granted now, and those before it are still, and stand in their entries
+    now : (a : ℕ) → a < place + 1 → a < frames_of r → (entry_word1 new (frame_at r a + 6) ≡ frame_at r a) × (entry_word0 new (frame_at r a + 6) ≡ flags_at r a)
+    now a upto in_it = elim (cases_eq a place) [
+      | inl same ↦ rw same (
+        other_word w.under.pages ((frame_at r place + 6) / 512) (2 * ((frame_at r place + 6) % 512)) (flags_at r place) (2 * ((frame_at r place + 6) % 512) + 1) (omega arith) ∙ was.named_next next.at place (omega arith) h.front_at.2,
+        written w.under.pages ((frame_at r place + 6) / 512) (2 * ((frame_at r place + 6) % 512)) (flags_at r place) h.memory (omega (arith, high place)) (omega arith),
+      )
+      | inr other ↦
+          let entry = entries_beside w.under.pages new r place next.frames next.own h.front_at.2 (flags_aside w.under.pages (frame_at r place) (flags_at r place) (high place)) a other in_it in
+          (entry.frame ∙ was.named_next next.at a upto in_it, entry.flags ∙ was.flags_next next.at a (omega arith) in_it)
+    ]
 
     on : (s' : FrontStage) (entry : List ℕ) → may_front_sleep s' ≡ true → is_issuing s' ≡ true → ((frames : ℕ) → filled s' frames ≤ 1024 * frames + 1920) → entered s' ≡ 0
         → FrontAt g.shape g.start g.pushed g.taken g.front_seen g.submitted g.replies (next_request w.front) entry w.front.ending s'
-        → ((a : ℕ) → a < named_frames s' → a < frames_of r → a < place + 1)
-        → ((a : ℕ) → a < granted_frames s' → a < frames_of r → a < place + 1)
+        → ((a : ℕ) → a < frames_of r → (a < named_frames s' → a < place + 1) × (a < granted_frames s' → a < place + 1))
         → Holds config (with_front w s' entry new) g d s' w.back.stage
-    on s' entry i' same filled_few none at few fewer =
-        entry_on config w g d (front.GrantFlags place) s' r place entry (2 * ((frame_at r place + 6) % 512)) (flags_at r place) refl i' same h next h.front_at.2 (omega arith)
-        (λ other lt apart. other_entry w.under.pages (frame_at r place + 6) other (flags_at r place) (omega (arith, (pooled_at r next.frames place).1)) lt apart)
-        filled_few none at
-        (λ a upto in_it. let its = now a (few a upto in_it) in_it in its.0) (λ a upto in_it. let its = now a (fewer a upto in_it) in_it in its.1)
+    on s' entry i' same filled_few none at few =
+        entry_moved config w g d d (front.GrantFlags place) s' r place entry (2 * ((frame_at r place + 6) % 512)) (flags_at r place) refl i' h
+        (stations_turned h w.under.pages s' (issuing s' i').ready same refl (issuing s' i').ended (λ f low up x lt. refl)) next h.front_at.2 (omega arith)
+        (flags_aside w.under.pages (frame_at r place) (flags_at r place) (high place)) (λ pages. frames_turned h pages s' filled_few) none at
+        (λ a upto in_it. (now a ((few a in_it).0 upto) in_it).0) (λ a upto in_it. (now a ((few a in_it).1 upto) in_it).1)
         (λ sends. sends)
 
     by_test : (b : Bool) → nat_lt (place + 1) (frames_of r) ≡ b
-        → (let x : View = (if b then at (front.GrantFrame (place + 1)) w.front else record w.front { stage = front.Slot 0; ring = record w.front.ring { entry = entry_of w.front.shape.abi r } }) in
-        Goes config
-        (lines.Move (moves.FrontWrite ((frame_at r place + 6) / 512) (2 * ((frame_at r place + 6) % 512)) (flags_at r place)) ∷ front_lines x.told)
-        (record { front = record x { told = None }; back = w.back; under = (let u : Hypervisor = w.under in record u { pages = new }) }) d)
+        → AskGoes config w d (grant_ask (Some r) place)
+        (if b then at (front.GrantFrame (place + 1)) w.front else record w.front { stage = front.Slot 0; ring = record w.front.ring { entry = entry_of w.front.shape.abi r } })
     by_test true t = goes_by (said_nothing d _ w.front.told safe.front_told)
         (on (front.GrantFrame (place + 1)) w.front.ring.entry refl refl (λ frames. omega arith) refl (r, h.front_at.1, less_number (place + 1) (frames_of r) t)
-        (λ a upto in_it. upto) (λ a upto in_it. upto))
+        (λ a in_it. (λ upto. upto, λ upto. upto)))
     by_test false t = goes_by (said_nothing d _ w.front.told safe.front_told)
         (on (front.Slot 0) (entry_of w.front.shape.abi r) refl refl (λ frames. omega arith) refl (some_words g.shape.abi, (r, h.front_at.1, ap (λ (x : Shape). entry_of x.abi r) h.shaped.known))
-        (λ a upto in_it. last place (frames_of r) t a in_it) (λ a upto in_it. last place (frames_of r) t a in_it))
+        (λ a in_it. (λ upto. last place (frames_of r) t a in_it, λ upto. last place (frames_of r) t a in_it)))
       where
         last : (n size : ℕ) → nat_lt (n + 1) size ≡ false → (a : ℕ) → a < size → a < n + 1
         last n size t a in_it = grind (arith, nat_tests)

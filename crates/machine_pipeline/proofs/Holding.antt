@@ -5,7 +5,7 @@ use Rattle.std.specs.List.{list_any}
 use Rattle.std.proofs.lemmas.Bool.Decides.{nat_tests}
 use Rattle.std.proofs.lemmas.Option.{none-some, same_Some}
 use Rattle.std.proofs.lemmas.List.Sums.{sum_by-cons}
-use Rattle.std.proofs.lemmas.List.Elements.{All-head, All-tail}
+use Rattle.std.proofs.lemmas.List.Elements.{All-head, All-tail, All-cons}
 use Rattle.blk_base.specs.Options.{Options}
 use Rattle.blk_base.specs.declared.operation.Status.TheVariants.{Okay}
 use Rattle.plain_disk.specs.Request.{is_finished}
@@ -22,8 +22,9 @@ use Rattle.split_model.specs.World.{World}
 use Rattle.machine_pipeline.proofs.Flow.{Flow, frames_of, ending_at, ending_frames, count_of, submitted_job}
 use Rattle.machine_pipeline.proofs.Holds.{AreSubmitted, IsSubmitted, Holds}
 use Rattle.machine_pipeline.proofs.Frames.{ending_is}
-use Rattle.machine_pipeline.proofs.Lists.{count_none, count_set, sum_set, set_was, same_number}
+use Rattle.machine_pipeline.proofs.Lists.{count_none, count_set, sum_set, set_was, same_number, none_or_some, sum_none}
 use Rattle.machine_pipeline.proofs.Stations.{AreKnown, AreOpen}
+use Rattle.std.proofs.lemmas.Bool.{cases_Bool, cond_both, or_left, or_right, true_from_ne_false}
 
 -- of the plain disk a request is finished where it is of the pipeline
 pub same_stage : (s : Station) → is_finished (stage_at s) ≡ is_ended s
@@ -55,8 +56,7 @@ abbrev IsFitting : List Carried → Request → Type 0
 IsFitting carried r = (k : ℕ) (x : Carried) → r.number ≡ k + 1 → slice_get carried k ≡ Some x → job_frames x.job ≡ frames_of r
 
 later : (a b : Bool) → a ≡ false → (a || b) ≡ true → b ≡ true
-later true b none t = absurd (true≢false none)
-later false b none t = t
+later a b none t = rw none at t
 
 -- one of which no unfinished request is
 skips : (r : Request) (requests : List Request) (carried : List Carried) → ((k : ℕ) (x : Carried) → slice_get carried k ≡ Some x → is_ended x.station ≡ false → r.number ≢ k + 1) → AreAmong (r ∷ requests) carried → AreAmong requests carried
@@ -88,59 +88,40 @@ record IsOpenAt (carried : List Carried) (n : ℕ) : Type 0 where
 
 looked_up : (carried : List Carried) (n : ℕ) → IsOpenAt carried n ⊎ ((k : ℕ) (x : Carried) → slice_get carried k ≡ Some x → is_ended x.station ≡ false → n ≢ k + 1)
 looked_up carried zero = inr (λ k x here unended. omega arith)
-looked_up carried (suc p) = by_place (slice_get carried p) refl
-  where
-    Found : Type 0
-    Found = IsOpenAt carried (suc p) ⊎ ((k : ℕ) (x : Carried) → slice_get carried k ≡ Some x → is_ended x.station ≡ false → suc p ≢ k + 1)
-
-    by_end : (x : Carried) → slice_get carried p ≡ Some x → (b : Bool) → is_ended x.station ≡ b → Found
-    by_end x here false e = inl (record { place = p; x = x; number = omega arith; here = here; unended = e })
-    by_end x here true e = inr (λ k y at unended same.
+looked_up carried (suc p) = elim (none_or_some (slice_get carried p)) [
+  | inl none ↦ inr (λ k y at unended same.
+      let place : p ≡ k = omega arith in
+      none-some y (sym none ∙ (ap (slice_get carried) place ∙ at)))
+  | inr some ↦ elim (cases_Bool (is_ended (let x : Carried = some.0 in x.station))) [
+    | inl e ↦ inr (λ k y at unended same.
         let place : p ≡ k = omega arith in
-        absurd (true≢false (sym e ∙ (ap (λ (z : Carried). is_ended z.station) (same_Some x y (sym here ∙ (ap (slice_get carried) place ∙ at))) ∙ unended))))
-
-    by_place : (o : Option Carried) → slice_get carried p ≡ o → Found
-    by_place (Some x) here = by_end x here (is_ended x.station) refl
-    by_place None none = inr (λ k y at unended same.
-        let place : p ≡ k = omega arith in
-        absurd (none-some y (sym none ∙ (ap (slice_get carried) place ∙ at))))
-
--- no more are unfinished than these
-count_few : (requests : List Request) (carried : List Carried) → AreAmong requests carried → count_by is_open carried ≤ length requests
-count_few [] carried among = let none = count_none is_open carried (λ i x e. by_end x (is_ended x.station) refl (among i x e)) in omega arith
-  where
-    by_end : (x : Carried) (b : Bool) → is_ended x.station ≡ b → (is_ended x.station ≡ false → false ≡ true) → is_open x ≡ false
-    by_end x true e h = ap not e
-    by_end x false e h = absurd (true≢false (sym (h e)))
-count_few (r ∷ requests) carried among = elim (looked_up carried r.number) [
-  | inl it ↦ (
-      let rest = count_few requests (slice_set carried it.place (ended it.x)) (ends r requests carried it.place it.x it.number it.here among) in
-      let one : ◌≡◌ {A = ℕ} (cond (is_open it.x) 1 0) 1 = ap (λ (b : Bool). cond (not b) 1 0) it.unended in
-      omega (arith, count_set is_open carried it.place it.x (ended it.x) it.here))
-  | inr none ↦ (let rest = count_few requests carried (skips r requests carried none among) in omega arith)
+        true≢false (sym e ∙ (ap (λ (z : Carried). is_ended z.station) (same_Some some.0 y (sym some.1 ∙ (ap (slice_get carried) place ∙ at))) ∙ unended)))
+    | inr e ↦ inl (record { place = p; x = some.0; number = omega arith; here = some.1; unended = e })
+  ]
 ]
 
-sum_none : (carried : List Carried) → ((k : ℕ) (x : Carried) → slice_get carried k ≡ Some x → held x ≡ 0) → sum_by held carried ≡ 0
-sum_none [] none = refl
-sum_none (x ∷ carried) none = omega (arith, sum_none carried (λ k y e. none (suc k) y e), none zero x refl, sum_by-cons held x carried)
+-- where none is among these each is finished
+all_ended : (carried : List Carried) → AreAmong [] carried → (k : ℕ) (x : Carried) → slice_get carried k ≡ Some x → is_ended x.station ≡ true
+all_ended carried among k x e = true_from_ne_false (is_ended x.station) (λ unended. true≢false (sym (among k x e unended)))
 
--- where as many are, they hold these frames
-held_alike : (requests : List Request) (carried : List Carried) → AreAmong requests carried → All (IsFitting carried) requests → count_by is_open carried ≡ length requests → sum_by held carried ≡ sum_by frames_of requests
-held_alike [] carried among fits counted = sum_none carried (λ i x e. by_end x (is_ended x.station) refl (among i x e))
-  where
-    by_end : (x : Carried) (b : Bool) → is_ended x.station ≡ b → (is_ended x.station ≡ false → false ≡ true) → held x ≡ 0
-    by_end x true e h = ap (λ (b : Bool). if b then 0 else job_frames x.job) (same_stage x.station ∙ e)
-    by_end x false e h = absurd (true≢false (sym (h e)))
-held_alike (r ∷ requests) carried among fits counted = elim (looked_up carried r.number) [
-  | inl it ↦ (
+-- no more are unfinished than these, and where as many are, they hold these frames
+held_alike : (requests : List Request) (carried : List Carried) → AreAmong requests carried → All (IsFitting carried) requests
+    → (count_by is_open carried ≤ length requests) × (count_by is_open carried ≡ length requests → sum_by held carried ≡ sum_by frames_of requests)
+held_alike [] carried among fits =
+    let none = count_none is_open carried (λ i x e. ap not (all_ended carried among i x e)) in
+    (omega arith, λ counted. sum_none held carried (λ i x e. ap (λ (b : Bool). if b then 0 else job_frames x.job) (same_stage x.station ∙ all_ended carried among i x e)))
+held_alike (r ∷ requests) carried among fits = elim (looked_up carried r.number) [
+  | inl it ↦
       let now = count_set is_open carried it.place it.x (ended it.x) it.here in
       let one : ◌≡◌ {A = ℕ} (cond (is_open it.x) 1 0) 1 = ap (λ (b : Bool). cond (not b) 1 0) it.unended in
       let rest = held_alike requests (slice_set carried it.place (ended it.x)) (ends r requests carried it.place it.x it.number it.here among)
-      (λ k d lt. fits_on carried it.place it.x it.here (get_or requests k d) ((All-tail (IsFitting carried) r requests fits) k d lt)) (omega arith) in
+      (λ k d lt. fits_on carried it.place it.x it.here (get_or requests k d) ((All-tail (IsFitting carried) r requests fits) k d lt)) in
       let summed = sum_set held carried it.place it.x (ended it.x) it.here in
-      let own = (ap (λ (b : Bool). if b then 0 else job_frames it.x.job) (same_stage it.x.station ∙ it.unended)) in
-      omega (arith, sum_by-cons frames_of r requests, All-head (IsFitting carried) r requests fits it.place it.x it.number it.here))
-  | inr none ↦ (let fewer = count_few requests carried (skips r requests carried none among) in absurd (omega arith))
+      let own = ap (λ (b : Bool). if b then 0 else job_frames it.x.job) (same_stage it.x.station ∙ it.unended) in
+      (omega (arith, rest.0), λ counted. omega (arith, rest.1 (omega arith), sum_by-cons frames_of r requests, All-head (IsFitting carried) r requests fits it.place it.x it.number it.here))
+  | inr none ↦
+      let fewer = held_alike requests carried (skips r requests carried none among) (All-tail (IsFitting carried) r requests fits) in
+      (omega (arith, fewer.0), λ counted. absurd (omega (arith, fewer.0)))
 ]
 
 -- the front's requests, and the one that ends
@@ -154,35 +135,20 @@ among_ones carried requests None opened k x here unended = elim (opened.held k x
   | inr other ↦ absurd (none-some other.0 other.1)
 ]
 among_ones carried requests (Some e) opened k x here unended = elim (opened.held k x here unended) [
-  | inl any ↦ or_second (e.request.number == k + 1) (list_any (λ (r : Request). r.number == k + 1) requests) any
+  | inl any ↦ or_right (e.request.number == k + 1) (list_any (λ (r : Request). r.number == k + 1) requests) any
   | inr other ↦ (
       let number : e.request.number ≡ k + 1 = ap (λ (z : Ending). z.request.number) (same_Some e other.0 other.1) ∙ other.2 in
-      or_first (e.request.number == k + 1) (list_any (λ (r : Request). r.number == k + 1) requests) (same_number e.request.number (k + 1) number))
+      or_left (e.request.number == k + 1) (list_any (λ (r : Request). r.number == k + 1) requests) (same_number e.request.number (k + 1) number))
 ]
-  where
-    or_second : (a b : Bool) → b ≡ true → (a || b) ≡ true
-    or_second true b t = refl
-    or_second false b t = t
 
-    or_first : (a b : Bool) → a ≡ true → (a || b) ≡ true
-    or_first true b t = refl
-    or_first false b t = absurd (true≢false (sym t))
-
-length_ones : (requests : List Request) (ending : Option Ending) → length (ones requests ending) ≡ length requests + count_of ending
-length_ones requests None = omega arith
-length_ones requests (Some e) = omega arith
-
-frames_ones : (requests : List Request) (ending : Option Ending) → sum_by frames_of (ones requests ending) ≡ sum_by frames_of requests + ending_frames ending
-frames_ones requests None = omega arith
-frames_ones requests (Some e) = let first = sum_by-cons frames_of e.request requests in omega arith
+ones_are : (requests : List Request) (ending : Option Ending)
+    → (length (ones requests ending) ≡ length requests + count_of ending) × (sum_by frames_of (ones requests ending) ≡ sum_by frames_of requests + ending_frames ending)
+ones_are requests None = (omega arith, omega arith)
+ones_are requests (Some e) = (omega arith, omega (arith, sum_by-cons frames_of e.request requests))
 
 -- the frames that so many sectors take, by the rule
 pub ruled_frames : (count : ℕ) → (if nat_lt 11 ((count + 7) / 8) then (count + 7) / 8 + ((count + 7) / 8 + 511) / 512 else (count + 7) / 8) ≡ frames_for count + pages_for count
-ruled_frames count = by_size (nat_lt 11 ((count + 7) / 8))
-  where
-    by_size : (b : Bool) → (if b then (count + 7) / 8 + ((count + 7) / 8 + 511) / 512 else (count + 7) / 8) ≡ (count + 7) / 8 + (if b then ((count + 7) / 8 + 511) / 512 else 0)
-    by_size true = refl
-    by_size false = omega arith
+ruled_frames count = cond_both (nat_lt 11 ((count + 7) / 8)) _ _ (λ (n : ℕ). n ≡ (count + 7) / 8 + pages_for count) (λ t. rw t refl) (λ t. rw t (omega arith))
 
 -- a request needs a frame for each eight of the sectors that it moves, and its indirect pages
 pub all_frames : (way : Transfer) (sector count : ℕ) → IsCounted way count → job_frames (submitted_job way sector count) ≡ frames_for count + pages_for count
@@ -204,9 +170,9 @@ fitting submitted sectors last carried r all known stands k x number here =
 
 pub frames_alike : (config : Options) (w : World) (g : Flow) (d : Pipeline) → Holds config w g d w.front.stage w.back.stage → sum_by frames_held (map asked d.requests) ≡ count_by (λ (b : Bool). b) w.front.pool
 frames_alike config w g d h =
-    let alike = held_alike (ones w.front.requests ending) d.requests (among_ones d.requests w.front.requests ending h.stations.opened) (all_fit ending refl)
-    (h.stations.opened.unfinished ∙ sym (length_ones w.front.requests ending)) in
-    omega (arith, held_asked d.requests, frames_ones w.front.requests ending, h.pool.used)
+    let are = ones_are w.front.requests ending in
+    let alike = held_alike (ones w.front.requests ending) d.requests (among_ones d.requests w.front.requests ending h.stations.opened) (all_fit ending refl) in
+    omega (arith, held_asked d.requests, alike.1 (h.stations.opened.unfinished ∙ sym are.0), are.1, h.pool.used)
   where
     ending : Option Ending
     ending = ending_at w.front.stage w.front.ending
@@ -221,8 +187,4 @@ frames_alike config w g d h =
     all_fit None same = each
     all_fit (Some e) same =
         let its = ending_is g.shape g.start g.pushed g.taken g.front_seen g.submitted g.replies (next_request w.front) w.front.ring.entry w.front.ending w.front.stage e h.front_at same in
-        by_place (fit e.request its.known)
-      where
-        by_place : IsFitting d.requests e.request → All (IsFitting d.requests) (e.request ∷ w.front.requests)
-        by_place first zero x lt = first
-        by_place first (suc k) x lt = each k x (omega arith)
+        All-cons (IsFitting d.requests) e.request w.front.requests (fit e.request its.known) each

@@ -417,18 +417,18 @@ BackSends (back.ResponseEvent old) replied taken = replied ≡ taken + 1
 BackSends back.Send replied taken = Unit {0}
 BackSends s replied taken = ⊥
 
--- an end that goes to sleep, or sleeps, left its event word one past what it has; while it sleeps nothing more is there, or an event is pending or comes
-pub record IsFrontSleep (start taken replied : ℕ) (pages : List ℕ) (asleep pending : Bool) (front_stage : FrontStage) (back_stage : BackStage) : Type 0 where
-  pub arming : is_front_arming front_stage ≡ true → word_of pages 2 3 ≡ wrapped start (taken + 1)
-  pub armed : asleep ≡ true → word_of pages 2 3 ≡ wrapped start (taken + 1)
-  pub may : may_front_sleep front_stage ≡ false → asleep ≡ false
-  pub woken : asleep ≡ true → (replied ≡ taken) ⊎ (pending ≡ true) ⊎ BackSends back_stage replied taken
+-- an end that goes to sleep (`arms`), or sleeps, left its event word one past what it has (`had`); while it sleeps nothing more is there (`pushed`), or an event is pending or comes
+pub record IsSleep (start had pushed event : ℕ) (asleep pending arms may_sleep : Bool) (Sends : Type 0) : Type 0 where
+  pub arming : arms ≡ true → event ≡ wrapped start (had + 1)
+  pub armed : asleep ≡ true → event ≡ wrapped start (had + 1)
+  pub may : may_sleep ≡ false → asleep ≡ false
+  pub woken : asleep ≡ true → (pushed ≡ had) ⊎ (pending ≡ true) ⊎ Sends
 
-pub record IsBackSleep (start fetched pushed : ℕ) (pages : List ℕ) (asleep pending : Bool) (front_stage : FrontStage) (back_stage : BackStage) : Type 0 where
-  pub arming : is_back_arming back_stage ≡ true → word_of pages 2 1 ≡ wrapped start (fetched + 1)
-  pub armed : asleep ≡ true → word_of pages 2 1 ≡ wrapped start (fetched + 1)
-  pub may : may_back_sleep back_stage ≡ false → asleep ≡ false
-  pub woken : asleep ≡ true → (pushed ≡ fetched) ⊎ (pending ≡ true) ⊎ FrontSends front_stage pushed fetched
+abbrev pub IsFrontSleep : (start taken replied : ℕ) (pages : List ℕ) (asleep pending : Bool) → FrontStage → BackStage → Type 0
+IsFrontSleep start taken replied pages asleep pending s b = IsSleep start taken replied (word_of pages 2 3) asleep pending (is_front_arming s) (may_front_sleep s) (BackSends b replied taken)
+
+abbrev pub IsBackSleep : (start fetched pushed : ℕ) (pages : List ℕ) (asleep pending : Bool) → FrontStage → BackStage → Type 0
+IsBackSleep start fetched pushed pages asleep pending s b = IsSleep start fetched pushed (word_of pages 2 1) asleep pending (is_back_arming b) (may_back_sleep b) (FrontSends s pushed fetched)
 
 -- the front's one port of this epoch, as far as both ends came, where so many were made before
 abbrev pub PortsAt : (before : ℕ) → (connected bound : Bool) → ℕ → List PortState → Type 0

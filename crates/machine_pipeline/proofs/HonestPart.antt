@@ -29,10 +29,15 @@ use Rattle.machine_pipeline.proofs.Allowed.{possible_first}
 use Rattle.line_text.proofs.Both.{both_true}
 use Rattle.machine_pipeline.specs.Submissions.{submitted_at, submitted_of}
 use Rattle.machine_pipeline.specs.Allowed.{AreServed, ArePossible}
+use Rattle.std.proofs.lemmas.Bool.{cases_Bool, cond_both}
+use Rattle.split_model.proofs.Showing.{both_all}
 
 -- lines of which none is hostile
+abbrev IsHonest : Line → Type 0
+IsHonest line = is_honest line ≡ true
+
 abbrev AreHonest : List Line → Type 0
-AreHonest ls = AllByRecursion (λ (line : Line). is_honest line ≡ true) ls
+AreHonest ls = AllByRecursion IsHonest ls
 
 -- a line that doesn't echo is none
 unechoed : (line : Line) → is_echo line ≡ false → is_honest line ≡ true
@@ -48,19 +53,17 @@ echo_past line ls e = simp e
 
 silent_honest : (ls : List Line) → echo_of ls ≡ [] → AreHonest ls
 silent_honest [] e = tt
-silent_honest (line ∷ ls) e = by_echo (is_echo line) refl (λ rest. silent_honest ls rest)
-  where
-    by_echo : (b : Bool) → is_echo line ≡ b → (echo_of ls ≡ [] → AreHonest ls) → AreHonest (line ∷ ls)
-    by_echo true is later = let said : line ∷ echo_of ls ≡ [] = sym (echo_more line ls is) ∙ e in absurd (cc)
-    by_echo false is later = (unechoed line is, later (sym (echo_past line ls is) ∙ e))
+silent_honest (line ∷ ls) e = elim (cases_Bool (is_echo line)) [
+  | inl is ↦ (let said : line ∷ echo_of ls ≡ [] = sym (echo_more line ls is) ∙ e in absurd (cc))
+  | inr is ↦ (unechoed line is, silent_honest ls (sym (echo_past line ls is) ∙ e))
+]
 
 submit_honest : (job : Job) (r : Result ℕ Refusal) → AreHonest (submit_line job r ∷ [])
 submit_honest job (Ok number) = (refl, tt)
 submit_honest job (Err refusal) = (refl, tt)
 
 look_honest : (quiet : Bool) (other : Line) → is_honest other ≡ true → AreHonest ((if quiet then lines.Quiet else other) ∷ [])
-look_honest true other e = (refl, tt)
-look_honest false other e = (e, tt)
+look_honest quiet other e = cond_both quiet lines.Quiet other (λ (line : Line). AreHonest (line ∷ [])) (λ t. (refl, tt)) (λ t. (e, tt))
 
 -- no word and no key is overwritten
 abbrev IsUntouched : Happening → Type 0
@@ -72,10 +75,10 @@ honest_at : (w : World) (h : Happening) → IsUntouched h → AreHonest (lines_a
 honest_at w (Submits job) may = submit_honest job (front_submit.submit_of w.front job).0
 honest_at w (Looks quiet) may = look_honest quiet lines.Busy refl
 honest_at w (Settles quiet) may = look_honest quiet lines.Unsettled refl
-honest_at w Dumps may = dump_lines_are (λ (line : Line). is_honest line ≡ true) w.under.pages 0 (1024 * 2 ^ w.front.shape.order) (λ frame word value. refl)
+honest_at w Dumps may = dump_lines_are IsHonest w.under.pages 0 (1024 * 2 ^ w.front.shape.order) (λ frame word value. refl)
 honest_at w (Pokes frame word value) may = absurd may
 honest_at w (OverwritesKey name text) may = absurd may
-honest_at w Suspends may = suspend_lines_are (λ (line : Line). is_honest line ≡ true) w refl
+honest_at w Suspends may = suspend_lines_are IsHonest w refl
 honest_at w h may = silent_honest (lines_at w h) (move_silent w h refl)
 
 -- honest lines come before those of the rest
@@ -83,14 +86,9 @@ honest_then : (ls rest : List Line) → AreHonest ls → honest_part (ls ++ rest
 honest_then [] rest all = refl
 honest_then (line ∷ ls) rest all = honest_more line (ls ++ rest) all.0 ∙ ap (λ (l : List Line). line ∷ l) (honest_then ls rest all.1)
 
-both_honest : (a b : List Line) → AreHonest a → AreHonest b → AreHonest (a ++ b)
-both_honest [] b p q = q
-both_honest (line ∷ a) b p q = (p.0, both_honest a b p.1 q)
-
 -- all of it
 honest_all : (ls : List Line) → AreHonest ls → honest_part ls ≡ ls
-honest_all [] all = refl
-honest_all (line ∷ ls) all = honest_more line ls all.0 ∙ ap (λ (l : List Line). line ∷ l) (honest_all ls all.1)
+honest_all ls all = ap honest_part (sym (append-nil ls)) ∙ (honest_then ls [] all ∙ append-nil ls)
 
 listed_honest : (ls : List Line) → list_all is_honest ls ≡ true → AreHonest ls
 listed_honest [] all = tt
@@ -101,7 +99,7 @@ before_honest : (hs : List Happening) (w : World) → AreHonest (lines_of (hones
 before_honest [] w = tt
 before_honest (Pokes frame word value ∷ hs) w = tt
 before_honest (OverwritesKey name text ∷ hs) w = tt
-before_honest (h ∷ hs) w = both_honest (lines_at w h) (lines_of (honest_history hs) (happens w h)) (honest_at w h tt) (before_honest hs (happens w h))
+before_honest (h ∷ hs) w = both_all IsHonest (lines_at w h) (lines_of (honest_history hs) (happens w h)) (honest_at w h tt) (before_honest hs (happens w h))
 
 -- nothing was overwritten, or the first line that says so comes after those of what happened before
 pub record HostileAfter (whole first : List Line) : Type 0 where
@@ -119,11 +117,7 @@ more_honest h hs w tail first (inr later) = inr (record {
   line = later.line;
   rest = later.rest;
   hostile = later.hostile;
-  split =
-      append_assoc (lines_at w h) (lines_of hs (happens w h)) tail
-      ∙ (ap (λ (l : List Line). lines_at w h ++ l) later.split
-      ∙ (sym (append_assoc (lines_at w h) (lines_of (honest_history hs) (happens w h)) (later.line ∷ later.rest))
-      ∙ ap (λ (l : List Happening). lines_of l w ++ later.line ∷ later.rest) (sym first)));
+  split = rw first (simp append_assoc (ap (λ (l : List Line). lines_at w h ++ l) later.split));
 })
 
 pub honest_with : (hs : List Happening) (w : World) (tail : List Line) → ArePossible hs w → HonestWith hs w tail
@@ -181,24 +175,17 @@ kept_hostile d line e = absurd (true≢false e)
 
 pub honest_kept : (d : Detail) (ls : List Line) → honest_part (kept_of d ls) ≡ kept_of d (honest_part ls)
 honest_kept d [] = refl
-honest_kept d (line ∷ ls) = by_test (is_honest line) refl (honest_kept d ls)
-  where
-    by_test : (b : Bool) → is_honest line ≡ b → honest_part (kept_of d ls) ≡ kept_of d (honest_part ls) → honest_part (recorded d line ++ kept_of d ls) ≡ kept_of d (honest_part (line ∷ ls))
-    by_test true e later =
-        honest_then (recorded d line) (kept_of d ls) (kept_honest d line e)
-        ∙ (ap (λ (l : List Line). recorded d line ++ l) later ∙ ap (kept_of d) (sym (honest_more line ls e)))
-    by_test false e later = ap (λ (l : List Line). honest_part (l ++ kept_of d ls)) (kept_hostile d line e) ∙ (honest_ends line (kept_of d ls) e ∙ ap (kept_of d) (sym (honest_ends line ls e)))
+honest_kept d (line ∷ ls) = elim (cases_Bool (is_honest line)) [
+  | inl e ↦ rw (honest_then (recorded d line) (kept_of d ls) (kept_honest d line e), honest_kept d ls, honest_more line ls e) refl
+  | inr e ↦ rw (kept_hostile d line e, honest_ends line (kept_of d ls) e, honest_ends line ls e) refl
+]
 
 -- the lines of a report, and more after them: its honest part is the report of what happened before, or all of it
 honest_cut : (config : Options) (detail : Detail) (hs : List Happening) (whole : List Line)
     → HostileAfter whole (lines_of (honest_history hs) (start_of config)) → honest_part (lines.Begin config detail ∷ whole) ≡ report_of config detail (honest_history hs)
 honest_cut config detail hs whole h =
     let first = lines_of (honest_history hs) (start_of config) in
-    honest_more (lines.Begin config detail) whole refl
-    ∙ ap (λ (l : List Line). lines.Begin config detail ∷ l)
-    (ap honest_part h.split
-    ∙ (honest_then first (h.line ∷ h.rest) (before_honest hs (start_of config))
-    ∙ (ap (λ (l : List Line). first ++ l) (honest_ends h.line h.rest h.hostile) ∙ append-nil first)))
+    rw (honest_more (lines.Begin config detail) whole refl, h.split, honest_then first (h.line ∷ h.rest) (before_honest hs (start_of config)), honest_ends h.line h.rest h.hostile, append-nil) refl
 
 -- where nothing was overwritten, all lines are honest
 all_before : (hs : List Happening) (w : World) → honest_history hs ≡ hs → AreHonest (lines_of hs w)
@@ -206,11 +193,10 @@ all_before hs w all = subst (λ (l : List Happening). AreHonest (lines_of l w)) 
 
 pub honest_report : (config : Options) (detail : Detail) (hs : List Happening) → ArePossible hs (start_of config)
     → honest_part (report_of config detail hs) ≡ report_of config detail (honest_history hs)
-honest_report config detail hs may = by_part (honest_with hs (start_of config) [] may)
-  where
-    by_part : HonestWith hs (start_of config) [] → honest_part (report_of config detail hs) ≡ report_of config detail (honest_history hs)
-    by_part (inl all) = honest_all (report_of config detail hs) (refl, all_before hs (start_of config) all) ∙ ap (report_of config detail) (sym all)
-    by_part (inr h) = ap (λ (l : List Line). honest_part (lines.Begin config detail ∷ l)) (sym (append-nil (lines_of hs (start_of config)))) ∙ honest_cut config detail hs (lines_of hs (start_of config) ++ []) h
+honest_report config detail hs may = elim (honest_with hs (start_of config) [] may) [
+  | inl all ↦ honest_all (report_of config detail hs) (refl, all_before hs (start_of config) all) ∙ ap (report_of config detail) (sym all)
+  | inr h ↦ ap (λ (l : List Line). honest_part (lines.Begin config detail ∷ l)) (sym (append-nil (lines_of hs (start_of config)))) ∙ honest_cut config detail hs (lines_of hs (start_of config) ++ []) h
+]
 
 -- with its last line
 abbrev pub HonestEnded : Options → Detail → List Happening → Type 0
@@ -220,14 +206,13 @@ HonestEnded config detail hs =
     × (honest_part (ended_report_of config detail hs) ≡ report_of config detail (honest_history hs)))
 
 pub honest_ended : (config : Options) (detail : Detail) (hs : List Happening) → ArePossible hs (start_of config) → HonestEnded config detail hs
-honest_ended config detail hs may = by_part (honest_with hs (start_of config) (lines.End ∷ []) may)
-  where
-    by_part : HonestWith hs (start_of config) (lines.End ∷ []) → HonestEnded config detail hs
-    by_part (inl all) = inl (all, honest_all (ended_report_of config detail hs) (refl, both_honest (lines_of hs (start_of config)) (lines.End ∷ []) (all_before hs (start_of config) all) (refl, tt)))
-    by_part (inr h) = inr (
-      record { line = h.line; rest = h.rest; hostile = h.hostile; split = ap (λ (l : List Line). lines.Begin config detail ∷ l) h.split },
-      honest_cut config detail hs (lines_of hs (start_of config) ++ lines.End ∷ []) h,
-    )
+honest_ended config detail hs may = elim (honest_with hs (start_of config) (lines.End ∷ []) may) [
+  | inl all ↦ inl (all, honest_all (ended_report_of config detail hs) (refl, both_all IsHonest (lines_of hs (start_of config)) (lines.End ∷ []) (all_before hs (start_of config) all) (refl, tt)))
+  | inr h ↦ inr (
+    record { line = h.line; rest = h.rest; hostile = h.hostile; split = ap (λ (l : List Line). lines.Begin config detail ∷ l) h.split },
+    honest_cut config detail hs (lines_of hs (start_of config) ++ lines.End ∷ []) h,
+  )
+]
 
 -- a report that a recorder keeps and in which no line is hostile is one of a history in which nothing was overwritten
 none_hostile : (first rest : List Line) (hostile : Line) → is_honest hostile ≡ false → AreHonest (first ++ hostile ∷ rest) → ⊥
@@ -235,12 +220,8 @@ none_hostile [] rest hostile e all = true≢false (sym all.0 ∙ e)
 none_hostile (line ∷ first) rest hostile e all = none_hostile first rest hostile e all.1
 
 pub kept_after : (d : Detail) (whole first : List Line) → HostileAfter whole first → HostileAfter (kept_of d whole) (kept_of d first)
-kept_after d whole first h = record {
-  line = h.line;
-  rest = kept_of d h.rest;
-  hostile = h.hostile;
-  split = ap (kept_of d) h.split ∙ (kept_of-append d first (h.line ∷ h.rest) ∙ ap (λ (l : List Line). kept_of d first ++ (l ++ kept_of d h.rest)) (kept_hostile d h.line h.hostile));
-}
+kept_after d whole first h =
+    search (h.hostile, ap (kept_of d) h.split ∙ (kept_of-append d first (h.line ∷ h.rest) ∙ ap (λ (l : List Line). kept_of d first ++ (l ++ kept_of d h.rest)) (kept_hostile d h.line h.hostile)))
 
 pub not_honest : (whole first : List Line) → HostileAfter whole first → list_all is_honest whole ≡ true → ⊥
 not_honest whole first h all = none_hostile first h.rest h.line h.hostile (subst AreHonest h.split (listed_honest whole all))
@@ -261,46 +242,31 @@ hostile_cut allowed hostile [] rest e all = refl
 hostile_cut true hostile (line ∷ part) rest e all = let same : line ≡ hostile = cc in honest_ends line part (ap is_honest same ∙ e)
 hostile_cut false hostile (line ∷ part) rest e all = absurd (cc)
 
--- a history with one more happening, where nothing was overwritten
-one_more_honest : (hs : List Happening) (last : Happening) → IsUntouched last → honest_history hs ≡ hs → honest_history (hs ++ last ∷ []) ≡ hs ++ last ∷ []
-one_more_honest hs last unpoked all = joined hs last (later last unpoked) all
-  where
-    later : (h : Happening) → IsUntouched h → honest_history (h ∷ []) ≡ h ∷ []
-    later (Pokes frame word value) none = absurd none
-    later (OverwritesKey name text) none = absurd none
-    later h none = refl
-
-    joined : (hs : List Happening) (last : Happening) → honest_history (last ∷ []) ≡ last ∷ [] → honest_history hs ≡ hs → honest_history (hs ++ last ∷ []) ≡ hs ++ last ∷ []
-    joined [] last one all = one
-    joined (Pokes frame word value ∷ hs) last one all = absurd (cc)
-    joined (OverwritesKey name text ∷ hs) last one all = absurd (cc)
-    joined (h ∷ hs) last one all = ap (λ (l : List Happening). h ∷ l) (joined hs last one (cc))
+-- where nothing was overwritten, more may follow
+honest_append : (hs more : List Happening) → honest_history hs ≡ hs → honest_history (hs ++ more) ≡ hs ++ honest_history more
+honest_append [] more all = refl
+honest_append (Pokes frame word value ∷ hs) more all = absurd (cc)
+honest_append (OverwritesKey name text ∷ hs) more all = absurd (cc)
+honest_append (h ∷ hs) more all = ap (λ (l : List Happening). h ∷ l) (honest_append hs more (cc))
 
 pub cut_or_whole : (config : Options) (detail : Detail) (history : List Happening) (last : Happening) (part rest : List Line) → ArePossible (history ++ last ∷ []) (start_of config)
     → part ++ rest ≡ lines_at (after history (start_of config)) last → CutOrWhole config detail history last part
-cut_or_whole config detail history last part rest may all = by_part (honest_with history (start_of config) part (possible_first history (last ∷ []) (start_of config) may))
+cut_or_whole config detail history last part rest may all = elim (honest_with history (start_of config) part (possible_first history (last ∷ []) (start_of config) may)) [
+  | inl whole ↦ by_last last whole all
+  | inr k ↦ inr (honest_cut config detail history (lines_of history (start_of config) ++ part) k)
+]
   where
-    start : World
-    start = start_of config
-
     overwritten : (h : Happening) → honest_history history ≡ history → honest_part part ≡ [] → CutOrWhole config detail history h part
     overwritten h whole none =
-        inr (
-        honest_then (report_of config detail history) part (refl, all_before history start whole)
-        ∙ (ap (λ (l : List Line). report_of config detail history ++ l) none
-        ∙ (append-nil (report_of config detail history) ∙ ap (report_of config detail) (sym whole)))
-        )
+        inr (rw (honest_then (report_of config detail history) part (refl, all_before history (start_of config) whole), none, append-nil (lines_of history (start_of config)), whole) refl)
 
-    by_last : (h : Happening) → honest_history history ≡ history → part ++ rest ≡ lines_at (after history start) h → CutOrWhole config detail history h part
+    by_last : (h : Happening) → honest_history history ≡ history → part ++ rest ≡ lines_at (after history (start_of config)) h → CutOrWhole config detail history h part
     by_last (Pokes frame word value) whole shown = overwritten (Pokes frame word value) whole (hostile_cut (is_guest_word frame word) (lines.Poke frame word value) part rest refl shown)
     by_last (OverwritesKey name text) whole shown = overwritten (OverwritesKey name text) whole (hostile_cut (is_guest_key name text) (lines.Key name text) part rest refl shown)
     by_last h whole shown =
         inl (
-          one_more_honest history h tt whole,
+          honest_append history (h ∷ []) whole,
           honest_all (report_of config detail history ++ part)
-              (both_honest (report_of config detail history) part (refl, all_before history start whole) (first_honest part rest (subst AreHonest (sym shown) (honest_at (after history start) h tt)))),
+              (both_all IsHonest (report_of config detail history) part (refl, all_before history (start_of config) whole)
+              (first_honest part rest (subst AreHonest (sym shown) (honest_at (after history (start_of config)) h tt)))),
         )
-
-    by_part : HonestWith history start part → CutOrWhole config detail history last part
-    by_part (inl whole) = by_last last whole all
-    by_part (inr k) = inr (honest_cut config detail history (lines_of history start ++ part) k)

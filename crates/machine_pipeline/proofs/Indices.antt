@@ -23,9 +23,6 @@ pub indices_room : (g : Flow) (front_ring back_ring : Ring) (front_seen back_see
 indices_room g front_ring back_ring front_seen back_seen number last waiting unfinished ending ending' room h =
     indices_seen g g.front_seen front_ring back_ring front_seen front_seen back_seen number last waiting unfinished ending ending' h.front_saw h.front_from h.front_to room h
 
-at_first : (start : ℕ) → start < 2 ^ 32 → start ≡ wrapped start 0
-at_first start few = omega arith
-
 -- the indices of both ends at the start of an epoch
 pub record AreFirst (config : Options) (front_ring back_ring : Ring) (front_seen back_seen : ℕ) : Type 0 where
   pub entries : front_ring.entries ≡ entries_of config.order
@@ -41,4 +38,5 @@ pub indices_epoch : (config : Options) (front_ring back_ring : Ring) (before fro
     → AreFirst config front_ring back_ring front_seen back_seen
     → length series ≤ last → last < 2 ^ 32 → length series + ending ≤ entries_of config.order
     → AreIndices (epoch_flow (record { abi = config.abi; order = config.order }) config.start before submitted series closing) front_ring back_ring front_seen back_seen 0 last (length series) (length series) ending
-indices_epoch config front_ring back_ring before front_seen back_seen last ending submitted series closing plain h given few room = let begins = at_first config.start plain.start in omega (arith, h)
+indices_epoch config front_ring back_ring before front_seen back_seen last ending submitted series closing plain h given few room =
+    let begins : config.start ≡ wrapped config.start 0 = omega (arith, plain.start) in omega (arith, h)

@@ -1,5 +1,5 @@
 -- A job maps a frame of its request, and unmaps it.
-use Rattle.std.proofs.Common.{◌≡◌, ◌≢◌, ℕ, ◌+◌, ◌*◌, ◌/◌, ◌%◌, ◌<◌, ◌≤◌, ◌==◌, Bool, true, false, List, length, if◌then◌else◌, refl, ap, sym, ◌∙◌, subst, arith}
+use Rattle.std.proofs.Common.{◌≡◌, ◌≢◌, ℕ, ◌+◌, ◌*◌, ◌/◌, ◌%◌, ◌<◌, ◌≤◌, Bool, true, false, List, length, if◌then◌else◌, refl, ap, sym, ◌∙◌, arith, inl, inr}
 use Rattle.std.specs.Prelude.{Option, Some, slice_get, nat_lt, Ok}
 use Rattle.std.proofs.lemmas.Option.{same_Some}
 use Rattle.std.proofs.lemmas.Bool.Decides.{nat_tests}
@@ -18,6 +18,7 @@ use Rattle.machine_pipeline.proofs.Series.{IsAmong}
 use Rattle.machine_pipeline.proofs.Holds.{IsGranted, AreEntries, is_only_read, mapped_at, flags_with}
 use Rattle.machine_pipeline.proofs.Lists.{all_at, all_from}
 use Rattle.machine_pipeline.proofs.Kept.{SameEntry, written, other_word, other_entry}
+use Rattle.std.proofs.lemmas.Bool.{cases_eq}
 
 -- the flags of a granted frame, by whether it is only read
 abbrev granting : Bool → ℕ
@@ -30,38 +31,23 @@ granted_way (transfer.Barrier tag) = refl
 granted_way way = refl
 
 pub granting_at : (r : Request) (place : ℕ) → flags_at r place ≡ granting (is_only_read r place)
-granting_at r place = by_place (nat_lt place (frames_for r.count))
-  where
-    by_place : (b : Bool) → (if b then grant_flags r.transfer else 5) ≡ granting (if b then is_write r.transfer else true)
-    by_place true = granted_way r.transfer
-    by_place false = refl
+granting_at r place =
+    elim (nat_lt place (frames_for r.count)) as (λ b. (if b then grant_flags r.transfer else 5) ≡ granting (if b then is_write r.transfer else true)) [ true ↦ granted_way r.transfer | false ↦ refl ]
 
--- the entry of a granted frame lets it be mapped
+-- the entry of a granted frame lets it be mapped; the flags once it is mapped, and once no mapping is left
 pub may_map : (r : Request) (place frame : ℕ) → 2 ≤ frame → frame < 1018 → verdict_of (frame + 6) (flags_at r place) frame (mode_of (is_only_read r place)) ≡ Ok frame
 may_map r place frame low high =
     let known : nat_lt 1023 (frame + 6) ≡ false = grind (arith, nat_tests) in
     let from : nat_lt frame 2 ≡ false = grind (arith, nat_tests) in
     let to : nat_lt 1023 frame ≡ false = grind (arith, nat_tests) in
-    ap (λ (flags : ℕ). verdict_of (frame + 6) flags frame (mode_of (is_only_read r place))) (granting_at r place) ∙ by_mode known from to (is_only_read r place)
-  where
-    by_mode : nat_lt 1023 (frame + 6) ≡ false → nat_lt frame 2 ≡ false → nat_lt 1023 frame ≡ false → (b : Bool) → verdict_of (frame + 6) (granting b) frame (mode_of b) ≡ Ok frame
-    by_mode known from to true = rw (known, from, to) refl
-    by_mode known from to false = rw (known, from, to) refl
+    rw (granting_at r place) (elim (is_only_read r place) as (λ b. verdict_of (frame + 6) (granting b) frame (mode_of b) ≡ Ok frame)
+    [ true ↦ rw (known, from, to) refl | false ↦ rw (known, from, to) refl ])
 
--- the flags once it is mapped, and once no mapping is left
 pub set_flags : (r : Request) (place : ℕ) → mapped_entry (flags_at r place) (mode_of (is_only_read r place)) ≡ mapped_at r place
-set_flags r place = ap (λ (flags : ℕ). mapped_entry flags (mode_of (is_only_read r place))) (granting_at r place) ∙ by_mode (is_only_read r place)
-  where
-    by_mode : (b : Bool) → mapped_entry (granting b) (mode_of b) ≡ (if b then 13 else 25)
-    by_mode true = refl
-    by_mode false = refl
+set_flags r place = rw (granting_at r place) (elim (is_only_read r place) as (λ b. mapped_entry (granting b) (mode_of b) ≡ (if b then 13 else 25)) [ true ↦ refl | false ↦ refl ])
 
 pub cleared_flags : (r : Request) (place : ℕ) → unmapped_entry (mapped_at r place) 0 0 ≡ flags_at r place
-cleared_flags r place = by_mode (is_only_read r place) ∙ sym (granting_at r place)
-  where
-    by_mode : (b : Bool) → unmapped_entry (if b then 13 else 25) 0 0 ≡ granting b
-    by_mode true = refl
-    by_mode false = refl
+cleared_flags r place = rw (granting_at r place) (elim (is_only_read r place) as (λ b. unmapped_entry (if b then 13 else 25) 0 0 ≡ granting b) [ true ↦ refl | false ↦ refl ])
 
 -- the grant entries once the flags of one frame of a request were made those of its mappings
 pub entries_marked : {series : List Request} (pushed : ℕ) (pages : List ℕ) (live live' : List Held) (s : FrontStage) (ending : Option Ending) (requests : List Request) (i : ℕ)
@@ -81,7 +67,22 @@ pub entries_marked : {series : List Request} (pushed : ℕ) (pages : List ℕ) (
     → AreEntries series pushed pages live s ending requests
     → AreEntries series pushed (with_entry_word0 pages (frame_at r place + 6) flags) live' s ending requests
 entries_marked {series} pushed pages live live' s ending requests i r place flags sized here reached fresh high marked others bound own apart last h = record {
-  each = all_from (IsGranted series pushed new live' s) requests (λ j x e. by_place j x e (j == i) refl);
+  each = all_from (IsGranted series pushed new live' s) requests (λ j x e. elim (cases_eq j i) [
+    | inl at ↦ rw (same_Some x r (sym e ∙ (ap (slice_get requests) at ∙ here))) (record {
+      named = λ le a lt. named a lt ∙ it.named le a lt;
+      named_next = λ n a t lt. named a lt ∙ it.named_next n a t lt;
+      flags = now;
+      flags_next = λ n a t lt. absurd (fresh n);
+    })
+    | inr off ↦
+        let was = all_at (IsGranted series pushed pages live s) requests j x h.each e in
+        record {
+          named = λ le a lt. (other j x off e a lt).frame ∙ was.named le a lt;
+          named_next = λ n a t lt. (other j x off e a lt).frame ∙ was.named_next n a t lt;
+          flags = λ le a lt. (other j x off e a lt).flags ∙ (was.flags le a lt ∙ ap (λ (n : ℕ). flags_with x a n) (sym (others (frame_at x a) (apart j x off e a lt))));
+          flags_next = λ n a t lt. (other j x off e a lt).flags ∙ was.flags_next n a t lt;
+        }
+  ]);
   ending = λ e same a from lt.
       let its = last e same a lt in
       (beside (frame_at e.request a) its.0 its.1).flags ∙ h.ending e same a from lt;
@@ -93,47 +94,22 @@ entries_marked {series} pushed pages live live' s ending requests i r place flag
     beside : (f : ℕ) → f < 1018 → f ≢ frame_at r place → SameEntry pages new (f + 6)
     beside f few other = other_entry pages (frame_at r place + 6) (f + 6) flags (omega arith) (omega arith) (λ t. other (omega arith))
 
+    other : (j : ℕ) (x : Request) → j ≢ i → slice_get requests j ≡ Some x → (a : ℕ) → a < frames_of x → SameEntry pages new (frame_at x a + 6)
+    other j x off e a lt = beside (frame_at x a) (bound j x e a) (apart j x off e a lt)
+
     it : IsGranted series pushed pages live s r
     it = all_at (IsGranted series pushed pages live s) requests i r h.each here
 
     named : (a : ℕ) → a < frames_of r → entry_word1 new (frame_at r a + 6) ≡ entry_word1 pages (frame_at r a + 6)
-    named a lt = by_frame (a == place) refl
-      where
-        by_frame : (b : Bool) → (a == place) ≡ b → entry_word1 new (frame_at r a + 6) ≡ entry_word1 pages (frame_at r a + 6)
-        by_frame true t =
-            let at : a ≡ place = grind (arith, nat_tests) in
-            subst (λ (k : ℕ). entry_word1 new (frame_at r k + 6) ≡ entry_word1 pages (frame_at r k + 6)) (sym at)
-            (other_word pages ((frame_at r place + 6) / 512) (2 * ((frame_at r place + 6) % 512)) flags (2 * ((frame_at r place + 6) % 512) + 1) (omega arith))
-        by_frame false t = (beside (frame_at r a) (bound i r here a) (own a (grind (arith, nat_tests)) lt)).frame
+    named a lt = elim (cases_eq a place) [
+      | inl at ↦ rw at (other_word pages ((frame_at r place + 6) / 512) (2 * ((frame_at r place + 6) % 512)) flags (2 * ((frame_at r place + 6) % 512) + 1) (omega arith))
+      | inr off ↦ (beside (frame_at r a) (bound i r here a) (own a off lt)).frame
+    ]
 
     now : IsAmong series pushed r → (a : ℕ) → a < frames_of r → entry_word0 new (frame_at r a + 6) ≡ flags_with r a (mappings_of (frame_at r a + 6) live')
-    now le a lt = by_frame (a == place) refl
-      where
-        by_frame : (b : Bool) → (a == place) ≡ b → entry_word0 new (frame_at r a + 6) ≡ flags_with r a (mappings_of (frame_at r a + 6) live')
-        by_frame true t =
-            let at : a ≡ place = grind (arith, nat_tests) in
-            subst (λ (k : ℕ). entry_word0 new (frame_at r k + 6) ≡ flags_with r k (mappings_of (frame_at r k + 6) live')) (sym at)
-            (written pages ((frame_at r place + 6) / 512) (2 * ((frame_at r place + 6) % 512)) flags sized (omega arith) (omega arith) ∙ marked)
-        by_frame false t =
-            let frames = own a (grind (arith, nat_tests)) lt in
-            (beside (frame_at r a) (bound i r here a) frames).flags ∙ (it.flags le a lt ∙ ap (λ (n : ℕ). flags_with r a n) (sym (others (frame_at r a) frames)))
-
-    by_place : (j : ℕ) (x : Request) → slice_get requests j ≡ Some x → (b : Bool) → (j == i) ≡ b → IsGranted series pushed new live' s x
-    by_place j x e true t =
-        let at : j ≡ i = grind (arith, nat_tests) in
-        subst (IsGranted series pushed new live' s) (same_Some r x (sym here ∙ (ap (slice_get requests) (sym at) ∙ e))) (record {
-          named = λ le a lt. named a lt ∙ it.named le a lt;
-          named_next = λ n a t lt. named a lt ∙ it.named_next n a t lt;
-          flags = now;
-          flags_next = λ n a t lt. absurd (fresh n);
-        })
-    by_place j x e false t =
-        let off : j ≢ i = grind (arith, nat_tests) in
-        let was = all_at (IsGranted series pushed pages live s) requests j x h.each e in
-        record {
-          named = λ le a lt. let entry = beside (frame_at x a) (bound j x e a) (apart j x off e a lt) in entry.frame ∙ was.named le a lt;
-          named_next = λ n a t lt. let entry = beside (frame_at x a) (bound j x e a) (apart j x off e a lt) in entry.frame ∙ was.named_next n a t lt;
-          flags = λ le a lt. let frames = apart j x off e a lt in let entry = beside (frame_at x a) (bound j x e a) frames in
-              entry.flags ∙ (was.flags le a lt ∙ ap (λ (n : ℕ). flags_with x a n) (sym (others (frame_at x a) frames)));
-          flags_next = λ n a t lt. let entry = beside (frame_at x a) (bound j x e a) (apart j x off e a lt) in entry.flags ∙ was.flags_next n a t lt;
-        }
+    now le a lt = elim (cases_eq a place) [
+      | inl at ↦ rw at (written pages ((frame_at r place + 6) / 512) (2 * ((frame_at r place + 6) % 512)) flags sized (omega arith) (omega arith) ∙ marked)
+      | inr off ↦
+          let frames = own a off lt in
+          (beside (frame_at r a) (bound i r here a) frames).flags ∙ (it.flags le a lt ∙ ap (λ (n : ℕ). flags_with r a n) (sym (others (frame_at r a) frames)))
+    ]

@@ -1,9 +1,9 @@
 -- Each move of a job, by its stage.
-use Rattle.std.proofs.Common.{◌≡◌, ◌≢◌, ℕ, zero, ◌+◌, ◌-◌, ◌*◌, ◌%◌, ◌^◌, ◌<◌, ◌≤◌, ◌==◌, if◌then◌else◌, Bool, true, false, List, [], ◌∷◌, refl, ap, sym, ◌∙◌, subst, arith, length-set, get_or-set_other, take}
+use Rattle.std.proofs.Common.{◌≡◌, ◌≢◌, ℕ, zero, ◌+◌, ◌-◌, ◌*◌, ◌%◌, ◌^◌, ◌<◌, ◌≤◌, ◌==◌, if◌then◌else◌, Bool, true, false, List, [], ◌∷◌, refl, ap, sym, ◌∙◌, subst, arith, length-set, get_or-set_other, take, inl, inr}
 use Rattle.std.proofs.lemmas.Grind.{get_or-set_at}
 use Rattle.std.specs.Prelude.{All, Option, Some, None, slice_get, slice_set, slice_index, nat_lt, length, drop}
 use Rattle.std.proofs.lemmas.Option.{same_Some}
-use Rattle.std.proofs.lemmas.Bool.{false≢true}
+use Rattle.std.proofs.lemmas.Bool.{false≢true, cases_eq}
 use Rattle.std.proofs.lemmas.List.Elements.{All-contains}
 use Rattle.std.proofs.lemmas.Bool.Decides.{nat_tests}
 use Rattle.blk_base.specs.Options.{Options}
@@ -36,16 +36,17 @@ use Rattle.split_model.specs.Safe.{AreHeld}
 use Rattle.machine_pipeline.proofs.Flow.{Flow, data_word, is_own, worked, own_segments}
 use Rattle.blk_layout.specs.declared.segment.Segment.{Segment}
 use Rattle.machine_pipeline.proofs.Data.{own_among, data_value}
-use Rattle.machine_pipeline.proofs.Segments.{own_here, within_last, word_place, data_place}
+use Rattle.machine_pipeline.proofs.Segments.{own_here, word_place, data_place}
 use Rattle.machine_pipeline.proofs.ReadBack.{ReadAt}
 use Rattle.machine_pipeline.proofs.Series.{IsAmong, among_apart}
 use Rattle.machine_pipeline.proofs.Holds.{Holds, IsWork, IsPooled, IsHand, IsInSegment, IsMoving, IsReturning, AtWork, IsFilled, last_in, sector_word, IsPlaced, AreCopied}
-use Rattle.machine_pipeline.proofs.Turns.{GoesBy, nothing, no_move, goes_by}
+use Rattle.machine_pipeline.proofs.Turns.{GoesBy, nothing, no_move, goes_by, Stepped, does_step}
 use Rattle.machine_pipeline.proofs.Lists.{all_at, all_same}
 use Rattle.machine_pipeline.proofs.Mapped.{frame_live}
 use Rattle.machine_pipeline.proofs.Frames.{work_queued}
-use Rattle.machine_pipeline.proofs.Jobs.{MayMove, stations_stay, job_rests}
+use Rattle.machine_pipeline.proofs.Jobs.{MayMove, stations_stay, job_rests, StationsWith, with_job, hands_then}
 use Rattle.machine_pipeline.specs.Step.{CallOf}
+use Rattle.blk_base.specs.declared.moves.Move.{Move as Shown}
 
 -- the act of the job at a place, and what it makes of the machine
 abbrev pub act_at : World → ℕ → Work → JobStage → Outcome → Option BackAct
@@ -77,14 +78,15 @@ pub record IsAt (w : World) (g : Flow) (d : Pipeline) (p : ℕ) (t : Work) (r : 
   pub reached : t.number ≤ g.fetched
   pub op : t.op ≡ operation_of r.transfer
 
-pub work_of : (w : World) (g : Flow) (d d' : Pipeline) (p : ℕ) (t t' : Work) (r : Request) → IsAt w g d p t r → t'.number ≡ t.number → t'.id ≡ t.id → t'.op ≡ t.op → AtWork r t' t'.stage → IsWork g.submitted g.series g.fetched t'
-work_of w g d d' p t t' r is number id op at = record {
+pub work_of : {w : World} {g : Flow} {d : Pipeline} {p : ℕ} {t t' : Work} {r : Request} → IsAt w g d p t r → t'.number ≡ t.number → t'.id ≡ t.id → t'.op ≡ t.op → AtWork r t' t'.stage
+    → IsWork g.submitted g.series g.fetched t'
+work_of {g = g} {r = r} is number id op at = record {
   r = r;
   known = ap (λ (n : ℕ). slice_get g.submitted (n - 1)) id ∙ is.known;
-  positive = let was = is.positive in omega arith;
+  positive = omega (arith, is.positive);
   issued = ap (λ (n : ℕ). slice_get g.series (n - 1)) number ∙ is.issued;
-  counted = let was = is.counted in omega arith;
-  reached = let was = is.reached in omega arith;
+  counted = omega (arith, is.counted);
+  reached = omega (arith, is.reached);
   op = op ∙ is.op;
   at = at;
 }
@@ -115,14 +117,17 @@ pub own_at : (config : Options) (w : World) (g : Flow) (d : Pipeline) (p : ℕ) 
 own_at config w g d p t r h is work =
     let same : work.r ≡ r = same_Some work.r r (sym work.known ∙ is.known) in
     let its = work_queued config w g d w.front.stage w.back.stage h p t is.place work in
-    let number = h.submitted.each (t.id - 1) r is.known in
-    let numbered = number.number in
-    let positive = is.positive in
-    let counted = is.counted in
-    let reached = is.reached in
-    let pushed = h.indices.fetched_pushed in
-    let among : IsAmong g.series g.pushed r = record { index = t.number - 1; early = omega arith; at = is.issued } in
-    record { place = its.place; at = its.at ∙ ap Some same; number = omega arith; reached = among; begun = λ at. among_apart g.submitted g.series g.pushed g.pushed r r (let queue = h.queue in queue.ordered) among at (omega arith) refl; shaped = number.shaped; frames = number.frames }
+    let sub = h.submitted.each (t.id - 1) r is.known in
+    let among : IsAmong g.series g.pushed r = record { index = t.number - 1; early = omega (arith, is.counted, is.reached, h.indices.fetched_pushed); at = is.issued } in
+    record {
+      place = its.place;
+      at = its.at ∙ ap Some same;
+      number = omega (arith, sub.number, is.positive);
+      reached = among;
+      begun = λ at. among_apart g.submitted g.series g.pushed g.pushed r r h.queue.ordered among at (omega arith) refl;
+      shaped = sub.shaped;
+      frames = sub.frames;
+    }
 
 -- a job at this stage, of a machine that holds
 pub record IsDoing (config : Options) (w : World) (g : Flow) (d : Pipeline) (p : ℕ) (t : Work) (r : Request) (j : JobStage) : Type 0 where
@@ -137,7 +142,7 @@ pub record IsDoing (config : Options) (w : World) (g : Flow) (d : Pipeline) (p :
 -- so it is where the stage says this of it
 pub doing_at : (config : Options) (w : World) (g : Flow) (d : Pipeline) (p : ℕ) (t : Work) (r : Request) (j : JobStage) → Holds config w g d w.front.stage w.back.stage → AreHeld w.under.grants (hands_of w.back) → IsAt w g d p t r → t.stage ≡ j → AtWork r t j → IsDoing config w g d p t r j
 doing_at config w g d p t r j h held is e at =
-    let work = work_of w g d d p t t r is refl refl refl (subst (AtWork r t) (sym e) at) in
+    let work = work_of is refl refl refl (subst (AtWork r t) (sym e) at) in
     record { holds = h; held = held; is = is; stage = e; at = at; work = work; own = own_at config w g d p t r h is work }
 
 -- what a read's job has in hand, and its frames hold
@@ -160,7 +165,7 @@ filled_at config w g d p t r j doing writes =
 -- the sector that a job is at is one of its request's
 pub sectors_left : (t : Work) (r : Request) (ahead : ℕ) → IsShaped r → IsInSegment t r ahead → (t.moved + ahead ≤ r.count) × (t.within ≤ 7) × (r.count ≤ 7680)
 sectors_left t r ahead shaped x = (
-  within_last r.count (frames_for r.count) x.place t.within t.moved ahead refl x.here x.within x.moved,
+  omega (arith, x.here, x.within, x.moved),
   (let within = x.within in omega arith),
   shaped.counted.few,
 )
@@ -186,16 +191,11 @@ pub next_sector_is : (t : Work) (r : Request) (m : Mapping)
     → (x : IsReturning t r)
     → next_sector t m ≡ further t r m (t.within == last_in r x.place)
 next_sector_is t r m shaped x =
-    let last : last_of t.rest ≡ last_in r x.place = ap last_of (x.rest ∙ own_here r x.place shaped x.here) in
-    ap (λ (n : ℕ). if t.within == n then record t { stage = job.Unmap m } else record t { within = t.within + 1; stage = sector_stage t.writes m }) last
-    ∙ (ap (λ (b : Bool). if t.within == last_in r x.place then record t { stage = job.Unmap m }
-    else record t { within = t.within + 1; stage = sector_stage b m }) x.writes
-    ∙ by_test (t.within == last_in r x.place))
-  where
-    by_test : (b : Bool)
-        → (if b then record t { stage = job.Unmap m } else record t { within = t.within + 1; stage = sector_stage (is_write r.transfer) m }) ≡ further t r m b
-    by_test true = refl
-    by_test false = refl
+    ap (λ (n : ℕ). if t.within == n then record t { stage = job.Unmap m } else record t { within = t.within + 1; stage = sector_stage t.writes m })
+    (ap last_of (x.rest ∙ own_here r x.place shaped x.here))
+    ∙ (ap (λ (b : Bool). if t.within == last_in r x.place then record t { stage = job.Unmap m } else record t { within = t.within + 1; stage = sector_stage b m }) x.writes
+    ∙ elim (t.within == last_in r x.place) as (λ b. (if b then record t { stage = job.Unmap m } else record t { within = t.within + 1; stage = sector_stage (is_write r.transfer) m }) ≡
+    further t r m b) [ true ↦ refl | false ↦ refl ])
 
 pub worked_further : (last writes : Bool) (m : Mapping) (moved : ℕ) → worked (if last then job.Unmap m else sector_stage writes m) moved ≡ Working moved
 worked_further true writes m moved = refl
@@ -217,23 +217,52 @@ at_further t r m false x hand tested = by_way (is_write r.transfer) refl
     by_way true writes = (next, hand, omega arith, writes, λ i lt. absurd (omega arith))
     by_way false reads = (next, hand, reads)
 
+-- a step of the pipeline after which the job is this
+abbrev pub StepsTo : ((before after : List (List ℕ)) → Type 0) → Options → World → Flow → Pipeline → ℕ → Work → List Line → Type 0
+StepsTo call config w g d p t said = Stepped None call d said (λ x. StationsWith config w g x (slice_set w.back.jobs.works p t) w.under.pages)
+
+module _ {config : Options} {w : World} {g : Flow} {d : Pipeline} {p : ℕ} {t : Work} {r : Request} {j : JobStage} (doing : IsDoing config w g d p t r j) where
+  -- its station stays where it is of the same kind
+  pub stays_at : (t' : Work) → t'.id ≡ t.id → worked t'.stage t'.moved ≡ worked j t.moved
+      → ((q : Asked) → slice_get d.requests (t.id - 1) ≡ Some q → is_write r.transfer ≡ false → ReadAt w.under.pages r t'.moved t'.words q.words t'.stage)
+      → StationsWith config w g d (slice_set w.back.jobs.works p t') w.under.pages
+  stays_at t' number same reads =
+      stations_stay config w g d p t t' r w.under.pages doing.holds.stations doing.is.place doing.is.known number (same ∙ sym (ap (λ (s : JobStage). worked s t.moved) doing.stage)) reads
+
+  -- a move after which memory and all hands are as they were: a step of the pipeline, or nothing to it
+  pub steps_on : {call : (before after : List (List ℕ)) → Type 0} {said : List Line} (t' : Work) (shown : Shown) → t'.number ≡ t.number → t'.id ≡ t.id → t'.op ≡ t.op
+      → StepsTo call config w g d p t' said → AtWork r t' t'.stage → hands_then w p t' ≡ hands_of w.back
+      → GoesBy None call config (Move shown ∷ said) (with_job w p t' w.under) d
+  steps_on {said = said} t' shown number id op s at hands =
+      goes_by (does_step shown said refl s)
+      (job_rests doing.holds doing.is.free id (work_of doing.is number id op at) s.now hands)
+
+  pub rests_on : {call : (before after : List (List ℕ)) → Type 0} (t' : Work) (shown : Shown) → ((a b : List (List ℕ)) → call a b → b ≡ a)
+      → t'.number ≡ t.number → t'.id ≡ t.id → t'.op ≡ t.op → worked t'.stage t'.moved ≡ worked j t.moved
+      → ((q : Asked) → slice_get d.requests (t.id - 1) ≡ Some q → is_write r.transfer ≡ false → ReadAt w.under.pages r t'.moved t'.words q.words t'.stage)
+      → AtWork r t' t'.stage
+      → hands_then w p t' ≡ hands_of w.back
+      → GoesBy None call config (Move shown ∷ []) (with_job w p t' w.under) d
+  rests_on {call = call} t' shown still number id op same reads at hands =
+      goes_by (nothing call shown d still)
+      (job_rests doing.holds doing.is.free id (work_of doing.is number id op at) (stays_at t' id same reads) hands)
+
 -- a word of data is read
 pub read_goes : (config : Options) (w : World) (g : Flow) (d : Pipeline) (number p : ℕ) (t : Work) (r : Request) (m : Mapping) (k : ℕ) (o : Outcome)
     → IsDoing config w g d p t r (job.ReadWord m k)
     → JobGoesAt config w d number p t (job.ReadWord m k) o
-read_goes config w g d number p t r m k o doing = goes_by (nothing (CallOf (ask_at (job.ReadWord m k) t) o) _ d (λ a b same. same_Some b a same.1))
-    (job_rests config w g d d p t (step_at (job.ReadWord m k) t (answer.Word value)) doing.holds doing.is.free refl (stations_stay config w g d p t (step_at (job.ReadWord m k) t (answer.Word value)) r w.under.pages doing.holds.stations doing.is.place doing.is.known refl (read_station (k == 127)) (λ q was reads. absurd (false≢true (sym reads ∙ doing.at.3))))
-    (work_of w g d d p t (step_at (job.ReadWord m k) t (answer.Word value)) r doing.is refl refl refl (by_test (k == 127) refl))
-    (hands_step w p t (job.ReadWord m k) (answer.Word value) doing.is.place doing.stage tt))
+read_goes config w g d number p t r m k o doing =
+    rests_on doing (step_at (job.ReadWord m k) t (answer.Word value)) _ (λ a b same. same_Some b a same.1) refl refl refl (read_station (k == 127))
+    (λ q was reads. absurd (false≢true (sym reads ∙ doing.at.3)))
+    (by_test (k == 127) refl) (hands_step w p t (job.ReadWord m k) (answer.Word value) doing.is.place doing.stage tt)
   where
     value : ℕ
     value = word_of w.under.pages (frame_of w.under.grants m) (word_at t k)
 
     is_word : value ≡ sector_word r t
     is_word =
-        let frame : frame_of w.under.grants m ≡ frame_at r doing.at.0.place =
-        (let hand = doing.at.1 in frame_live w.under.grants m (frame_at r doing.at.0.place)
-        (live_hand w p t m doing.is.place (rw doing.stage refl) doing.held) doing.holds.mapped.framed hand.gref) in
+        let hand = doing.at.1 in
+        let frame = frame_live w.under.grants m (frame_at r doing.at.0.place) (live_hand w p t m doing.is.place (rw doing.stage refl) doing.held) doing.holds.mapped.framed hand.gref in
         let left = sectors_left t r 1 doing.own.shaped doing.at.0 in
         let moved = doing.at.0.moved in
         ap (λ (f : ℕ). word_of w.under.pages f (word_at t k)) frame
@@ -245,24 +274,18 @@ read_goes config w g d number p t r m k o doing = goes_by (nothing (CallOf (ask_
     words = slice_set t.words k value
 
     filled : (i : ℕ) → i < k + 1 → slice_index words i ≡ sector_word r t
-    filled i lt = by_place (i == k) refl
-      where
-        by_place : (b : Bool) → (i == k) ≡ b → slice_index words i ≡ sector_word r t
-        by_place true same =
-            let it : i ≡ k = grind (arith, nat_tests) in
-            let long = doing.at.0.words in
-            get_or-set_at t.words k i value 0 (omega (arith, doing.at.2)) (omega arith) ∙ is_word
-        by_place false same =
-            let apart : i ≢ k = grind (arith, nat_tests) in
-            get_or-set_other t.words k i value 0 (omega arith) ∙ doing.at.4 i (omega arith)
+    filled i lt = elim (cases_eq i k) [
+      | inl it ↦ get_or-set_at t.words k i value 0 (omega (arith, doing.at.2, doing.at.0.words)) (omega arith) ∙ is_word
+      | inr apart ↦ get_or-set_other t.words k i value 0 (omega arith) ∙ doing.at.4 i (omega arith)
+    ]
 
     moved_so : IsMoving (step_at (job.ReadWord m k) t (answer.Word value)) r
     moved_so = placed_on _ _ _ _ 1 doing.at.0 doing.at.0.within doing.at.0.moved doing.at.0.disk (length-set t.words k value ∙ doing.at.0.words)
 
     by_test : (b : Bool) → (k == 127) ≡ b → AtWork r (step_at (job.ReadWord m k) t (answer.Word value)) (if b then job.DiskWrite m else job.ReadWord m (k + 1))
-    by_test true last = (moved_so, doing.at.1, doing.at.3, (let long = moved_so.words in all_same 128 words (sector_word r t) long (λ i lt. filled i (let top : k ≡ 127 = grind (arith, nat_tests) in omega arith))))
+    by_test true last = (moved_so, doing.at.1, doing.at.3, all_same 128 words (sector_word r t) moved_so.words (λ i lt. filled i (let top : k ≡ 127 = grind (arith, nat_tests) in omega arith)))
     by_test false last = (moved_so, doing.at.1, (let apart : k ≢ 127 = grind (arith, nat_tests) in omega (arith, doing.at.2)), doing.at.3, filled)
 
-    read_station : (b : Bool) → worked (if b then job.DiskWrite m else job.ReadWord m (k + 1)) t.moved ≡ worked t.stage t.moved
-    read_station true = rw doing.stage refl
-    read_station false = rw doing.stage refl
+    read_station : (b : Bool) → worked (if b then job.DiskWrite m else job.ReadWord m (k + 1)) t.moved ≡ Working t.moved
+    read_station true = refl
+    read_station false = refl

@@ -2,12 +2,11 @@
 use Rattle.std.proofs.Common.{◌≡◌, ℕ, ◌+◌, ◌-◌, ◌%◌, ◌^◌, ◌<◌, ◌≤◌, ◌==◌, ◌&&◌, ◌||◌, inl, inr, not, Bool, true, false, List, [], ◌∷◌, length, refl, ap, sym, ◌∙◌, subst, arith, None}
 use Rattle.std.specs.Prelude.{AllPairs, Some, slice_get, slice_set, replicate}
 use Rattle.std.proofs.lemmas.Option.{same_Some, slice_get_within}
-use Rattle.std.proofs.lemmas.Bool.{false≢true, true≢false, cases_eq, cases_lt}
+use Rattle.std.proofs.lemmas.Bool.{false≢true, true≢false, cases_eq, cases_lt, cases_Bool}
 use Rattle.blk_base.specs.Options.{Options}
 use Rattle.blk_base.specs.declared.config.Job.{Job}
 use Rattle.blk_base.specs.declared.config.Job.TheVariants.{Read}
 use Rattle.blk_base.specs.declared.operation.Status.TheVariants.{Okay, Error}
-use Rattle.blk_io.specs.Disk.{SameBut}
 use Rattle.schedule_text.specs.declared.line.Line.{Line}
 use Rattle.schedule_text.specs.declared.line.Line.TheVariants as lines
 use Rattle.plain_disk.specs.Request.{places_of, is_write as fills_sectors, is_barrier, is_ordered, sector_of, filling}
@@ -22,25 +21,24 @@ use Rattle.back_jobs.specs.declared.stage.Stage.TheVariants as job
 use Rattle.back_jobs.specs.Task.{Work, ask_at, counted}
 use Rattle.back_jobs.specs.Jobs.{is_done, is_done_at, is_ordered as orders, is_barrier as bars, is_held, holds_barriers, holds_all}
 use Rattle.blk_base.specs.declared.parts.Mapping.{Mapping}
-use Rattle.blk_front.specs.Submit.{is_ready}
 use Rattle.split_model.specs.World.{World}
 use Rattle.pipeline_laws.specs.Station.{Station, Working, Failed, Request as Asked}
 use Rattle.pipeline_laws.specs.Move.{Move, Fills, Reads, Fails, Ends, station_before, station_after, words_after, move_lines}
-use Rattle.pipeline_laws.specs.Ring.{Ring, ring_after}
+use Rattle.pipeline_laws.specs.Ring.{ring_after}
 use Rattle.pipeline_laws.specs.Pipeline.{Pipeline, Moves}
 use Rattle.pipeline_laws.specs.Allowed.{May, IsClear, is_working, is_in_way}
 use Rattle.pipeline_laws.specs.Disk.{DiskDoes}
-use Rattle.machine_pipeline.proofs.Flow.{Flow, worked, ending_at, reply_at, is_issuing, is_fetching, telling_at, submitted_job}
+use Rattle.machine_pipeline.proofs.Flow.{Flow, worked, submitted_job}
 use Rattle.machine_pipeline.proofs.ReadBack.{IsReadBack, ReadAt, has_data_at}
 use Rattle.machine_pipeline.proofs.Holds.{Holds, IsWork, IsMoving}
 use Rattle.machine_pipeline.proofs.Segments.{moves_sectors}
 use Rattle.machine_pipeline.proofs.Series.{lower}
 use Rattle.machine_pipeline.proofs.Lists.{all_at, pair_at, get_within}
-use Rattle.machine_pipeline.proofs.Stations.{StandsAt, kind_of}
+use Rattle.machine_pipeline.proofs.Stations.{kind_of}
 use Rattle.machine_pipeline.proofs.StationsBack.{job_steps}
 use Rattle.machine_pipeline.proofs.Turns.{Stepped}
 use Rattle.machine_pipeline.proofs.Jobs.{StationsWith}
-use Rattle.machine_pipeline.proofs.JobMoves.{IsAt, sectors_left, IsDoing, read_now}
+use Rattle.machine_pipeline.proofs.JobMoves.{IsAt, sectors_left, IsDoing, read_now, StepsTo}
 use Rattle.machine_pipeline.specs.Step.{CallOf}
 
 -- a write or a barrier, as the pipeline has it
@@ -55,20 +53,14 @@ filling_job (transfer.Write tag) sector count writes = record { writes = refl; p
 filling_job (transfer.Barrier tag) sector count writes = record { writes = refl; places = refl; first = refl; words = λ i. refl }
 filling_job way sector count writes = absurd (false≢true writes)
 
-filled_job : (x : Job) (r : Request) → x ≡ submitted_job r.transfer r.sector r.count → is_write r.transfer ≡ true → IsFilling x r.sector r.count (tag_of r.transfer)
-filled_job x r asked writes = subst (λ (y : Job). IsFilling y r.sector r.count (tag_of r.transfer)) (sym asked) (filling_job r.transfer r.sector r.count writes)
-
 read_job : (way : Transfer) (sector count : ℕ) → is_moving way ≡ true → is_write way ≡ false → submitted_job way sector count ≡ Read sector count
 read_job transfer.Read sector count moves reads = refl
-read_job (transfer.Write tag) sector count moves reads = absurd (true≢false reads)
-read_job (transfer.Barrier tag) sector count moves reads = absurd (true≢false reads)
-read_job way sector count moves reads = absurd (false≢true moves)
+read_job way sector count moves reads = absurd (cc)
 
 all_places : (way : Transfer) (sector count : ℕ) → is_moving way ≡ true → places_of (submitted_job way sector count) ≡ count
-all_places transfer.Read sector count moves = refl
-all_places (transfer.Write tag) sector count moves = refl
-all_places (transfer.Barrier tag) sector count moves = refl
-all_places way sector count moves = absurd (false≢true moves)
+all_places transfer.Flush sector count moves = absurd (false≢true moves)
+all_places (transfer.Discard sectors) sector count moves = absurd (false≢true moves)
+all_places way sector count moves = refl
 
 -- what a barrier orders is what the operation of the job says
 same_order : (op : ℕ) (x : Job) (way : Transfer) (sector count : ℕ) → op ≡ operation_of way → x ≡ submitted_job way sector count → ((op == 1 || op == 2 || op == 5) ≡ is_ordered x) × ((op == 2) ≡ is_barrier x)
@@ -122,64 +114,38 @@ pub record AreOrdered (g : Flow) (works : List Work) (p : ℕ) (t : Work) (r : R
   pub positive : (i : ℕ) (u : Work) → slice_get works i ≡ Some u → 1 ≤ u.id
 
 pub jobs_ordered : (config : Options) (w : World) (g : Flow) (d : Pipeline) (p : ℕ) (t : Work) (r : Request) → Holds config w g d w.front.stage w.back.stage → IsAt w g d p t r → AreOrdered g w.back.jobs.works p t r
-jobs_ordered config w g d p t r h is = record {
-  here = is.place;
-  known = is.known;
-  ascending = h.works.ascending;
-  positive = λ i u at. let work = all_at (IsWork g.submitted g.series g.fetched) w.back.jobs.works i u h.works.each at in work.positive;
-}
+jobs_ordered config w g d p t r h is =
+    record { here = is.place; known = is.known; ascending = h.works.ascending; positive = λ i u at. (all_at (IsWork g.submitted g.series g.fetched) w.back.jobs.works i u h.works.each at).positive }
 
--- the job at this place makes it
-pub job_moves : (call : (before after : List (List ℕ)) → Type 0) (config : Options) (w : World) (g : Flow) (d : Pipeline) (works : List Work) (p : ℕ) (t t' : Work) (r : Request) (move : Move) (said : List Line)
-    → StationsWith config w g d works w.under.pages
-    → AreOrdered g works p t r
-    → t'.id ≡ t.id
-    → ring_after d.ring (t.id - 1) move ≡ d.ring
-    → move_lines (t.id - 1) move ≡ said
-    → HasRead w d t t' r move
-    → ((q : Asked) → q.job ≡ submitted_job r.transfer r.sector r.count → IsJobMove call d (t.id - 1) q (worked t.stage t.moved) (worked t'.stage t'.moved) move)
-    → Stepped None call d said (λ x. StationsWith config w g x (slice_set works p t') w.under.pages)
-job_moves call config w g d works p t t' r move said stations are number still shows now makes = record {
-  step = Moves (t.id - 1) x.q move;
-  allowed = (record { here = x.at; there = x.there ∙ sym it.before }, it.may);
-  shows = shows;
-  asks = refl;
-  disk = it.disk;
-  now = job_steps config g d (is_ready w.front.stage) (is_issuing w.front.stage) (is_fetching w.back.stage) (ending_at w.front.stage w.front.ending) (telling_at w.front.stage) (reply_at w.back.stage) w.front.requests works w.under.pages p t t' x move are.here are.ascending are.positive number it.after still has stations;
-}
-  where
-    x : StandsAt d.requests (t.id - 1) (worked t.stage t.moved)
-    x = stations.works p t are.here
+module _ {call : (before after : List (List ℕ)) → Type 0} {config : Options} {g : Flow} {d : Pipeline} {t : Work} {r : Request} {said : List Line} (w : World) (t' : Work) (move : Move)
+    (number : t'.id ≡ t.id)
+    (still : ring_after d.ring (t.id - 1) move ≡ d.ring) (shows : move_lines (t.id - 1) move ≡ said) (now : HasRead w d t t' r move)
+    (makes : (q : Asked) → q.job ≡ submitted_job r.transfer r.sector r.count → IsJobMove call d (t.id - 1) q (worked t.stage t.moved) (worked t'.stage t'.moved) move) where
+  -- the job at this place makes it
+  pub job_moves : {works : List Work} {p : ℕ} → StationsWith config w g d works w.under.pages → AreOrdered g works p t r
+      → Stepped None call d said (λ x. StationsWith config w g x (slice_set works p t') w.under.pages)
+  job_moves {p = p} stations are =
+      let x = stations.works p t are.here in
+      let it = makes x.q (stations.known.each (t.id - 1) r x.q are.known x.at) in
+      record {
+        step = Moves (t.id - 1) x.q move;
+        allowed = (record { here = x.at; there = x.there ∙ sym it.before }, it.may);
+        shows = shows;
+        asks = refl;
+        disk = it.disk;
+        now = job_steps p t t' x move are.here are.ascending are.positive number it.after still (λ y its. rw (same_Some y r (sym its ∙ are.known)) (now x.q x.at)) stations;
+      }
 
-    it : IsJobMove call d (t.id - 1) x.q (worked t.stage t.moved) (worked t'.stage t'.moved) move
-    it = makes x.q (stations.known.each (t.id - 1) r x.q are.known x.at)
-
-    has : (y : Request) → slice_get g.submitted (t.id - 1) ≡ Some y → is_write y.transfer ≡ false → (let q : Asked = x.q in ReadAt w.under.pages y t'.moved t'.words (words_after move q.words) t'.stage × (has_data_at (worked t'.stage t'.moved) ≡ true → IsReadBack w.under.pages y y.count (words_after move q.words)))
-    has y its reads =
-        let one : y ≡ r = same_Some y r (sym its ∙ are.known) in
-        subst (λ (z : Request). let q : Asked = x.q in ReadAt w.under.pages z t'.moved t'.words (words_after move q.words) t'.stage × (has_data_at (worked t'.stage t'.moved) ≡ true → IsReadBack w.under.pages z z.count (words_after move q.words))) (sym one)
-        (now x.q x.at (ap (λ (z : Request). is_write z.transfer) (sym one) ∙ reads))
-
-pub job_stepped : (call : (before after : List (List ℕ)) → Type 0) (config : Options) (w : World) (g : Flow) (d : Pipeline) (p : ℕ) (t t' : Work) (r : Request) (move : Move) (said : List Line)
-    → Holds config w g d w.front.stage w.back.stage
-    → IsAt w g d p t r
-    → t'.id ≡ t.id
-    → ring_after d.ring (t.id - 1) move ≡ d.ring
-    → move_lines (t.id - 1) move ≡ said
-    → HasRead w d t t' r move
-    → ((q : Asked) → q.job ≡ submitted_job r.transfer r.sector r.count → IsJobMove call d (t.id - 1) q (worked t.stage t.moved) (worked t'.stage t'.moved) move)
-    → Stepped None call d said (λ x. StationsWith config w g x (slice_set w.back.jobs.works p t') w.under.pages)
-job_stepped call config w g d p t t' r move said h is number still shows now makes =
-    job_moves call config w g d w.back.jobs.works p t t' r move said h.stations (jobs_ordered config w g d p t r h is) number still shows now makes
+  pub job_stepped : {p : ℕ} → Holds config w g d w.front.stage w.back.stage → IsAt w g d p t r → StepsTo call config w g d p t' said
+  job_stepped {p = p} h is = job_moves h.stations (jobs_ordered config w g d p t r h is)
 
 -- of jobs whose ids ascend one of a lower id stands before another
 stands_before : (works : List Work) (p i : ℕ) (t u : Work) → AllPairs (λ (x y : Work). x.id < y.id) works → slice_get works p ≡ Some t → slice_get works i ≡ Some u → u.id < t.id → i < p
 stands_before works p i t u up here at lower = elim (cases_lt i p) [
   | inl before ↦ before
   | inr past ↦ elim (cases_eq i p) [
-    | inl same ↦
-        absurd (omega (arith, (ap (λ (x : Work). x.id) (same_Some u t (sym at ∙ (ap (slice_get works) same ∙ here)))), lower))
-    | inr apart ↦ (let above = pair_at (λ (x y : Work). x.id < y.id) works p i t u up (omega arith) here at in absurd (omega (arith, above, lower)))
+    | inl same ↦ absurd (omega (arith, (ap (λ (x : Work). x.id) (same_Some u t (sym at ∙ (ap (slice_get works) same ∙ here))))))
+    | inr apart ↦ absurd (omega (arith, pair_at (λ (x y : Work). x.id < y.id) works p i t u up (omega arith) here at))
   ]
 ]
 
@@ -190,27 +156,25 @@ clears : (config : Options) (w : World) (g : Flow) (d : Pipeline) (p : ℕ) (t :
     → q.job ≡ submitted_job r.transfer r.sector r.count
     → is_ordered q.job ≡ true
     → (j : ℕ) (y : Asked) → j < t.id - 1 → slice_get d.requests j ≡ Some y → is_in_way (is_barrier q.job) y ≡ false
-clears config w g d p t r q h is asked ordered i y before here = by_working (is_working y.job y.station) refl
+clears config w g d p t r q h is asked ordered i y before here = elim (cases_Bool (is_working y.job y.station)) [
+  | inl working ↦
+      let its = h.stations.held i y here (working_kind y.job y.station working) in
+      let u : Work = its.1 in
+      let work = all_at (IsWork g.submitted g.series g.fetched) w.back.jobs.works its.0 u h.works.each its.2 in
+      let place : u.id - 1 ≡ i = omega (arith, its.3) in
+      let x = h.stations.works its.0 u its.2 in
+      let one : x.q ≡ y = same_Some x.q y (sym x.at ∙ (ap (slice_get d.requests) place ∙ here)) in
+      let known = h.stations.known.each i work.r y (ap (slice_get g.submitted) (sym place) ∙ work.known) here in
+      not_in_way t u q.job y (same_order t.op q.job r.transfer r.sector r.count is.op asked) (same_order u.op y.job work.r.transfer work.r.sector work.r.count work.op known)
+      (working_undone y.job u.stage u.moved (ap (is_working y.job) (sym (ap (λ (z : Asked). z.station) (sym one) ∙ x.there)) ∙ working)) ordered
+      (is.free.clear its.0 u (stands_before w.back.jobs.works p its.0 t u h.works.ascending is.place its.2 (omega (arith, its.3, before))) its.2)
+  | inr none ↦ rw none (idle (is_ordered y.job) (is_barrier q.job || is_barrier y.job))
+]
   where
     idle : (b c : Bool) → (b && c && false) ≡ false
     idle true true = refl
     idle true false = refl
     idle false c = refl
-
-    by_working : (b : Bool) → is_working y.job y.station ≡ b → is_in_way (is_barrier q.job) y ≡ false
-    by_working false none = rw none (idle (is_ordered y.job) (is_barrier q.job || is_barrier y.job))
-    by_working true working =
-        let its = h.stations.held i y here (working_kind y.job y.station working) in
-        let u : Work = its.1 in
-        let work = all_at (IsWork g.submitted g.series g.fetched) w.back.jobs.works its.0 u h.works.each its.2 in
-        let place : u.id - 1 ≡ i = omega (arith, its.3) in
-        let x = h.stations.works its.0 u its.2 in
-        let one : x.q ≡ y = same_Some x.q y (sym x.at ∙ (ap (slice_get d.requests) place ∙ here)) in
-        let known = h.stations.known.each i work.r y (ap (slice_get g.submitted) (sym place) ∙ work.known) here in
-        not_in_way t u q.job y (same_order t.op q.job r.transfer r.sector r.count is.op asked)
-        (let z : Request = work.r in same_order u.op y.job z.transfer z.sector z.count work.op known)
-        (working_undone y.job u.stage u.moved (ap (is_working y.job) (sym (ap (λ (z : Asked). z.station) (sym one) ∙ x.there)) ∙ working)) ordered
-        (is.free.clear its.0 u (stands_before w.back.jobs.works p its.0 t u h.works.ascending is.place its.2 (omega (arith, its.3, before))) its.2)
 
 pub clear : (config : Options) (w : World) (g : Flow) (d : Pipeline) (p : ℕ) (t : Work) (r : Request) (q : Asked)
     → Holds config w g d w.front.stage w.back.stage
@@ -221,155 +185,130 @@ pub clear : (config : Options) (w : World) (g : Flow) (d : Pipeline) (p : ℕ) (
 clear config w g d p t r q h is asked ordered = record {
   index = t.number - 1;
   entry = h.stations.ring.entries (t.number - 1) r (omega (arith, is.counted, is.reached, h.indices.fetched_pushed)) is.issued ∙ ap (λ (n : ℕ). Some (n - 1)) named;
-  clear = λ i j y before at here. by_index i j y before at here (get_within g.series i (let within = slice_get_within g.series (t.number - 1) r is.issued in omega (arith, before)));
+  clear = λ i j y before at here.
+      let within = slice_get_within g.series (t.number - 1) r is.issued in
+      let x = get_within g.series i (omega (arith, before)) in
+      let place : x.0.number - 1 ≡ j = same_Some _ j (sym (h.stations.ring.entries i x.0 (omega (arith, before, is.reached, h.indices.fetched_pushed)) x.1) ∙ at) in
+      let less = lower g.series i (t.number - 1) x.0 r h.queue.ordered.ascending x.1 is.issued before in
+      clears config w g d p t r q h is asked ordered j y (omega (arith, place, less, named, (h.queue.ordered.positive i x.0 x.1))) here;
 }
   where
     named : r.number ≡ t.id
     named = let number = h.submitted.each (t.id - 1) r is.known in omega (arith, number.number, is.positive)
 
-    by_index : (i j : ℕ) (y : Asked) → i < t.number - 1 → slice_get (let ring : Ring = d.ring in ring.pushed) i ≡ Some j → slice_get d.requests j ≡ Some y → (x : Request) × (slice_get g.series i ≡ Some x) → is_in_way (is_barrier q.job) y ≡ false
-    by_index i j y before at here x =
-        let place : (let z : Request = x.0 in z.number - 1) ≡ j = same_Some _ j (sym (h.stations.ring.entries i x.0 (omega (arith, before, is.reached, h.indices.fetched_pushed)) x.1) ∙ at) in
-        let less = lower g.series i (t.number - 1) x.0 r h.queue.ordered.ascending x.1 is.issued before in
-        clears config w g d p t r q h is asked ordered j y (omega (arith, place, less, named, (h.queue.ordered.positive i x.0 x.1))) here
-
 -- the lines of a move at its next sector
 pub lines_of : (w : World) (g : Flow) (d : Pipeline) (p : ℕ) (t : Work) (r : Request) (line : ℕ → ℕ → Line) → IsAt w g d p t r → line (t.id - 1 + 1) t.moved ∷ [] ≡ line t.id t.moved ∷ []
 lines_of w g d p t r line is = ap (λ (n : ℕ). line n t.moved ∷ []) (omega (arith, is.positive))
 
--- a write reads nothing
-reads_none : (w : World) (d : Pipeline) (t t' : Work) (r : Request) (move : Move) → is_write r.transfer ≡ true → HasRead w d t t' r move
-reads_none w d t t' r move writes q was reads = absurd (false≢true (sym reads ∙ writes))
-
--- the sector that a job moves next is one of its request's
-sector_left : (config : Options) (w : World) (g : Flow) (d : Pipeline) (p : ℕ) (t : Work) (r : Request)
-    → Holds config w g d w.front.stage w.back.stage
-    → IsAt w g d p t r
-    → IsMoving t r
-    → (t.moved < r.count) × (r.count ≤ 7680)
+-- the sector that a job moves next is one of its request's, which moves sectors
+sector_left : (config : Options) (w : World) (g : Flow) (d : Pipeline) (p : ℕ) (t : Work) (r : Request) → Holds config w g d w.front.stage w.back.stage → IsAt w g d p t r → IsMoving t r
+    → (t.moved < r.count) × (r.count ≤ 7680) × (is_moving r.transfer ≡ true)
 sector_left config w g d p t r h is moving =
-    let left = sectors_left t r 1 (h.submitted.each (t.id - 1) r is.known).shaped moving in
-    (omega (arith, left.0), left.2)
+    let shaped = (h.submitted.each (t.id - 1) r is.known).shaped in
+    let left = sectors_left t r 1 shaped moving in
+    (omega (arith, left.0), left.2, moves_sectors r moving.place shaped moving.here)
 
-moves_at : (config : Options) (w : World) (g : Flow) (d : Pipeline) (p : ℕ) (t : Work) (r : Request)
-    → Holds config w g d w.front.stage w.back.stage
-    → IsAt w g d p t r
-    → IsMoving t r
-    → is_moving r.transfer ≡ true
-moves_at config w g d p t r h is moving = let its = h.submitted.each (t.id - 1) r is.known in moves_sectors r moving.place its.shaped moving.here
+module _ {config : Options} {w : World} {g : Flow} {d : Pipeline} {p : ℕ} {t : Work} {r : Request} {m : Mapping} (doing : IsDoing config w g d p t r (job.DiskWrite m)) (t' : Work) where
+  filled_job : (q : Asked) → q.job ≡ submitted_job r.transfer r.sector r.count → IsFilling q.job r.sector r.count (tag_of r.transfer)
+  filled_job q asked = rw asked (filling_job r.transfer r.sector r.count doing.at.2)
 
--- the disk takes the sector
-pub fills : (config : Options) (w : World) (g : Flow) (d : Pipeline) (p : ℕ) (t t' : Work) (r : Request) (m : Mapping)
-    → IsDoing config w g d p t r (job.DiskWrite m)
-    → t'.id ≡ t.id
-    → worked t'.stage t'.moved ≡ Working (t.moved + 1)
-    → Stepped None (CallOf (ask_at (job.DiskWrite m) t) Took) d (lines.Effect t.id t.moved ∷ []) (λ x. StationsWith config w g x (slice_set w.back.jobs.works p t') w.under.pages)
-fills config w g d p t t' r m doing number next =
-    job_stepped (CallOf (ask_at (job.DiskWrite m) t) Took) config w g d p t t' r (Fills t.moved) (lines.Effect t.id t.moved ∷ []) doing.holds doing.is number refl (lines_of w g d p t r lines.Effect doing.is) (reads_none w d t t' r (Fills t.moved) doing.at.2) (λ q asked.
-    let so = filled_job q.job r asked doing.at.2 in
-    let left = sector_left config w g d p t r doing.holds doing.is doing.at.0 in
-    record {
-      before = rw doing.stage refl;
-      after = sym next;
-      may = (so.writes, omega (arith, so.places, left.0), clear config w g d p t r q doing.holds doing.is asked (rw so.writes refl));
-      disk = λ a b call. rw (so.first, so.words t.moved) (same_Some b (slice_set a t.disk t.words) call
-          ∙ (ap (λ (s : ℕ). slice_set a s t.words) doing.at.0.disk ∙ ap (slice_set a (r.sector + t.moved)) doing.at.3));
-    })
+  -- the disk takes the sector; a write reads nothing
+  pub fills : t'.id ≡ t.id → worked t'.stage t'.moved ≡ Working (t.moved + 1) → StepsTo (CallOf (ask_at (job.DiskWrite m) t) Took) config w g d p t' (lines.Effect t.id t.moved ∷ [])
+  fills number next =
+      job_stepped w t' (Fills t.moved) number refl (lines_of w g d p t r lines.Effect doing.is) (λ q was reads. absurd (false≢true (sym reads ∙ doing.at.2))) (λ q asked.
+      let so = filled_job q asked in
+      record {
+        before = rw doing.stage refl;
+        after = sym next;
+        may = (so.writes, omega (arith, so.places, (sector_left config w g d p t r doing.holds doing.is doing.at.0).0), clear config w g d p t r q doing.holds doing.is asked (rw so.writes refl));
+        disk = λ a b call. rw (so.first, so.words t.moved) (same_Some b (slice_set a t.disk t.words) call
+            ∙ (ap (λ (s : ℕ). slice_set a s t.words) doing.at.0.disk ∙ ap (slice_set a (r.sector + t.moved)) doing.at.3));
+      }) doing.holds doing.is
 
--- or fails at it
-pub fails : (config : Options) (w : World) (g : Flow) (d : Pipeline) (p : ℕ) (t t' : Work) (r : Request) (m : Mapping)
-    → IsDoing config w g d p t r (job.DiskWrite m)
-    → t'.id ≡ t.id
-    → worked t'.stage t'.moved ≡ Failed
-    → Stepped None (CallOf (ask_at (job.DiskWrite m) t) DiskFailed) d (lines.Fault t.id t.moved ∷ []) (λ x. StationsWith config w g x (slice_set w.back.jobs.works p t') w.under.pages)
-fails config w g d p t t' r m doing number next =
-    job_stepped (CallOf (ask_at (job.DiskWrite m) t) DiskFailed) config w g d p t t' r (Fails t.moved) (lines.Fault t.id t.moved ∷ []) doing.holds doing.is number refl (lines_of w g d p t r lines.Fault doing.is) (reads_none w d t t' r (Fails t.moved) doing.at.2) (λ q asked.
-    let so = filled_job q.job r asked doing.at.2 in
-    record {
-      before = rw doing.stage refl;
-      after = sym next;
-      may = (omega (arith, so.places, (sector_left config w g d p t r doing.holds doing.is doing.at.0).0), clear config w g d p t r q doing.holds doing.is asked);
-      disk = λ a b call. rw (so.writes, so.first) (subst (λ (s : ℕ). SameBut s 1 (Some a) (Some b)) doing.at.0.disk call);
-    })
+  -- or fails at it
+  pub fails : t'.id ≡ t.id → worked t'.stage t'.moved ≡ Failed → StepsTo (CallOf (ask_at (job.DiskWrite m) t) DiskFailed) config w g d p t' (lines.Fault t.id t.moved ∷ [])
+  fails number next =
+      job_stepped w t' (Fails t.moved) number refl (lines_of w g d p t r lines.Fault doing.is) (λ q was reads. absurd (false≢true (sym reads ∙ doing.at.2))) (λ q asked.
+      let so = filled_job q asked in
+      record {
+        before = rw doing.stage refl;
+        after = sym next;
+        may = (omega (arith, so.places, (sector_left config w g d p t r doing.holds doing.is doing.at.0).0), clear config w g d p t r q doing.holds doing.is asked);
+        disk = λ a b call. rw (so.writes, so.first, sym doing.at.0.disk) call;
+      }) doing.holds doing.is
 
--- the disk gives the sector
-pub gives : (config : Options) (w : World) (g : Flow) (d : Pipeline) (p : ℕ) (t : Work) (r : Request) (m : Mapping) (words : List ℕ)
-    → IsDoing config w g d p t r (job.DiskRead m)
-    → length words ≡ 128
-    → Stepped None (CallOf (ask_at (job.DiskRead m) t) (Gave words)) d (lines.EffectRead t.id t.moved words ∷ []) (λ x. StationsWith config w g x (slice_set w.back.jobs.works p (record (counted t) { words = words; stage = job.WriteWord m 0 })) w.under.pages)
-gives config w g d p t r m words doing sized =
-    job_stepped (CallOf (ask_at (job.DiskRead m) t) (Gave words)) config w g d p t then r (Reads t.moved words) (lines.EffectRead t.id t.moved words ∷ []) doing.holds doing.is refl refl (lines_of w g d p t r (λ n i. lines.EffectRead n i words) doing.is) has (λ q asked.
-    let so : q.job ≡ Read r.sector r.count = asked ∙ read_job r.transfer r.sector r.count (moves_at config w g d p t r doing.holds doing.is doing.at.0) doing.at.2 in
-    record {
-      before = rw doing.stage refl;
-      after = ap (λ (n : ℕ). Working n) (sym one_more);
-      may = (rw so refl, rw so left.0);
-      disk = λ a b call. rw so (ap (slice_get a) (sym doing.at.0.disk) ∙ call.0, same_Some b a call.1);
-    })
-  where
-    then : Work
-    then = record (counted t) { words = words; stage = job.WriteWord m 0 }
+module _ {config : Options} {w : World} {g : Flow} {d : Pipeline} {p : ℕ} {t : Work} {r : Request} {m : Mapping} (doing : IsDoing config w g d p t r (job.DiskRead m)) where
+  left : (t.moved < r.count) × (r.count ≤ 7680) × (is_moving r.transfer ≡ true)
+  left = sector_left config w g d p t r doing.holds doing.is doing.at.0
 
-    left : (t.moved < r.count) × (r.count ≤ 7680)
-    left = sector_left config w g d p t r doing.holds doing.is doing.at.0
+  read_so : (q : Asked) → q.job ≡ submitted_job r.transfer r.sector r.count → q.job ≡ Read r.sector r.count
+  read_so q asked = asked ∙ read_job r.transfer r.sector r.count left.2 doing.at.2
 
-    one_more : (t.moved + 1) % 2 ^ 32 ≡ t.moved + 1
-    one_more = omega (arith, left.0, left.1)
+  -- the disk gives the sector
+  pub gives : (words : List ℕ) → length words ≡ 128
+      → StepsTo (CallOf (ask_at (job.DiskRead m) t) (Gave words)) config w g d p (record (counted t) { words = words; stage = job.WriteWord m 0 }) (lines.EffectRead t.id t.moved words ∷ [])
+  gives words sized =
+      job_stepped w then (Reads t.moved words) refl refl (lines_of w g d p t r (λ n i. lines.EffectRead n i words) doing.is) has (λ q asked. record {
+        before = rw doing.stage refl;
+        after = ap (λ (n : ℕ). Working n) (sym one_more);
+        may = rw (read_so q asked) (refl, left.0);
+        disk = λ a b call. rw (read_so q asked) (ap (slice_get a) (sym doing.at.0.disk) ∙ call.0, same_Some b a call.1);
+      }) doing.holds doing.is
+    where
+      then : Work
+      then = record (counted t) { words = words; stage = job.WriteWord m 0 }
 
-    has : HasRead w d t then r (Reads t.moved words)
-    has q was reads =
-        let old = read_now doing q was reads in
-        let long = old.counted in (
-          record {
-            earlier = q.words;
-            with_hand = refl;
-            counted = omega (arith, one_more);
-            few = omega (arith, one_more, left.0);
-            back = record { counted = refl; few = omega (arith, left.0); sectors = old.sectors };
-            size = sized;
-            so_far = λ k lt few. absurd (omega arith);
-          },
-          λ t. absurd (false≢true t),
-        )
+      one_more : (t.moved + 1) % 2 ^ 32 ≡ t.moved + 1
+      one_more = omega (arith, left.0, left.1)
 
--- or fails at it
-pub fails_to_give : (config : Options) (w : World) (g : Flow) (d : Pipeline) (p : ℕ) (t : Work) (r : Request) (m : Mapping)
-    → IsDoing config w g d p t r (job.DiskRead m)
-    → Stepped None (CallOf (ask_at (job.DiskRead m) t) DiskFailed) d (lines.Fault t.id t.moved ∷ []) (λ x. StationsWith config w g x (slice_set w.back.jobs.works p (record t { stage = job.Abort m })) w.under.pages)
-fails_to_give config w g d p t r m doing =
-    job_stepped (CallOf (ask_at (job.DiskRead m) t) DiskFailed) config w g d p t (record t { stage = job.Abort m }) r (Fails t.moved) (lines.Fault t.id t.moved ∷ []) doing.holds doing.is refl refl (lines_of w g d p t r lines.Fault doing.is) (λ q was reads. (tt, λ t. absurd (false≢true t))) (λ q asked.
-    let so : q.job ≡ Read r.sector r.count = asked ∙ read_job r.transfer r.sector r.count (moves_at config w g d p t r doing.holds doing.is doing.at.0) doing.at.2 in
-    record {
-      before = rw doing.stage refl;
-      after = refl;
-      may = (rw so (sector_left config w g d p t r doing.holds doing.is doing.at.0).0, clear config w g d p t r q doing.holds doing.is asked);
-      disk = λ a b call. rw so (subst (λ (x : List (List ℕ)). SameBut r.sector 0 (Some a) (Some x)) (sym (same_Some b a call.1)) (refl, λ i out. refl));
-    })
+      has : HasRead w d t then r (Reads t.moved words)
+      has q was reads =
+          let old = read_now doing q was reads in
+          let long = old.counted in (
+            record {
+              earlier = q.words;
+              with_hand = refl;
+              counted = omega (arith, one_more);
+              few = omega (arith, one_more, left.0);
+              back = record { counted = refl; few = omega (arith, left.0); sectors = old.sectors };
+              size = sized;
+              so_far = λ k lt few. absurd (omega arith);
+            },
+            λ t. absurd (false≢true t),
+          )
+
+  -- or fails at it
+  pub fails_to_give : StepsTo (CallOf (ask_at (job.DiskRead m) t) DiskFailed) config w g d p (record t { stage = job.Abort m }) (lines.Fault t.id t.moved ∷ [])
+  fails_to_give =
+      job_stepped w (record t { stage = job.Abort m }) (Fails t.moved) refl refl (lines_of w g d p t r lines.Fault doing.is) (λ q was reads. (tt, λ t. absurd (false≢true t))) (λ q asked. record {
+        before = rw doing.stage refl;
+        after = refl;
+        may = (rw (read_so q asked) left.0, clear config w g d p t r q doing.holds doing.is asked);
+        disk = λ a b call. rw (read_so q asked, same_Some b a call.1) (refl, λ i out. refl);
+      }) doing.holds doing.is
 
 -- its last mapping is unmapped: the job ends, as it went
-pub ends_well : (o : Outcome) (config : Options) (w : World) (g : Flow) (d : Pipeline) (p : ℕ) (t : Work) (r : Request) (m : Mapping) (rest : List Segment)
-    → IsDoing config w g d p t r (job.Unmap m)
+pub ends_well : {config : Options} {w : World} {g : Flow} {d : Pipeline} {p : ℕ} {t : Work} {r : Request} {m : Mapping} (o : Outcome) (rest : List Segment) → IsDoing config w g d p t r (job.Unmap m)
     → is_moving r.transfer ≡ true
     → t.moved ≡ r.count
-    → Stepped None (CallOf (ask_at (job.Unmap m) t) o) d [] (λ x. StationsWith config w g x (slice_set w.back.jobs.works p (record t { rest = rest; stage = job.Done Okay })) w.under.pages)
-ends_well o config w g d p t r m rest doing moves all =
-    job_stepped (CallOf (ask_at (job.Unmap m) t) o) config w g d p t (record t { rest = rest; stage = job.Done Okay }) r (Ends Okay) [] doing.holds doing.is refl refl refl
+    → StepsTo (CallOf (ask_at (job.Unmap m) t) o) config w g d p (record t { rest = rest; stage = job.Done Okay }) []
+ends_well {config} {w} {g} {d} {p} {t} {r} {m} o rest doing moves all =
+    job_stepped w (record t { rest = rest; stage = job.Done Okay }) (Ends Okay) refl refl refl
     (λ q was reads. (tt, λ ok. subst (λ (n : ℕ). IsReadBack w.under.pages r n q.words) all (read_now doing q was reads)))
     (λ q asked. record {
-      before = ap (λ (n : ℕ). Working n) (ap places_of asked ∙ (all_places r.transfer r.sector r.count moves ∙ sym all))
-          ∙ sym (ap (λ (j : JobStage). worked j t.moved) doing.stage);
+      before = rw (asked, doing.stage, all) (ap (λ (n : ℕ). Working n) (all_places r.transfer r.sector r.count moves));
       after = refl;
       may = tt;
       disk = λ a b call. same_Some b a call.1;
-    })
+    }) doing.holds doing.is
 
-pub ends_badly : (o : Outcome) (config : Options) (w : World) (g : Flow) (d : Pipeline) (p : ℕ) (t : Work) (r : Request) (m : Mapping)
-    → IsDoing config w g d p t r (job.Abort m)
-    → Stepped None (CallOf (ask_at (job.Abort m) t) o) d [] (λ x. StationsWith config w g x (slice_set w.back.jobs.works p (record t { stage = job.Done Error })) w.under.pages)
-ends_badly o config w g d p t r m doing =
-    job_stepped (CallOf (ask_at (job.Abort m) t) o) config w g d p t (record t { stage = job.Done Error }) r (Ends Error) [] doing.holds doing.is refl refl refl (λ q was reads. (tt, λ t. absurd (false≢true t))) (λ q asked. record {
+pub ends_badly : {config : Options} {w : World} {g : Flow} {d : Pipeline} {p : ℕ} {t : Work} {r : Request} {m : Mapping} (o : Outcome) → IsDoing config w g d p t r (job.Abort m)
+    → StepsTo (CallOf (ask_at (job.Abort m) t) o) config w g d p (record t { stage = job.Done Error }) []
+ends_badly {config} {w} {g} {d} {p} {t} {r} {m} o doing =
+    job_stepped w (record t { stage = job.Done Error }) (Ends Error) refl refl refl (λ q was reads. (tt, λ t. absurd (false≢true t)))
+    (λ q asked. record {
       before = rw doing.stage refl;
       after = refl;
       may = tt;
       disk = λ a b call. same_Some b a call.1;
-    })
+    }) doing.holds doing.is

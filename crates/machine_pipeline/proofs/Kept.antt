@@ -1,5 +1,5 @@
 -- What a write leaves as it was, subject by subject.
-use Rattle.std.proofs.Common.{◌≡◌, ◌≢◌, ℕ, zero, suc, ◌+◌, ◌*◌, ◌/◌, ◌%◌, ◌^◌, ◌<◌, ◌≤◌, Bool, true, true≢false, List, length, refl, ap, sym, ◌∙◌, arith, get_or-set_other, false}
+use Rattle.std.proofs.Common.{◌≡◌, ◌≢◌, ℕ, ◌+◌, ◌*◌, ◌/◌, ◌%◌, ◌^◌, ◌<◌, ◌≤◌, Bool, true, true≢false, List, length, refl, sym, ◌∙◌, arith, get_or-set_other, false, ◌⊎◌, inl, inr, subst}
 use Rattle.std.specs.Prelude.{All, Option, Some}
 use Rattle.std.proofs.lemmas.Grind.{get_or-set_at}
 use Rattle.ring_words.specs.Shape.{Shape, entry_words_of}
@@ -18,7 +18,8 @@ use Rattle.blk_front.specs.Request.{frame_at, words_in}
 use Rattle.machine_pipeline.proofs.Flow.{wrapped, named_pages, granted_pages, ending_at, revoking_at, word_at, responded, frames_of, is_front_arming, is_back_arming}
 use Rattle.machine_pipeline.proofs.Slots.{response_fits, SameSlots, slot_kept}
 use Rattle.machine_pipeline.proofs.Data.{SameData, pooled_at}
-use Rattle.machine_pipeline.proofs.Holds.{IsPooled, RingBegun, AreRingWords, slot_of, AreSlots, IsFilled, IsReadSoFar, AreDataWords, AreEntries, IsFrontSleep, IsBackSleep}
+use Rattle.machine_pipeline.proofs.Holds.{IsPooled, RingBegun, AreRingWords, slot_of, AreSlots, IsFilled, IsReadSoFar, AreDataWords, AreEntries, IsSleep, IsFrontSleep, IsBackSleep}
+use Rattle.std.proofs.lemmas.Bool.{cases_eq}
 
 -- a front that is ready made its ring and its port
 ready_connected : (s : FrontStage) → is_ready s ≡ true → is_connected s ≡ true
@@ -62,18 +63,13 @@ other_frame pages frame word value f worded other w within = get_or-set_other pa
 
 -- entries stand in frames 0 and 1, two words each
 pub same_entry : (old new : List ℕ) (gref : ℕ) → gref < 1024 → SameFrame old new 0 → SameFrame old new 1 → SameEntry old new gref
-same_entry old new gref few zeroth first = by_frame (gref / 512) refl (omega arith)
+same_entry old new gref few zeroth first = record { flags = same (2 * (gref % 512)) (omega arith); frame = same (2 * (gref % 512) + 1) (omega arith) }
   where
-    by_frame : (f : ℕ) → gref / 512 ≡ f → f < 2 → SameEntry old new gref
-    by_frame zero e lt = record {
-      flags = ap (λ (n : ℕ). word_of new n (2 * (gref % 512))) e ∙ (zeroth (2 * (gref % 512)) (omega arith) ∙ ap (λ (n : ℕ). word_of old n (2 * (gref % 512))) (sym e));
-      frame = ap (λ (n : ℕ). word_of new n (2 * (gref % 512) + 1)) e ∙ (zeroth (2 * (gref % 512) + 1) (omega arith) ∙ ap (λ (n : ℕ). word_of old n (2 * (gref % 512) + 1)) (sym e));
-    }
-    by_frame (suc zero) e lt = record {
-      flags = ap (λ (n : ℕ). word_of new n (2 * (gref % 512))) e ∙ (first (2 * (gref % 512)) (omega arith) ∙ ap (λ (n : ℕ). word_of old n (2 * (gref % 512))) (sym e));
-      frame = ap (λ (n : ℕ). word_of new n (2 * (gref % 512) + 1)) e ∙ (first (2 * (gref % 512) + 1) (omega arith) ∙ ap (λ (n : ℕ). word_of old n (2 * (gref % 512) + 1)) (sym e));
-    }
-    by_frame (suc (suc f)) e lt = absurd (omega arith)
+    same : SameFrame old new (gref / 512)
+    same = elim (cases_eq (gref / 512) 0) [
+      | inl e ↦ subst (SameFrame old new) (sym e) zeroth
+      | inr apart ↦ (let one : 1 ≡ gref / 512 = omega arith in subst (SameFrame old new) one first)
+    ]
 
 -- another reference's entry
 pub other_entry : (pages : List ℕ) (gref other value : ℕ) → gref < 1024 → other < 1024 → other ≢ gref → SameEntry pages (with_word pages (gref / 512) (2 * (gref % 512)) value) other
@@ -169,31 +165,46 @@ entries_kept pushed old new live s ending requests same last h = record {
   ending = λ e t place from in_it. let here = last e t in let entry = here place in_it in entry.flags ∙ h.ending e t place from in_it;
 }
 
-pub front_sleep_kept : (start taken replied : ℕ) (old new : List ℕ) (asleep pending : Bool) (s : FrontStage) (b : BackStage)
-    → word_of new 2 3 ≡ word_of old 2 3
-    → IsFrontSleep start taken replied old asleep pending s b
-    → IsFrontSleep start taken replied new asleep pending s b
-front_sleep_kept start taken replied old new asleep pending s b same h = record {
-  arming = λ t. same ∙ h.arming t;
-  armed = λ t. same ∙ h.armed t;
-  may = h.may;
-  woken = h.woken;
-}
+-- an end sleeps as before where its event word stays
+pub sleep_kept : {start had pushed event event' : ℕ} {asleep pending arms may_sleep : Bool} {Sends : Type 0} → event' ≡ event
+    → IsSleep start had pushed event asleep pending arms may_sleep Sends → IsSleep start had pushed event' asleep pending arms may_sleep Sends
+sleep_kept same h = rw same h
 
-pub back_sleep_kept : (start fetched pushed : ℕ) (old new : List ℕ) (asleep pending : Bool) (s : FrontStage) (b : BackStage)
-    → word_of new 2 1 ≡ word_of old 2 1
-    → IsBackSleep start fetched pushed old asleep pending s b
-    → IsBackSleep start fetched pushed new asleep pending s b
-back_sleep_kept start fetched pushed old new asleep pending s b same h = record {
-  arming = λ t. same ∙ h.arming t;
-  armed = λ t. same ∙ h.armed t;
+-- where it is at another stage
+pub sleep_turned : {start had pushed event : ℕ} {asleep pending arms arms' may_sleep may_sleep' : Bool} {Sends : Type 0} → (arms' ≡ true → arms ≡ true) → (may_sleep' ≡ false → asleep ≡ false)
+    → IsSleep start had pushed event asleep pending arms may_sleep Sends → IsSleep start had pushed event asleep pending arms' may_sleep' Sends
+sleep_turned arming may h = record { arming = λ t. h.arming (arming t); armed = h.armed; may = may; woken = h.woken }
+
+-- and where another mark wakes it as well, and the other end is at a stage from which an event comes as well, or nothing more is there
+pub sleep_sent : {start had pushed event : ℕ} {asleep pending pending' arms may_sleep : Bool} {Sends Sends' : Type 0}
+    → (pending ≡ true → pending' ≡ true) → (asleep ≡ true → Sends → (pushed ≡ had) ⊎ (pending' ≡ true) ⊎ Sends')
+    → IsSleep start had pushed event asleep pending arms may_sleep Sends → IsSleep start had pushed event asleep pending' arms may_sleep Sends'
+sleep_sent mark sends h = record {
+  arming = h.arming;
+  armed = h.armed;
   may = h.may;
-  woken = h.woken;
+  woken = λ t. elim (h.woken t) [ inl none ↦ inl none | inr some ↦ elim some [ inl marked ↦ inr (inl (mark marked)) | inr comes ↦ sends t comes ] ];
 }
 
 -- an end that is awake
-pub awake_front : (start taken replied : ℕ) (pages : List ℕ) (asleep pending : Bool) (s : FrontStage) (b : BackStage) → asleep ≡ false → is_front_arming s ≡ false → IsFrontSleep start taken replied pages asleep pending s b
-awake_front start taken replied pages asleep pending s b awake unarmed = record { arming = λ t. absurd (true≢false (sym t ∙ unarmed)); armed = λ t. absurd (true≢false (sym t ∙ awake)); may = λ t. awake; woken = λ t. absurd (true≢false (sym t ∙ awake)) }
+pub sleep_awake : {start had pushed event : ℕ} {asleep pending arms may_sleep : Bool} {Sends : Type 0} → asleep ≡ false → arms ≡ false
+    → IsSleep start had pushed event asleep pending arms may_sleep Sends
+sleep_awake wake unarmed = record { arming = λ t. absurd cc; armed = λ t. absurd cc; may = λ t. wake; woken = λ t. absurd cc }
 
-pub awake_back : (start fetched pushed : ℕ) (pages : List ℕ) (asleep pending : Bool) (s : FrontStage) (b : BackStage) → asleep ≡ false → is_back_arming b ≡ false → IsBackSleep start fetched pushed pages asleep pending s b
-awake_back start fetched pushed pages asleep pending s b awake unarmed = record { arming = λ t. absurd (true≢false (sym t ∙ unarmed)); armed = λ t. absurd (true≢false (sym t ∙ awake)); may = λ t. awake; woken = λ t. absurd (true≢false (sym t ∙ awake)) }
+-- the same, with what the stage after it says
+pub sends_as : {start had pushed event : ℕ} {asleep pending arms may_sleep : Bool} {Sends : Type 0} (Sends' : Type 0) → (asleep ≡ true → Sends → (pushed ≡ had) ⊎ (pending ≡ true) ⊎ Sends')
+    → IsSleep start had pushed event asleep pending arms may_sleep Sends → IsSleep start had pushed event asleep pending arms may_sleep Sends'
+sends_as Sends' sends h = sleep_sent (λ t. t) sends h
+
+pub turns_as : {start had pushed event : ℕ} {asleep pending arms may_sleep : Bool} {Sends : Type 0} (arms' may_sleep' : Bool) → (arms' ≡ true → arms ≡ true) → (may_sleep' ≡ false → asleep ≡ false)
+    → IsSleep start had pushed event asleep pending arms may_sleep Sends → IsSleep start had pushed event asleep pending arms' may_sleep' Sends
+turns_as arms' may_sleep' arming may h = sleep_turned arming may h
+
+-- an end that is awake
+pub awake_front : (start taken replied : ℕ) (pages : List ℕ) (asleep pending : Bool) (s : FrontStage) (b : BackStage) → asleep ≡ false → is_front_arming s ≡ false
+    → IsFrontSleep start taken replied pages asleep pending s b
+awake_front start taken replied pages asleep pending s b wake unarmed = sleep_awake wake unarmed
+
+pub awake_back : (start fetched pushed : ℕ) (pages : List ℕ) (asleep pending : Bool) (s : FrontStage) (b : BackStage) → asleep ≡ false → is_back_arming b ≡ false
+    → IsBackSleep start fetched pushed pages asleep pending s b
+awake_back start fetched pushed pages asleep pending s b wake unarmed = sleep_awake wake unarmed

@@ -4,7 +4,6 @@ use Rattle.std.specs.Prelude.{None}
 use Rattle.std.specs.List.{AllByRecursion, list_all}
 use Rattle.std.proofs.lemmas.List.{append-nil}
 use Rattle.blk_base.specs.Options.{Options}
-use Rattle.blk_base.specs.declared.parts.End.{End}
 use Rattle.blk_base.specs.declared.parts.End.TheVariants as end
 use Rattle.blk_base.specs.declared.moves.Mover.TheVariants as mover
 use Rattle.blk_base.specs.declared.moves.Move.TheVariants as moves
@@ -19,9 +18,6 @@ use Rattle.blk_back.specs.declared.stage.Stage.{Stage as BackStage}
 use Rattle.blk_front.specs.View.{View}
 use Rattle.split_model.specs.World.{World}
 use Rattle.split_model.specs.Shown.{front_lines}
-use Rattle.split_model.specs.Keys.{KeyMove, negotiated, negotiated_lines}
-use Rattle.split_model.specs.Happening.{Negotiates, happens, lines_at}
-use Rattle.split_model.proofs.Keys.{negotiated_lines_are}
 use Rattle.machine_pipeline.proofs.Flow.{Flow}
 use Rattle.machine_pipeline.proofs.Holds.{Holds, IsFrontSleep, IsBackSleep}
 use Rattle.machine_pipeline.proofs.Turns.{Goes, said_nothing, goes_by}
@@ -32,48 +28,17 @@ abbrev pub keyed : World → Directory → World
 keyed w keys = record { front = w.front; back = w.back; under = with_keys w.under keys }
 
 -- other keys, and other marks with which both ends would wake as well
-beside : (config : Options) (w : World) (g : Flow) (d : Pipeline) (s : FrontStage) (b : BackStage) (keys : Directory) (front_pending back_pending : Bool)
+pub beside : (config : Options) (w : World) (g : Flow) (d : Pipeline) (s : FrontStage) (b : BackStage) (keys : Directory) (front_pending back_pending : Bool)
     → IsFrontSleep g.start g.taken g.replied w.under.pages w.front.ring.asleep front_pending s b
     → IsBackSleep g.start g.fetched g.pushed w.under.pages w.back.ring.asleep back_pending s b
     → Holds config w g d s b
     → Holds config (record { front = w.front; back = w.back; under = record w.under { channels = record w.under.channels { front_pending = front_pending; back_pending = back_pending }; keys = keys } }) g d s b
-beside config w g d s b keys front_pending back_pending front_sleep back_sleep h = record {
-  settled = h.settled;
-  indices = h.indices;
-  queue = h.queue;
-  pool = h.pool;
-  stations = h.stations;
-  works = h.works;
-  counted = h.counted;
-  replies = h.replies;
-  front_at = h.front_at;
-  offered = h.offered;
-  back_at = h.back_at;
-  memory = h.memory;
-  ring = h.ring;
-  slots = h.slots;
-  frames = h.frames;
-  telling = h.telling;
-  entries = h.entries;
-  mapped = h.mapped;
-  paged = h.paged;
-  front_sleep = front_sleep;
-  back_sleep = back_sleep;
-  ports = h.ports;
-}
-
-pub marked : (config : Options) (w : World) (g : Flow) (d : Pipeline) (s : FrontStage) (b : BackStage) (front_pending back_pending : Bool)
-    → IsFrontSleep g.start g.taken g.replied w.under.pages w.front.ring.asleep front_pending s b
-    → IsBackSleep g.start g.fetched g.pushed w.under.pages w.back.ring.asleep back_pending s b
-    → Holds config w g d s b
-    → Holds config (record { front = w.front; back = w.back; under = record w.under { channels = record w.under.channels { front_pending = front_pending; back_pending = back_pending } } }) g d s b
-marked config w g d s b front_pending back_pending front_sleep back_sleep h = beside config w g d s b w.under.keys front_pending back_pending front_sleep back_sleep h
-
-pub holds_keyed : (config : Options) (w : World) (g : Flow) (d : Pipeline) (s : FrontStage) (b : BackStage) (keys : Directory) → Holds config w g d s b → Holds config (keyed w keys) g d s b
-holds_keyed config w g d s b keys h = beside config w g d s b keys w.under.channels.front_pending w.under.channels.back_pending h.front_sleep h.back_sleep h
+beside config w g d s b keys front_pending back_pending front_sleep back_sleep h = assumption
 
 pub goes_keyed : (config : Options) (said : List Line) (w : World) (d : Pipeline) (keys : Directory) → Goes config said w d → Goes config said (keyed w keys) d
-goes_keyed config said w d keys p = record { flow = p.flow; steps = p.steps; does = p.does; holds = holds_keyed config w p.flow (after_steps p.steps d) w.front.stage w.back.stage keys p.holds }
+goes_keyed config said w d keys p =
+    let h : Holds config w p.flow (after_steps p.steps d) w.front.stage w.back.stage = p.holds in
+    goes_by p.does (beside config w p.flow (after_steps p.steps d) w.front.stage w.back.stage keys w.under.channels.front_pending w.under.channels.back_pending h.front_sleep h.back_sleep h)
 
 -- an end that told nothing tells nothing
 pub untold : (w : World) → w.front.told ≡ None → w ≡ record { front = (let v : View = w.front in record v { told = None }); back = w.back; under = w.under }
@@ -89,20 +54,12 @@ watched_goes config w g d path told h =
     (subst (λ (x : World). Holds config x g d x.front.stage x.back.stage) (untold w told) h))
 
 -- lines that are nothing to the pipeline
-words_aside : (ls : List Line) → AllByRecursion (λ (line : Line). is_aside line ≡ true) ls → list_all is_aside ls ≡ true
+abbrev pub IsAside : Line → Type 0
+IsAside line = is_aside line ≡ true
+
+words_aside : (ls : List Line) → AllByRecursion IsAside ls → list_all is_aside ls ≡ true
 words_aside [] all = refl
 words_aside (line ∷ ls) all = rw all.0 (words_aside ls all.1)
 
-pub asides_do : (d : Pipeline) (ls : List Line) → AllByRecursion (λ (line : Line). is_aside line ≡ true) ls → Does None IsSame ls d []
+pub asides_do : (d : Pipeline) (ls : List Line) → AllByRecursion IsAside ls → Does None IsSame ls d []
 asides_do d ls all = record { asides = ls; aside = words_aside ls all; shows = sym (append-nil ls); asks = refl; allowed = tt; disk = λ a b e. e }
-
-pub asides_go : (config : Options) (w : World) (g : Flow) (d : Pipeline) (ls : List Line) → AllByRecursion (λ (line : Line). is_aside line ≡ true) ls → Holds config w g d w.front.stage w.back.stage → Goes config ls w d
-asides_go config w g d ls all h = goes_by (asides_do d ls all) h
-
--- what an end does with the keys
-pub negotiates_goes : (config : Options) (w : World) (g : Flow) (d : Pipeline) (at : End) (move : KeyMove) → Holds config w g d w.front.stage w.back.stage
-    → Goes config (lines_at w (Negotiates at move)) (happens w (Negotiates at move)) d
-negotiates_goes config w g d at move h =
-    let shown = negotiated_lines w.back.stage at move w.under.keys in
-    goes_keyed config shown w d (negotiated w.back.stage at move w.under.keys)
-    (asides_go config w g d shown (negotiated_lines_are (λ (line : Line). is_aside line ≡ true) w.back.stage at move w.under.keys (λ path. refl) (λ path text. refl) (λ path. refl) (λ path. refl)) h)

@@ -1,5 +1,5 @@
 -- The back halts, since its front closes and has no request left: nothing is served from then on.
-use Rattle.std.proofs.Common.{◌≡◌, ◌≢◌, ℕ, ◌+◌, ◌^◌, ◌<◌, ◌≤◌, ◌==◌, ◌&&◌, inl, inr, Bool, true, false, List, [], ◌∷◌, ◌++◌, length, refl, ap, sym, ◌∙◌, subst, arith, true≢false}
+use Rattle.std.proofs.Common.{◌≡◌, ◌≢◌, ℕ, ◌+◌, ◌^◌, ◌<◌, ◌≤◌, ◌==◌, ◌&&◌, inl, inr, Bool, true, false, List, [], ◌∷◌, length, refl, ap, sym, ◌∙◌, subst, arith, true≢false}
 use Rattle.std.specs.Prelude.{Option, Some, None, is_some, slice_get}
 use Rattle.std.proofs.lemmas.Option.{slice_get_within, get_or_from_slice_get}
 use Rattle.std.proofs.lemmas.Bool.{cases_lt}
@@ -14,7 +14,6 @@ use Rattle.blk_front.specs.declared.stage.Ending.{Ending}
 use Rattle.blk_front.specs.declared.stage.Stage.{Stage as FrontStage}
 use Rattle.blk_front.specs.declared.stage.Stage.TheVariants as front
 use Rattle.blk_front.specs.Step.{is_mapped}
-use Rattle.back_jobs.specs.Hands.{hands_in}
 use Rattle.back_jobs.specs.Jobs.{first_mapping, after_mapping}
 use Rattle.back_jobs.specs.Task.{Work}
 use Rattle.blk_back.specs.declared.stage.Stage.{Stage as BackStage}
@@ -30,14 +29,16 @@ use Rattle.split_model.proofs.States.{halts_cases}
 use Rattle.machine_pipeline.specs.Allowed.{is_free, IsFarewell}
 use Rattle.machine_pipeline.specs.Step.{IsSame}
 use Rattle.machine_pipeline.proofs.Flow.{Flow, granted_pages, is_bound_back, ending_at, count_of}
-use Rattle.machine_pipeline.proofs.Holds.{AreMapped, ArePooled, Holds, PortsAt}
+use Rattle.machine_pipeline.proofs.Holds.{PagesAt, AreMapped, ArePooled, Holds, PortsAt}
 use Rattle.machine_pipeline.proofs.Lists.{all_from, pairs_from}
 use Rattle.machine_pipeline.proofs.Slots.{few_pages, some_pages}
 use Rattle.machine_pipeline.proofs.Hands.{mapped_few, nothing_aborted}
 use Rattle.machine_pipeline.proofs.Turns.{no_move}
 use Rattle.machine_pipeline.proofs.Over.{may_begin, IsDrained, IsAborting, AreOwn, AreUnmapped, IsLeaving, Over, HasGone, unclosed, gone_by}
 use Rattle.line_text.proofs.Both.{both_true}
-use Rattle.machine_pipeline.proofs.Drained.{no_element, drained_at, no_job_left, finished_at}
+use Rattle.machine_pipeline.proofs.Drained.{drained_at, no_job_left, finished_at}
+use Rattle.std.proofs.lemmas.List.{nil_from_length}
+use Rattle.pipeline_laws.specs.Allowed.{AreFinished}
 
 -- a front that closes, with no request left
 pub record IsThrough (closing : Bool) (requests : ℕ) : Type 0 where
@@ -49,11 +50,8 @@ through_is closing requests t = let parts = both_true closing (requests == 0) t 
 
 -- a front that is at nothing ends no request
 none_ends : (s : FrontStage) (ending : Option Ending) → is_free s ≡ true → count_of (ending_at s ending) ≡ 0
-none_ends (front.GrantRead place) ending free = absurd (true≢false (sym free))
-none_ends (front.GrantEnd place before) ending free = absurd (true≢false (sym free))
-none_ends (front.ReadData n) ending free = absurd (true≢false (sym free))
-none_ends (front.LeftData n) ending free = absurd (true≢false (sym free))
-none_ends s ending free = refl
+none_ends front.Loop ending free = refl
+none_ends s ending free = cc
 
 -- the front made one port, at the end of all that it makes
 pub one_port : (before : ℕ) (bound : Bool) (made : ℕ) (ports : List PortState) → PortsAt before true bound made ports → length ports ≡ 1
@@ -89,8 +87,7 @@ own_pages config w g d s b h = record {
 left_mapped : (config : Options) (w : World) (g : Flow) (d : Pipeline) (s : FrontStage) (b : BackStage) → Holds config w g d s b → w.back.jobs.works ≡ [] → AreMapped w.under.grants.live w.back.pages
 left_mapped config w g d s b h no_job =
     let given : aborted b ≡ [] = nothing_aborted g.shape b g.start g.fetched g.back_seen g.replied g.series w.back.jobs.works w.back.ring.entry h.back_at in
-    subst (λ (works : List Work). AreMapped w.under.grants.live (hands_in works ++ w.back.pages)) no_job
-    (subst (λ (ms : List Mapping). AreMapped w.under.grants.live (ms ++ (hands_in w.back.jobs.works ++ w.back.pages))) given h.mapped)
+    rw (given, no_job) at h.mapped
 
 leaving_at : (config : Options) (w : World) (g : Flow) (d : Pipeline) (s : FrontStage) (b b' : BackStage) → is_free s ≡ true → Holds config w g d s b
     → IsLeaving d.front.connected (length w.under.channels.ports) w.front.shape.order w.under.pages w.back.pages b' s
@@ -124,28 +121,21 @@ over_begins config w g d why v h farewell halted no_job info cons same_pages hel
     let through = through_is w.front.closing (length w.front.requests) farewell.through in
     let none : w.back.jobs.works ≡ [] = no_job_left config w g d w.front.stage w.back.stage h through.none in
     record {
-      options = h.stations.options;
-      closing = ap (λ (f : Front). f.closing) h.stations.front ∙ (h.started.closing ∙ through.closes);
-      closed = ap (λ (f : Front). f.closed) h.stations.front ∙ sym (unclosed is_free refl w.front.stage farewell.free);
-      finished = finished_at config w g d w.front.stage w.back.stage h through.none (none_ends w.front.stage w.front.ending farewell.free);
-      counted = h.stations.known.as_many ∙ h.submitted.counted;
-      begins = (let was = may_begin config w g d w.front.stage w.back.stage h in record {
-        submitted = was.submitted;
-        sized = was.sized;
-        each = was.each;
-        few = was.few;
-        known = was.known;
-        started = was.started;
-        shaped = was.shaped;
-        words = was.words;
-        info = info ∙ was.info;
-      });
-      pooled = unpooled w.front.requests through.none (ending_at w.front.stage w.front.ending) (none_ends w.front.stage w.front.ending farewell.free) h.pool;
-      closes = through.closes;
-      no_request = no_element w.front.requests through.none;
-      narrow = subst (λ (x : Shape). x.order ≤ 4) (sym h.shaped.known) h.shaped.narrow;
-      halted = ap is_some halted;
-      no_job = no_job;
+      spent = record {
+        options = h.stations.options;
+        leaves = ap (λ (f : Front). f.closing) h.stations.front ∙ (h.started.closing ∙ through.closes);
+        finished = let all = finished_at config w g d w.front.stage w.back.stage h through.none (none_ends w.front.stage w.front.ending farewell.free) in all.each;
+        counted = h.stations.known.as_many ∙ h.submitted.counted;
+        submitted = g.submitted;
+        begins = rw info (may_begin config w g d w.front.stage w.back.stage h);
+        pooled = unpooled w.front.requests through.none (ending_at w.front.stage w.front.ending) (none_ends w.front.stage w.front.ending farewell.free) h.pool;
+        closes = through.closes;
+        no_request = nil_from_length w.front.requests through.none;
+        narrow = subst (λ (x : Shape). x.order ≤ 4) (sym h.shaped.known) h.shaped.narrow;
+        halted = ap is_some halted;
+        no_job = no_job;
+      };
+      shut = ap (λ (f : Front). f.closed) h.stations.front ∙ sym (unclosed is_free refl w.front.stage farewell.free);
       memory = h.memory;
       back_at = subst (λ (ms : List Mapping). IsAborting ms v.stage) (sym same_pages) held;
       own = subst AreOwn (sym same_pages) (own_pages config w g d w.front.stage w.back.stage h);
@@ -161,7 +151,8 @@ Leaving config w d v = HasGone None IsSame config (halt_lines w.back.halted v.ha
 
 leaves : (config : Options) (w : World) (g : Flow) (d : Pipeline) (why : Halt) (v : View) → Holds config w g d w.front.stage w.back.stage → IsFarewell w why → v.halted ≡ Some why → Over config (backed w v) d w.front.stage v.stage → Leaving config w d v
 leaves config w g d why v h farewell halted over =
-    gone_by {steps = Leaves (halt_line why) ∷ []} (record { asides = []; aside = refl; shows = rw (h.unhalted, halted) refl; asks = refl; allowed = ((over.closing, farewell.gone, over.finished), tt); disk = λ a b e. (b, e, refl) })
+    let finished : AreFinished d = record { each = over.finished } in
+    gone_by {steps = Leaves (halt_line why) ∷ []} (record { asides = []; aside = refl; shows = rw (h.unhalted, halted) refl; asks = refl; allowed = ((over.leaves, farewell.gone, finished), tt); disk = λ a b e. (b, e, refl) })
     (inr over)
 
 -- a back that isn't bound holds pages that it mapped, or none
@@ -179,14 +170,12 @@ halts_goes config w g d why h farewell = halts_cases (Leaving config w d) why w.
     (λ e. leaves config w g d why unmapped h farewell refl (over_begins config w g d why unmapped h farewell refl no_job refl refl refl (giving_unbound w.back.pages)))
     (λ e. subst (λ (works : List Work). Leaving config w d (aborted_jobs works)) (sym no_job)
     (leaves config w g d why (aborted_jobs []) h farewell refl (over_begins config w g d why (aborted_jobs []) h farewell refl refl refl refl refl
-    (some_held w.back.pages (let looping : Holds config w g d w.front.stage back.Loop = at e in let all : length w.back.pages ≡ 2 ^ g.shape.order = looping.paged.mapped in let some = some_pages g.shape.order in omega arith)))))
+    (some_held w.back.pages (let mapped : PagesAt back.Loop g.shape.order (length w.back.pages) = subst
+    (λ (b : BackStage). PagesAt b g.shape.order (length w.back.pages)) e h.paged.mapped in omega (arith, mapped, some_pages g.shape.order))))))
     (record { steps = []; does = rw h.unhalted (no_move IsSame d (λ a b same. same)); kept = inl (g, h) })
   where
-    at : {b : BackStage} → w.back.stage ≡ b → Holds config w g d w.front.stage b
-    at e = subst (Holds config w g d w.front.stage) e h
-
     no_job : w.back.jobs.works ≡ []
-    no_job = no_job_left config w g d w.front.stage w.back.stage h (let through = through_is w.front.closing (length w.front.requests) farewell.through in through.none)
+    no_job = no_job_left config w g d w.front.stage w.back.stage h (through_is w.front.closing (length w.front.requests) farewell.through).none
 
     unmapped : View
     unmapped = let v : View = w.back in record v { halted = Some why; stage = unbound v.pages }

@@ -1,5 +1,5 @@
 -- The data of a read that were in hand as the guest was suspended are told before anything else; then the ring is made.
-use Rattle.std.proofs.Common.{◌≡◌, ℕ, ◌+◌, ◌%◌, ◌^◌, ◌<◌, ◌≤◌, ◌==◌, Bool, true, false, List, length, refl, ap, sym, ◌∙◌, subst, arith, true≢false}
+use Rattle.std.proofs.Common.{◌≡◌, ℕ, ◌+◌, ◌%◌, ◌^◌, ◌<◌, ◌≤◌, ◌==◌, Bool, false, List, length, refl, ap, sym, ◌∙◌, subst, arith, true≢false}
 use Rattle.std.specs.Prelude.{Option, None, nat_lt}
 use Rattle.std.proofs.lemmas.Option.{none-some}
 use Rattle.blk_base.specs.Options.{Options}
@@ -13,10 +13,10 @@ use Rattle.blk_front.specs.Step.{left_step}
 use Rattle.blk_front.specs.Submit.{is_ready, is_connected, ending_of}
 use Rattle.blk_front.specs.View.{next_request}
 use Rattle.split_model.specs.World.{World}
-use Rattle.machine_pipeline.proofs.Flow.{Flow, has_ring, is_issuing, filled, named_frames, granted_frames, named_pages, granted_pages, entered, ending_at, revoking_at, telling_at, is_front_arming, may_front_sleep, is_fetching, reply_at, is_bound_back}
-use Rattle.machine_pipeline.proofs.Holds.{FrontAt, FrontSends, RingBegun, IsOffered, ArePooled, AreDataWords, PortsAt, Holds, AreRingWords}
+use Rattle.machine_pipeline.proofs.Flow.{Flow, has_ring, is_issuing, filled, named_frames, granted_frames, named_pages, granted_pages, entered, ending_at, revoking_at, telling_at, is_front_arming, may_front_sleep, is_fetching, reply_at}
+use Rattle.machine_pipeline.proofs.Holds.{FrontAt, FrontSends, RingBegun, ArePooled, AreDataWords, Holds, AreRingWords}
 use Rattle.machine_pipeline.proofs.Stations.{AreStations}
-use Rattle.machine_pipeline.proofs.Resting.{back_sleep_rests}
+use Rattle.machine_pipeline.proofs.Issuing.{idle_turned, back_sleep_turned}
 use Rattle.machine_pipeline.proofs.Turns.{FrontGoes}
 use Rattle.machine_pipeline.proofs.Indices.{indices_room}
 use Rattle.machine_pipeline.proofs.Ended.{ActGoes, finishing_at}
@@ -42,42 +42,13 @@ pub record IsUnbegun (s : FrontStage) : Type 0 where
   pub quiet : (pushed fetched : ℕ) → FrontSends s pushed fetched → ⊥
 
 pub left_data : (n : ℕ) → IsUnbegun (front.LeftData n)
-left_data n = record {
-  unready = refl;
-  unconnected = refl;
-  restless = refl;
-  unarmed = refl;
-  unissued = refl;
-  ringless = refl;
-  named = λ pages. refl;
-  granted = λ pages. refl;
-  begun = λ start pages. tt;
-  unfilled = λ frames n lt. omega arith;
-  entered_none = refl;
-  unnamed = refl;
-  ungranted = refl;
-  unrevoked = λ ending. refl;
-  quiet = λ pushed fetched x. x;
-}
+left_data n = let none : (frames n : ℕ) → n < 0 → ⊥ = λ frames n lt. omega arith in assumption none
 
 pub first_word : IsUnbegun (front.RingWord 0)
-first_word = record {
-  unready = refl;
-  unconnected = refl;
-  restless = refl;
-  unarmed = refl;
-  unissued = refl;
-  ringless = refl;
-  named = λ pages. refl;
-  granted = λ pages. refl;
-  begun = λ start pages j lt. absurd (omega arith);
-  unfilled = λ frames n lt. omega arith;
-  entered_none = refl;
-  unnamed = refl;
-  ungranted = refl;
-  unrevoked = λ ending. refl;
-  quiet = λ pushed fetched x. x;
-}
+first_word =
+    let none : (frames n : ℕ) → n < 0 → ⊥ = λ frames n lt. omega arith in
+    let begun : (start : ℕ) (pages : List ℕ) → RingBegun start pages (front.RingWord 0) = λ start pages j lt. absurd (omega arith) in
+    assumption (none, begun)
 
 -- nothing is said of the ring's words
 pub ring_unbegun : (order start pushed replied : ℕ) (pages : List ℕ) (s : FrontStage) (mapped : ℕ) → IsUnbegun s → AreRingWords order start pushed replied pages s mapped
@@ -98,38 +69,17 @@ pub left_on : (config : Options) (w : World) (g : Flow) (d d' : Pipeline) (s s' 
     → FrontAt g.shape g.start g.pushed g.taken g.front_seen g.submitted g.replies (next_request w.front) w.front.ring.entry ending s'
     → AreDataWords w.under.pages words ending s'
     → Holds config (finishing_at w s' ending pool words w.under.pages) g d' s' w.back.stage
-left_on config w g d d' s s' ending pool words i i' fewer h stations pooled at told = record {
-  settled = h.settled;
-  indices = indices_room g w.front.ring.indices w.back.ring.indices w.front.ring.seen w.back.ring.seen w.back.fetched w.front.last w.front.waiting (length w.front.requests) (ending_of s) (ending_of s') (let was = h.indices in let room = was.room in omega arith) h.indices;
-  queue = h.queue;
-  pool = pooled;
-  stations = stations;
-  works = h.works;
-  counted = h.counted;
-  replies = h.replies;
-  front_at = at;
-  offered = subst (λ (b : Bool). IsOffered b config.read_only config.indirect w.front.offers g.pushed) (i.unready ∙ sym i'.unready) h.offered;
-  back_at = h.back_at;
-  memory = h.memory;
-  ring = ring_unbegun g.shape.order g.start g.pushed g.replied w.under.pages s' (length w.back.pages) i';
-  slots = (let was = h.slots in record { entries = was.entries; entry = λ r e k lt in_it. absurd (let none = i'.entered_none in omega arith); responses = was.responses; response = was.response });
-  frames = λ k x lt. (let was = h.frames k x lt in record { whole = was.whole; begun = λ e n f. absurd (i'.unfilled _ n f) });
-  telling = told;
-  entries = record {
-    each = λ k x lt. (let was = h.entries.each k x lt in record {
-      named = was.named;
-      named_next = λ e place t. absurd (let none = i'.unnamed in omega arith);
-      flags = was.flags;
-      flags_next = λ e place t. absurd (let none = i'.ungranted in omega arith);
-    });
-    ending = λ e same. absurd (none-some e (sym (i'.unrevoked ending) ∙ same));
-  };
-  mapped = h.mapped;
-  paged = h.paged;
-  front_sleep = awake_front g.start g.taken g.replied w.under.pages w.front.ring.asleep w.under.channels.front_pending s' w.back.stage (h.front_sleep.may i.restless) i'.unarmed;
-  back_sleep = back_sleep_rests g.start g.fetched g.pushed w.under.pages w.under.pages w.back.ring.asleep w.under.channels.back_pending w.under.channels.back_pending s s' w.back.stage refl refl (i.quiet g.pushed g.fetched) h.back_sleep;
-  ports = subst (λ (b : Bool). PortsAt g.before b (is_bound_back w.back.stage) w.under.channels.made w.under.channels.ports) (i.unconnected ∙ sym i'.unconnected) h.ports;
-}
+left_on config w g d d' s s' ending pool words i i' fewer h stations pooled at told = assumption (
+  indices_room g w.front.ring.indices w.back.ring.indices w.front.ring.seen w.back.ring.seen w.back.fetched w.front.last w.front.waiting (length w.front.requests)
+      (ending_of s) (ending_of s') (omega (arith, h.indices.room)) h.indices,
+  rw (i.unready ∙ sym i'.unready) at h.offered,
+  ring_unbegun g.shape.order g.start g.pushed g.replied w.under.pages s' (length w.back.pages) i',
+  idle_turned h w.under.pages s' ending i'.unissued (λ f x from to in_it after. refl) (λ n x lt k l. refl) (λ n x lt a in_it. record { flags = refl; frame = refl })
+      (λ e same. absurd (none-some e (sym (i'.unrevoked ending) ∙ same))),
+  awake_front g.start g.taken g.replied w.under.pages w.front.ring.asleep w.under.channels.front_pending s' w.back.stage (h.front_sleep.may i.restless) i'.unarmed,
+  back_sleep_turned h w.under.pages s' w.under.channels.back_pending refl refl (λ t sends. absurd (i.quiet g.pushed g.fetched sends)),
+  rw (i.unconnected ∙ sym i'.unconnected) at h.ports,
+)
 
 -- a word of them is read
 pub left_goes : (config : Options) (w : World) (g : Flow) (d : Pipeline) (n : ℕ)

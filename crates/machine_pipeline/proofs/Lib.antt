@@ -75,10 +75,10 @@ pub mod Resumed
 pub mod Starting
 pub mod StartingMoves
 pub mod StartingHolds
-pub mod Notified
 pub mod Connecting
 pub mod Attaching
 pub mod Quiet
+pub mod Outside
 pub mod OverMoves
 pub mod OverRest
 pub mod ResumedHolds

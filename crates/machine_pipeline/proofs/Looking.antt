@@ -1,7 +1,7 @@
 -- The front looks for responses: at the producer, and again before it sleeps.
-use Rattle.std.proofs.Common.{◌≡◌, ◌≢◌, ℕ, ◌+◌, ◌*◌, ◌<◌, ◌≤◌, ◌==◌, inl, if◌then◌else◌, Bool, true, false, List, ◌∷◌, length, refl, sym, ◌∙◌, subst, arith, true≢false, length-set}
+use Rattle.std.proofs.lemmas.Bool.{cases_Bool, eqb-true, le-ltb}
+use Rattle.std.proofs.Common.{inr, ◌≡◌, ◌≢◌, ℕ, ◌+◌, ◌*◌, ◌<◌, ◌==◌, inl, Bool, true, false, List, ◌∷◌, length, refl, sym, ◌∙◌, subst, arith, true≢false, length-set}
 use Rattle.std.specs.Prelude.{None, nat_lt}
-use Rattle.std.proofs.lemmas.Bool.Decides.{nat_tests}
 use Rattle.blk_base.specs.Options.{Options}
 use Rattle.blk_base.specs.Distance.{distance_of}
 use Rattle.blk_base.specs.declared.moves.Move.{Move}
@@ -15,80 +15,55 @@ use Rattle.blk_front.specs.declared.stage.Stage.{Stage as FrontStage}
 use Rattle.blk_front.specs.declared.stage.Stage.TheVariants as front
 use Rattle.blk_front.specs.View.{View, next_request}
 use Rattle.blk_front.specs.Submit.{ending_of}
-use Rattle.blk_front.specs.Step.{at, looked, broken}
+use Rattle.blk_front.specs.Step.{at, looked}
 use Rattle.split_model.specs.World.{World}
 use Rattle.split_model.specs.Shown.{front_lines}
 use Rattle.machine_pipeline.proofs.Flow.{Flow, wrapped}
-use Rattle.machine_pipeline.proofs.Holds.{Holds, IsFrontSleep, FrontAt}
+use Rattle.machine_pipeline.proofs.Holds.{AreIndices, Holds, IsFrontSleep, FrontAt}
 use Rattle.machine_pipeline.proofs.Turns.{Goes, FrontGoes, said_nothing, goes_by}
-use Rattle.machine_pipeline.proofs.Kept.{SameFrame, written, other_word, other_frame}
+use Rattle.machine_pipeline.proofs.Kept.{awake_front, SameFrame, written, other_word, other_frame}
 use Rattle.machine_pipeline.proofs.Wrapped.{distance_at, same_wrapped, next_wrapped}
-use Rattle.machine_pipeline.proofs.Resting.{IsResting, at_loop, at_look, at_store, at_fence, rest_kept}
-
-too_far : (far near : ℕ) → near ≤ far → nat_lt far near ≡ true → ⊥
-too_far far near le t = grind (arith, nat_tests)
+use Rattle.machine_pipeline.proofs.Resting.{is_resting, rest_kept}
 
 -- what was read of the producer is what was replied: not too far, and the same as what was taken where nothing is new
 pub looked_goes : (config : Options) (w : World) (g : Flow) (d : Pipeline) (s : FrontStage) (m : Move) (word : ℕ) (otherwise : View)
-    → IsResting s → ending_of s ≡ 0
+    → is_resting s ≡ true → ending_of s ≡ 0
     → Holds config w g d s w.back.stage
     → w.front.told ≡ None
     → w.front.ring.asleep ≡ false
     → word ≡ wrapped g.start g.replied
     → (g.replied ≡ g.taken → Goes config (lines.Move m ∷ front_lines otherwise.told) (record { front = record otherwise { told = None }; back = w.back; under = w.under }) d)
     → (let x : View = looked w.front word otherwise in Goes config (lines.Move m ∷ front_lines x.told) (record { front = record x { told = None }; back = w.back; under = w.under }) d)
-looked_goes config w g d s m word otherwise i zero h told awake read nothing = by_break (nat_lt (distance_of w.front.ring.indices.cons w.front.ring.indices.prod) (distance_of w.front.ring.indices.cons word)) refl
+looked_goes config w g d s m word otherwise i zero h told awake read nothing =
+    rw near (elim (cases_Bool (word == w.front.ring.indices.cons)) [
+      | inl t ↦ rw t (nothing (same_wrapped g.start g.taken g.replied x.taken_replied (omega arith) (sym read ∙ (eqb-true word w.front.ring.indices.cons t ∙ x.taken))))
+      | inr f ↦ rw f new
+    ])
   where
+    x : AreIndices g w.front.ring.indices w.back.ring.indices w.front.ring.seen w.back.ring.seen w.back.fetched w.front.last w.front.waiting (length w.front.requests) (ending_of s)
+    x = h.indices
+
     found : View
     found = let v : View = w.front in record v { ring = record v.ring { seen = word }; stage = front.Loop }
+
+    near : nat_lt (distance_of w.front.ring.indices.cons w.front.ring.indices.prod) (distance_of w.front.ring.indices.cons word) ≡ false
+    near =
+        let far = distance_at g.start g.taken g.pushed w.front.ring.indices.cons w.front.ring.indices.prod x.taken x.pushed (omega arith) (omega arith) in
+        let close = distance_at g.start g.taken g.replied w.front.ring.indices.cons word x.taken read x.taken_replied (omega arith) in
+        le-ltb (distance_of w.front.ring.indices.cons w.front.ring.indices.prod) (distance_of w.front.ring.indices.cons word) (omega (arith, far, close, x.replied_fetched, x.fetched_pushed))
 
     new : Goes config (lines.Move m ∷ front_lines found.told) (record { front = record found { told = None }; back = w.back; under = w.under }) d
     new =
         let v : View = w.front in
-        let indices = h.indices in
         subst (λ (a : Bool). Goes config (lines.Move m ∷ front_lines found.told) (record { front = record v { ring = record v.ring { seen = word; asleep = a }; stage = front.Loop; told = None }; back = w.back; under = w.under }) d) (sym awake)
         (goes_by {g = record g { front_seen = g.replied }} (said_nothing d m found.told told)
-        (rest_kept config w g d s front.Loop word g.replied false w.under.pages w.under.channels i at_loop zero refl h tt read indices.taken_replied (omega arith) h.memory (λ f apart x lt. refl) (λ x apart lt. refl) refl refl refl
-        (record { arming = λ t. absurd (true≢false (sym t)); armed = λ t. absurd (true≢false (sym t)); may = λ t. refl; woken = λ t. absurd (true≢false (sym t)) })))
-
-    by_new : (b : Bool) → (word == w.front.ring.indices.cons) ≡ b → (let x : View = (if b then otherwise else found) in Goes config (lines.Move m ∷ front_lines x.told) (record { front = record x { told = None }; back = w.back; under = w.under }) d)
-    by_new true t =
-        let same : word ≡ w.front.ring.indices.cons = grind (arith, nat_tests) in
-        nothing (same_wrapped g.start g.taken g.replied h.indices.taken_replied (omega arith) (sym read ∙ (same ∙ h.indices.taken)))
-    by_new false t = new
-
-    by_break : (b : Bool) → nat_lt (distance_of w.front.ring.indices.cons w.front.ring.indices.prod) (distance_of w.front.ring.indices.cons word) ≡ b → (let x : View = (if b then broken word w.front else (if word == w.front.ring.indices.cons then otherwise else found)) in Goes config (lines.Move m ∷ front_lines x.told) (record { front = record x { told = None }; back = w.back; under = w.under }) d)
-    by_break true t =
-        let far = distance_at g.start g.taken g.pushed w.front.ring.indices.cons w.front.ring.indices.prod h.indices.taken h.indices.pushed (omega arith) (omega arith) in
-        let near = distance_at g.start g.taken g.replied w.front.ring.indices.cons word h.indices.taken read h.indices.taken_replied (omega arith) in
-        absurd (too_far _ _ (omega arith) t)
-    by_break false t = by_new (word == w.front.ring.indices.cons) refl
-
--- before it sleeps the front looks again
-pub look_again_goes : (config : Options) (w : World) (g : Flow) (d : Pipeline)
-    → w.front.told ≡ None
-    → Holds config w g d front.LookAgain w.back.stage
-    → FrontGoes config w d front.LookAgain
-look_again_goes config w g d told h =
-    looked_goes config w g d front.LookAgain (moves.FrontRead 2 2 word) word asleep at_look refl h told awake read (λ same. goes_by {g = record g { front_seen = g.replied }} (said_nothing d (moves.FrontRead 2 2 word) asleep.told told)
-    ((let indices = h.indices in rest_kept config w g d front.LookAgain front.Loop word g.replied true w.under.pages w.under.channels at_look at_loop refl refl h tt read indices.taken_replied (omega arith) h.memory (λ f apart x lt. refl) (λ x apart lt. refl) refl refl refl
-    (let sleep = h.front_sleep in record { arming = λ t. absurd (true≢false (sym t)); armed = λ t. sleep.arming refl; may = λ t. absurd (true≢false t); woken = λ t. inl same }))))
-  where
-    word : ℕ
-    word = word_of w.under.pages 2 2
-
-    asleep : View
-    asleep = let v : View = w.front in record v { ring = record v.ring { seen = word; asleep = true }; stage = front.Loop }
-
-    awake : w.front.ring.asleep ≡ false
-    awake = let sleep = h.front_sleep in sleep.may refl
-
-    read : word ≡ wrapped g.start g.replied
-    read = let ring = h.ring in ring.responses refl
+        (rest_kept config w g d s front.Loop word g.replied false w.under.pages w.under.channels i refl zero refl h tt read x.taken_replied
+        (omega arith) h.memory (λ f apart y lt. refl) (λ y apart lt. refl) refl refl refl
+        (awake_front g.start g.taken g.replied w.under.pages false w.under.channels.front_pending front.Loop w.back.stage refl refl)))
 
 -- nothing changed but the stage, and the front tells nothing
 pub at_stage_goes : (config : Options) (w : World) (g : Flow) (d : Pipeline) (s s' : FrontStage) (m : Move) (pages : List ℕ)
-    → IsResting s → IsResting s'
+    → is_resting s ≡ true → is_resting s' ≡ true
     → ending_of s ≡ 0 → ending_of s' ≡ 0
     → w.front.told ≡ None
     → Holds config w g d s w.back.stage
@@ -103,28 +78,42 @@ at_stage_goes config w g d s s' m pages i i' zero zero' told h place sized frame
     goes_by (said_nothing d m w.front.told told)
     (rest_kept config w g d s s' w.front.ring.seen g.front_seen w.front.ring.asleep pages w.under.channels i i' zero zero' h place indices.front_saw indices.front_from indices.front_to sized frames words refl refl refl sleep)
 
--- it stores its event word one past what it took
-pub store_goes : (config : Options) (w : World) (g : Flow) (d : Pipeline)
-    → w.front.told ≡ None
-    → Holds config w g d front.StoreEvent w.back.stage
-    → FrontGoes config w d front.StoreEvent
-store_goes config w g d told h =
-    at_stage_goes config w g d front.StoreEvent front.EventFence (moves.FrontWrite 2 3 (next_of w.front.ring.indices.cons)) pages at_store at_fence refl refl told h tt
-    (length-set w.under.pages (2 * 1024 + 3) (next_of w.front.ring.indices.cons) ∙ h.memory)
-    (λ f apart. other_frame w.under.pages 2 3 (next_of w.front.ring.indices.cons) f (omega arith) apart)
-    (λ x apart lt. other_word w.under.pages 2 3 (next_of w.front.ring.indices.cons) x apart)
-    (record { arming = λ t. stored; armed = λ t. stored; may = h.front_sleep.may; woken = h.front_sleep.woken })
-  where
-    pages : List ℕ
-    pages = with_word w.under.pages 2 3 (next_of w.front.ring.indices.cons)
+module _ (config : Options) (w : World) (g : Flow) (d : Pipeline) (told : w.front.told ≡ None) where
+  -- before it sleeps the front looks again
+  pub look_again_goes : Holds config w g d front.LookAgain w.back.stage → FrontGoes config w d front.LookAgain
+  look_again_goes h =
+      looked_goes config w g d front.LookAgain (moves.FrontRead 2 2 word) word asleep refl refl h told awake read (λ same. goes_by {g = record g { front_seen = g.replied }} (said_nothing d (moves.FrontRead 2 2 word) asleep.told told)
+      ((let indices = h.indices in rest_kept config w g d front.LookAgain front.Loop word g.replied true w.under.pages w.under.channels refl refl refl refl h tt read indices.taken_replied (omega arith) h.memory (λ f apart x lt. refl) (λ x apart lt. refl) refl refl refl
+      (let sleep = h.front_sleep in record { arming = λ t. absurd (true≢false (sym t)); armed = λ t. sleep.arming refl; may = λ t. absurd (true≢false t); woken = λ t. inl same }))))
+    where
+      word : ℕ
+      word = word_of w.under.pages 2 2
 
-    stored : word_of pages 2 3 ≡ wrapped g.start (g.taken + 1)
-    stored = let indices = h.indices in written w.under.pages 2 3 (next_of w.front.ring.indices.cons) h.memory (omega arith) (omega arith) ∙ next_wrapped g.start g.taken w.front.ring.indices.cons indices.taken
+      asleep : View
+      asleep = let v : View = w.front in record v { ring = record v.ring { seen = word; asleep = true }; stage = front.Loop }
 
-pub event_fence_goes : (config : Options) (w : World) (g : Flow) (d : Pipeline)
-    → w.front.told ≡ None
-    → Holds config w g d front.EventFence w.back.stage
-    → FrontGoes config w d front.EventFence
-event_fence_goes config w g d told h =
-    at_stage_goes config w g d front.EventFence front.LookAgain (moves.Fence mover.Front) w.under.pages at_fence at_look refl refl told h tt h.memory (λ f apart x lt. refl) (λ x apart lt. refl)
-    (let sleep = h.front_sleep in record { arming = λ t. sleep.arming refl; armed = sleep.armed; may = sleep.may; woken = sleep.woken })
+      awake : w.front.ring.asleep ≡ false
+      awake = let sleep = h.front_sleep in sleep.may refl
+
+      read : word ≡ wrapped g.start g.replied
+      read = let ring = h.ring in ring.responses refl
+
+  -- it stores its event word one past what it took
+  pub store_goes : Holds config w g d front.StoreEvent w.back.stage → FrontGoes config w d front.StoreEvent
+  store_goes h =
+      at_stage_goes config w g d front.StoreEvent front.EventFence (moves.FrontWrite 2 3 (next_of w.front.ring.indices.cons)) pages refl refl refl refl told h tt
+      (length-set w.under.pages (2 * 1024 + 3) (next_of w.front.ring.indices.cons) ∙ h.memory)
+      (λ f apart. other_frame w.under.pages 2 3 (next_of w.front.ring.indices.cons) f (omega arith) apart)
+      (λ x apart lt. other_word w.under.pages 2 3 (next_of w.front.ring.indices.cons) x apart)
+      (record { arming = λ t. stored; armed = λ t. stored; may = h.front_sleep.may; woken = h.front_sleep.woken })
+    where
+      pages : List ℕ
+      pages = with_word w.under.pages 2 3 (next_of w.front.ring.indices.cons)
+
+      stored : word_of pages 2 3 ≡ wrapped g.start (g.taken + 1)
+      stored = let indices = h.indices in written w.under.pages 2 3 (next_of w.front.ring.indices.cons) h.memory (omega arith) (omega arith) ∙ next_wrapped g.start g.taken w.front.ring.indices.cons indices.taken
+
+  pub event_fence_goes : Holds config w g d front.EventFence w.back.stage → FrontGoes config w d front.EventFence
+  event_fence_goes h =
+      at_stage_goes config w g d front.EventFence front.LookAgain (moves.Fence mover.Front) w.under.pages refl refl refl refl told h tt h.memory (λ f apart x lt. refl) (λ x apart lt. refl)
+      (let sleep = h.front_sleep in record { arming = λ t. sleep.arming refl; armed = sleep.armed; may = sleep.may; woken = sleep.woken })

@@ -1,15 +1,15 @@
 -- What a map and an unmap make of the live mappings and those in hands.
-use Rattle.std.proofs.Common.{◌≡◌, ℕ, ◌+◌, ◌≤◌, ◌==◌, not, Bool, true, false, cond, List, [], ◌∷◌, ◌++◌, refl, ap, sym, ◌∙◌, subst, arith}
+use Rattle.std.proofs.Common.{◌≡◌, ℕ, ◌+◌, ◌≤◌, ◌==◌, not, Bool, true, false, cond, List, [], ◌∷◌, ◌++◌, refl, ap, sym, ◌∙◌, arith, ◌≢◌}
 use Rattle.std.specs.Prelude.{All, Option, Some, None, IsSomeAnd, count_by}
 use Rattle.std.specs.List.{position_or_len}
 use Rattle.std.proofs.lemmas.List.Folds.{find_at}
 use Rattle.std.proofs.lemmas.Option.{none-some, same_Some}
-use Rattle.std.proofs.lemmas.List.Sums.{sum_by-cons, sum_by-append}
+use Rattle.std.proofs.lemmas.List.Sums.{sum_by-cons, sum_by-append, sum_by_push}
 use Rattle.std.proofs.lemmas.List.Elements.{All-push, All-filter}
 use Rattle.std.proofs.lemmas.Bool.Decides.{nat_tests}
 use Rattle.blk_base.specs.declared.parts.Mapping.{Mapping}
 use Rattle.grant_table.specs.declared.held.Held.{Held}
-use Rattle.grant_table.specs.Table.{GrantTable, IsLive, held_of, without, frame_of, frame_in}
+use Rattle.grant_table.specs.Table.{GrantTable, IsLive, held_of, without, frame_of, frame_in, mappings_of}
 use Rattle.grant_table.specs.Sound.{IsAscending}
 use Rattle.back_jobs.specs.Hands.{HasOneMore}
 use Rattle.split_model.specs.Safe.{AreHeld}
@@ -24,6 +24,12 @@ count_more {X} test m before after =
 
 pub hands_more : (test : Mapping → Bool) (m : Mapping) (fewer more : List Mapping) → HasOneMore m fewer more → count_by test more ≡ count_by test fewer + cond (test m) 1 0
 hands_more test m fewer more is = rw (is.without, is.with_it) (count_more test m is.front is.rest)
+
+-- a mapping of another reference is none of this one's
+pub mapped_beside : (live : List Held) (h : Held) (gref : ℕ) → h.mapping.gref ≢ gref → mappings_of gref (live ++ h ∷ []) ≡ mappings_of gref live
+mapped_beside live h gref apart =
+    let none : ◌≡◌ {A = ℕ} (cond (h.mapping.gref == gref) 1 0) 0 = grind (arith, nat_tests) in
+    omega (arith, (sum_by_push (λ (x : Held). cond (x.mapping.gref == gref) 1 0) live h), none)
 
 pub mapped_more : (live : List Held) (hands hands' : List Mapping) (m : Mapping) (frame : ℕ) → m.gref ≡ frame + 6 → HasOneMore m hands hands' → AreMapped live hands → AreMapped (live ++ record { mapping = m; frame = frame } ∷ []) hands'
 mapped_more live hands hands' m frame e more h = record {
@@ -45,24 +51,20 @@ without_low number low (x ∷ live) up le =
 -- the live mapping of a number is counted once
 count_less : (test : Held → Bool) (number low : ℕ) (live : List Held) (x : Held) → IsAscending low live → held_of number live ≡ Some x → count_by test live ≡ count_by test (without number live) + cond (test x) 1 0
 count_less test number low [] x up e = absurd (none-some x e)
-count_less test number low (y ∷ live) x up e = by_test (y.mapping.number == number) refl (λ found. count_less test number y.mapping.number live x up.1 found)
+count_less test number low (y ∷ live) x up e =
+    by_test (y.mapping.number == number) refl (sum_by-cons (λ (z : Held). cond (test z) 1 0) y live) (λ found. count_less test number y.mapping.number live x up.1 found)
   where
-    one : count_by test (y ∷ live) ≡ count_by test live + cond (test y) 1 0
-    one = let here = sum_by-cons (λ (z : Held). cond (test z) 1 0) y live in omega arith
-
-    by_test : (b : Bool) → (y.mapping.number == number) ≡ b → (held_of number live ≡ Some x → count_by test live ≡ count_by test (without number live) + cond (test x) 1 0) → count_by test (y ∷ live) ≡ count_by test (without number (y ∷ live)) + cond (test x) 1 0
-    by_test true t recur =
+    by_test : (b : Bool) → (y.mapping.number == number) ≡ b → count_by test (y ∷ live) ≡ cond (test y) 1 0 + count_by test live
+        → (held_of number live ≡ Some x → count_by test live ≡ count_by test (without number live) + cond (test x) 1 0)
+        → count_by test (y ∷ live) ≡ count_by test (without number (y ∷ live)) + cond (test x) 1 0
+    by_test true t one recur =
         let left : without number (y ∷ live) ≡ live = rw t (without_low number y.mapping.number live up.1 (grind (arith, nat_tests))) in
-        rw left (subst (λ (z : Held). count_by test (y ∷ live) ≡ count_by test live + cond (test z) 1 0) (same_Some y x (sym (by_true t) ∙ e)) one)
-      where
-        by_true : (y.mapping.number == number) ≡ true → held_of number (y ∷ live) ≡ Some y
-        by_true t = rw t refl
-    by_test false t recur =
+        let found : held_of number (y ∷ live) ≡ Some y = rw t refl in
+        rw (left, same_Some x y (sym e ∙ found)) (omega (arith, one))
+    by_test false t one recur =
         let left : without number (y ∷ live) ≡ y ∷ without number live = rw t refl in
-        rw left (omega (arith, one, sum_by-cons (λ (z : Held). cond (test z) 1 0) y (without number live), recur (sym (by_false t) ∙ e)))
-      where
-        by_false : (y.mapping.number == number) ≡ false → held_of number (y ∷ live) ≡ held_of number live
-        by_false t = rw t refl
+        let found : held_of number (y ∷ live) ≡ held_of number live = rw t refl in
+        rw left (omega (arith, one, sum_by-cons (λ (z : Held). cond (test z) 1 0) y (without number live), recur (sym found ∙ e)))
 
 live_of : (o : Option Held) (m : Mapping) → IsSomeAnd o (λ (x : Held). x.mapping ≡ m) → (x : Held) × (o ≡ Some x) × (x.mapping ≡ m)
 live_of None m h = absurd h

@@ -1,9 +1,8 @@
 -- The request that is issued next: the first of those that wait, in frames that no other one has.
-use Rattle.std.proofs.Common.{◌≡◌, ◌≢◌, ℕ, ◌+◌, ◌-◌, ◌<◌, ◌≤◌, ◌==◌, ◌⊎◌, inl, inr, Bool, true, false, List, length, get_or, refl, ap, sym, ◌∙◌, subst, arith}
-use Rattle.std.specs.Prelude.{All, Option, Some, None, slice_get, if◌then◌else◌}
+use Rattle.std.proofs.Common.{◌≡◌, ◌≢◌, ℕ, ◌+◌, ◌-◌, ◌<◌, ◌≤◌, ◌==◌, inl, inr, List, length, get_or, refl, ap, sym, ◌∙◌, subst, arith}
+use Rattle.std.specs.Prelude.{All, Option, Some, None, slice_get}
 use Rattle.std.proofs.lemmas.Bool.Decides.{nat_tests}
 use Rattle.std.proofs.lemmas.Option.{none-some, same_Some, slice_get-get_or}
-use Rattle.std.specs.List.{list_any}
 use Rattle.pipeline_laws.specs.Station.{Issuing, Request as Asked}
 use Rattle.blk_front.specs.declared.request.Request.{Request}
 use Rattle.blk_front.specs.declared.stage.Ending.{Ending}
@@ -11,12 +10,13 @@ use Rattle.blk_front.specs.Request.{frame_at, IsShaped}
 use Rattle.blk_front.specs.View.{View, next_request}
 use Rattle.ring_words.specs.Ring.{Ring}
 use Rattle.machine_pipeline.proofs.Flow.{Flow, frames_of}
-use Rattle.machine_pipeline.proofs.Series.{IsAmong, among_apart}
+use Rattle.machine_pipeline.proofs.Series.{IsAmong, among_apart, numbered}
 use Rattle.machine_pipeline.proofs.Holds.{IsPooled, AreIndices, AreQueued, IsSubmitted, AreSubmitted, ArePooled}
 use Rattle.machine_pipeline.proofs.Hands.{frames_apart, own_apart}
 use Rattle.machine_pipeline.proofs.Data.{pooled_at}
-use Rattle.machine_pipeline.proofs.Lists.{all_at, place_of_any}
+use Rattle.machine_pipeline.proofs.Lists.{all_at}
 use Rattle.machine_pipeline.proofs.Stations.{StandsAt, AreOpen, kind_of, early_open, apart}
+use Rattle.std.proofs.lemmas.Bool.{cases_Bool}
 
 -- no more wait than are unfinished
 pub waiting_few : {g : Flow} {front_ring back_ring : Ring} {front_seen back_seen number last waiting unfinished ending : ℕ} → AreIndices g front_ring back_ring front_seen back_seen number last waiting unfinished ending → waiting ≤ unfinished
@@ -47,7 +47,10 @@ pub record IsNext (submitted series requests : List Request) (pushed waiting : �
 pub next_is : {series : List Request} (v : View) (submitted : List Request) (sectors last pushed : ℕ) (ending : Option Ending) (r : Request)
     → AreQueued submitted series pushed v.requests v.waiting → AreSubmitted submitted sectors last → ArePooled v.pool v.requests ending → next_request v ≡ Some r
     → IsNext submitted series v.requests pushed v.waiting r
-next_is {series} v submitted sectors last pushed ending r queue all pooled e = by_test (v.waiting == 0) refl e
+next_is {series} v submitted sectors last pushed ending r queue all pooled e = elim (cases_Bool (v.waiting == 0)) [
+  | inl t ↦ absurd (none-some r (rw t at e))
+  | inr t ↦ found (grind (arith, nat_tests)) (rw t at e)
+]
   where
     found : 1 ≤ v.waiting → slice_get v.requests (length v.requests - v.waiting) ≡ Some r → IsNext submitted series v.requests pushed v.waiting r
     found waits place =
@@ -82,13 +85,6 @@ next_is {series} v submitted sectors last pushed ending r queue all pooled e = b
         zeroth : (n : ℕ) → n + 0 ≡ n
         zeroth n = omega arith
 
-    by_test : (b : Bool) → (v.waiting == 0) ≡ b → (if b then None else slice_get v.requests (length v.requests - v.waiting)) ≡ Some r → IsNext submitted series v.requests pushed v.waiting r
-    by_test true t e = absurd (none-some r e)
-    by_test false t e = found (some_wait v.waiting t) e
-      where
-        some_wait : (n : ℕ) → (n == 0) ≡ false → 1 ≤ n
-        some_wait n t = grind (arith, nat_tests)
-
 -- a request that was fetched and isn't finished has other frames than the one that is being issued
 pub fetched_apart : {series : List Request} (submitted requests : List Request) (pushed waiting : ℕ) (asked : List Asked) (r : Request)
     → IsNext submitted series requests pushed waiting r
@@ -97,18 +93,15 @@ pub fetched_apart : {series : List Request} (submitted requests : List Request) 
     → StandsAt asked (r.number - 1) Issuing
     → (k : ℕ) (x : Request) (q : Asked) → slice_get submitted k ≡ Some x → slice_get asked k ≡ Some q → 4 ≤ kind_of q.station → kind_of q.station ≤ 7
     → FramesApart x r
-fetched_apart submitted requests pushed waiting asked r next queue opened issuing k x q known at low high = by_place (opened.held k q at (early_open q.station (omega arith)))
+fetched_apart submitted requests pushed waiting asked r next queue opened issuing k x q known at low high = elim (opened.held k q at (early_open q.station (omega arith))) [
+  | inl any ↦
+      let found = numbered requests (k + 1) any in
+      let its = all_at (λ (y : Request). slice_get submitted (y.number - 1) ≡ Some y) requests found.0 found.1 queue.known found.2 in
+      let far = all_at (λ (y : Request). y.number ≢ r.number → FramesApart y r) requests found.0 found.1 next.apart found.2 in
+      let same : found.1 ≡ x = same_Some found.1 x (sym its ∙ (ap (slice_get submitted) (omega (arith, found.3)) ∙ known)) in
+      subst (λ (y : Request). FramesApart y r) same (far (λ e. other (omega (arith, found.3, e))))
+  | inr ending ↦ absurd (none-some ending.0 ending.1)
+]
   where
     other : k ≢ r.number - 1
     other = apart asked k (r.number - 1) q.station Issuing (record { q = q; at = at; there = refl }) issuing (λ same. omega arith)
-
-    by_place : (list_any (λ (y : Request). y.number == k + 1) requests ≡ true) ⊎ ((e : Ending) × (None ≡ Some e) × (e.request.number ≡ k + 1)) → FramesApart x r
-    by_place (inl any) =
-        let found = place_of_any (λ (y : Request). y.number == k + 1) requests any in
-        let its = all_at (λ (y : Request). slice_get submitted (y.number - 1) ≡ Some y) requests found.0 found.1 queue.known found.2 in
-        let far = all_at (λ (y : Request). y.number ≢ r.number → FramesApart y r) requests found.0 found.1 next.apart found.2 in
-        let number : (let y : Request = found.1 in y.number) ≡ k + 1 = grind (arith, nat_tests, found.3) in
-        let less : (let y : Request = found.1 in y.number - 1) ≡ k = omega (arith, number) in
-        let same : found.1 ≡ x = same_Some found.1 x (sym its ∙ (ap (slice_get submitted) less ∙ known)) in
-        subst (λ (y : Request). FramesApart y r) same (far (λ e. other (omega (arith, number, e))))
-    by_place (inr ending) = absurd (none-some ending.0 ending.1)

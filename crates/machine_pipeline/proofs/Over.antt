@@ -1,6 +1,6 @@
 -- What holds once the back has halted, since its front closes and has no request left: the back unmaps the ring's pages and closes its port, and then the front ends the grants of the ring's frames, closes its port, and is closed.
-use Rattle.std.proofs.Common.{subst, ◌≡◌, ◌≢◌, ℕ, ◌+◌, ◌^◌, ◌<◌, ◌≤◌, ◌⊎◌, inl, Bool, true, false, List, [], length, refl, ap, sym, ◌∙◌, true≢false}
-use Rattle.std.specs.Prelude.{All, AllPairs, Option, None, is_some}
+use Rattle.std.proofs.Common.{◌≡◌, ◌≢◌, ℕ, ◌+◌, ◌^◌, ◌<◌, ◌≤◌, ◌⊎◌, inl, Bool, true, false, List, [], length, refl, sym, ◌∙◌, true≢false}
+use Rattle.std.specs.Prelude.{All, AllPairs, Option, Some, None, is_some, slice_get}
 use Rattle.xen_pages.specs.Pages.{word_of}
 use Rattle.grant_table.specs.declared.held.Held.{Held}
 use Rattle.grant_table.specs.Table.{entry_word0}
@@ -11,8 +11,8 @@ use Rattle.schedule_text.specs.declared.line.Line.{Line}
 use Rattle.ring_words.specs.Shape.{Shape}
 use Rattle.segment_list.specs.declared.verdict.DiskInfo.{DiskInfo}
 use Rattle.pipeline_laws.specs.Station.{Request as Asked}
+use Rattle.pipeline_laws.specs.Station.{is_finished}
 use Rattle.pipeline_laws.specs.Pipeline.{Pipeline, Step, after_steps}
-use Rattle.pipeline_laws.specs.Allowed.{AreFinished}
 use Rattle.blk_front.specs.declared.request.Request.{Request}
 use Rattle.blk_front.specs.declared.stage.Stage.{Stage as FrontStage}
 use Rattle.blk_front.specs.declared.stage.Stage.TheVariants as front
@@ -83,8 +83,7 @@ abbrev pub lasting_of : World → Lasting
 lasting_of w = record { size = w.front.sectors; fixed = w.front.read_only; last = w.front.last; start = w.front.start; shape = w.front.shape; pool = w.front.pool; words = w.front.words; info = w.back.jobs.info }
 
 -- from which another epoch may begin: each request was submitted as the pipeline has it
-pub record MayBegin (config : Options) (asked : List Asked) (x : Lasting) : Type 0 where
-  pub submitted : List Request
+pub record MayBegin (config : Options) (submitted : List Request) (asked : List Asked) (x : Lasting) : Type 0 where
   pub sized : IsOfTheDisk config x.size x.fixed submitted
   pub each : AreSubmitted submitted x.size x.last
   pub few : x.last < 2 ^ 32
@@ -94,74 +93,47 @@ pub record MayBegin (config : Options) (asked : List Asked) (x : Lasting) : Type
   pub words : length x.words ≡ 128
   pub info : x.info ≡ info_of config
 
-abbrev pub may_begin : (config : Options) (w : World) (g : Flow) (d : Pipeline) (s : FrontStage) (b : BackStage) → Holds config w g d s b → MayBegin config d.requests (lasting_of w)
-may_begin config w g d s b h = record {
-  submitted = g.submitted;
-  sized = h.sized;
-  each = h.submitted;
-  few = h.indices.few;
-  known = h.stations.known;
-  started = h.started.known;
-  shaped = h.shaped.known ∙ h.shaped.whole;
-  words = h.telling.size;
-  info = h.info;
-}
+pub may_begin : (config : Options) (w : World) (g : Flow) (d : Pipeline) (s : FrontStage) (b : BackStage) → Holds config w g d s b → MayBegin config g.submitted d.requests (lasting_of w)
+may_begin config w g d s b h = let shaped : w.front.shape ≡ record { abi = config.abi; order = config.order } = h.shaped.known ∙ h.shaped.whole in assumption shaped
 
--- what holds of the pipeline, of what both ends keep, of the front's requests, of the back's halt, jobs and pages, of both ends' next entries, and of mappings and memory, with the front at stage s and the back at stage b
-pub record IsOver (config : Options) (d : Pipeline) (x : Lasting) (front_closes : Bool) (requests : List Request) (front_cons : ℕ) (halt : Option Halt) (works : List Work) (held : List Mapping) (back_cons made : ℕ) (live : List Held) (pages : List ℕ) (s : FrontStage) (b : BackStage) : Type 0 where
-  pub options : d.options ≡ config
-  pub closing : d.front.closing ≡ true
-  pub closed : d.front.closed ≡ is_closed s
-  pub finished : AreFinished d
-  pub counted : length d.requests ≡ x.last
-  pub begins : MayBegin config d.requests x
+-- what stays: the pipeline closes, and has finished all; what both ends keep; and no request and no job is left
+pub record IsSpent (config given : Options) (asked : List Asked) (closing : Bool) (x : Lasting) (front_closes : Bool) (requests : List Request) (halt : Option Halt) (works : List Work) : Type 0 where
+  pub options : given ≡ config
+  pub leaves : closing ≡ true
+  pub finished : (k : ℕ) (q : Asked) → slice_get asked k ≡ Some q → is_finished q.station ≡ true
+  pub counted : length asked ≡ x.last
+  pub submitted : List Request
+  pub begins : MayBegin config submitted asked x
   pub pooled : ArePooled x.pool [] None
   pub closes : front_closes ≡ true
   pub no_request : requests ≡ []
   pub narrow : x.shape.order ≤ 4
   pub halted : is_some halt ≡ true
   pub no_job : works ≡ []
+
+-- what holds of the pipeline, of what both ends keep, of the front's requests, of the back's halt, jobs and pages, of both ends' next entries, and of mappings and memory, with the front at stage s and the back at stage b
+pub record IsOver (config given : Options) (asked : List Asked) (connected closing closed : Bool) (x : Lasting) (front_closes : Bool) (requests : List Request) (front_cons : ℕ) (halt : Option Halt) (works : List Work) (held : List Mapping) (back_cons made : ℕ) (live : List Held) (pages : List ℕ) (s : FrontStage) (b : BackStage) : Type 0 where
+  pub spent : IsSpent config given asked closing x front_closes requests halt works
+  pub open spent use *
+  pub shut : closed ≡ is_closed s
   pub memory : length pages ≡ 1114112
   pub back_at : IsAborting held b
   pub own : AreOwn held
   pub mapped : AreMapped live held
-  pub front_at : IsLeaving d.front.connected made x.shape.order pages held b s
+  pub front_at : IsLeaving connected made x.shape.order pages held b s
   pub ring : made ≢ 0 → IsDrained pages front_cons back_cons
 
 -- the machine, and the pipeline that it stands for
 abbrev pub Over : Options → World → Pipeline → FrontStage → BackStage → Type 0
-Over config w d s b = IsOver config d (lasting_of w) w.front.closing w.front.requests w.front.ring.indices.cons w.back.halted w.back.jobs.works w.back.pages w.back.ring.indices.cons (length w.under.channels.ports) w.under.grants.live w.under.pages s b
+Over config w d s b = IsOver config d.options d.requests d.front.connected d.front.closing d.front.closed (lasting_of w) w.front.closing w.front.requests w.front.ring.indices.cons w.back.halted w.back.jobs.works w.back.pages w.back.ring.indices.cons (length w.under.channels.ports) w.under.grants.live w.under.pages s b
 
--- one pipeline with the options, the requests and the closing of another
-abbrev pub IsAlike : Pipeline → Pipeline → Type 0
-IsAlike d d' = (d'.options ≡ d.options) × (d'.requests ≡ d.requests) × (d'.front.closing ≡ d.front.closing)
-
--- what stands where the pipeline, memory, mappings and both stages change
-pub over_at : {config : Options} {d d' : Pipeline} {x : Lasting} {front_closes : Bool} {requests : List Request} {front_cons front_cons' : ℕ} {halt : Option Halt} {works : List Work} {held held' : List Mapping} {back_cons made made' : ℕ} {live live' : List Held} {pages pages' : List ℕ} {s s' : FrontStage} {b b' : BackStage}
-    → IsOver config d x front_closes requests front_cons halt works held back_cons made live pages s b
-    → IsAlike d d' → d'.front.closed ≡ is_closed s' → length pages' ≡ 1114112 → IsAborting held' b' → AreOwn held' → AreMapped live' held'
-    → made' ≡ made → IsLeaving d'.front.connected made x.shape.order pages' held' b' s' → (made ≢ 0 → IsDrained pages' front_cons' back_cons)
-    → IsOver config d' x front_closes requests front_cons' halt works held' back_cons made' live' pages' s' b'
-over_at {config = config} {d' = d'} {x = x} {held' = held'} {pages' = pages'} {s' = s'} {b' = b'} o alike closed memory back_at own mapped same front_at ring = record {
-  options = alike.0 ∙ o.options;
-  closing = alike.2 ∙ o.closing;
-  closed = closed;
-  finished = record { each = rw alike.1 (let all = o.finished in all.each) };
-  counted = ap length alike.1 ∙ o.counted;
-  begins = subst (λ (asked : List Asked). MayBegin config asked x) (sym alike.1) o.begins;
-  pooled = o.pooled;
-  closes = o.closes;
-  no_request = o.no_request;
-  narrow = o.narrow;
-  halted = o.halted;
-  no_job = o.no_job;
-  memory = memory;
-  back_at = back_at;
-  own = own;
-  mapped = mapped;
-  front_at = subst (λ (n : ℕ). IsLeaving d'.front.connected n x.shape.order pages' held' b' s') (sym same) front_at;
-  ring = λ some. ring (λ none. some (same ∙ none));
-}
+-- what stands where the rest changes
+pub over_at : {config given : Options} {asked : List Asked} {connected connected' closing closed closed' : Bool} {x : Lasting} {front_closes : Bool} {requests : List Request} {front_cons front_cons' : ℕ} {halt : Option Halt} {works : List Work} {held held' : List Mapping} {back_cons made made' : ℕ} {live live' : List Held} {pages pages' : List ℕ} {s s' : FrontStage} {b b' : BackStage}
+    → IsOver config given asked connected closing closed x front_closes requests front_cons halt works held back_cons made live pages s b
+    → closed' ≡ is_closed s' → length pages' ≡ 1114112 → IsAborting held' b' → AreOwn held' → AreMapped live' held'
+    → IsLeaving connected' made' x.shape.order pages' held' b' s' → (made' ≢ 0 → IsDrained pages' front_cons' back_cons)
+    → IsOver config given asked connected' closing closed' x front_closes requests front_cons' halt works held' back_cons made' live' pages' s' b'
+over_at o shut memory back_at own mapped front_at ring = assumption
 
 -- a front that passed a test which a closed one fails
 pub unclosed : (test : FrontStage → Bool) → test front.Closed ≡ false → (s : FrontStage) → test s ≡ true → is_closed s ≡ false

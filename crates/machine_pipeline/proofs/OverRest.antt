@@ -1,18 +1,15 @@
 -- Whatever else happens once the back has halted: submissions are refused, and the front is closed once it left.
-use Rattle.std.proofs.Common.{◌≡◌, ◌≢◌, ℕ, ◌==◌, ◌&&◌, inr, not, if◌then◌else◌, Bool, true, false, List, [], ◌∷◌, length, map, refl, ap, sym, ◌∙◌, subst, true≢false}
-use Rattle.std.specs.Prelude.{Some, None, Result, Err, nat_le}
+use Rattle.std.proofs.Common.{◌≡◌, ◌≢◌, ℕ, ◌==◌, ◌&&◌, inr, true, List, [], ◌∷◌, length, map, refl, ap, sym, ◌∙◌, subst, true≢false}
+use Rattle.std.specs.Prelude.{Some, None, Result, nat_le}
 use Rattle.blk_base.specs.declared.parts.Mapping.{Mapping}
 use Rattle.ring_words.specs.Shape.{Shape}
 use Rattle.std.proofs.lemmas.List.{length-map}
 use Rattle.blk_base.specs.Options.{Options}
 use Rattle.blk_base.specs.declared.config.Job.{Job}
-use Rattle.blk_base.specs.declared.parts.End.{End}
-use Rattle.blk_base.specs.declared.parts.End.TheVariants as end
-use Rattle.schedule_text.specs.declared.line.Line.{Line}
 use Rattle.schedule_text.specs.declared.line.Line.TheVariants as lines
 use Rattle.pipeline_laws.specs.Station.{asked}
 use Rattle.pipeline_laws.specs.Pipeline.{Pipeline, Refuses, Connects, Closes}
-use Rattle.pipeline_laws.specs.Allowed.{is_aside, refusal_now}
+use Rattle.pipeline_laws.specs.Allowed.{refusal_now, AreFinished}
 use Rattle.blk_front.specs.declared.stage.Stage.{Stage as FrontStage}
 use Rattle.blk_front.specs.declared.stage.Stage.TheVariants as front
 use Rattle.blk_front.specs.declared.state.FrontState.{FrontState}
@@ -22,61 +19,40 @@ use Rattle.blk_front.specs.declared.told.Refusal.{Refusal}
 use Rattle.blk_front.specs.declared.told.Refusal.TheVariants as refusal
 use Rattle.blk_front.specs.State.{is_open, is_unmade, is_made, is_bare, may_enter, in_state}
 use Rattle.blk_front.specs.Ask.{is_through}
-use Rattle.blk_front.specs.Submit.{is_ready, wish_of, submit_one}
 use Rattle.blk_front.specs.View.{View}
 use Rattle.blk_back.specs.declared.stage.Stage.{Stage as BackStage}
 use Rattle.blk_back.specs.declared.stage.Stage.TheVariants as back
 use Rattle.blk_back.specs.declared.told.Halt.{Halt}
 use Rattle.split_model.specs.World.{World}
-use Rattle.split_model.specs.Keys.{KeyMove}
 use Rattle.split_model.specs.Shown.{state_lines, refusal_word, halt_lines}
-use Rattle.split_model.specs.Happening.{Negotiates, FrontEnters, BackAttaches, BackHalts, Submits, Notifies, submit_line, happens, lines_at}
-use Rattle.split_model.proofs.Keys.{negotiated_lines_are}
+use Rattle.split_model.specs.Happening.{FrontEnters, BackAttaches, BackHalts, Submits, submit_line, happens, lines_at}
 use Rattle.split_model.proofs.States.{enters_cases, is_unbound, halts_cases}
 use Rattle.split_model.proofs.Shapes.{attaches_waiting}
 use Rattle.split_model.proofs.Attaching.{attach_cases}
 use Rattle.machine_pipeline.specs.Allowed.{MayEnter}
 use Rattle.machine_pipeline.specs.Step.{IsSame}
 use Rattle.machine_pipeline.proofs.Turns.{no_move}
-use Rattle.machine_pipeline.proofs.Keyed.{asides_do}
 use Rattle.machine_pipeline.proofs.Connecting.{initialised_is, yet_open}
 use Rattle.line_text.proofs.Both.{both_true}
 use Rattle.machine_pipeline.proofs.OverMoves.{no_halt}
 use Rattle.machine_pipeline.proofs.Slots.{some_pages}
 use Rattle.machine_pipeline.proofs.Over.{IsAborting, AreUnmapped, IsLeaving, Over, HasGone, over_at, unclosed, gone_by}
-
--- what an end does with the keys
-pub keys_end : (config : Options) (w : World) (d : Pipeline) (at : End) (move : KeyMove) → Over config w d w.front.stage w.back.stage → HasGone None IsSame config (lines_at w (Negotiates at move)) (happens w (Negotiates at move)) d
-keys_end config w d at move o =
-    gone_by (asides_do d _ (negotiated_lines_are (λ (line : Line). is_aside line ≡ true) w.back.stage at move w.under.keys (λ path. refl) (λ path text. refl) (λ path. refl) (λ path. refl)))
-    (inr o)
-
--- a spurious event
-pub notified_ends : (config : Options) (w : World) (d : Pipeline) (at : End) → Over config w d w.front.stage w.back.stage → HasGone None IsSame config [] (happens w (Notifies at)) d
-notified_ends config w d end.Front o = record { steps = []; does = no_move IsSame d (λ a b same. same); kept = inr o }
-notified_ends config w d end.Back o = record { steps = []; does = no_move IsSame d (λ a b same. same); kept = inr o }
+use Rattle.std.proofs.lemmas.Bool.{cond_both}
 
 -- a submission is refused
 pub submit_ends : (config : Options) (w : World) (d : Pipeline) (job : Job) → Over config w d w.front.stage w.back.stage → HasGone (Some job) IsSame config (lines_at w (Submits job)) (happens w (Submits job)) d
-submit_ends config w d job o = by_test (w.front.last == 4294967295) refl
+submit_ends config w d job o = cond_both (w.front.last == 4294967295) _ _ Ends
+    (λ t. refused refusal.Spent (rw (spent_at ∙ t) refl))
+    (λ t. cond_both w.front.closing _ _ Ends (λ closes. refused refusal.Closing (rw (spent_at ∙ t, o.leaves) refl)) (λ opened. absurd (true≢false (sym o.closes ∙ opened))))
   where
+    Ends : Result ℕ Refusal × View → Type 0
+    Ends y = HasGone (Some job) IsSame config (submit_line job y.0 ∷ []) (record { front = y.1; back = w.back; under = w.under }) d
+
     spent_at : (length (map asked d.requests) == 4294967295) ≡ (w.front.last == 4294967295)
     spent_at = ap (λ (n : ℕ). n == 4294967295) (length-map d.requests asked ∙ o.counted)
 
     refused : (r : Refusal) → refusal_now d job ≡ Some (refusal_word r) → HasGone (Some job) IsSame config (lines.Refuse (refusal_word r) ∷ []) w d
     refused r same = record { steps = Refuses job (refusal_word r) ∷ []; does = record { asides = []; aside = refl; shows = refl; asks = refl; allowed = (same, tt); disk = λ a b e. (b, e, refl) }; kept = inr o }
-
-    otherwise : Result ℕ Refusal × View
-    otherwise = if not (is_ready w.front.stage) then (Err refusal.NotReady, w.front) else submit_one w.front (wish_of w.front.offers job)
-
-    by_test : (b : Bool) → (w.front.last == 4294967295) ≡ b
-        → (let y : Result ℕ Refusal × View = (if b then (Err refusal.Spent, w.front) else (if w.front.closing then (Err refusal.Closing, w.front) else otherwise)) in
-        HasGone (Some job) IsSame config (submit_line job y.0 ∷ []) (record { front = y.1; back = w.back; under = w.under }) d)
-    by_test true t = refused refusal.Spent (rw (spent_at ∙ t) refl)
-    by_test false t =
-        subst (λ (b : Bool). let y : Result ℕ Refusal × View = (if b then (Err refusal.Closing, w.front) else otherwise) in
-        HasGone (Some job) IsSame config (submit_line job y.0 ∷ []) (record { front = y.1; back = w.back; under = w.under }) d) (sym o.closes)
-        (refused refusal.Closing (rw (spent_at ∙ t, o.closing) refl))
 
 -- the machine with its front at that stage
 abbrev staged : World → FrontStage → World
@@ -86,13 +62,13 @@ staged w s = record { front = (let v : View = w.front in record v { stage = s })
 connects_late : (config : Options) (w : World) (d : Pipeline) (offers : Offers) → Over config w d front.Initialised w.back.stage
     → HasGone None IsSame config (lines.Ready ∷ []) (record { front = (let v : View = w.front in record v { offers = offers; stage = front.Loop }); back = w.back; under = w.under }) d
 connects_late config w d offers o =
-    gone_by {steps = Connects ∷ []} (record { asides = []; aside = refl; shows = refl; asks = refl; allowed = ((o.front_at.0, o.closed), tt); disk = λ a b e. (b, e, refl) })
-    (inr (over_at o (refl, refl, refl) o.closed o.memory o.back_at o.own o.mapped refl o.front_at.2 o.ring))
+    gone_by {steps = Connects ∷ []} (record { asides = []; aside = refl; shows = refl; asks = refl; allowed = ((o.front_at.0, o.shut), tt); disk = λ a b e. (b, e, refl) })
+    (inr (over_at o o.shut o.memory o.back_at o.own o.mapped o.front_at.2 o.ring))
 
 -- the back has left: the grants of the ring's frames are ended next
 leaves_ring : (config : Options) (w : World) (d : Pipeline) (s : FrontStage) → is_made s ≡ true → w.back.stage ≡ back.Halted → Over config w d s w.back.stage → HasGone None IsSame config [] (staged w (front.RingRead 0)) d
 leaves_ring config w d s made halted o = gone_by (no_move IsSame d (λ a b same. same))
-    (inr (over_at o (refl, refl, refl) (o.closed ∙ unclosed is_made refl s made) o.memory o.back_at o.own o.mapped refl (halted, some_pages w.front.shape.order, by_stage s made (subst (λ (b : BackStage). IsLeaving d.front.connected (length w.under.channels.ports) w.front.shape.order w.under.pages w.back.pages b s) halted o.front_at)) o.ring))
+    (inr (over_at o (o.shut ∙ unclosed is_made refl s made) o.memory o.back_at o.own o.mapped (halted, some_pages w.front.shape.order, by_stage s made (rw halted at o.front_at)) o.ring))
   where
     by_stage : (s : FrontStage) → is_made s ≡ true → IsLeaving d.front.connected (length w.under.channels.ports) w.front.shape.order w.under.pages w.back.pages back.Halted s → AreUnmapped w.front.shape.order w.under.pages w.back.pages
     by_stage front.Initialised t p = p.2
@@ -102,8 +78,16 @@ leaves_ring config w d s made halted o = gone_by (no_move IsSame d (λ a b same.
 -- it is closed
 is_closed_now : (config : Options) (w : World) (d : Pipeline) (s : FrontStage) → is_bare s ≡ true → Over config w d s w.back.stage → HasGone None IsSame config (lines.Closed ∷ []) (staged w front.Closed) d
 is_closed_now config w d s bare o =
-    gone_by {steps = Closes ∷ []} (record { asides = []; aside = refl; shows = refl; asks = refl; allowed = ((o.closing, o.closed ∙ unclosed is_bare refl s bare, o.finished), tt); disk = λ a b e. (b, e, refl) })
-    (inr (over_at o (refl, refl, refl) refl o.memory o.back_at o.own o.mapped refl tt o.ring))
+    let finished : AreFinished d = record { each = o.finished } in
+    gone_by {steps = Closes ∷ []} (record {
+      asides = [];
+      aside = refl;
+      shows = refl;
+      asks = refl;
+      allowed = ((o.leaves, o.shut ∙ unclosed is_bare refl s bare, finished), tt);
+      disk = λ a b e. (b, e, refl);
+    })
+    (inr (over_at o refl o.memory o.back_at o.own o.mapped tt o.ring))
 
 -- the order that it wished leaves a front as it is that hasn't begun its ring
 agrees_late : (config : Options) (w : World) (d : Pipeline) (order : ℕ) → order ≡ w.front.shape.order → is_unmade w.front.stage ≡ true → Over config w d w.front.stage w.back.stage
@@ -111,7 +95,7 @@ agrees_late : (config : Options) (w : World) (d : Pipeline) (order : ℕ) → or
 agrees_late config w d order wished unmade o =
     subst (λ (n : ℕ). HasGone None IsSame config [] (record { front = in_state (states.Agreed n) w.front; back = w.back; under = w.under }) d) (sym wished)
     (gone_by (no_move IsSame d (λ a b same. same))
-    (inr (over_at o (refl, refl, refl) o.closed o.memory o.back_at o.own o.mapped refl o.front_at (λ made. absurd (unmade_yet w.front.stage unmade o.front_at made)))))
+    (inr (over_at o o.shut o.memory o.back_at o.own o.mapped o.front_at (λ made. absurd (unmade_yet w.front.stage unmade o.front_at made)))))
   where
     unmade_yet : (s : FrontStage) → is_unmade s ≡ true → IsLeaving d.front.connected (length w.under.channels.ports) w.front.shape.order w.under.pages w.back.pages w.back.stage s → length w.under.channels.ports ≢ 0 → ⊥
     unmade_yet (front.RingWord k) t p made = made p.1

@@ -32,17 +32,14 @@ pub record IsReturned (pages : List ℕ) (r : Request) (moved : ℕ) (hand : Lis
 
 -- what a read's job has in hand, by its stage and how many sectors it moved; one that flushes or trims has read nothing
 abbrev pub ReadAt : (pages : List ℕ) (r : Request) (moved : ℕ) (hand : List ℕ) (noted : List (List ℕ)) → JobStage → Type 0
-ReadAt pages r moved hand noted job.MapPage = IsReadBack pages r moved noted
-ReadAt pages r moved hand noted (job.PageReference m) = IsReadBack pages r moved noted
-ReadAt pages r moved hand noted (job.PageSectors m gref) = IsReadBack pages r moved noted
-ReadAt pages r moved hand noted (job.UnmapPage m) = IsReadBack pages r moved noted
-ReadAt pages r moved hand noted job.Map = IsReadBack pages r moved noted
-ReadAt pages r moved hand noted (job.DiskRead m) = IsReadBack pages r moved noted
 ReadAt pages r moved hand noted (job.WriteWord m j) = IsReturned pages r moved hand noted j
-ReadAt pages r moved hand noted (job.Unmap m) = IsReadBack pages r moved noted
 ReadAt pages r moved hand noted job.Flush = IsReadBack pages r 0 noted
 ReadAt pages r moved hand noted (job.Trim count) = IsReadBack pages r 0 noted
-ReadAt pages r moved hand noted s = Unit {0}
+ReadAt pages r moved hand noted (job.ReadWord m j) = Unit {0}
+ReadAt pages r moved hand noted (job.DiskWrite m) = Unit {0}
+ReadAt pages r moved hand noted (job.Abort m) = Unit {0}
+ReadAt pages r moved hand noted (job.Done status) = Unit {0}
+ReadAt pages r moved hand noted s = IsReadBack pages r moved noted
 
 -- the stations at which a read that went well has its data in its frame
 abbrev pub has_data_at : Station → Bool

@@ -1,4 +1,5 @@
 -- The front refuses a submission exactly where the pipeline does, by the rule of the plain disk.
+use Rattle.machine_pipeline.proofs.Growing.{free_at, taken_next, taken_none, same_place}
 use Rattle.std.proofs.Common.{◌≡◌, ℕ, zero, suc, ◌+◌, ◌-◌, ◌/◌, ◌<◌, ◌≤◌, Bool, true, false, true≢false, not, cond, List, [], ◌∷◌, ◌++◌, length, refl, ap, sym, subst, ◌∙◌, arith, length-set, ◌⊎◌, inl, inr}
 use Rattle.std.specs.Prelude.{◌&&◌, ◌||◌, slice_get, Option, Some, None, Result, Ok, Err, count_by, nat_lt, min, max, if◌then◌else◌, map}
 use Rattle.std.specs.List.{sum_by, position_or_len}
@@ -25,7 +26,7 @@ use Rattle.blk_front.specs.declared.stage.Stage.TheVariants as front
 use Rattle.blk_front.specs.declared.state.Offers.{Offers}
 use Rattle.blk_front.specs.declared.told.Refusal.{Refusal}
 use Rattle.blk_front.specs.declared.told.Refusal.TheVariants as refusal
-use Rattle.blk_front.specs.Pool.{lowest_of, with_taken, taking}
+use Rattle.blk_front.specs.Pool.{with_taken, taking}
 use Rattle.blk_front.specs.View.{View, next_request}
 use Rattle.blk_front.specs.Submit.{is_ready, ending_of, unfinished, wished, frames_taken, submit_with, submit_one, submit_of}
 use Rattle.blk_back.specs.declared.stage.Reply.{Reply}
@@ -55,77 +56,14 @@ offered_is false fixed limit offers pushed is h = absurd (true≢false (sym is))
 pub same_ending : (shape : Shape) (start pushed taken front_seen : ℕ) (submitted : List Request) (replies : List Reply) (next : Option Request) (entry : List ℕ)
     (ending : Option Ending) (s : FrontStage)
     → FrontAt shape start pushed taken front_seen submitted replies next entry ending s → count_of (ending_at s ending) ≡ ending_of s
-same_ending shape start pushed taken front_seen submitted replies next entry ending (front.GrantRead place) at = rw at.1 refl
-same_ending shape start pushed taken front_seen submitted replies next entry ending (front.GrantEnd place before) at = rw at.1 refl
-same_ending shape start pushed taken front_seen submitted replies next entry ending (front.ReadData n) at = rw at.1 refl
-same_ending shape start pushed taken front_seen submitted replies next entry ending (front.LeftData n) at = rw at.1 refl
-same_ending shape start pushed taken front_seen submitted replies next entry ending s at = refl
+same_ending shape start pushed taken front_seen submitted replies next entry ending front.Loop at = refl
+same_ending shape start pushed taken front_seen submitted replies next entry ending s at = first_of (assumption, cc)
 
 -- a frame is free where fewer are in use than there are
-pub free_place : (pool : List Bool) → count_by (λ (b : Bool). b) pool < length pool → position_or_len not pool < length pool
+free_place : (pool : List Bool) → count_by (λ (b : Bool). b) pool < length pool → position_or_len not pool < length pool
 free_place [] few = few
 free_place (false ∷ pool) few = omega arith
-free_place (true ∷ pool) few =
-    let one = sum_by-cons (λ (b : Bool). cond b 1 0) true pool in
-    omega (arith, free_place pool (omega arith))
-
-pub lowest_free : (pool : List Bool) → count_by (λ (b : Bool). b) pool < length pool → lowest_of pool ≡ Some (18 + position_or_len not pool)
-lowest_free pool few =
-    let yes : nat_lt (position_or_len not pool) (length pool) ≡ true = grind (arith, nat_tests, free_place pool few) in
-    rw yes refl
-
--- the lowest free frame is free
-free_at : (pool : List Bool) → position_or_len not pool < length pool → slice_get pool (position_or_len not pool) ≡ Some false
-free_at [] lt = absurd (omega arith)
-free_at (false ∷ pool) lt = refl
-free_at (true ∷ pool) lt =
-    let place : position_or_len not (true ∷ pool) ≡ suc (position_or_len not pool) = omega arith in
-    ap (slice_get (true ∷ pool)) place ∙ free_at pool (omega arith)
-
--- so many frames are taken where so many are free
-taking_fits : (n : ℕ) (pool : List Bool) (frames : List ℕ) → count_by (λ (b : Bool). b) pool + n ≤ length pool → (taken : List ℕ × List Bool)
-    × (taking n pool frames ≡ Some taken)
-taking_fits zero pool frames few = ((frames, pool), refl)
-taking_fits (suc n) pool frames few =
-    let place : ℕ = position_or_len not pool in
-    let free : slice_get pool (18 + place - 18) ≡ Some false = ap (slice_get pool) (back_to place) ∙ free_at pool (free_place pool (omega arith)) in
-    let counted = count_set (λ (b : Bool). b) pool (18 + place - 18) false true free in
-    let size = length-set pool (18 + place - 18) true in
-    rw (lowest_free pool (omega arith)) (taking_fits n (with_taken pool (18 + place)) (frames ++ (18 + place) ∷ []) (omega arith))
-  where
-    back_to : (n : ℕ) → 18 + n - 18 ≡ n
-    back_to n = omega arith
-
--- and none where too few are
-no_place : (pool : List Bool) → count_by (λ (b : Bool). b) pool ≡ length pool → position_or_len not pool ≡ length pool
-no_place [] full = refl
-no_place (false ∷ pool) full =
-    absurd (omega (arith, count_by-le-length (λ (b : Bool). b) pool, sum_by-cons (λ (b : Bool). cond b 1 0) false pool))
-no_place (true ∷ pool) full =
-    let one = sum_by-cons (λ (b : Bool). cond b 1 0) true pool in
-    omega (arith, no_place pool (omega arith))
-
-no_free : (pool : List Bool) → count_by (λ (b : Bool). b) pool ≡ length pool → lowest_of pool ≡ None
-no_free pool full =
-    let no : nat_lt (position_or_len not pool) (length pool) ≡ false = grind (arith, nat_tests, no_place pool full) in
-    rw no refl
-
-taking_lacks : (n : ℕ) (pool : List Bool) (frames : List ℕ) → length pool < count_by (λ (b : Bool). b) pool + n → taking n pool frames ≡ None
-taking_lacks zero pool frames many = let few = count_by-le-length (λ (b : Bool). b) pool in absurd (omega arith)
-taking_lacks (suc n) pool frames many =
-    let few = count_by-le-length (λ (b : Bool). b) pool in
-    elim (cases_lt (count_by (λ (b : Bool). b) pool) (length pool)) [
-      | inl some ↦ (
-          let place : ℕ = position_or_len not pool in
-          let free : slice_get pool (18 + place - 18) ≡ Some false = ap (slice_get pool) (back_to place) ∙ free_at pool (free_place pool some) in
-          let counted = count_set (λ (b : Bool). b) pool (18 + place - 18) false true free in
-          let size = length-set pool (18 + place - 18) true in
-          rw (lowest_free pool some) (taking_lacks n (with_taken pool (18 + place)) (frames ++ (18 + place) ∷ []) (omega arith)))
-      | inr none ↦ rw (no_free pool (omega arith)) refl
-    ]
-  where
-    back_to : (n : ℕ) → 18 + n - 18 ≡ n
-    back_to n = omega arith
+free_place (true ∷ pool) few = omega (arith, free_place pool, sum_by-cons (λ (b : Bool). cond b 1 0) true pool)
 
 -- as many are unfinished for the plain disk as for the pipeline
 as_unfinished : (carried : List Carried) → count_by (λ (q : Asked). not (is_finished q.stage)) (map asked carried) ≡ count_by (λ (x : Carried). not (is_ended x.station)) carried
@@ -136,15 +74,21 @@ as_unfinished (x ∷ carried) =
     omega (arith, as_unfinished carried, sum_by-cons (λ (y : Carried). cond (not (is_ended y.station)) 1 0) x carried)
 
 -- so many frames more are taken, or too few are free
-abbrev pub AreTaken : (n : ℕ) (pool : List Bool) (lacks : Bool) → Type 0
-AreTaken n pool lacks = ((lacks ≡ false) × ((taken : List ℕ × List Bool) × (taking n pool [] ≡ Some taken))) ⊎ ((lacks ≡ true) × (taking n pool [] ≡ None))
+abbrev IsLacking : (lacks : Bool) → Option (List ℕ × List Bool) → Type 0
+IsLacking lacks taken = ((lacks ≡ false) × ((t : List ℕ × List Bool) × (taken ≡ Some t))) ⊎ ((lacks ≡ true) × (taken ≡ None))
 
-frames_fit : (n : ℕ) (pool : List Bool) → length pool ≡ 1000 → AreTaken n pool (nat_lt 1000 (count_by (λ (b : Bool). b) pool + n))
-frames_fit n pool size = by_test (nat_lt 1000 (count_by (λ (b : Bool). b) pool + n)) refl
-  where
-    by_test : (b : Bool) → nat_lt 1000 (count_by (λ (b : Bool). b) pool + n) ≡ b → AreTaken n pool b
-    by_test false t = inl (refl, taking_fits n pool [] (let few : count_by (λ (b : Bool). b) pool + n ≤ 1000 = grind (arith, nat_tests) in omega arith))
-    by_test true t = inr (refl, taking_lacks n pool [] (let many : 1000 < count_by (λ (b : Bool). b) pool + n = grind (arith, nat_tests) in omega arith))
+frames_fit : (n : ℕ) (pool : List Bool) (frames : List ℕ) → IsLacking (nat_lt (length pool) (count_by (λ (b : Bool). b) pool + n)) (taking n pool frames)
+frames_fit zero pool frames = inl (grind (arith, nat_tests, count_by-le-length (λ (b : Bool). b) pool), ((frames, pool), refl))
+frames_fit (suc n) pool frames =
+    let place : ℕ = position_or_len not pool in
+    elim (cases_lt place (length pool)) [
+      | inl lt ↦
+          let free : slice_get pool (18 + place - 18) ≡ Some false = rw (same_place place) (free_at pool lt) in
+          let more : count_by (λ (b : Bool). b) pool + suc n ≡ count_by (λ (b : Bool). b) (with_taken pool (18 + place)) + n = omega
+          (arith, count_set (λ (b : Bool). b) pool (18 + place - 18) false true free) in
+          rw (taken_next n pool frames lt, more, ← length-set pool (18 + place - 18) true) (frames_fit n (with_taken pool (18 + place)) (frames ++ (18 + place) ∷ []))
+      | inr none ↦ inr (grind (arith, nat_tests, free_place pool), taken_none n pool frames none)
+    ]
 
 -- the last tests of a submission, by the rule and by the front
 abbrev ruled_last : (refuses past long full lacks : Bool) → Option RefusalWord
@@ -153,19 +97,12 @@ ruled_last refuses past long full lacks = if refuses then Some words.ReadOnly el
 abbrev tested_last : View → Wish → (refuses past long full : Bool) → Option (List ℕ × List Bool) → Result ℕ Refusal × View
 tested_last v wish refuses past long full taken = if refuses then (Err refusal.ReadOnly, v) else (if past then (Err refusal.Range, v) else (if long then (Err refusal.Long, v) else (if full then (Err refusal.Full, v) else submit_with v wish taken)))
 
--- so many frames are free, or too few are
-abbrev IsLacking : (lacks : Bool) → Option (List ℕ × List Bool) → Type 0
-IsLacking lacks taken = ((lacks ≡ false) × ((t : List ℕ × List Bool) × (taken ≡ Some t))) ⊎ ((lacks ≡ true) × (taken ≡ None))
-
 -- one answer by both, as the same tests come out
 same_last : (v : View) (wish : Wish) (refuses past long full lacks : Bool) (taken : Option (List ℕ × List Bool))
     → (long ≡ false → full ≡ false → IsLacking lacks taken)
     → ruled_last refuses past long full lacks ≡ answer_of (tested_last v wish refuses past long full taken).0
-same_last v wish true past long full lacks taken fits = refl
-same_last v wish false true long full lacks taken fits = refl
-same_last v wish false false true full lacks taken fits = refl
-same_last v wish false false false true lacks taken fits = refl
 same_last v wish false false false false lacks taken fits = elim (fits refl refl) [ inl fit ↦ rw (fit.0, fit.1.1) refl | inr lack ↦ rw (lack.0, lack.1) refl ]
+same_last v wish refuses past long full lacks taken fits = refl
 
 same_answer : (v : View) (wish : Wish) (one : Option Wish → Result ℕ Refusal × View) (spent closing connected unsupported offered refuses past long full lacks : Bool) (taken : Option (List ℕ × List Bool))
     → one None ≡ (Err refusal.Unsupported, v)
@@ -174,16 +111,13 @@ same_answer : (v : View) (wish : Wish) (one : Option Wish → Result ℕ Refusal
     → (long ≡ false → full ≡ false → IsLacking lacks taken)
     → (if spent then Some words.Spent else (if not closing && (not connected || false) then Some words.NotReady else (if closing then Some words.Closing else (if unsupported then Some words.Unsupported else ruled_last refuses past long full lacks))))
     ≡ answer_of (if spent then (Err refusal.Spent, v) else (if closing then (Err refusal.Closing, v) else (if not connected then (Err refusal.NotReady, v) else one (wished offered wish)))).0
-same_answer v wish one true closing connected unsupported offered refuses past long full lacks taken none some serves fits = refl
-same_answer v wish one false true connected unsupported offered refuses past long full lacks taken none some serves fits = refl
-same_answer v wish one false false false unsupported offered refuses past long full lacks taken none some serves fits = refl
 same_answer v wish one false false true unsupported offered refuses past long full lacks taken none some serves fits = by_offer unsupported offered (some refl) (serves refl)
   where
     by_offer : (u o : Bool) → (u ≡ false → one (Some wish) ≡ tested_last v wish refuses past long full taken) → o ≡ not u → (if u then Some words.Unsupported else ruled_last refuses past long full lacks) ≡ answer_of (one (wished o wish)).0
     by_offer false true some e = same_last v wish refuses past long full lacks taken fits ∙ sym (ap (λ (y : Result ℕ Refusal × View). answer_of y.0) (some refl))
     by_offer true false some e = sym (ap (λ (y : Result ℕ Refusal × View). answer_of y.0) none)
-    by_offer false false some e = absurd (true≢false (sym e))
-    by_offer true true some e = absurd (true≢false e)
+    by_offer u o some e = cc
+same_answer v wish one spent closing connected unsupported offered refuses past long full lacks taken none some serves fits = refl
 
 -- what the rule looks at, of a list of requests, is what the front looks at
 pub record AreAlike (config : Options) (v : View) (requests : List Asked) : Type 0 where
@@ -207,15 +141,16 @@ ruled_alike config v requests job narrow alike = by_job job
     most : is_ready v.stage ≡ true → max 11 (min 960 v.offers.indirect) ≡ max 11 config.indirect
     most ready = let limit = (alike.offers ready).indirect in omega arith
 
-    free : (count : ℕ) → AreTaken (frames_taken count) v.pool (nat_lt 1000 (sum_by frames_held requests + frames_taken count))
-    free count = rw alike.held (frames_fit (frames_taken count) v.pool alike.size)
+    free : (count : ℕ) → IsLacking (nat_lt 1000 (sum_by frames_held requests + frames_taken count)) (taking (frames_taken count) v.pool [])
+    free count = rw alike.held (subst (λ (n : ℕ). IsLacking (nat_lt n (count_by (λ (b : Bool). b) v.pool + frames_taken count)) (taking (frames_taken count) v.pool [])) alike.size
+        (frames_fit (frames_taken count) v.pool []))
 
-    fits : (count : ℕ) → AreTaken (frames_taken count) v.pool (nat_lt 1000 (sum_by frames_held requests + (if nat_lt 11 ((count + 7) / 8) then (count + 7) / 8 + ((count + 7) / 8 + 511) / 512 else (count + 7) / 8)))
+    fits : (count : ℕ) → IsLacking (nat_lt 1000 (sum_by frames_held requests + (if nat_lt 11 ((count + 7) / 8) then (count + 7) / 8 + ((count + 7) / 8 + 511) / 512 else (count + 7) / 8))) (taking (frames_taken count) v.pool [])
     fits count = rw (ruled_frames count) (free count)
 
-    bare : (count : ℕ) → nat_lt 11 (frames_for count) ≡ false → AreTaken (frames_taken count) v.pool (nat_lt 1000 (sum_by frames_held requests + (count + 7) / 8))
+    bare : (count : ℕ) → nat_lt 11 (frames_for count) ≡ false → IsLacking (nat_lt 1000 (sum_by frames_held requests + (count + 7) / 8)) (taking (frames_taken count) v.pool [])
     bare count short =
-        subst (λ (n : ℕ). AreTaken (frames_taken count) v.pool (nat_lt 1000 (sum_by frames_held requests + n))) (rw short (omega arith)) (free count)
+        subst (λ (n : ℕ). IsLacking (nat_lt 1000 (sum_by frames_held requests + n)) (taking (frames_taken count) v.pool [])) (rw short (omega arith)) (free count)
 
     by_job : (x : Job) → refusal_by (record { config = Some config; connected = is_ready v.stage; closing = v.closing; broken = false }) config requests x ≡ answer_of (submit_of v x).0
     by_job (Read sector count) = rw (alike.spent, alike.order, past (sector + count), alike.opened)

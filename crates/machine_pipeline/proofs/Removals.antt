@@ -1,10 +1,11 @@
 -- Lists without one of their elements, and their first elements.
-use Rattle.std.proofs.Common.{◌≡◌, ◌≢◌, ℕ, zero, suc, ◌+◌, ◌<◌, ◌≤◌, ◌⊎◌, inl, inr, Bool, true, false, cond, List, [], ◌∷◌, length, take, refl, ap, sym, ◌∙◌, arith}
+use Rattle.std.proofs.Common.{◌≡◌, ◌≢◌, ℕ, zero, suc, ◌+◌, ◌<◌, ◌≤◌, ◌⊎◌, inl, inr, Bool, true, cond, List, [], ◌∷◌, length, take, refl, ap, sym, ◌∙◌, arith}
 use Rattle.std.specs.Prelude.{Some, slice_get, position, count_by, remove, nat_lt}
 use Rattle.std.specs.List.{position_or_len}
 use Rattle.std.proofs.lemmas.Option.{none-some, same_Some, slice_get_within}
 use Rattle.std.proofs.lemmas.List.Sums.{sum_by-cons}
 use Rattle.std.proofs.lemmas.Bool.Decides.{nat_tests}
+use Rattle.std.proofs.lemmas.Bool.{cases_Bool}
 
 nothing_left : {X : Type 0} (p : ℕ) → remove {X = X} [] p ≡ []
 nothing_left zero = refl
@@ -21,11 +22,7 @@ removed_was (x ∷ xs) zero i y e = (suc i, omega arith, e, inr (omega arith, om
 removed_was (x ∷ xs) (suc p) zero y e = (zero, omega arith, e, inl (omega arith, refl))
 removed_was (x ∷ xs) (suc p) (suc i) y e =
     let rest = removed_was xs p i y e in
-    (suc rest.0, (λ same. rest.1 (omega arith)), rest.2, further p i rest.0 rest.3)
-  where
-    further : (p i j : ℕ) → ((i < p) × (j ≡ i)) ⊎ ((p ≤ i) × (j ≡ i + 1)) → ((suc i < suc p) × (suc j ≡ suc i)) ⊎ ((suc p ≤ suc i) × (suc j ≡ suc i + 1))
-    further p i j (inl h) = inl (omega (arith, h.0), omega (arith, h.1))
-    further p i j (inr h) = inr (omega (arith, h.0), omega (arith, h.1))
+    (suc rest.0, (λ same. rest.1 (omega arith)), rest.2, elim rest.3 [ inl h ↦ inl (omega (arith, h.0), omega (arith, h.1)) | inr h ↦ inr (omega (arith, h.0), omega (arith, h.1)) ])
 
 pub removed_has : {X : Type 0} (xs : List X) (p j : ℕ) (y : X) → slice_get xs j ≡ Some y → j ≢ p → (i : ℕ) × (slice_get (remove xs p) i ≡ Some y)
 removed_has [] p j y e apart = absurd (none-some y e)
@@ -72,11 +69,9 @@ taken_has (suc n) (x ∷ xs) (suc i) y e lt = taken_has n xs i y e (omega arith)
 first_before : {X : Type 0} (test : X → Bool) (xs : List X) (i : ℕ) (x : X) → slice_get xs i ≡ Some x → test x ≡ true → position_or_len test xs ≤ i
 first_before test [] i x e t = absurd (none-some x e)
 first_before test (y ∷ xs) zero x e t = rw (ap test (same_Some y x e) ∙ t) (omega arith)
-first_before test (y ∷ xs) (suc i) x e t = by_test (test y) refl (first_before test xs i x e t)
-  where
-    by_test : (b : Bool) → test y ≡ b → position_or_len test xs ≤ i → position_or_len test (y ∷ xs) ≤ suc i
-    by_test true u le = rw u (omega arith)
-    by_test false u le = rw u (omega arith)
+first_before test (y ∷ xs) (suc i) x e t =
+    let later = first_before test xs i x e t in
+    elim (cases_Bool (test y)) [ inl u ↦ rw u (omega arith) | inr u ↦ rw u (omega arith) ]
 
 pub found_somewhere : {X : Type 0} (test : X → Bool) (xs : List X) (i : ℕ) (x : X) → slice_get xs i ≡ Some x → test x ≡ true → (k : ℕ) × (position test xs ≡ Some k)
 found_somewhere test xs i x e t =

@@ -1,11 +1,11 @@
 -- The guest is suspended and resumed: each request that isn't finished and isn't being told waits again, in order of number, and a new epoch begins.
-use Rattle.std.proofs.Common.{◌≡◌, ◌≢◌, ℕ, zero, suc, ◌+◌, ◌-◌, ◌≤◌, ◌==◌, ◌⊎◌, inl, inr, not, cond, Bool, true, false, List, [], ◌∷◌, length, refl, ap, sym, ◌∙◌, subst, arith, ◌++◌, length-append}
-use Rattle.std.specs.Prelude.{Option, Some, None, map, slice_get, count_by, sum_by}
+use Rattle.std.proofs.Common.{◌≡◌, ◌≢◌, ℕ, zero, suc, ◌+◌, ◌-◌, ◌≤◌, ◌==◌, ◌⊎◌, inl, inr, not, cond, Bool, true, false, List, [], ◌∷◌, length, refl, ap, sym, ◌∙◌, subst, arith}
+use Rattle.std.specs.Prelude.{Option, Some, None, map, slice_get, count_by, sum_by, option_map, remove}
 use Rattle.std.specs.List.{list_any}
-use Rattle.std.proofs.lemmas.Option.{none-some, same_Some}
-use Rattle.std.proofs.lemmas.Bool.{false≢true, true≢false}
+use Rattle.std.proofs.lemmas.Option.{none-some, same_Some, slice_get-map, slice_get_within, get_or_from_slice_get}
+use Rattle.std.proofs.lemmas.Bool.{false≢true, true≢false, cases_eq}
 use Rattle.std.proofs.lemmas.Bool.Decides.{nat_tests}
-use Rattle.std.proofs.lemmas.List.Sums.{sum_by-cons, sum_by-append}
+use Rattle.std.proofs.lemmas.List.Sums.{sum_by-cons, sum_by-remove}
 use Rattle.blk_base.specs.Options.{Options}
 use Rattle.schedule_text.specs.declared.line.Line.TheVariants as lines
 use Rattle.ring_words.specs.Shape.{Shape}
@@ -16,47 +16,52 @@ use Rattle.pipeline_laws.specs.Station.{Station, Waiting, Taking, Telling, Finis
 use Rattle.pipeline_laws.specs.Pipeline.{Pipeline, Resumes, next, again, station_again}
 use Rattle.pipeline_laws.specs.Allowed.{is_unissued, AreFinished}
 use Rattle.machine_pipeline.specs.Step.{IsSame}
-use Rattle.machine_pipeline.proofs.Flow.{epoch_flow, uses, frames_of}
-use Rattle.machine_pipeline.proofs.Series.{IsSeries}
+use Rattle.machine_pipeline.proofs.Flow.{epoch_flow, uses, frames_of, submitted_job}
+use Rattle.machine_pipeline.proofs.Series.{IsSeries, numbered, IsLeft}
 use Rattle.machine_pipeline.proofs.Holds.{ArePooled}
 use Rattle.machine_pipeline.proofs.ReadBack.{IsReadBack, has_data_at}
-use Rattle.machine_pipeline.proofs.Lists.{place_of_any, any_at}
+use Rattle.machine_pipeline.proofs.Lists.{any_at}
 use Rattle.machine_pipeline.proofs.Turns.{Stepped}
 use Rattle.machine_pipeline.proofs.Stations.{StandsAt, AreKnown, AreStations, AreOpen, AreGoing, kind_of, finishing}
+use Rattle.std.proofs.lemmas.List.{length-map}
+use Rattle.std.proofs.lemmas.List.Edits.{length-remove}
+use Rattle.machine_pipeline.proofs.Removals.{removed_was, removed_has}
+
+-- a request waits again
+abbrev pub WaitsAgain : List Asked → Request → Type 0
+WaitsAgain asked r = (q : Asked) × (slice_get asked (r.number - 1) ≡ Some q) × (station_again q.station ≡ Waiting)
 
 -- the front's requests in the new epoch are those that wait again
 pub record AreAgain (asked : List Asked) (after : List Request) : Type 0 where
-  pub waits : (i : ℕ) (r : Request) → slice_get after i ≡ Some r → (q : Asked) × (slice_get asked (r.number - 1) ≡ Some q) × (station_again q.station ≡ Waiting)
+  pub waits : (i : ℕ) (r : Request) → slice_get after i ≡ Some r → WaitsAgain asked r
   pub all : (k : ℕ) (q : Asked) → slice_get asked k ≡ Some q → station_again q.station ≡ Waiting → (i : ℕ) × (r : Request) × (slice_get after i ≡ Some r) × (r.number ≡ k + 1)
 
-again_was : (asked : List Asked) (k : ℕ) (q : Asked) → slice_get (map again asked) k ≡ Some q → (p : Asked) × (slice_get asked k ≡ Some p) × (q ≡ again p)
-again_was [] k q e = absurd (none-some q e)
-again_was (p ∷ asked) zero q e = (p, refl, sym (same_Some (again p) q e))
-again_was (p ∷ asked) (suc k) q e = again_was asked k q e
+-- what holds of each as it stands then holds of all
+again_all : (P : ℕ → Asked → Type 0) (asked : List Asked) → ((k : ℕ) (p : Asked) → slice_get asked k ≡ Some p → P k (again p)) → (k : ℕ) (q : Asked) → slice_get (map again asked) k ≡ Some q → P k q
+again_all P [] each k q e = absurd cc
+again_all P (p ∷ asked) each zero q e = subst (P zero) (same_Some (again p) q e) (each zero p refl)
+again_all P (p ∷ asked) each (suc k) q e = again_all (λ (j : ℕ). P (suc j)) asked (λ j r at. each (suc j) r at) k q e
 
-again_has : (asked : List Asked) (k : ℕ) (p : Asked) → slice_get asked k ≡ Some p → slice_get (map again asked) k ≡ Some (again p)
-again_has [] k p e = absurd (none-some p e)
-again_has (x ∷ asked) zero p e = ap (λ (y : Asked). Some (again y)) (same_Some x p e)
-again_has (x ∷ asked) (suc k) p e = again_has asked k p e
+again_stands : (asked : List Asked) (k : ℕ) (p : Asked) (s : Station) → slice_get asked k ≡ Some p → station_again p.station ≡ s → StandsAt (map again asked) k s
+again_stands asked k p s e there = record { q = again p; at = slice_get-map again asked k ∙ ap (option_map again) e; there = there }
 
-as_many : (asked : List Asked) → length (map again asked) ≡ length asked
-as_many [] = refl
-as_many (p ∷ asked) = let rest = as_many asked in omega arith
+-- a request that is told, or finished, stays where it stands, and each other waits again
+goes_again : (s : Station) → ((station_again s ≡ s) × (is_unissued s ≡ false) × (7 ≤ kind_of s)) ⊎ ((station_again s ≡ Waiting) × (is_finished s ≡ false))
+goes_again (Telling n) = inl (refl, refl, omega arith)
+goes_again (Finished status) = inl (refl, refl, omega arith)
+goes_again s = inr (refl, refl)
 
 station_finished : (s : Station) → is_finished (station_again s) ≡ is_finished s
-station_finished (Telling next) = refl
-station_finished (Finished status) = refl
-station_finished s = refl
+station_finished s = elim (goes_again s) [ inl stays ↦ ap is_finished stays.0 | inr waits ↦ ap is_finished waits.0 ∙ sym waits.1 ]
 
 unissued_again : (s : Station) → is_unissued (station_again s) ≡ true → station_again s ≡ Waiting
-unissued_again (Telling next) t = absurd (false≢true t)
-unissued_again (Finished status) t = absurd (false≢true t)
-unissued_again s t = refl
+unissued_again s t = elim (goes_again s) [ inl stays ↦ absurd (false≢true (sym stays.1 ∙ (sym (ap is_unissued stays.0) ∙ t))) | inr waits ↦ waits.0 ]
 
 data_again : (s : Station) → has_data_at (station_again s) ≡ true → has_data_at s ≡ true
-data_again (Telling next) t = t
-data_again (Finished status) t = t
-data_again s t = absurd (false≢true t)
+data_again s t = elim (goes_again s) [ inl stays ↦ sym (ap has_data_at stays.0) ∙ t | inr waits ↦ absurd (false≢true (sym (ap has_data_at waits.0) ∙ t)) ]
+
+none_works : (s : Station) → kind_of (station_again s) ≢ 4
+none_works s works = elim (goes_again s) [ inl stays ↦ omega (arith, ap kind_of stays.0, stays.2) | inr waits ↦ omega (arith, ap kind_of waits.0) ]
 
 unfinished_again : (asked : List Asked) → count_by (λ (q : Asked). not (is_finished q.station)) (map again asked) ≡ count_by (λ (q : Asked). not (is_finished q.station)) asked
 unfinished_again [] = refl
@@ -68,17 +73,13 @@ unfinished_again (p ∷ asked) =
 -- each is known as it was
 pub known_again : (submitted : List Request) (asked : List Asked) → AreKnown submitted asked → AreKnown submitted (map again asked)
 known_again submitted asked h = record {
-  as_many = as_many asked ∙ h.as_many;
-  each = λ k r q e f. let was = again_was asked k q f in ap (λ (x : Asked). x.job) was.2 ∙ h.each k r was.0 e was.1;
+  as_many = length-map asked again ∙ h.as_many;
+  each = λ k r q e f. again_all (λ k q. slice_get submitted k ≡ Some r → q.job ≡ submitted_job r.transfer r.sector r.count) asked (λ j p at its. h.each j r p its at) k q f e;
 }
-
--- one whose data are told goes on being told
-told_again : (asked : List Asked) (k next : ℕ) → StandsAt asked k (Telling next) → StandsAt (map again asked) k (Telling next)
-told_again asked k next x = record { q = again x.q; at = again_has asked k x.q x.at; there = ap station_again x.there }
 
 -- a request that waits again stands at Waiting
 waiting_again : (asked : List Asked) (after : List Request) → AreAgain asked after → (i : ℕ) (r : Request) → slice_get after i ≡ Some r → StandsAt (map again asked) (r.number - 1) Waiting
-waiting_again asked after h i r e = let was = h.waits i r e in record { q = again was.0; at = again_has asked (r.number - 1) was.0 was.1; there = was.2 }
+waiting_again asked after h i r e = let was = h.waits i r e in again_stands asked (r.number - 1) was.0 Waiting was.1 was.2
 
 -- the data of each read that went well stand in its frames
 abbrev pub HaveReadBack : (submitted : List Request) (asked : List Asked) (pages : List ℕ) → Type 0
@@ -110,140 +111,92 @@ resumes config d shape start before submitted closing pages after ending telling
   now = record {
     options = h.options;
     front = rw (h.closing_is, h.unclosed) refl;
-    ring = record { pushed = refl; entries = λ i r lt. absurd (omega arith); fetched = refl; replied = refl; responses = λ i rep e. absurd (none-some rep e); taken = refl };
+    ring = grind (arith, none-some);
     stand = record {
       known = known_again submitted d.requests h.known;
       opened = record {
         unfinished = unfinished_again d.requests ∙ h.opened.unfinished;
-        held = λ k q e going.
-            let was = again_was d.requests k q e in
-            h.opened.held k was.0 was.1 (sym (station_finished (let x : Asked = was.0 in x.station)) ∙ (sym (ap (λ (x : Asked). is_finished x.station) was.2) ∙ going));
+        held = again_all (λ k q. is_finished q.station ≡ false → _) d.requests (λ k p at going. h.opened.held k p at (sym (station_finished p.station) ∙ going));
       };
-      issued = λ k q e some.
-          let was = again_was d.requests k q e in
-          let left = h.waits.all k was.0 was.1 (unissued_again (let x : Asked = was.0 in x.station) (sym (ap (λ (x : Asked). is_unissued x.station) was.2) ∙ some)) in
-          record { index = left.0; late = omega arith; r = left.1; at = left.2; number = left.3 };
-      waiting = record { issued = λ t. absurd (false≢true t); rest = λ i r le at other. waiting_again d.requests after h.waits i r at };
-      pushed = record { copied = λ t. absurd (false≢true t); rest = λ i r le lt. absurd (omega arith) };
-      works = λ i t e. absurd (none-some t e);
-      held = λ k q e kind. absurd (no_job k q e kind);
-      going = λ i r at. let stands = waiting_again d.requests after h.waits i r at in record { q = stands.q; at = stands.at; early = (let kind = ap kind_of stands.there in omega (arith, kind)) };
-      replying = λ rep e. absurd (none-some rep e);
-      replied = λ i rep e. absurd (none-some rep e);
+      issued = again_all (λ k q. is_unissued q.station ≡ true → IsLeft after 0 k) d.requests (λ k p at some.
+          let left = h.waits.all k p at (unissued_again p.station some) in
+          record { index = left.0; late = omega arith; r = left.1; at = left.2; number = left.3 });
+      waiting = record { issued = λ t. absurd cc; rest = λ i r le at other. waiting_again d.requests after h.waits i r at };
+      pushed = grind (arith, true≢false);
+      works = λ i t e. absurd cc;
+      held = again_all (λ k q. kind_of q.station ≡ 4 → _) d.requests (λ k p at kind. absurd (none_works p.station kind));
+      going = λ i r at. let stands = waiting_again d.requests after h.waits i r at in record { q = stands.q; at = stands.at; early = omega (arith, ap kind_of stands.there) };
+      replying = λ rep e. absurd cc;
+      replied = λ i rep e. absurd cc;
       taking = λ e same.
           let still = h.goes_on e same in
-          subst (λ (t : Option ℕ). StandsAt (map again d.requests) (e.request.number - 1) (finishing t e.status)) (sym still.1) (told_again d.requests (e.request.number - 1) still.0 still.2);
+          let its = still.2 in
+          subst (λ (t : Option ℕ). StandsAt (map again d.requests) (e.request.number - 1) (finishing t e.status)) (sym still.1)
+          (again_stands d.requests (e.request.number - 1) its.q (Telling still.0) its.at (ap station_again its.there));
     };
     reads = record {
-      working = λ i t r q at. absurd (none-some t at);
+      working = λ i t r q at. absurd cc;
       after = λ k r q its at reads there.
-          let was = again_was d.requests k q at in
-          subst (λ (x : Asked). IsReadBack pages r r.count x.words) (sym was.2)
-          (h.reads k r was.0 its was.1 reads (data_again (let x : Asked = was.0 in x.station) (sym (ap (λ (x : Asked). has_data_at x.station) was.2) ∙ there)));
+          again_all (λ k q. slice_get submitted k ≡ Some r → has_data_at q.station ≡ true → IsReadBack pages r r.count q.words) d.requests
+          (λ j p was is some. h.reads j r p is was reads (data_again p.station some)) k q at its there;
     };
   };
 }
-  where
-    none_works : (s : Station) → kind_of (station_again s) ≢ 4
-    none_works (Telling next) = λ e. omega arith
-    none_works (Finished status) = λ e. omega arith
-    none_works s = λ e. omega arith
-
-    no_job : (k : ℕ) (q : Asked) → slice_get (map again d.requests) k ≡ Some q → kind_of q.station ≡ 4 → ⊥
-    no_job k q e kind = let was = again_was d.requests k q e in none_works (let x : Asked = was.0 in x.station) (sym (ap (λ (x : Asked). kind_of x.station) was.2) ∙ kind)
 
 -- those of a front that takes no response wait again
 again_waiting : (s : Station) → kind_of s ≤ 6 → station_again s ≡ Waiting
-again_waiting (Telling next) le = absurd (omega arith)
-again_waiting (Finished status) le = absurd (omega arith)
-again_waiting s le = refl
-
-unfinished_waits : (s : Station) → station_again s ≡ Waiting → is_finished s ≡ false
-unfinished_waits (Finished status) e = absurd (true≢false (ap is_finished e))
-unfinished_waits s e = refl
+again_waiting s le = elim (goes_again s) [ inl stays ↦ absurd (omega (arith, stays.2)) | inr waits ↦ waits.0 ]
 
 -- all that are finished stay so
 pub finished_again : (d : Pipeline) → AreFinished d → AreFinished (next d Resumes)
-finished_again d h = record { each = λ k q e. let was = again_was d.requests k q e in ap (λ (x : Asked). is_finished x.station) was.2 ∙ (station_finished (let x : Asked = was.0 in x.station) ∙ h.each k was.0 was.1) }
+finished_again d h = record { each = again_all (λ k q. is_finished q.station ≡ true) d.requests (λ k p at. station_finished p.station ∙ h.each k p at) }
 
-no_data : (s : Station) → is_finished s ≡ true → has_data_at s ≡ false
-no_data (Finished status) e = refl
-no_data s e = absurd (false≢true e)
-
-pub finished_all : (d : Pipeline) → AreFinished d → (k : ℕ) (q : Asked) → slice_get d.requests k ≡ Some q → has_data_at q.station ≡ true → ⊥
-finished_all d h k q e there = true≢false (sym there ∙ no_data q.station (h.each k q e))
+pub finished_no_data : (s : Station) → is_finished s ≡ true → has_data_at s ≡ false
+finished_no_data (Finished status) e = refl
+finished_no_data s e = absurd (false≢true e)
 
 pub unfinished : (q : Asked) → station_again q.station ≡ Waiting → is_finished q.station ≡ false
-unfinished q waits = unfinished_waits q.station waits
+unfinished q waits = sym (station_finished q.station) ∙ ap is_finished waits
+
+-- the front's requests wait again
+waits_again : (asked : List Asked) (requests : List Request) → AreGoing requests asked → (i : ℕ) (r : Request) → slice_get requests i ≡ Some r → WaitsAgain asked r
+waits_again asked requests going i r e = let was = going i r e in (was.q, was.at, again_waiting (let x : Asked = was.q in x.station) was.early)
 
 pub all_again : (asked : List Asked) (requests : List Request) → AreOpen asked requests None → AreGoing requests asked → AreAgain asked requests
 all_again asked requests opened going = record {
-  waits = λ i r e. let was = going i r e in (was.q, was.at, again_waiting (let x : Asked = was.q in x.station) was.early);
-  all = λ k q e waits. by_place k (opened.held k q e (unfinished_waits q.station waits));
+  waits = waits_again asked requests going;
+  all = λ k q e waits. elim (opened.held k q e (unfinished q waits)) [ inl any ↦ numbered requests (k + 1) any | inr other ↦ absurd (none-some other.0 other.1) ];
 }
-  where
-    by_place : (k : ℕ) → (list_any (λ (r : Request). r.number == k + 1) requests ≡ true) ⊎ ((e : Ending) × (None ≡ Some e) × (e.request.number ≡ k + 1)) → (i : ℕ) × (r : Request) × (slice_get requests i ≡ Some r) × (r.number ≡ k + 1)
-    by_place k (inl any) =
-        let found = place_of_any (λ (r : Request). r.number == k + 1) requests any in
-        (found.0, found.1, found.2, grind (arith, nat_tests, found.3))
-    by_place k (inr other) = absurd (none-some other.0 other.1)
 
 -- a request whose grants were being ended is among the front's requests once more
 pub record IsPutBack (requests after : List Request) (x : Request) : Type 0 where
-  pub before : List Request
-  pub later : List Request
-  pub were : requests ≡ before ++ later
-  pub are : after ≡ before ++ x ∷ later
-
-put_was : (before later : List Request) (x : Request) (i : ℕ) (r : Request) → slice_get (before ++ x ∷ later) i ≡ Some r → (r ≡ x) ⊎ ((j : ℕ) × (slice_get (before ++ later) j ≡ Some r))
-put_was [] later x zero r e = inl (sym (same_Some x r e))
-put_was [] later x (suc i) r e = inr (i, e)
-put_was (y ∷ before) later x zero r e = inr (zero, e)
-put_was (y ∷ before) later x (suc i) r e = elim (put_was before later x i r e) [ inl same ↦ inl same | inr one ↦ inr (suc one.0, one.1) ]
-
-put_has : (before later : List Request) (x : Request) (j : ℕ) (r : Request) → slice_get (before ++ later) j ≡ Some r → (i : ℕ) × (slice_get (before ++ x ∷ later) i ≡ Some r)
-put_has [] later x j r e = (suc j, e)
-put_has (y ∷ before) later x zero r e = (zero, e)
-put_has (y ∷ before) later x (suc j) r e = let one = put_has before later x j r e in (suc one.0, one.1)
-
-put_at : (before later : List Request) (x : Request) → slice_get (before ++ x ∷ later) (length before) ≡ Some x
-put_at [] later x = refl
-put_at (y ∷ before) later x = put_at before later x
+  pub place : ℕ
+  pub at : slice_get after place ≡ Some x
+  pub were : requests ≡ remove after place
 
 -- what stands there now stood there, or is that one
 pub back_was : (requests after : List Request) (x : Request) → IsPutBack requests after x → (i : ℕ) (r : Request) → slice_get after i ≡ Some r → (r ≡ x) ⊎ ((j : ℕ) × (slice_get requests j ≡ Some r))
-back_was requests after x put i r e = elim (put_was put.before put.later x i r (sym (ap (λ (l : List Request). slice_get l i) put.are) ∙ e)) [
-  | inl same ↦ inl same
-  | inr one ↦ inr (one.0, ap (λ (l : List Request). slice_get l one.0) put.were ∙ one.1)
+back_was requests after x put i r e = elim (cases_eq i put.place) [
+  | inl same ↦ inl (same_Some r x (sym e ∙ (ap (slice_get after) same ∙ put.at)))
+  | inr apart ↦ inr (rw put.were (removed_has after put.place i r e apart))
 ]
 
 back_has : (requests after : List Request) (x : Request) → IsPutBack requests after x → (j : ℕ) (r : Request) → slice_get requests j ≡ Some r → (i : ℕ) × (slice_get after i ≡ Some r)
-back_has requests after x put j r e =
-    let one = put_has put.before put.later x j r (sym (ap (λ (l : List Request). slice_get l j) put.were) ∙ e) in
-    (one.0, ap (λ (l : List Request). slice_get l one.0) put.are ∙ one.1)
-
-back_at : (requests after : List Request) (x : Request) → IsPutBack requests after x → (i : ℕ) × (slice_get after i ≡ Some x)
-back_at requests after x put = (length put.before, ap (λ (l : List Request). slice_get l (length put.before)) put.are ∙ put_at put.before put.later x)
+back_has requests after x put j r e = let was = removed_was after put.place j r (rw put.were at e) in (was.0, was.2)
 
 -- a sum over them has one summand more
 pub back_sum : (f : Request → ℕ) (requests after : List Request) (x : Request) → IsPutBack requests after x → sum_by f after ≡ sum_by f requests + f x
-back_sum f requests after x put =
-    let these : sum_by f after ≡ sum_by f (put.before ++ x ∷ put.later) = ap (sum_by f) put.are in
-    let those : sum_by f requests ≡ sum_by f (put.before ++ put.later) = ap (sum_by f) put.were in
-    omega (arith, sum_by-append f put.before put.later, sum_by-cons f x put.later, sum_by-append f put.before (x ∷ put.later))
+back_sum f requests after x put = rw put.were (omega (arith, sum_by-remove f after put.place x (slice_get_within after put.place x put.at), ap f (get_or_from_slice_get after put.place x x put.at)))
 
 pub back_many : (requests after : List Request) (x : Request) → IsPutBack requests after x → length after ≡ length requests + 1
-back_many requests after x put =
-    let these : length after ≡ length (put.before ++ x ∷ put.later) = ap (λ (l : List Request). length l) put.are in
-    let those : length requests ≡ length (put.before ++ put.later) = ap (λ (l : List Request). length l) put.were in
-    omega (arith, length-append put.before put.later, length-append put.before (x ∷ put.later))
+back_many requests after x put = let within = slice_get_within after put.place x put.at in rw put.were (omega (arith, length-remove after put.place within))
 
 -- its frames are its own still
 pub back_pooled : (pool : List Bool) (requests after : List Request) (e : Ending) → IsPutBack requests after e.request → ArePooled pool requests (Some e) → ArePooled pool after None
 back_pooled pool requests after e put h = record {
   size = h.size;
-  each = λ f lt. let was = h.each f lt in let more = back_sum (uses (18 + f)) requests after e.request put in omega arith;
-  used = (let was = h.used in let more = back_sum frames_of requests after e.request put in omega arith);
+  each = λ f lt. omega (arith, h.each f lt, back_sum (uses (18 + f)) requests after e.request put);
+  used = omega (arith, h.used, back_sum frames_of requests after e.request put);
 }
 
 -- all of them wait again
@@ -255,29 +208,24 @@ pub put_back_again : (asked : List Asked) (requests after : List Request) (e : E
     → AreAgain asked after × AreOpen asked after None
 put_back_again asked requests after e put opened going taking = (
   record {
-    waits = λ i r at. waits r (back_was requests after e.request put i r at);
-    all = λ k q at waits. among k (opened.held k q at (unfinished_waits q.station waits));
+    waits = λ i r at. elim (back_was requests after e.request put i r at) [
+      | inl same ↦ subst (WaitsAgain asked) (sym same) (taking.q, taking.at, ap station_again taking.there)
+      | inr one ↦ waits_again asked requests going one.0 r one.1
+    ];
+    all = λ k q at waits. among k (opened.held k q at (unfinished q waits));
   },
   record {
-    unfinished = (let unfinished = opened.unfinished in let many = back_many requests after e.request put in omega arith);
-    held = λ k q at left.
-        let found = among k (opened.held k q at left) in
-        inl (any_at (λ (r : Request). r.number == k + 1) after found.0 found.1 found.2 (grind (arith, nat_tests, found.3)));
+    unfinished = omega (arith, opened.unfinished, back_many requests after e.request put);
+    held = λ k q at left. let found = among k (opened.held k q at left) in inl (any_at (λ (r : Request). r.number == k + 1) after found.0 found.1 found.2 (grind (arith, nat_tests, found.3)));
   },
 )
   where
-    waits : (r : Request) → (r ≡ e.request) ⊎ ((j : ℕ) × (slice_get requests j ≡ Some r)) → (q : Asked) × (slice_get asked (r.number - 1) ≡ Some q) × (station_again q.station ≡ Waiting)
-    waits r (inl same) = subst (λ (x : Request). (q : Asked) × (slice_get asked (x.number - 1) ≡ Some q) × (station_again q.station ≡ Waiting)) (sym same) (taking.q, taking.at, ap station_again taking.there)
-    waits r (inr one) = let was = going one.0 r one.1 in (was.q, was.at, again_waiting (let x : Asked = was.q in x.station) was.early)
-
     among : (k : ℕ) → (list_any (λ (r : Request). r.number == k + 1) requests ≡ true) ⊎ ((f : Ending) × (Some e ≡ Some f) × (f.request.number ≡ k + 1)) → (i : ℕ) × (r : Request) × (slice_get after i ≡ Some r) × (r.number ≡ k + 1)
     among k (inl any) =
-        let found = place_of_any (λ (r : Request). r.number == k + 1) requests any in
+        let found = numbered requests (k + 1) any in
         let has = back_has requests after e.request put found.0 found.1 found.2 in
-        (has.0, found.1, has.1, grind (arith, nat_tests, found.3))
-    among k (inr last) =
-        let here = back_at requests after e.request put in
-        (here.0, e.request, here.1, ap (λ (f : Ending). f.request.number) (same_Some e last.0 last.1) ∙ last.2)
+        (has.0, found.1, has.1, found.3)
+    among k (inr last) = (put.place, e.request, put.at, ap (λ (f : Ending). f.request.number) (same_Some e last.0 last.1) ∙ last.2)
 
 -- a read whose data were being told goes on, and the others wait again
 pub told_again_beside : (asked : List Asked) (requests : List Request) (e : Ending) (next : ℕ)
@@ -287,18 +235,15 @@ pub told_again_beside : (asked : List Asked) (requests : List Request) (e : Endi
     → StandsAt asked (e.request.number - 1) (Telling next)
     → AreAgain asked requests
 told_again_beside asked requests e next opened going positive telling = record {
-  waits = λ i r at. let was = going i r at in (was.q, was.at, again_waiting (let x : Asked = was.q in x.station) was.early);
-  all = λ k q at waits. among k q at waits (opened.held k q at (unfinished_waits q.station waits));
-}
-  where
-    no_wait : (n : ℕ) → Telling n ≡ Waiting → ⊥
-    no_wait n same = false≢true (ap is_unissued same)
-
-    among : (k : ℕ) (q : Asked) → slice_get asked k ≡ Some q → station_again q.station ≡ Waiting → (list_any (λ (r : Request). r.number == k + 1) requests ≡ true) ⊎ ((f : Ending) × (Some e ≡ Some f) × (f.request.number ≡ k + 1)) → (i : ℕ) × (r : Request) × (slice_get requests i ≡ Some r) × (r.number ≡ k + 1)
-    among k q at waits (inl any) =
-        let found = place_of_any (λ (r : Request). r.number == k + 1) requests any in
-        (found.0, found.1, found.2, grind (arith, nat_tests, found.3))
-    among k q at waits (inr last) =
+  waits = waits_again asked requests going;
+  all = λ k q at waits. elim (opened.held k q at (unfinished q waits)) [
+    | inl any ↦ numbered requests (k + 1) any
+    | inr last ↦
         let number : e.request.number ≡ k + 1 = ap (λ (f : Ending). f.request.number) (same_Some e last.0 last.1) ∙ last.2 in
         let one : telling.q ≡ q = same_Some telling.q q (sym telling.at ∙ (ap (slice_get asked) (omega arith) ∙ at)) in
-        absurd (no_wait next (sym (ap station_again (ap (λ (x : Asked). x.station) (sym one) ∙ telling.there)) ∙ waits))
+        absurd (no_wait (sym (ap station_again (ap (λ (x : Asked). x.station) (sym one) ∙ telling.there)) ∙ waits))
+  ];
+}
+  where
+    no_wait : Telling next ≡ Waiting → ⊥
+    no_wait same = false≢true (ap is_unissued same)

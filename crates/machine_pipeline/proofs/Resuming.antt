@@ -1,5 +1,5 @@
 -- The front's loop where no request waits: it sleeps, takes its event, looks for responses, or takes one up.
-use Rattle.std.proofs.Common.{◌≡◌, ◌≢◌, ℕ, ◌+◌, ◌<◌, ◌==◌, ◌||◌, if◌then◌else◌, Bool, true, false, List, [], ◌∷◌, refl, ap, sym, ◌∙◌, subst, arith, true≢false}
+use Rattle.std.proofs.Common.{◌≡◌, ◌≢◌, ℕ, ◌+◌, ◌<◌, ◌==◌, ◌||◌, if◌then◌else◌, Bool, true, false, List, [], ◌∷◌, refl, ap, sym, ◌∙◌, subst, arith}
 use Rattle.std.specs.Prelude.{Option, Some, None, slice_get}
 use Rattle.std.proofs.lemmas.Bool.Decides.{nat_tests}
 use Rattle.blk_base.specs.Options.{Options}
@@ -27,16 +27,18 @@ use Rattle.blk_back.specs.Ask.{response_word}
 use Rattle.split_model.specs.World.{World}
 use Rattle.split_model.specs.Shown.{front_lines}
 use Rattle.machine_pipeline.proofs.Flow.{Flow, wrapped}
-use Rattle.machine_pipeline.proofs.Holds.{Holds, IsTaken, slot_of}
+use Rattle.machine_pipeline.proofs.Holds.{Holds, slot_of}
 use Rattle.machine_pipeline.proofs.Turns.{Goes, FrontGoes, said_nothing, goes_by}
 use Rattle.machine_pipeline.proofs.Keyed.{watched_goes}
 use Rattle.machine_pipeline.proofs.Lists.{get_within}
 use Rattle.machine_pipeline.proofs.Wrapped.{distance_at}
 use Rattle.ring_words.specs.Shape.{Shape}
-use Rattle.machine_pipeline.proofs.Resting.{at_loop, at_high, at_last, at_store, rested, rest_kept}
+use Rattle.machine_pipeline.proofs.Resting.{rested, rest_kept}
 use Rattle.machine_pipeline.proofs.Looking.{looked_goes, at_stage_goes}
 use Rattle.machine_pipeline.proofs.JobMoves.{stays}
 use Rattle.machine_pipeline.specs.Step.{IsSame}
+use Rattle.machine_pipeline.proofs.Kept.{sleep_turned, sleep_awake}
+use Rattle.std.proofs.lemmas.Bool.{or_parts}
 
 -- the loop's move, by the request that is issued next
 abbrev pub loop_next : World → Option Request → Option FrontAct → World
@@ -69,8 +71,8 @@ wait_goes config w g d told e h = by_pending w.under.channels.front_pending (wat
     by_pending false (Some path) t = watched_goes config w g d path told here
     by_pending true next t = goes_by (said_nothing d (moves.Event mover.Front) w.front.told told)
         (subst (λ (s : FrontStage). Holds config (rested w s w.front.ring.seen false w.under.pages channels) g d s w.back.stage) (sym e)
-        (let indices = h.indices in rest_kept config w g d front.Loop front.Loop w.front.ring.seen g.front_seen false w.under.pages channels at_loop at_loop refl refl h tt indices.front_saw indices.front_from indices.front_to h.memory (λ f apart x lt. refl) (λ x apart lt. refl) refl refl refl
-        (record { arming = λ t. absurd (true≢false (sym t)); armed = λ t. absurd (true≢false (sym t)); may = λ t. refl; woken = λ t. absurd (true≢false (sym t)) })))
+        (let indices = h.indices in rest_kept config w g d front.Loop front.Loop w.front.ring.seen g.front_seen false w.under.pages channels refl refl refl refl h tt indices.front_saw indices.front_from indices.front_to h.memory (λ f apart x lt. refl) (λ x apart lt. refl) refl refl refl
+        (sleep_awake refl refl)))
 
 -- awake, with no response left that it saw, it reads the producer
 look_goes : (config : Options) (w : World) (g : Flow) (d : Pipeline)
@@ -79,7 +81,9 @@ look_goes : (config : Options) (w : World) (g : Flow) (d : Pipeline)
     → (responses_of w.front.ring.indices w.front.ring.seen == 0) ≡ true
     → Holds config w g d front.Loop w.back.stage
     → LoopGoes config w d None (ask.Read ring_frame 2)
-look_goes config w g d told awake none h = by_new
+look_goes config w g d told awake none h =
+    subst (λ (b : Bool). let x : View = (if b then looked w.front word store else at (front.ResponseHigh word) w.front) in Goes config (lines.Move (moves.FrontRead 2 2 word) ∷ front_lines x.told) (record { front = record x { told = None }; back = w.back; under = w.under }) d) (sym none)
+    (looked_goes config w g d front.Loop (moves.FrontRead 2 2 word) word store refl refl h told awake read (λ same. stored))
   where
     word : ℕ
     word = word_of w.under.pages 2 2
@@ -92,14 +96,9 @@ look_goes config w g d told awake none h = by_new
 
     stored : Goes config (lines.Move (moves.FrontRead 2 2 word) ∷ front_lines store.told) (record { front = record store { told = None }; back = w.back; under = w.under }) d
     stored =
-        let indices = h.indices in
         goes_by {g = record g { front_seen = g.replied }} (said_nothing d (moves.FrontRead 2 2 word) w.front.told told)
-        (rest_kept config w g d front.Loop front.StoreEvent word g.replied w.front.ring.asleep w.under.pages w.under.channels at_loop at_store refl refl h tt read indices.taken_replied (omega arith) h.memory (λ f apart x lt. refl) (λ x apart lt. refl) refl refl refl
-        (record { arming = λ t. absurd (true≢false (sym t)); armed = h.front_sleep.armed; may = λ t. awake; woken = h.front_sleep.woken }))
-
-    by_new : LoopGoes config w d None (ask.Read ring_frame 2)
-    by_new = subst (λ (b : Bool). let x : View = (if b then looked w.front word store else at (front.ResponseHigh word) w.front) in Goes config (lines.Move (moves.FrontRead 2 2 word) ∷ front_lines x.told) (record { front = record x { told = None }; back = w.back; under = w.under }) d) (sym none)
-        (looked_goes config w g d front.Loop (moves.FrontRead 2 2 word) word store at_loop refl h told awake read (λ same. stored))
+        (rest_kept config w g d front.Loop front.StoreEvent word g.replied w.front.ring.asleep w.under.pages w.under.channels refl refl refl refl h tt read h.indices.taken_replied (omega arith) h.memory
+        (λ f apart x lt. refl) (λ x apart lt. refl) refl refl refl (sleep_turned (λ t. absurd cc) (λ t. awake) h.front_sleep))
 
 -- the words of the oldest response, as the front reads them
 pub response_read : (config : Options) (w : World) (g : Flow) (d : Pipeline) (s : FrontStage) (rep : Reply) (k : ℕ)
@@ -120,24 +119,21 @@ take_up_goes : (config : Options) (w : World) (g : Flow) (d : Pipeline)
     → w.front.ring.asleep ≡ false
     → LoopGoes config w d None (ask.Read (slot_frame w.front.shape w.front.ring.indices.cons 0) (slot_word w.front.shape w.front.ring.indices.cons 0))
 take_up_goes config w g d told some h awake = subst (λ (b : Bool). let x : View = (if b then looked w.front word (record w.front { ring = record w.front.ring { seen = word }; stage = front.StoreEvent }) else at (front.ResponseHigh word) w.front) in Goes config (lines.Move (moves.FrontRead (slot_frame w.front.shape w.front.ring.indices.cons 0) (slot_word w.front.shape w.front.ring.indices.cons 0) word) ∷ front_lines x.told) (record { front = record x { told = None }; back = w.back; under = w.under }) d) (sym some)
-    (at_stage_goes config w g d front.Loop (front.ResponseHigh word) (moves.FrontRead (slot_frame w.front.shape w.front.ring.indices.cons 0) (slot_word w.front.shape w.front.ring.indices.cons 0) word) w.under.pages at_loop (at_high word) refl refl told h (taken_up, response_read config w g d front.Loop rep.0 0 h rep.1 (omega arith)) h.memory (λ f apart x lt. refl) (λ x apart lt. refl)
-    (let sleep = h.front_sleep in record { arming = λ t. absurd (true≢false (sym t)); armed = sleep.armed; may = λ t. awake; woken = sleep.woken }))
+    (at_stage_goes config w g d front.Loop (front.ResponseHigh word) (moves.FrontRead (slot_frame w.front.shape w.front.ring.indices.cons 0) (slot_word w.front.shape w.front.ring.indices.cons 0) word) w.under.pages refl refl refl refl told h
+    (record { rep = rep.0; oldest = rep.1; seen = seen }, response_read config w g d front.Loop rep.0 0 h rep.1 (omega arith)) h.memory (λ f apart x lt. refl) (λ x apart lt. refl)
+    (sleep_turned (λ t. absurd cc) (λ t. awake) h.front_sleep))
   where
     word : ℕ
     word = word_of w.under.pages (slot_frame w.front.shape w.front.ring.indices.cons 0) (slot_word w.front.shape w.front.ring.indices.cons 0)
 
     seen : g.taken < g.front_seen
     seen =
-        let indices = h.indices in
-        let far = distance_at g.start g.taken g.front_seen w.front.ring.indices.cons w.front.ring.seen indices.taken indices.front_saw indices.front_from (omega arith) in
+        let far = distance_at g.start g.taken g.front_seen w.front.ring.indices.cons w.front.ring.seen h.indices.taken h.indices.front_saw h.indices.front_from (omega (arith, h.indices)) in
         let apart : responses_of w.front.ring.indices w.front.ring.seen ≢ 0 = grind (arith, nat_tests) in
-        omega arith
+        omega (arith, h.indices)
 
     rep : (x : Reply) × (slice_get g.replies 0 ≡ Some x)
-    rep = let indices = h.indices in let replies = h.replies in let counted = replies.counted in let more = seen in get_within g.replies 0 (omega arith)
-
-    taken_up : IsTaken g.taken g.front_seen g.replies
-    taken_up = record { rep = rep.0; oldest = rep.1; seen = seen }
+    rep = get_within g.replies 0 (omega (arith, h.indices, h.replies.counted, seen))
 
 -- its second word
 pub high_goes : (config : Options) (w : World) (g : Flow) (d : Pipeline) (low : ℕ)
@@ -145,19 +141,12 @@ pub high_goes : (config : Options) (w : World) (g : Flow) (d : Pipeline) (low : 
     → Holds config w g d (front.ResponseHigh low) w.back.stage
     → FrontGoes config w d (front.ResponseHigh low)
 high_goes config w g d low told h =
-    at_stage_goes config w g d (front.ResponseHigh low) (front.ResponseLast low word) (moves.FrontRead (slot_frame w.front.shape w.front.ring.indices.cons 1) (slot_word w.front.shape w.front.ring.indices.cons 1) word) w.under.pages (at_high low) (at_last low word) refl refl told h (place.0, place.1, response_read config w g d (front.ResponseHigh low) place.0.rep 1 h place.0.oldest (omega arith)) h.memory (λ f apart x lt. refl) (λ x apart lt. refl)
-    (let sleep = h.front_sleep in record { arming = λ t. absurd (true≢false (sym t)); armed = sleep.armed; may = λ t. sleep.may refl; woken = sleep.woken })
+    at_stage_goes config w g d (front.ResponseHigh low) (front.ResponseLast low word) (moves.FrontRead (slot_frame w.front.shape w.front.ring.indices.cons 1) (slot_word w.front.shape w.front.ring.indices.cons 1) word) w.under.pages refl refl refl refl told h
+    (h.front_at.0, h.front_at.1, response_read config w g d (front.ResponseHigh low) h.front_at.0.rep 1 h h.front_at.0.oldest (omega arith)) h.memory (λ f apart x lt. refl) (λ x apart lt. refl)
+    (sleep_turned (λ t. absurd cc) (λ t. h.front_sleep.may refl) h.front_sleep)
   where
     word : ℕ
     word = word_of w.under.pages (slot_frame w.front.shape w.front.ring.indices.cons 1) (slot_word w.front.shape w.front.ring.indices.cons 1)
-
-    place : (t : IsTaken g.taken g.front_seen g.replies) × (low ≡ response_word t.rep 0)
-    place = h.front_at
-
--- where neither is so, the first isn't
-pub neither : (a b : Bool) → (a || b) ≡ false → a ≡ false
-neither false b t = refl
-neither true b t = t
 
 -- the loop where no request waits
 pub loop_resumes : (config : Options) (w : World) (g : Flow) (d : Pipeline)
@@ -175,4 +164,4 @@ loop_resumes config w g d told e none h =
 
     by_wait : (a : Bool) → (w.front.ring.asleep || is_through w.front) ≡ a → LoopGoes config w d None (if a then ask.Wait else (if responses_of w.front.ring.indices w.front.ring.seen == 0 then ask.Read ring_frame 2 else ask.Read (slot_frame w.front.shape w.front.ring.indices.cons 0) (slot_word w.front.shape w.front.ring.indices.cons 0)))
     by_wait true t = wait_goes config w g d told e h
-    by_wait false t = by_more (neither w.front.ring.asleep (is_through w.front) t) (responses_of w.front.ring.indices w.front.ring.seen == 0) refl
+    by_wait false t = by_more (or_parts w.front.ring.asleep (is_through w.front) t).0 (responses_of w.front.ring.indices w.front.ring.seen == 0) refl

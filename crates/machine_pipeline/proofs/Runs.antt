@@ -5,7 +5,6 @@ use Rattle.std.specs.Option.{option_to_list}
 use Rattle.std.specs.List.{list_all}
 use Rattle.std.proofs.lemmas.Option.{none-some, same_Some}
 use Rattle.blk_base.specs.Options.{Options}
-use Rattle.blk_base.specs.declared.config.Job.{Job}
 use Rattle.blk_base.specs.declared.ask.BackAsk.{BackAsk}
 use Rattle.blk_base.specs.declared.ask.BackAsk.TheVariants as back_ask
 use Rattle.blk_io.specs.Disk.{DiskSeen, HasLength}
@@ -79,6 +78,11 @@ pub goes_none : (w : World) (h : Happening) (a : List (List ℕ)) → SectorsGo 
 goes_none w (JobMoves number outcome) a p = none_after (job_ask_of w.back number) outcome a p
 goes_none w h a p = none-some a p
 
+-- so it exposes other ones
+pub goes_some : (w : World) (h : Happening) (a : List (List ℕ)) (x : Option (List (List ℕ))) → SectorsGo w h (Some a) x → (c : List (List ℕ)) × SectorsGo w h (Some a) (Some c) × (x ≡ Some c)
+goes_some w h a None goes = absurd (goes_none w h a goes)
+goes_some w h a (Some c) goes = (c, goes, refl)
+
 stays_none : (ask : BackAsk) (o : Outcome) (x : Option (List (List ℕ))) → SectorsDo ask o None x → x ≡ None
 stays_none (back_ask.DiskRead sector) o x p = p.1
 stays_none (back_ask.DiskWrite sector words) (Gave other) x p = absurd p
@@ -111,15 +115,12 @@ pub one_more : (h : Happening) (hs : List Happening) (w : World) (p : Pipeline) 
 one_more h hs w p steps does rest = record {
   steps = first ++ rest.steps;
   allowed = allowed_append first rest.steps p (allowed_of does.asides steps p does.aside does.allowed) (subst (StepsAllowed rest.steps) (sym further) rest.allowed);
-  shows =
-      lines_append first rest.steps p
-      ∙ (ap (λ (ls : List Line). ls ++ lines_of rest.steps (after_steps first p)) (lines_shown does.asides steps p ∙ sym does.shows)
-      ∙ ap (λ (ls : List Line). lines_at w h ++ ls) (ap (lines_of rest.steps) further ∙ rest.shows));
-  submits =
-      submitted_append first rest.steps
-      ∙ (ap (λ (js : List Job). js ++ steps_submit rest.steps) (submits_of does.asides steps ∙ does.asks)
-      ∙ (ap (λ (js : List Job). option_to_list (submitted_at h) ++ js) rest.submits ∙ sym (submitted_first h hs)));
-  disk = λ a b runs. by_between a b runs.0 runs.1 runs.2;
+  shows = rw (lines_append first rest.steps p, lines_shown does.asides steps p, ← does.shows, further, rest.shows) refl;
+  submits = rw (submitted_append first rest.steps, submits_of does.asides steps, does.asks, rest.submits, submitted_first h hs) refl;
+  disk = λ a b runs.
+      let c = goes_some w h a runs.0 runs.1 in
+      let later = subst (λ (x : Option (List (List ℕ))). SectorsRun hs (happens w h) x (Some b)) c.2 runs.2 in
+      runs_append first rest.steps a c.0 b (disk_of does.asides steps a c.0 (does.disk a c.0 (called w h a c.0 c.1))) (rest.disk c.0 b later);
 }
   where
     first : List Step
@@ -127,10 +128,6 @@ one_more h hs w p steps does rest = record {
 
     further : after_steps first p ≡ after_steps steps p
     further = after_of does.asides steps p
-
-    by_between : (a b : List (List ℕ)) (x : Option (List (List ℕ))) → SectorsGo w h (Some a) x → SectorsRun hs (happens w h) x (Some b) → DiskRuns (first ++ rest.steps) a b
-    by_between a b None goes runs = absurd (goes_none w h a goes)
-    by_between a b (Some c) goes runs = runs_append first rest.steps a c b (disk_of does.asides steps a c (does.disk a c (called w h a c goes))) (rest.disk c b runs)
 
 pub run_from : (hs : List Happening) (w : World) (p : Pipeline) → GoesStepwise hs w p → IsRunFrom hs w p
 run_from [] w p goes = record { steps = []; allowed = tt; shows = refl; submits = refl; disk = λ a b same. same_Some b a same }
@@ -163,22 +160,14 @@ run_up_to (h ∷ hs) last w p goes = up_to_more h hs last w p goes.0 goes.1 (run
 
 never_none : (hs : List Happening) (w : World) (a : List (List ℕ)) → SectorsRun hs w (Some a) None → ⊥
 never_none [] w a p = none-some a p
-never_none (h ∷ hs) w a p = by_between p.0 p.1 (λ c rest. never_none hs (happens w h) c rest) p.2
-  where
-    by_between : (x : Option (List (List ℕ))) → SectorsGo w h (Some a) x → ((c : List (List ℕ)) → SectorsRun hs (happens w h) (Some c) None → ⊥) → SectorsRun hs (happens w h) x None → ⊥
-    by_between None goes later rest = goes_none w h a goes
-    by_between (Some c) goes later rest = later c rest
+never_none (h ∷ hs) w a p =
+    let c = goes_some w h a p.0 p.1 in
+    never_none hs (happens w h) c.0 (subst (λ (x : Option (List (List ℕ))). SectorsRun hs (happens w h) x None) c.2 p.2)
 
 -- steps whose lines are of a disk have its calls
 pub shown_calls : (config : Options) (steps : List Step) (report : List Line) → StepsAllowed steps (pipeline_of config) → lines_of steps (pipeline_of config) ≡ report → AreOfADisk config.sectors report → AreConsistent config.sectors steps None None
-shown_calls config steps report allowed shows of = record {
-  content = of.content;
-  sized = of.sized;
-  begins = tt;
-  later = of.later;
-  runs = calls_of_effects steps (pipeline_of config) [] refl allowed of.content of.later (subst (λ (ls : List Line). LinesDo [] ls of.content of.later) (sym shows) of.effects);
-  ends = tt;
-}
+shown_calls config steps report allowed shows of =
+    search (of.sized, calls_of_effects steps (pipeline_of config) [] refl allowed of.content of.later (subst (λ (ls : List Line). LinesDo [] ls of.content of.later) (sym shows) of.effects))
 
 -- the calls of the disk are consistent with what it exposes, or with the disk that the lines are of
 consistent : (config : Options) (hs : List Happening) (before now : Option (List (List ℕ))) (r : IsRunFrom hs (start_of config) (pipeline_of config)) → HasLength before config.sectors → SectorsRun hs (start_of config) before now → IsOfADisk config.sectors before (shown_by hs (start_of config)) → AreConsistent config.sectors r.steps before now
@@ -191,10 +180,4 @@ consistent config hs (Some a) (Some b) r long runs of = record { content = a; si
 pub is_run : (config : Options) (history : List Happening) (before now : DiskSeen) → IsPlain config → AreServed history (start_of config) → HasLength before.content config.sectors → MachineRuns history (start_of config) before now → IsOfADisk config.sectors before.content (shown_by history (start_of config)) → IsPipelineRun config history before.content now.content
 is_run config history before now plain may long runs of =
     let r = run_from history (start_of config) (pipeline_of config) (always_steps config history plain may) in
-    record {
-      steps = r.steps;
-      allowed = r.allowed;
-      shows = r.shows;
-      submits = r.submits;
-      disk = consistent config history before.content now.content r long (sectors_run history (start_of config) before now runs) of;
-    }
+    search (r.allowed, r.shows, r.submits, consistent config history before.content now.content r long (sectors_run history (start_of config) before now runs) of)

@@ -1,10 +1,10 @@
 -- The segments of a request's entry: one for each of its frames, and no sector more than it has.
-use Rattle.std.proofs.Common.{◌≡◌, ℕ, zero, suc, ◌+◌, ◌-◌, ◌*◌, ◌/◌, ◌%◌, ◌^◌, ◌<◌, ◌≤◌, Bool, true, false, List, [], ◌∷◌, length, drop, refl, ap, sym, ◌∙◌, arith}
+use Rattle.std.proofs.Common.{◌≡◌, ℕ, zero, suc, ◌+◌, ◌-◌, ◌*◌, ◌/◌, ◌%◌, ◌^◌, ◌<◌, ◌≤◌, Bool, true, false, List, [], ◌∷◌, length, drop, refl, ap, ◌∙◌, arith, inl, inr, add-one}
 use Rattle.std.specs.Prelude.{All, Option, Some, None, map, min, sum_by, take, slice_get, nat_lt, if◌then◌else◌}
 use Rattle.std.specs.List.{range_with_len, list_any}
 use Rattle.std.proofs.lemmas.Bool.Decides.{nat_tests}
 use Rattle.std.proofs.lemmas.Option.{slice_get-get_or}
-use Rattle.std.proofs.lemmas.List.FromFn.{length-map-range_with_len, take-map-range_with_len, sum_by-map-range_with_len_more}
+use Rattle.std.proofs.lemmas.List.FromFn.{length-map-range_with_len, take-map-range_with_len, sum_by-map-range_with_len_more, get_or-map-range_with_len}
 use Rattle.blk_layout.specs.declared.segment.Segment.{Segment}
 use Rattle.blk_layout.specs.Range.{AreSegments}
 use Rattle.segment_list.specs.Segments.{fails_test, length_of, sectors_of}
@@ -14,18 +14,16 @@ use Rattle.xen_pages.specs.Pages.{word_of}
 use Rattle.machine_pipeline.proofs.Flow.{frames_of, own_segments, data_word}
 use Rattle.machine_pipeline.proofs.Holds.{IsPooled, last_in}
 use Rattle.machine_pipeline.proofs.Lists.{all_at}
+use Rattle.std.proofs.lemmas.Bool.{cases_Bool}
+use Rattle.std.proofs.Math.Seq.{drop-cons}
+use Rattle.std.proofs.Math.ListN.{drop_of_length-le}
 
--- a list made of a function from some place on
-drop-range : {X : Type 0} (f : ℕ → X) (a n i : ℕ) → i ≤ n → drop i (map f (range_with_len a n)) ≡ map f (range_with_len (a + i) (n - i))
-drop-range f a n zero le =
-    let start : a + 0 ≡ a = omega arith in
-    let all : n - 0 ≡ n = omega arith in
-    rw (start, all) refl
-drop-range f a zero (suc i) le = absurd (omega arith)
-drop-range f a (suc n) (suc i) le =
-    let start : a + suc i ≡ a + 1 + i = omega arith in
-    let rest : suc n - suc i ≡ n - i = omega arith in
-    rw (start, rest) (drop-range f (a + 1) n i (omega arith))
+-- a list made of a function, from this place on
+drop-here : {X : Type 0} (f : ℕ → X) (n i : ℕ) → i < n → drop i (map f (range_with_len 0 n)) ≡ f i ∷ drop (i + 1) (map f (range_with_len 0 n))
+drop-here {X} f n i lt =
+    let long = length-map-range_with_len f 0 n in
+    rw (add-one, drop-cons (map f (range_with_len 0 n)) i (f i) (omega arith))
+    (ap (λ (x : X). x ∷ drop (suc i) (map f (range_with_len 0 n))) (get_or-map-range_with_len f 0 n i i (f i) lt (omega arith)))
 
 none_passes : {X : Type 0} (p : X → Bool) (f : ℕ → X) (a n : ℕ)
     → ((i : ℕ) → a ≤ i → i < a + n → p (f i) ≡ false)
@@ -52,19 +50,11 @@ data_frames r place shaped lt = let frames = shaped.frames in omega arith
 
 -- a request that has a frame moves sectors
 pub moves_sectors : (r : Request) (place : ℕ) → IsShaped r → place < frames_for r.count → is_moving r.transfer ≡ true
-moves_sectors r place shaped within = by_test (is_moving r.transfer) refl
-  where
-    by_test : (b : Bool) → is_moving r.transfer ≡ b → is_moving r.transfer ≡ true
-    by_test true e = e
-    by_test false e = let none = shaped.counted.none e in absurd (omega arith)
+moves_sectors r place shaped within = elim (cases_Bool (is_moving r.transfer)) [ inl e ↦ e | inr e ↦ (let none = shaped.counted.none e in absurd (omega arith)) ]
 
 -- it has no more frames than 960 segments take, and two indirect pages
 pub few_pages_for : (count : ℕ) → count ≤ 7680 → pages_for count ≤ 2
-few_pages_for count few = by_size (is_indirect count)
-  where
-    by_size : (b : Bool) → (if b then (frames_for count + 511) / 512 else 0) ≤ 2
-    by_size true = omega arith
-    by_size false = omega arith
+few_pages_for count few = elim (is_indirect count) as (λ b. (if b then (frames_for count + 511) / 512 else 0) ≤ 2) [ true ↦ omega arith | false ↦ omega arith ]
 
 pub few_frames : (r : Request) → IsShaped r → frames_of r ≤ 962
 few_frames r shaped = omega (arith, shaped.frames, few_pages_for r.count shaped.counted.few)
@@ -79,24 +69,10 @@ pub own_here : (r : Request) (place : ℕ)
     → place < frames_for r.count
     → drop place (own_segments r) ≡ frame_segment r place ∷ drop (place + 1) (own_segments r)
 own_here r place shaped lt =
-    let from : 0 + place ≡ place = omega arith in
-    let next : 0 + (place + 1) ≡ place + 1 = omega arith in
-    let left : frames_for r.count - place ≡ suc (frames_for r.count - (place + 1)) = omega arith in
-    let first : drop place (own_segments r) ≡ map (segment_at r) (range_with_len place (suc (frames_for r.count - (place + 1)))) =
-    drop-range (segment_at r) 0 (frames_for r.count) place (omega arith)
-    ∙ (ap (λ (n : ℕ). map (segment_at r) (range_with_len n (frames_for r.count - place))) from
-    ∙ ap (λ (n : ℕ). map (segment_at r) (range_with_len place n)) left) in
-    let rest : drop (place + 1) (own_segments r) ≡ map (segment_at r) (range_with_len (place + 1) (frames_for r.count - (place + 1))) =
-    drop-range (segment_at r) 0 (frames_for r.count) (place + 1) (omega arith)
-    ∙ ap (λ (n : ℕ). map (segment_at r) (range_with_len n (frames_for r.count - (place + 1)))) next in
-    first ∙ (ap (λ (s : Segment). s ∷ map (segment_at r) (range_with_len (place + 1) (frames_for r.count - (place + 1)))) (segment_is r place (data_frames r place shaped lt))
-    ∙ ap (λ (ss : List Segment). frame_segment r place ∷ ss) (sym rest))
+    drop-here (segment_at r) (frames_for r.count) place lt ∙ ap (λ (x : Segment). x ∷ drop (place + 1) (own_segments r)) (segment_is r place (data_frames r place shaped lt))
 
 pub own_end : (r : Request) (place : ℕ) → place ≡ frames_for r.count → drop place (own_segments r) ≡ []
-own_end r place at =
-    let none : frames_for r.count - place ≡ 0 = omega arith in
-    drop-range (segment_at r) 0 (frames_for r.count) place (omega arith)
-    ∙ ap (λ (n : ℕ). map (segment_at r) (range_with_len (0 + place) n)) none
+own_end r place at = let long = length-map-range_with_len (segment_at r) 0 (frames_for r.count) in drop_of_length-le (own_segments r) (omega arith)
 
 -- each is sound
 pub own_sound : (r : Request) → IsShaped r → list_any fails_test (own_segments r) ≡ false
@@ -128,14 +104,7 @@ own_count r = length-map-range_with_len (segment_at r) 0 (frames_for r.count)
 
 -- the references of its indirect pages from this one on
 pub page_here : (r : Request) (page : ℕ) → page < 8 → drop page (page_references r) ≡ page_reference r page ∷ drop (page + 1) (page_references r)
-page_here r page lt =
-    let from : 0 + page ≡ page = omega arith in
-    let next : 0 + (page + 1) ≡ page + 1 = omega arith in
-    let left : 8 - page ≡ suc (8 - (page + 1)) = omega arith in
-    drop-range (page_reference r) 0 8 page (omega arith)
-    ∙ (ap (λ (n : ℕ). map (page_reference r) (range_with_len n (8 - page))) from
-    ∙ (ap (λ (n : ℕ). map (page_reference r) (range_with_len page n)) left
-    ∙ ap (λ (l : List ℕ). page_reference r page ∷ l) (ap (λ (n : ℕ). map (page_reference r) (range_with_len n (8 - (page + 1)))) (sym next) ∙ sym (drop-range (page_reference r) 0 8 (page + 1) (omega arith)))))
+page_here r page lt = drop-here (page_reference r) 8 page lt
 
 -- its entry's segments have the ranges of their words
 pub ranged : (r : Request) → All IsPooled r.frames.items → AreSegments (segments_of r)
@@ -149,31 +118,6 @@ ranged r pooled = all_segments (segment_at r) 0 11 (λ i. by_frame i (slice_get 
 
 pub eleven : (r : Request) → length (segments_of r) ≡ 11
 eleven r = length-map-range_with_len (segment_at r) 0 11
-
--- how many sectors a job moved: never more than there are, all of them after its last segment, and those before the next frame after another one
-pub within_last : (count frames place within moved ahead : ℕ)
-    → frames ≡ (count + 7) / 8
-    → place < frames
-    → within ≤ min 7 (count - 1 - 8 * place)
-    → moved + ahead ≡ 8 * place + within + 1
-    → moved + ahead ≤ count
-within_last count frames place within moved ahead whole lt few at = omega arith
-
-pub all_moved : (count frames place within moved : ℕ)
-    → frames ≡ (count + 7) / 8
-    → place + 1 ≡ frames
-    → within ≡ min 7 (count - 1 - 8 * place)
-    → moved + 0 ≡ 8 * place + within + 1
-    → moved ≡ count
-all_moved count frames place within moved whole last few at = omega arith
-
-pub frame_moved : (count frames place within moved : ℕ)
-    → frames ≡ (count + 7) / 8
-    → place + 1 < frames
-    → within ≡ min 7 (count - 1 - 8 * place)
-    → moved + 0 ≡ 8 * place + within + 1
-    → moved ≡ 8 * (place + 1)
-frame_moved count frames place within moved whole more few at = omega arith
 
 -- word k of a sector of its data, by the sector's place
 pub word_place : (place within moved k : ℕ)

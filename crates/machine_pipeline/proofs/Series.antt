@@ -1,10 +1,12 @@
 -- The requests of an epoch in the order in which they are pushed: their series. The request at index k of the ring is the one at place k of the series, whatever its number.
-use Rattle.std.proofs.Common.{◌≡◌, ◌≢◌, ℕ, zero, suc, ◌+◌, ◌-◌, ◌<◌, ◌≤◌, ◌⊎◌, inl, inr, List, [], ◌∷◌, ◌++◌, length, ap, sym, ◌∙◌, refl, arith}
+use Rattle.std.proofs.Common.{◌==◌, ◌≡◌, ◌≢◌, ℕ, zero, suc, ◌+◌, ◌-◌, ◌<◌, ◌≤◌, ◌⊎◌, inl, inr, List, [], ◌∷◌, ◌++◌, length, ap, sym, ◌∙◌, arith, true}
 use Rattle.std.specs.Prelude.{AllPairs, Some, slice_get}
-use Rattle.std.proofs.lemmas.Bool.{cases_lt}
+use Rattle.std.proofs.lemmas.Bool.{cases_lt, cases_order, cases_eq}
 use Rattle.std.proofs.lemmas.Option.{same_Some, slice_get_within}
 use Rattle.blk_front.specs.declared.request.Request.{Request}
-use Rattle.machine_pipeline.proofs.Lists.{get_append, get_within, pair_at}
+use Rattle.machine_pipeline.proofs.Lists.{get_append, get_within, pair_at, place_of_any}
+use Rattle.std.specs.List.{list_any}
+use Rattle.std.proofs.lemmas.Bool.Decides.{nat_tests}
 
 -- each is a submitted one, in order of number
 pub record IsSeries (submitted series : List Request) : Type 0 where
@@ -24,6 +26,10 @@ pub record HasNumber (series : List Request) (count number : ℕ) : Type 0 where
   pub among : IsAmong series count r
   pub same : r.number ≡ number
 
+-- the request of this number among these
+pub numbered : (requests : List Request) (n : ℕ) → list_any (λ (r : Request). r.number == n) requests ≡ true → (i : ℕ) × (r : Request) × (slice_get requests i ≡ Some r) × (r.number ≡ n)
+numbered requests n any = let found = place_of_any (λ (r : Request). r.number == n) requests any in (found.0, found.1, found.2, grind (arith, nat_tests, found.3))
+
 -- and the request at this place of all is a later one
 pub record IsLeft (series : List Request) (count k : ℕ) : Type 0 where
   pub index : ℕ
@@ -37,25 +43,16 @@ pub lower : (series : List Request) (i j : ℕ) (r s : Request) → AllPairs (λ
 lower series i j r s up first second lt = pair_at (λ (a b : Request). a.number < b.number) series i j r s up lt first second
 
 pub before : (series : List Request) (i j : ℕ) (r s : Request) → AllPairs (λ (a b : Request). a.number < b.number) series → slice_get series i ≡ Some r → slice_get series j ≡ Some s → r.number < s.number → i < j
-before series i j r s up first second less = elim (cases_lt i j) [
-  | inl lt ↦ lt
-  | inr le ↦ elim (cases_lt j i) [
-    | inl lt ↦ (let more = lower series j i s r up second first lt in absurd (omega arith))
-    | inr ge ↦
-        let same : i ≡ j = omega arith in
-        let equal : r.number ≡ s.number = ap (λ (x : Request). x.number) (same_Some r s (sym first ∙ (ap (slice_get series) same ∙ second))) in
-        absurd (omega arith)
-  ]
+before series i j r s up first second less = elim (cases_order i j) [
+  | inl same ↦ (let one = same_Some r s (sym first ∙ (ap (slice_get series) same ∙ second)) in absurd (omega (arith, ap (λ (x : Request). x.number) one)))
+  | inr apart ↦ elim apart [ inl lt ↦ lt | inr gt ↦ absurd (omega (arith, lower series j i s r up second first gt)) ]
 ]
 
 -- so a number stands at one index
 pub same_index : (series : List Request) (i j : ℕ) (r s : Request) → AllPairs (λ (a b : Request). a.number < b.number) series → slice_get series i ≡ Some r → slice_get series j ≡ Some s → r.number ≡ s.number → i ≡ j
-same_index series i j r s up first second same = elim (cases_lt i j) [
-  | inl lt ↦ (let less = lower series i j r s up first second lt in absurd (omega arith))
-  | inr le ↦ elim (cases_lt j i) [
-    | inl lt ↦ (let less = lower series j i s r up second first lt in absurd (omega arith))
-    | inr ge ↦ omega arith
-  ]
+same_index series i j r s up first second same = elim (cases_order i j) [
+  | inl e ↦ e
+  | inr apart ↦ elim apart [ inl lt ↦ absurd (omega (arith, lower series i j r s up first second lt)) | inr gt ↦ absurd (omega (arith, lower series j i s r up second first gt)) ]
 ]
 
 -- and two indices have two numbers, and requests at two places of all
@@ -107,10 +104,9 @@ index_under submitted series (suc i) r h e =
     omega (arith, lower series i (suc i) before.0 r h.ascending before.1 e (omega arith))
 
 pub series_few : (submitted series : List Request) → IsSeries submitted series → length series ≤ length submitted
-series_few submitted series h = by_length (length series) refl
-  where
-    by_length : (n : ℕ) → length series ≡ n → length series ≤ length submitted
-    by_length zero e = omega arith
-    by_length (suc n) e =
-        let last = get_within series n (omega arith) in
-        omega (arith, slice_get_within submitted _ last.0 (h.known n last.0 last.1), index_under submitted series n last.0 h last.1)
+series_few submitted series h = elim (cases_eq (length series) 0) [
+  | inl e ↦ omega arith
+  | inr some ↦
+      let last = get_within series (length series - 1) (omega arith) in
+      omega (arith, slice_get_within submitted _ last.0 (h.known (length series - 1) last.0 last.1), index_under submitted series (length series - 1) last.0 h last.1)
+]

@@ -25,18 +25,17 @@ few_entries order narrow = let few = few_pages order narrow in omega arith
 pub some_entries : (order : ℕ) → 32 ≤ entries_of order
 some_entries order = let some = some_pages order in omega arith
 
--- an entry has 27 or 28 words: room for a response
-pub entry_few : (abi : Abi) → entry_words_of abi ≤ 28
+-- the longest entry is that of the x86_64 layout
+pub entry_few : (abi : Abi) → entry_words_of abi ≤ entry_words_of X64
 entry_few X64 = omega arith
 entry_few X32 = omega arith
-
-pub some_words : (abi : Abi) → 0 < entry_words_of abi
-some_words X64 = omega arith
-some_words X32 = omega arith
 
 pub more_words : (abi : Abi) → 1 < entry_words_of abi
 more_words X64 = omega arith
 more_words X32 = omega arith
+
+pub some_words : (abi : Abi) → 0 < entry_words_of abi
+some_words abi = omega (arith, more_words abi)
 
 pub response_fits : (abi : Abi) (i : ℕ) → i < 3 → i < entry_words_of abi
 response_fits X64 i few = omega arith

@@ -1,20 +1,19 @@
 -- While the front makes its ring and its port, all its requests wait and nothing passes through the ring.
-use Rattle.std.proofs.Common.{◌≡◌, ℕ, ◌<◌, ◌≤◌, Bool, true, false, List, length, refl, sym, ◌∙◌, subst, arith, true≢false, All}
+use Rattle.std.proofs.Common.{◌≡◌, ℕ, ◌<◌, ◌≤◌, Bool, false, List, length, refl, sym, ◌∙◌, subst, arith, true≢false, All}
 use Rattle.blk_base.specs.Options.{Options}
 use Rattle.event_channel.specs.Channels.{ChannelState}
 use Rattle.pipeline_laws.specs.Pipeline.{Pipeline}
 use Rattle.blk_front.specs.declared.stage.Stage.{Stage as FrontStage}
-use Rattle.blk_front.specs.declared.stage.Stage.TheVariants as front
 use Rattle.blk_front.specs.View.{next_request}
-use Rattle.blk_front.specs.declared.state.Offers.{Offers}
 use Rattle.blk_front.specs.Submit.{is_ready, is_connected, ending_of}
 use Rattle.blk_back.specs.declared.stage.Stage.{Stage as BackStage}
 use Rattle.blk_back.specs.declared.stage.Stage.TheVariants as back
 use Rattle.split_model.specs.World.{World}
 use Rattle.machine_pipeline.proofs.Flow.{Flow, filled, named_frames, granted_frames, entered, ending_at, is_front_arming, may_front_sleep, is_back_arming, may_back_sleep, is_bound_back, telling_at, is_issuing, is_fetching, reply_at}
-use Rattle.machine_pipeline.proofs.Holds.{FrontAt, AreRingWords, AreSlots, IsFilled, ArePooled, IsOffered, PortsAt, Holds, AreEntries}
-use Rattle.machine_pipeline.proofs.Kept.{SameFrame, slots_kept, awake_front, awake_back}
-use Rattle.machine_pipeline.proofs.Resting.{rested, unending, untelling, unrevoked, data_rests, unpushed}
+use Rattle.machine_pipeline.proofs.Holds.{FrontAt, AreRingWords, AreSlots, IsFilled, ArePooled, IsOffered, PortsAt, Holds, AreEntries, IsFrontSleep, IsBackSleep}
+use Rattle.machine_pipeline.proofs.Kept.{SameFrame, slots_kept, sleep_awake}
+use Rattle.machine_pipeline.proofs.Issuing.{unending, untelling, unrevoked}
+use Rattle.machine_pipeline.proofs.Resting.{rested, data_rests, unpushed}
 use Rattle.machine_pipeline.proofs.ReadsKept.{stations_elsewhere}
 use Rattle.machine_pipeline.proofs.Stations.{AreStations, turned}
 use Rattle.machine_pipeline.proofs.Indices.{indices_room}
@@ -31,33 +30,6 @@ pub record IsBare (s : FrontStage) : Type 0 where
   pub unissued : is_issuing s ≡ false
   pub unready : is_ready s ≡ false
 
-pub bare_word : (k : ℕ) → IsBare (front.RingWord k)
-bare_word k = record { none_ends = refl; filled_none = λ frames. refl; entered_none = refl; named_none = refl; granted_none = refl; unarmed = refl; unissued = refl; unready = refl }
-
-pub bare_frame : (page : ℕ) → IsBare (front.RingFrame page)
-bare_frame page = record { none_ends = refl; filled_none = λ frames. refl; entered_none = refl; named_none = refl; granted_none = refl; unarmed = refl; unissued = refl; unready = refl }
-
-pub bare_fence : (page : ℕ) → IsBare (front.RingFence page)
-bare_fence page = record { none_ends = refl; filled_none = λ frames. refl; entered_none = refl; named_none = refl; granted_none = refl; unarmed = refl; unissued = refl; unready = refl }
-
-pub bare_flags : (page : ℕ) → IsBare (front.RingFlags page)
-bare_flags page = record { none_ends = refl; filled_none = λ frames. refl; entered_none = refl; named_none = refl; granted_none = refl; unarmed = refl; unissued = refl; unready = refl }
-
-pub bare_port : IsBare front.NewPort
-bare_port = record { none_ends = refl; filled_none = λ frames. refl; entered_none = refl; named_none = refl; granted_none = refl; unarmed = refl; unissued = refl; unready = refl }
-
-pub bare_initialised : IsBare front.Initialised
-bare_initialised = record { none_ends = refl; filled_none = λ frames. refl; entered_none = refl; named_none = refl; granted_none = refl; unarmed = refl; unissued = refl; unready = refl }
-
--- nothing was pushed before the front is ready
-none_of : (ready fixed : Bool) (limit : ℕ) (offers : Offers) (pushed : ℕ) → ready ≡ false → IsOffered ready fixed limit offers pushed → pushed ≡ 0
-none_of false fixed limit offers pushed e h = h
-none_of true fixed limit offers pushed e h = absurd (true≢false e)
-
-pub unbound_of : (before : ℕ) (connected bound : Bool) (made : ℕ) (ports : _) → connected ≡ false → PortsAt before connected bound made ports → (made ≡ before) × (ports ≡ List.[]) × (bound ≡ false)
-unbound_of before false bound made ports e h = h
-unbound_of before true bound made ports e h = absurd (true≢false e)
-
 -- a back that isn't bound doesn't sleep yet
 back_awake : (b : BackStage) → is_bound_back b ≡ false → (is_back_arming b ≡ false) × (may_back_sleep b ≡ false)
 back_awake back.InitWait e = (refl, refl)
@@ -65,8 +37,9 @@ back_awake back.MapRing e = (refl, refl)
 back_awake back.Bind e = (refl, refl)
 back_awake b e = absurd (true≢false e)
 
+-- nothing was pushed before the front is ready
 pub none_yet : (config : Options) (w : World) (g : Flow) (d : Pipeline) (s : FrontStage) → is_ready s ≡ false → Holds config w g d s w.back.stage → g.pushed ≡ 0
-none_yet config w g d s unready h = none_of (is_ready s) config.read_only config.indirect w.front.offers g.pushed unready h.offered
+none_yet config w g d s unready h = subst (λ (ready : Bool). IsOffered ready config.read_only config.indirect w.front.offers g.pushed) unready h.offered
 
 pub starts_on : (config : Options) (w : World) (g : Flow) (d : Pipeline) (s s' : FrontStage) (pages : List ℕ) (channels : ChannelState)
     → is_connected s ≡ false → may_front_sleep s ≡ false → IsBare s → IsBare s'
@@ -78,30 +51,19 @@ pub starts_on : (config : Options) (w : World) (g : Flow) (d : Pipeline) (s s' :
     → AreRingWords g.shape.order g.start g.pushed g.replied pages s' (length w.back.pages)
     → PortsAt g.before (is_connected s') (is_bound_back w.back.stage) channels.made channels.ports
     → Holds config (rested w s' w.front.ring.seen w.front.ring.asleep pages channels) g d s' w.back.stage
-starts_on config w g d s s' pages channels starting restless i i' h at sized words elsewhere ring ports = record {
-  settled = h.settled;
-  indices = indices_room g w.front.ring.indices w.back.ring.indices w.front.ring.seen w.back.ring.seen w.back.fetched w.front.last w.front.waiting (length w.front.requests) (ending_of s) (ending_of s') (let was = h.indices in let room = was.room in let e = i'.none_ends in omega arith) h.indices;
-  queue = h.queue;
-  pool = subst (ArePooled w.front.pool w.front.requests) (unending s w.front.ending i.none_ends ∙ sym (unending s' w.front.ending i'.none_ends)) h.pool;
-  stations = stations_elsewhere config g d (is_ready s') (is_issuing s') (is_fetching w.back.stage) (ending_at s' w.front.ending) (telling_at s') (reply_at w.back.stage) w.front.requests w.back.jobs.works w.under.pages pages w.front.sectors w.front.last h.submitted elsewhere stations;
-  works = h.works;
-  counted = h.counted;
-  replies = h.replies;
-  front_at = at;
-  offered = subst (λ (b : Bool). IsOffered b config.read_only config.indirect w.front.offers g.pushed) (i.unready ∙ sym i'.unready) h.offered;
-  back_at = h.back_at;
-  memory = sized;
-  ring = ring;
-  slots = (let was = slots in record { entries = was.entries; entry = λ r e k lt in_it. let zero = i'.entered_none in absurd (omega arith); responses = was.responses; response = was.response });
-  frames = nothing.0;
-  telling = data_rests w.under.pages pages w.front.words w.front.ending w.front.ending s s' (untelling s' i'.none_ends) h.telling;
-  entries = nothing.1;
-  mapped = h.mapped;
-  paged = h.paged;
-  front_sleep = awake_front g.start g.taken g.replied pages w.front.ring.asleep channels.front_pending s' w.back.stage (h.front_sleep.may restless) i'.unarmed;
-  back_sleep = awake_back g.start g.fetched g.pushed pages w.back.ring.asleep channels.back_pending s' w.back.stage (h.back_sleep.may awake.1) awake.0;
-  ports = ports;
-}
+starts_on config w g d s s' pages channels starting restless i i' h at sized words elsewhere ring ports = assumption (
+  indices_room g w.front.ring.indices w.back.ring.indices w.front.ring.seen w.back.ring.seen w.back.fetched w.front.last w.front.waiting (length w.front.requests) (ending_of s) (ending_of s')
+      (omega (arith, h.indices.room, i'.none_ends)) h.indices,
+  subst (ArePooled w.front.pool w.front.requests) (unending s w.front.ending i.none_ends ∙ sym (unending s' w.front.ending i'.none_ends)) h.pool,
+  stations_elsewhere config g d (is_ready s') (is_issuing s') (is_fetching w.back.stage) (ending_at s' w.front.ending) (telling_at s') (reply_at w.back.stage) w.front.requests
+      w.back.jobs.works w.under.pages pages w.front.sectors w.front.last h.submitted elsewhere stations,
+  subst (λ (b : Bool). IsOffered b config.read_only config.indirect w.front.offers g.pushed) (i.unready ∙ sym i'.unready) h.offered,
+  slots,
+  nothing,
+  data_rests w.under.pages pages w.front.words w.front.ending w.front.ending s s' (untelling s' i'.none_ends) h.telling,
+  front_sleep,
+  back_sleep,
+)
   where
     -- no request was pushed
     nothing : All (IsFilled g.series g.pushed pages s') w.front.requests × AreEntries g.series g.pushed pages w.under.grants.live s' w.front.ending w.front.requests
@@ -113,7 +75,15 @@ starts_on config w g d s s' pages channels starting restless i i' h at sized wor
         (unending s' w.front.ending i'.none_ends ∙ sym (unending s w.front.ending i.none_ends)) (untelling s' i'.none_ends ∙ sym (untelling s i.none_ends)) h.stations
 
     awake : (is_back_arming w.back.stage ≡ false) × (may_back_sleep w.back.stage ≡ false)
-    awake = back_awake w.back.stage ((unbound_of g.before (is_connected s) (is_bound_back w.back.stage) w.under.channels.made w.under.channels.ports starting h.ports).2)
+    awake = let none = subst (λ (c : Bool). PortsAt g.before c (is_bound_back w.back.stage) w.under.channels.made w.under.channels.ports) starting h.ports in back_awake w.back.stage none.2
 
-    slots : AreSlots g.shape g.start g.fetched g.pushed g.taken g.replied g.series g.replies pages s w.back.stage
-    slots = slots_kept g.shape g.start g.fetched g.pushed g.taken g.replied g.series g.replies w.under.pages pages s w.back.stage h.shaped.narrow words h.slots
+    slots : AreSlots g.shape g.start g.fetched g.pushed g.taken g.replied g.series g.replies pages s' w.back.stage
+    slots =
+        let was = slots_kept g.shape g.start g.fetched g.pushed g.taken g.replied g.series g.replies w.under.pages pages s w.back.stage h.shaped.narrow words h.slots in
+        record { entries = was.entries; entry = λ r e k lt in_it. absurd (omega (arith, i'.entered_none)); responses = was.responses; response = was.response }
+
+    front_sleep : IsFrontSleep g.start g.taken g.replied pages w.front.ring.asleep channels.front_pending s' w.back.stage
+    front_sleep = sleep_awake (h.front_sleep.may restless) i'.unarmed
+
+    back_sleep : IsBackSleep g.start g.fetched g.pushed pages w.back.ring.asleep channels.back_pending s' w.back.stage
+    back_sleep = sleep_awake (h.back_sleep.may awake.1) awake.0

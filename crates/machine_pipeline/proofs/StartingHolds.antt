@@ -1,6 +1,6 @@
 -- A machine at the start of an epoch, all of whose requests wait, and the pipeline; and the machine at the start, and the pipeline of which nothing was asked.
-use Rattle.std.proofs.Common.{◌≡◌, ℕ, zero, suc, ◌+◌, ◌-◌, ◌<◌, ◌≤◌, ◌^◌, Bool, false, cond, List, [], length, refl, ap, sym, ◌∙◌, arith, true≢false, length-take}
-use Rattle.std.specs.Prelude.{Some, None, slice_get, replicate, slice_index_or, All}
+use Rattle.std.proofs.Common.{◌≡◌, ℕ, ◌+◌, ◌-◌, ◌<◌, ◌≤◌, ◌^◌, Bool, false, cond, List, [], length, refl, ap, sym, ◌∙◌, arith, true≢false, length-take}
+use Rattle.std.specs.Prelude.{Some, None, slice_get, All}
 use Rattle.std.proofs.Math.ListN.{length-replicate}
 use Rattle.std.proofs.lemmas.Option.{none-some}
 use Rattle.std.proofs.lemmas.List.Folds.{sum_by-replicate}
@@ -27,19 +27,15 @@ use Rattle.machine_pipeline.proofs.Left.{IsUnbegun, first_word, ring_unbegun}
 use Rattle.machine_pipeline.proofs.Holds.{AreSubmitted, IsOfTheDisk, FrontAt, AreDataWords, IsFilled, ArePooled, Holds, Stands, AreEntries}
 use Rattle.machine_pipeline.proofs.Stations.{AreStations}
 use Rattle.machine_pipeline.proofs.Indices.{AreFirst, indices_epoch}
-use Rattle.machine_pipeline.proofs.Kept.{awake_front, awake_back}
 use Rattle.machine_pipeline.proofs.Resting.{unpushed}
+use Rattle.machine_pipeline.proofs.Kept.{sleep_awake}
+use Rattle.std.proofs.lemmas.List.{get_or-replicate}
 
--- a frame of a pool in which none is in use
-free_at : (n f : ℕ) → slice_index_or (replicate n false) f false ≡ false
-free_at zero f = refl
-free_at (suc n) zero = refl
-free_at (suc n) (suc f) = free_at n f
-
+-- in the first pool no frame is in use
 pub empty_pooled : ArePooled empty_pool [] None
 empty_pooled = record {
   size = length-replicate 1000 false;
-  each = λ f lt. sym (ap (λ (b : Bool). cond b 1 0) (free_at 1000 f));
+  each = λ f lt. sym (ap (λ (b : Bool). cond b 1 0) (get_or-replicate 1000 f false false lt));
   used = (omega (arith, sum_by-replicate (λ (b : Bool). cond b 1 0) 1000 false));
 }
 
@@ -49,25 +45,7 @@ shape_of config = record { abi = config.abi; order = config.order }
 
 -- nothing was asked of the pipeline
 start_stations : (config : Options) → AreStations config (start_flow (shape_of config) config.start) (pipeline_of config) false false false None None None [] [] fresh_pages
-start_stations config = record {
-  options = refl;
-  front = refl;
-  ring = record { pushed = refl; entries = λ i r lt. absurd (omega arith); fetched = refl; replied = refl; responses = λ i rep e. absurd (none-some rep e); taken = refl };
-  stand = record {
-    known = record { as_many = refl; each = λ k r q e f. absurd (none-some r e) };
-    opened = record { unfinished = refl; held = λ k q e f. absurd (none-some q e) };
-    issued = λ k q e. absurd (none-some q e);
-    waiting = record { issued = λ t. absurd (true≢false (sym t)); rest = λ i r le at. absurd (none-some r at) };
-    pushed = record { copied = λ t. absurd (true≢false (sym t)); rest = λ i r le lt. absurd (omega arith) };
-    works = λ i t e. absurd (none-some t e);
-    held = λ k q e. absurd (none-some q e);
-    going = λ i r e. absurd (none-some r e);
-    replying = λ rep e. absurd (none-some rep e);
-    replied = λ i rep e. absurd (none-some rep e);
-    taking = λ e same. absurd (none-some e same);
-  };
-  reads = record { working = λ i t r q at. absurd (none-some t at); after = λ k r q at. absurd (none-some r at) };
-}
+start_stations config = grind (arith, none-some, true≢false)
 
 -- at the start of an epoch nothing of the ring is made; the back waits, and has nothing
 pub record BeginsEpoch (config : Options) (w : World) : Type 0 where
@@ -105,14 +83,7 @@ pub record AreAllWaiting (config : Options) (w : World) (submitted : List Reques
 pub epoch_holds : (config : Options) (w : World) (submitted : List Request) (d : Pipeline) (s : FrontStage) → IsPlain config → IsUnbegun s → BeginsEpoch config w → AreAllWaiting config w submitted d s
     → Holds config w (begun_flow config w submitted) d s back.InitWait
 epoch_holds config w submitted d s plain i b h = record {
-  settled = record {
-    started = record { whole = refl; known = b.start; closing = refl };
-    shaped = record { whole = refl; narrow = plain.order; known = b.shape };
-    sized = h.sized;
-    submitted = h.each;
-    info = b.info;
-    unhalted = b.unhalted;
-  };
+  settled = assumption;
   indices = rw (b.fetched, h.waiting) (indices_epoch config w.front.ring.indices w.back.ring.indices w.under.channels.made w.front.ring.seen w.back.ring.seen w.front.last (ending_of s) submitted w.front.requests w.front.closing plain b.indices (let all = h.each in let counted = all.counted in let few = series_few submitted w.front.requests h.series in omega arith) h.few h.room);
   queue = record {
     ordered = h.series;
@@ -123,35 +94,22 @@ epoch_holds config w submitted d s plain i b h = record {
   };
   pool = h.pool;
   stations = rw (i.unready, i.unissued, b.works) h.stations;
-  works = rw b.works (record { each = λ k x lt. absurd (omega arith); ascending = λ i j x lt within. absurd (omega arith); clear = λ i j x lt within. absurd (omega arith) });
+  works = rw b.works (grind arith);
   counted = rw b.works refl;
-  replies = record { counted = refl; each = λ k x lt. absurd (omega arith); distinct = λ i j x lt within. absurd (omega arith) };
+  replies = grind arith;
   front_at = h.front_at;
   offered = rw i.unready refl;
   back_at = refl;
   memory = b.memory;
   ring = ring_unbegun config.order config.start 0 0 w.under.pages s (length w.back.pages) i;
-  slots = record {
-    entries = λ k r from to. absurd (omega arith);
-    entry = λ r e k lt in_it. absurd (let none = i.entered_none in omega arith);
-    responses = λ k rep e. absurd (none-some rep e);
-    response = λ rep e. absurd (none-some rep e);
-  };
+  slots = grind (arith, none-some, i.entered_none);
   frames = nothing.0;
   telling = h.telling;
   entries = nothing.1;
   mapped = record { counted = λ test. rw (b.live, b.works, b.unmapped) refl; framed = rw b.live (λ k x lt. absurd (omega arith)) };
-  paged = rw b.unmapped (record {
-    shaped = λ t. absurd (true≢false (sym t));
-    entries_are = λ t. absurd (true≢false (sym t));
-    grefs_are = λ t. absurd (true≢false (sym t));
-    port_is = λ t. absurd (true≢false (sym t));
-    mapped = refl;
-    gref = λ page lt. absurd (omega arith);
-    mode = λ page lt. absurd (omega arith);
-  });
-  front_sleep = awake_front config.start 0 0 w.under.pages w.front.ring.asleep w.under.channels.front_pending s back.InitWait b.front_awake i.unarmed;
-  back_sleep = awake_back config.start 0 0 w.under.pages w.back.ring.asleep w.under.channels.back_pending s back.InitWait b.back_awake refl;
+  paged = rw b.unmapped (grind (arith, true≢false));
+  front_sleep = sleep_awake b.front_awake i.unarmed;
+  back_sleep = sleep_awake b.back_awake refl;
   ports = rw i.unconnected (refl, b.ports, refl);
 }
   where
@@ -161,9 +119,9 @@ epoch_holds config w submitted d s plain i b h = record {
 -- so it is at the first start, with no request
 start_waiting : (config : Options) → IsPlain config → AreAllWaiting config (start_of config) [] (pipeline_of config) (front.RingWord 0)
 start_waiting config plain = record {
-  sized = record { sectors = refl; read_only = refl; writable = λ k r e. absurd (none-some r e); served = λ k r e. absurd (none-some r e); short = λ k r e. absurd (none-some r e) };
-  each = record { counted = refl; each = λ k r e. absurd (none-some r e); sized = plain.sectors };
-  series = record { known = λ i r e. absurd (none-some r e); positive = λ i r e. absurd (none-some r e); ascending = λ i j x lt within. absurd (omega arith) };
+  sized = grind (arith, none-some);
+  each = grind (arith, none-some, plain.sectors);
+  series = grind (arith, none-some);
   few = omega arith;
   room = omega arith;
   waiting = refl;
@@ -174,21 +132,7 @@ start_waiting config plain = record {
 }
 
 start_begins : (config : Options) → BeginsEpoch config (start_of config)
-start_begins config = record {
-  start = refl;
-  shape = refl;
-  indices = record { entries = refl; front_prod = refl; front_cons = refl; back_prod = refl; back_cons = refl; front_saw = refl; back_saw = refl };
-  front_awake = refl;
-  fetched = refl;
-  back_awake = refl;
-  works = refl;
-  info = refl;
-  unmapped = refl;
-  unhalted = refl;
-  memory = length-zero_words 1114112;
-  live = refl;
-  ports = refl;
-}
+start_begins config = assumption (length-zero_words 1114112)
 
 pub start_holds : (config : Options) → IsPlain config → Stands config (start_of config) (start_flow (shape_of config) config.start) (pipeline_of config)
 start_holds config plain = record {

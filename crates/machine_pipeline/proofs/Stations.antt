@@ -265,21 +265,14 @@ finishing_kind (Some next) status = refl
 pub taking_moved : (telling : Option ℕ) {ending : Option Ending} {asked moved : List Asked} {k : ℕ} {from to : Station} → IsMoved asked moved k from to → kind_of from ≢ 7 → IsTaking ending telling asked → IsTaking ending telling moved
 taking_moved telling m other h e same = kind_stays m (omega (arith, finishing_kind telling e.status, other)) (h e same)
 
--- a job's request is unfinished, and was pushed
-pub worked_open : (s : JobStage) (moved : ℕ) → is_finished (worked s moved) ≡ false
-worked_open (job.Abort m) moved = refl
-worked_open (job.Done status) moved = refl
-worked_open s moved = refl
-
-pub worked_issued : (s : JobStage) (moved : ℕ) → is_unissued (worked s moved) ≡ false
-worked_issued (job.Abort m) moved = refl
-worked_issued (job.Done status) moved = refl
-worked_issued s moved = refl
-
 -- before it is answered, or its data told, a request is unfinished
 pub early_open : (s : Station) → kind_of s < 9 → is_finished s ≡ false
 early_open (Finished status) early = absurd (omega arith)
 early_open s early = refl
+
+-- a job's request is unfinished, and was pushed
+pub worked_open : (s : JobStage) (moved : ℕ) → is_finished (worked s moved) ≡ false
+worked_open s moved = early_open (worked s moved) (omega (arith, worked_kind s moved))
 
 -- what an end saw of the other's producer is nothing to the pipeline
 pub saw_more : (config : Options) (g : Flow) (front_seen back_seen : ℕ) (d : Pipeline) (connected issuing fetching : Bool) (ending : Option Ending) (telling : Option ℕ) (replying : Option Reply) (requests : List Request) (works : List Work) (pages : List ℕ)

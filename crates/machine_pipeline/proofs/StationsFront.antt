@@ -1,10 +1,8 @@
 -- The steps of the pipeline that the front makes: it connects, begins an entry, pushes it, takes a response and answers.
-use Rattle.std.proofs.Common.{◌≡◌, ◌≢◌, ℕ, suc, ◌+◌, ◌-◌, ◌*◌, ◌<◌, ◌≤◌, ◌==◌, ◌⊎◌, inl, inr, Bool, true, false, not, cond, List, [], ◌∷◌, ◌++◌, length, drop, refl, ap, sym, ◌∙◌, subst, arith, length-append}
-use Rattle.std.specs.Prelude.{Option, Some, None, slice_get, slice_set, slice_index, remove, nat_lt}
-use Rattle.std.specs.List.{list_any}
+use Rattle.std.proofs.Common.{◌≡◌, ◌≢◌, ℕ, suc, ◌+◌, ◌-◌, ◌*◌, ◌<◌, ◌≤◌, inl, inr, Bool, true, false, not, cond, List, [], ◌∷◌, ◌++◌, length, drop, refl, ap, sym, ◌∙◌, subst, arith, length-append}
+use Rattle.std.specs.Prelude.{Option, Some, None, slice_get, slice_set, slice_index, remove}
 use Rattle.std.proofs.lemmas.Option.{none-some, same_Some}
-use Rattle.std.proofs.lemmas.Bool.{false≢true, true≢false, cases_eq, cases_lt}
-use Rattle.std.proofs.lemmas.Bool.Decides.{nat_tests}
+use Rattle.std.proofs.lemmas.Bool.{cases_Bool, false≢true, true≢false, cases_eq}
 use Rattle.blk_base.specs.Options.{Options}
 use Rattle.blk_base.specs.declared.config.Job.{Job}
 use Rattle.blk_base.specs.declared.operation.Status.{Status}
@@ -19,7 +17,7 @@ use Rattle.blk_front.specs.declared.stage.Ending.{Ending}
 use Rattle.back_jobs.specs.Task.{Work}
 use Rattle.blk_back.specs.declared.stage.Reply.{Reply}
 use Rattle.pipeline_laws.specs.Station.{Station, Waiting, Issuing, Pushed, Fetching, Replying, Replied, Taking, Telling, Finished, Request as Asked, is_finished, submitted}
-use Rattle.pipeline_laws.specs.Move.{Move, BeginsEntry, Pushes, Takes, Answers, Tells, moved, station_before, station_after, move_lines}
+use Rattle.pipeline_laws.specs.Move.{answered_station, told_station, words_after, Move, BeginsEntry, Pushes, Takes, Answers, Tells, moved, station_before, station_after, move_lines}
 use Rattle.pipeline_laws.specs.Ring.{Ring, ring_after}
 use Rattle.pipeline_laws.specs.Pipeline.{Pipeline, Submits, Moves, Connects, StartsToClose}
 use Rattle.pipeline_laws.specs.Disk.{DiskGoes}
@@ -32,10 +30,10 @@ use Rattle.machine_pipeline.proofs.Lists.{same_words, all_at, pair_at, get_appen
 use Rattle.machine_pipeline.proofs.Series.{IsSeries, IsLeft, before as index_before, other_place, grown_before}
 use Rattle.machine_pipeline.proofs.Holds.{AreReplies, IsReply}
 use Rattle.machine_pipeline.proofs.Taking.{dropped, opened_without}
-use Rattle.machine_pipeline.proofs.Growing.{push_was, known_more, opened_more}
+use Rattle.machine_pipeline.proofs.Growing.{more_all, push_was, known_more, opened_more}
 use Rattle.machine_pipeline.proofs.Removals.{removed_was}
 use Rattle.machine_pipeline.proofs.Turns.{Stepped}
-use Rattle.machine_pipeline.proofs.Stations.{StandsAt, AreStations, AllStand, IsTaking, open_front, finishing, kind_of, AreOpen, IsRing, IsMoved, is_moved, stands_now, stands_too, other_was, other_stays, known_moved, open_moved, issued_moved, waiting_moved, pushed_moved, works_moved, held_moved, going_moved, IsGoing, replying_moved, replied_moved, taking_moved}
+use Rattle.machine_pipeline.proofs.Stations.{StandsAt, AreStations, AllStand, IsTaking, open_front, finishing, kind_of, AreOpen, IsRing, IsMoved, is_moved, stands_now, stands_too, other_was, other_stays, known_moved, open_moved, issued_moved, waiting_moved, pushed_moved, works_moved, held_moved, going_moved, IsGoing, replying_moved, replied_moved, taking_moved, finishing_kind, early_open}
 
 -- a request moves from one station to another, and the pipeline's ring with it: so the step, where what is said of the ring and of all requests goes on holding
 pub moves_on : {config : Options} {g g' : Flow} {d : Pipeline} {connected issuing issuing' fetching fetching' : Bool} {ending ending' : Option Ending} {telling telling' : Option ℕ} {replying replying' : Option Reply} {requests requests' : List Request} {works works' : List Work} {pages : List ℕ} {k : ℕ} {from to : Station} {said : List Line} (x : StandsAt d.requests k from) (move : Move)
@@ -93,6 +91,7 @@ pub begins_entry : (config : Options) (g : Flow) (d : Pipeline) (connected fetch
     → AreStations config g d connected false fetching ending telling replying requests works pages
     → Stepped None IsSame d [] (λ p. AreStations config g p connected true fetching ending telling replying requests works pages)
 begins_entry config g d connected fetching ending telling replying requests works pages r series next h =
+    let x = h.waiting.rest g.pushed r (omega arith) next (λ t. absurd (false≢true t)) in
     moves_on x BeginsEntry h refl refl tt refl (λ a b e. e) refl h.ring (λ m. record {
       known = known_moved m h.known;
       opened = open_moved m refl refl h.opened;
@@ -112,27 +111,18 @@ begins_entry config g d connected fetching ending telling replying requests work
       replied = replied_moved g.replies m (omega arith) h.replied;
       taking = taking_moved telling m (omega arith) h.taking;
     }) (reads_moved (is_moved x (moved x.q BeginsEntry) refl refl) refl (λ t. absurd (false≢true t)) h.reads)
-  where
-    x : StandsAt d.requests (r.number - 1) Waiting
-    x = h.waiting.rest g.pushed r (omega arith) next (λ t. absurd (false≢true t))
 
 -- one entry more on the ring
 ring_pushed : (g : Flow) (ring : Ring) (r : Request) → slice_get g.series g.pushed ≡ Some r → IsRing g ring → IsRing (record g { pushed = g.pushed + 1 }) (record ring { pushed = ring.pushed ++ (r.number - 1) ∷ [] })
-ring_pushed g ring r next h = record {
-  pushed = omega (arith, length-append ring.pushed ((r.number - 1) ∷ []), h.pushed);
-  entries = λ i y lt at. elim (cases_lt i g.pushed) [
-    | inl before ↦ get_append ring.pushed ((r.number - 1) ∷ []) i (y.number - 1) (h.entries i y before at)
-    | inr after ↦
-        let here : length ring.pushed ≡ i = omega (arith, h.pushed) in
-        let same : g.pushed ≡ i = omega (arith, h.pushed) in
-        let one : r ≡ y = same_Some r y (sym next ∙ (ap (slice_get g.series) same ∙ at)) in
-        ap (slice_get (ring.pushed ++ (r.number - 1) ∷ [])) (sym here) ∙ (get_last ring.pushed (r.number - 1) ∙ ap (λ (z : Request). Some (z.number - 1)) one)
-  ];
-  fetched = h.fetched;
-  replied = h.replied;
-  responses = h.responses;
-  taken = h.taken;
-}
+ring_pushed g ring r next h =
+    let counted : length (ring.pushed ++ (r.number - 1) ∷ []) ≡ g.pushed + 1 = omega (arith, length-append ring.pushed ((r.number - 1) ∷ []), h.pushed) in
+    let last : slice_get (ring.pushed ++ (r.number - 1) ∷ []) g.pushed ≡ Some (r.number - 1) = rw (← h.pushed) (get_last ring.pushed (r.number - 1)) in
+    let entries : (i : ℕ) (y : Request) → i < g.pushed + 1 → slice_get g.series i ≡ Some y
+    → slice_get (ring.pushed ++ (r.number - 1) ∷ []) i ≡ Some (y.number - 1) = λ i y lt at. elim (cases_eq i g.pushed) [
+      | inl same ↦ rw same (last ∙ ap (λ (z : Request). Some (z.number - 1)) (same_Some r y (sym next ∙ (ap (slice_get g.series) (sym same) ∙ at))))
+      | inr other ↦ get_append ring.pushed ((r.number - 1) ∷ []) i (y.number - 1) (h.entries i y (omega arith) at)
+    ] in
+    assumption (counted, entries)
 
 -- the entry is pushed
 pub pushes : (config : Options) (g : Flow) (d : Pipeline) (connected fetching : Bool) (ending : Option Ending) (telling : Option ℕ) (replying : Option Reply) (requests : List Request) (works : List Work) (pages : List ℕ) (r : Request)
@@ -174,40 +164,26 @@ pushes config g d connected fetching ending telling replying requests works page
 
     -- one before it was issued, as the series ascends
     first : (j : ℕ) (y : Asked) → j < k → slice_get d.requests j ≡ Some y → is_unissued y.station ≡ false
-    first j y lt e = by_test (is_unissued y.station) refl
-      where
-        by_test : (b : Bool) → is_unissued y.station ≡ b → b ≡ false
-        by_test false t = refl
-        by_test true t =
-            let left = h.issued j y e t in
-            absurd (omega (arith, left.late, (index_before g.series left.index g.pushed left.r r series.ascending left.at next (omega (arith, left.number, lt)))))
+    first j y lt e = elim (cases_Bool (is_unissued y.station)) [
+      | inl t ↦
+          let left = h.issued j y e t in
+          absurd (omega (arith, left.late, (index_before g.series left.index g.pushed left.r r series.ascending left.at next (omega (arith, left.number, lt)))))
+      | inr f ↦ f
+    ]
 
     -- another one that is left comes after this
     one_left : (j : ℕ) → j ≢ k → IsLeft g.series g.pushed j → IsLeft g.series (g.pushed + 1) j
-    one_left j apart left = record {
-      index = left.index;
-      late = elim (cases_eq left.index g.pushed) [
-        | inl here ↦
-            let one : left.r ≡ r = same_Some left.r r (sym left.at ∙ (ap (slice_get g.series) here ∙ next)) in
-            let numbers : (let y : Request = left.r in y.number) ≡ r.number = ap (λ (z : Request). z.number) one in
-            absurd (apart (omega (arith, numbers, left.number)))
-        | inr other ↦ omega (arith, left.late)
-      ];
-      r = left.r;
-      at = left.at;
-      number = left.number;
-    }
+    one_left j apart left =
+        let other : left.index ≢ g.pushed = λ here. apart (omega (arith, left.number, ap (λ (z : Request). z.number) (same_Some left.r r (sym left.at ∙ (ap (slice_get g.series) here ∙ next))))) in
+        record { index = left.index; late = omega (arith, left.late, other); r = left.r; at = left.at; number = left.number }
 
 -- the oldest response is taken
 ring_taken : (g : Flow) (ring : Ring) → IsRing g ring → IsRing (record g { taken = g.taken + 1; replies = drop 1 g.replies }) (record ring { taken = ring.taken + 1 })
-ring_taken g ring h = record {
-  pushed = h.pushed;
-  entries = h.entries;
-  fetched = h.fetched;
-  replied = h.replied;
-  responses = λ i rep e. ap (slice_get ring.replied) (omega arith) ∙ h.responses (suc i) rep (sym (dropped g.replies i) ∙ e);
-  taken = omega (arith, h.taken);
-}
+ring_taken g ring h =
+    let responses : (i : ℕ) (rep : Reply) → slice_get (drop 1 g.replies) i ≡ Some rep → slice_get ring.replied (g.taken + 1 + i) ≡ Some (rep.id - 1) =
+    λ i rep e. ap (slice_get ring.replied) (omega arith) ∙ h.responses (suc i) rep (sym (dropped g.replies i) ∙ e) in
+    let taken : ring.taken + 1 ≡ g.taken + 1 = omega (arith, h.taken) in
+    assumption (responses, taken)
 
 pub takes : (config : Options) (g : Flow) (d : Pipeline) (connected issuing fetching : Bool) (replying : Option Reply) (requests : List Request) (works : List Work) (pages : List ℕ) (place : ℕ) (r : Request) (rep : Reply) (e : Ending)
     → slice_get g.replies 0 ≡ Some rep
@@ -219,6 +195,7 @@ pub takes : (config : Options) (g : Flow) (d : Pipeline) (connected issuing fetc
     → AreStations config g d connected issuing fetching None None replying requests works pages
     → Stepped None IsSame d [] (λ p. AreStations config (record g { taken = g.taken + 1; replies = drop 1 g.replies }) p connected issuing fetching (Some e) None replying (remove requests place) works pages)
 takes config g d connected issuing fetching replying requests works pages place r rep e oldest found number made apart replies h =
+    let x = h.replied 0 rep oldest in
     moves_on x (Takes rep.status) h refl refl (ap (slice_get (let ring : Ring = d.ring in ring.replied)) (omega (arith, h.ring.taken)) ∙ h.ring.responses 0 rep oldest) refl (λ a b e. e) refl (ring_taken g d.ring h.ring) (λ m. record {
       known = known_moved m h.known;
       opened = opened_without _ requests place r e found (ap (λ (y : Ending). y.request.number) made) (open_moved m refl refl h.opened);
@@ -229,22 +206,17 @@ takes config g d connected issuing fetching replying requests works pages place 
       held = held_moved works m (omega arith) h.held;
       going = λ i y at. let was = removed_was requests place i y at in let stood = h.going was.0 y was.2 in record { q = stood.q; at = m.others (y.number - 1) (apart was.0 y was.1 was.2) ∙ stood.at; early = stood.early };
       replying = replying_moved m (omega arith) h.replying;
-      replied = λ i other at. other_stays m (other_id i other at) (h.replied (suc i) other (sym (dropped g.replies i) ∙ at));
+      -- a response that is left is that of another request
+      replied = λ i other at.
+          let before = sym (dropped g.replies i) ∙ at in
+          let first = all_at (IsReply g.series g.fetched) g.replies 0 rep replies.each oldest in
+          let second = all_at (IsReply g.series g.fetched) g.replies (suc i) other replies.each before in
+          other_stays m (λ same. pair_at (λ (a b : Reply). a.id ≢ b.id) g.replies 0 (suc i) rep other replies.distinct (omega arith) oldest before
+          (omega (arith, same, first.positive, second.positive))) (h.replied (suc i) other before);
       taking = λ f same.
           let it : f ≡ record { request = r; status = rep.status } = sym (same_Some e f same) ∙ made in
           stands_too (λ (y : Ending). y.request.number - 1) (λ (y : Ending). Taking y.status) (sym it) (stands_too (λ (n : ℕ). n - 1) (λ (n : ℕ). Taking rep.status) number (stands_now m));
     }) (reads_moved (is_moved x (moved x.q (Takes rep.status)) refl refl) refl (λ t. t) h.reads)
-  where
-    x : StandsAt d.requests (rep.id - 1) (Replied rep.status)
-    x = h.replied 0 rep oldest
-
-    -- a response that is left is that of another request
-    other_id : (i : ℕ) (other : Reply) → slice_get (drop 1 g.replies) i ≡ Some other → other.id - 1 ≢ rep.id - 1
-    other_id i other at same =
-        let before = sym (dropped g.replies i) ∙ at in
-        let first = all_at (IsReply g.series g.fetched) g.replies 0 rep replies.each oldest in
-        let second = all_at (IsReply g.series g.fetched) g.replies (suc i) other replies.each before in
-        pair_at (λ (a b : Reply). a.id ≢ b.id) g.replies 0 (suc i) rep other replies.distinct (omega arith) oldest before (omega (arith, same, first.positive, second.positive))
 
 -- a request of which all was told is finished
 opened_finished : {asked finished : List Asked} {k : ℕ} {from : Station} {status : Status} {requests : List Request} (e : Ending)
@@ -261,85 +233,80 @@ opened_finished {finished = finished} {k = k} {from = from} {requests = requests
         | inl same ↦
             let one : m.now ≡ q = same_Some m.now q (sym m.here ∙ ap (slice_get finished) (sym same) ∙ at) in
             absurd (true≢false (sym (ap is_finished m.there) ∙ (ap (λ (x : Asked). is_finished x.station) one ∙ going)))
-        | inr other ↦ left j other (h.held j q (sym (m.others j other) ∙ at) going)
+        | inr other ↦ (elim (h.held j q (sym (m.others j other) ∙ at) going) [
+          | inl any ↦ inl any
+          | inr it ↦ absurd (other (omega (arith, number, it.2, ap (λ (x : Ending). x.request.number) (same_Some e it.0 it.1))))
+        ])
       ];
     }
-  where
-    left : (j : ℕ) → j ≢ k → (list_any (λ (r : Request). r.number == j + 1) requests ≡ true) ⊎ ((f : Ending) × (Some e ≡ Some f) × (f.request.number ≡ j + 1)) → (list_any (λ (r : Request). r.number == j + 1) requests ≡ true) ⊎ ((f : Ending) × (None ≡ Some f) × (f.request.number ≡ j + 1))
-    left j other (inl any) = inl any
-    left j other (inr it) =
-        let same : e.request.number ≡ j + 1 = ap (λ (x : Ending). x.request.number) (same_Some e it.0 it.1) ∙ it.2 in
-        absurd (other (omega arith))
+
+-- the sector that is told next of a request, if one is: it is finished else
+abbrev pub told_ending : Ending → Option ℕ → Option Ending
+told_ending e None = None
+told_ending e (Some next) = Some e
+
+abbrev pub told_on : Status → Option ℕ → Station
+told_on status None = Finished status
+told_on status (Some next) = Telling next
 
 -- a request whose response was taken moves on
-taken_on : {config : Options} {g : Flow} {d : Pipeline} {connected issuing fetching : Bool} {ending ending' : Option Ending} {telling telling' : Option ℕ} {replying : Option Reply} {requests : List Request} {works : List Work} {pages : List ℕ} {k : ℕ} {from to : Station} {said : List Line} (x : StandsAt d.requests k from) (move : Move)
-    → AreStations config g d connected issuing fetching ending telling replying requests works pages
-    → (let q : Asked = x.q in station_after q.job move) ≡ to
-    → (let q : Asked = x.q in station_before q.job move) ≡ from
-    → May d k x.q move
-    → move_lines k move ≡ said
-    → ((a b : List (List ℕ)) → IsSame a b → DiskGoes (Moves k x.q move) a b)
-    → kind_of from ≡ 7 → 7 ≤ kind_of to → is_unissued to ≡ false
-    → ring_after d.ring k move ≡ d.ring
-    → (IsMoved d.requests (slice_set d.requests k (moved x.q move)) k from to → AreOpen (slice_set d.requests k (moved x.q move)) requests ending' × IsTaking ending' telling' (slice_set d.requests k (moved x.q move)))
-    → AreReadBack g.submitted (slice_set d.requests k (moved x.q move)) works pages
-    → Stepped None IsSame d said (λ p. AreStations config g p connected issuing fetching ending' telling' replying requests works pages)
-taken_on {g = g} {requests = requests} {works = works} x move h after before may shows disk kind late issued still left reads =
-    moves_on x move h after before may shows disk refl (subst (IsRing g) (sym still) h.ring) (λ m. record {
+tells_on : {config : Options} {g : Flow} {d : Pipeline} {connected issuing fetching : Bool} {telling : Option ℕ} {replying : Option Reply} {requests : List Request}
+    {works : List Work} {pages : List ℕ} {said : List Line} (e : Ending) (move : Move) (next : Option ℕ) (status : Status)
+    → (h : AreStations config g d connected issuing fetching (Some e) telling replying requests works pages)
+    → 1 ≤ e.request.number
+    → (let x = h.taking e refl in let q : Asked = x.q in (station_after q.job move ≡ told_on status next) × (station_before q.job move ≡ finishing telling e.status)
+    × May d (e.request.number - 1) q move × (words_after move q.words ≡ q.words))
+    → move_lines (e.request.number - 1) move ≡ said
+    → ((a b : List (List ℕ)) → IsSame a b → DiskGoes (Moves (e.request.number - 1) (let x = h.taking e refl in x.q) move) a b)
+    → ring_after d.ring (e.request.number - 1) move ≡ d.ring
+    → (has_data_at (told_on status next) ≡ true → has_data_at (finishing telling e.status) ≡ true)
+    → Stepped None IsSame d said (λ p. AreStations config g p connected issuing fetching (told_ending e next) next replying requests works pages)
+tells_on {g = g} {telling = telling} {requests = requests} {works = works} e move next status h positive stands shows disk still kept =
+    let x = h.taking e refl in
+    let kind = finishing_kind telling e.status in
+    let early = early_open (finishing telling e.status) (omega (arith, kind)) in
+    moves_on x move h stands.0 stands.1 stands.2 shows disk refl (subst (IsRing g) (sym still) h.ring) (λ m. let left = by_next next m in record {
       known = known_moved m h.known;
-      opened = (left m).0;
-      issued = issued_moved m issued h.issued;
+      opened = left.0 early h.opened;
+      issued = issued_moved m left.3 h.issued;
       waiting = waiting_moved m (omega (arith, kind)) h.waiting;
       pushed = pushed_moved m (omega (arith, kind)) (omega (arith, kind)) h.pushed;
       works = works_moved works m (omega (arith, kind)) h.works;
-      held = held_moved works m (omega (arith, late)) h.held;
+      held = held_moved works m (omega (arith, left.2)) h.held;
       going = going_moved requests m (λ le. absurd (omega (arith, kind, le))) h.going;
       replying = replying_moved m (omega (arith, kind)) h.replying;
       replied = replied_moved g.replies m (omega (arith, kind)) h.replied;
-      taking = (left m).1;
-    }) reads
+      taking = left.1;
+    }) (reads_moved (is_moved x (moved x.q move) stands.0 refl) stands.3 kept h.reads)
+  where
+    by_next : {asked after : List Asked} {from : Station} (n : Option ℕ) (m : IsMoved asked after (e.request.number - 1) from (told_on status n))
+        → (is_finished from ≡ false → AreOpen asked requests (Some e) → AreOpen after requests (told_ending e n))
+        × IsTaking (told_ending e n) n after × (7 ≤ kind_of (told_on status n)) × (is_unissued (told_on status n) ≡ false)
+    by_next None m = (λ early. opened_finished e m early (omega arith), λ f same. absurd (none-some f same), omega arith, refl)
+    by_next (Some n) m =
+        (λ early. open_moved m early refl, λ f same. stands_too (λ (y : Ending). y.request.number - 1) (λ (y : Ending). Telling n) (same_Some e f same) (stands_now m), omega arith, refl)
 
--- its answer is told, with which it is finished, but for a read that went well
-unread : (way : Transfer) (sector count : ℕ) (status : Status) → has_data way status ≡ false → station_after (submitted_job way sector count) (Answers status) ≡ Finished status
-unread transfer.Read sector count Okay none = absurd (true≢false none)
-unread transfer.Read sector count status none = refl
+-- its answer is told, with which it is finished, but for a read that went well: its data are told after it
+pub unread : (way : Transfer) (sector count : ℕ) (status : Status) → has_data way status ≡ false → answered_station (submitted_job way sector count) status ≡ Finished status
+unread transfer.Read sector count Okay none = cc
 unread way sector count status none = refl
 
-pub answers : (config : Options) (g : Flow) (d : Pipeline) (connected issuing fetching : Bool) (replying : Option Reply) (requests : List Request) (works : List Work) (pages : List ℕ) (e : Ending)
+pub read_well : (way : Transfer) (sector count : ℕ) (status : Status) → has_data way status ≡ true → answered_station (submitted_job way sector count) status ≡ Telling 0
+read_well transfer.Read sector count Okay all = refl
+read_well way sector count status all = cc
+
+pub answers : (config : Options) (g : Flow) (d : Pipeline) (connected issuing fetching : Bool) (replying : Option Reply) (requests : List Request) (works : List Work) (pages : List ℕ) (e : Ending) (next : Option ℕ)
     → slice_get g.submitted (e.request.number - 1) ≡ Some e.request
     → 1 ≤ e.request.number
-    → has_data e.request.transfer e.status ≡ false
+    → answered_station (submitted_job e.request.transfer e.request.sector e.request.count) e.status ≡ told_on e.status next
+    → (has_data_at (told_on e.status next) ≡ true → e.status ≡ Okay)
     → AreStations config g d connected issuing fetching (Some e) None replying requests works pages
-    → Stepped None IsSame d (lines.Answer e.request.number e.status ∷ []) (λ p. AreStations config g p connected issuing fetching None None replying requests works pages)
-answers config g d connected issuing fetching replying requests works pages e asked positive none h =
-    taken_on x (Answers e.status) h after refl tt (ap (λ (n : ℕ). lines.Answer n e.status ∷ []) (omega arith)) (λ a b e. e) refl (omega arith) refl refl
-    (λ m. (opened_finished e m refl (omega arith) h.opened, λ f same. absurd (none-some f same)))
-    (reads_moved (is_moved x (moved x.q (Answers e.status)) after refl) refl (λ t. absurd (false≢true t)) h.reads)
-  where
-    x : StandsAt d.requests (e.request.number - 1) (Taking e.status)
-    x = h.taking e refl
-
-    after : (let q : Asked = x.q in station_after q.job (Answers e.status)) ≡ Finished e.status
-    after = rw (h.known.each (e.request.number - 1) e.request x.q asked x.at) (unread e.request.transfer e.request.sector e.request.count e.status none)
-
--- the data of a read that went well are told after its answer
-pub answers_read : (config : Options) (g : Flow) (d : Pipeline) (connected issuing fetching : Bool) (replying : Option Reply) (requests : List Request) (works : List Work) (pages : List ℕ) (e : Ending)
-    → slice_get g.submitted (e.request.number - 1) ≡ Some e.request
-    → 1 ≤ e.request.number
-    → e.request.transfer ≡ transfer.Read
-    → e.status ≡ Okay
-    → AreStations config g d connected issuing fetching (Some e) None replying requests works pages
-    → Stepped None IsSame d (lines.Answer e.request.number e.status ∷ []) (λ p. AreStations config g p connected issuing fetching (Some e) (Some 0) replying requests works pages)
-answers_read config g d connected issuing fetching replying requests works pages e asked positive way okay h =
-    taken_on x (Answers e.status) h after refl tt (ap (λ (n : ℕ). lines.Answer n e.status ∷ []) (omega arith)) (λ a b e. e) refl (omega arith) refl refl
-    (λ m. (open_moved m refl refl h.opened, λ f same. stands_too (λ (y : Ending). y.request.number - 1) (λ (y : Ending). Telling 0) (same_Some e f same) (stands_now m)))
-    (reads_moved (is_moved x (moved x.q (Answers e.status)) after refl) refl (λ t. rw okay refl) h.reads)
-  where
-    x : StandsAt d.requests (e.request.number - 1) (Taking e.status)
-    x = h.taking e refl
-
-    after : (let q : Asked = x.q in station_after q.job (Answers e.status)) ≡ Telling 0
-    after = rw (h.known.each (e.request.number - 1) e.request x.q asked x.at, way, okay) refl
+    → Stepped None IsSame d (lines.Answer e.request.number e.status ∷ []) (λ p. AreStations config g p connected issuing fetching (told_ending e next) next replying requests works pages)
+answers config g d connected issuing fetching replying requests works pages e next asked positive after okay h =
+    let x = h.taking e refl in
+    let job = h.known.each (e.request.number - 1) e.request x.q asked x.at in
+    tells_on e (Answers e.status) next e.status h positive (rw job after, refl, tt, refl) (ap (λ (n : ℕ). lines.Answer n e.status ∷ []) (omega arith)) (λ a b same. same) refl
+    (λ t. rw (okay t) refl)
 
 -- a sector that its frames hold is one of those that its job read
 noted_at : (pages words : List ℕ) (r : Request) (i : ℕ) (noted : List (List ℕ))
@@ -355,73 +322,23 @@ noted_at pages words r i noted back lt size same =
     (λ j few. sym (held.held j (omega (arith, held.size))) ∙ sym (same j (omega (arith, held.size)))) in
     there.1 ∙ ap Some these
 
--- the station once a sector was told: the next one is, or that was the last
-further_told : (job : Job) (sector count i : ℕ) (words : List ℕ) → job ≡ submitted_job transfer.Read sector count → i + 1 < count
-    → station_after job (Tells i words) ≡ Telling (i + 1)
-further_told job sector count i words same lt =
-    let more : nat_lt (i + 1) count ≡ true = grind (arith, nat_tests) in
-    rw (same, more) refl
-
-last_told : (job : Job) (sector count i : ℕ) (words : List ℕ) → job ≡ submitted_job transfer.Read sector count → count ≤ i + 1
-    → station_after job (Tells i words) ≡ Finished Okay
-last_told job sector count i words same le =
-    let none : nat_lt (i + 1) count ≡ false = grind (arith, nat_tests) in
-    rw (same, none) refl
-
--- one of its sectors is told, the words that its frames hold
-pub tells : (config : Options) (g : Flow) (d : Pipeline) (connected issuing fetching : Bool) (replying : Option Reply) (requests : List Request) (works : List Work) (pages words : List ℕ) (e : Ending) (i : ℕ)
+-- one of its sectors is told, the words that its frames hold: the next one is told then, or it is finished
+pub tells : (config : Options) (g : Flow) (d : Pipeline) (connected issuing fetching : Bool) (replying : Option Reply) (requests : List Request) (works : List Work) (pages words : List ℕ) (e : Ending) (i : ℕ) (next : Option ℕ)
     → slice_get g.submitted (e.request.number - 1) ≡ Some e.request
     → 1 ≤ e.request.number
     → e.request.transfer ≡ transfer.Read
-    → i + 1 < e.request.count
+    → i < e.request.count
+    → told_station (submitted_job transfer.Read e.request.sector e.request.count) i ≡ told_on Okay next
     → length words ≡ 128
     → ((j : ℕ) → j < 128 → slice_index words j ≡ data_word pages e.request (128 * i + j))
     → AreStations config g d connected issuing fetching (Some e) (Some i) replying requests works pages
-    → Stepped None IsSame d (lines.Data e.request.number i words ∷ [])
-    (λ p. AreStations config g p connected issuing fetching (Some e) (Some (i + 1)) replying requests works pages)
-tells config g d connected issuing fetching replying requests works pages words e i asked positive way further size same h =
-    taken_on x (Tells i words) h after refl (noted_at pages words e.request i _ back (omega arith) size same) (ap (λ (n : ℕ). lines.Data n i words ∷ []) (omega arith)) (λ a b e. e) refl (omega arith) refl refl
-    (λ m. (open_moved m refl refl h.opened, λ f it. stands_too (λ (y : Ending). y.request.number - 1) (λ (y : Ending). Telling (i + 1)) (same_Some e f it) (stands_now m)))
-    (reads_moved (is_moved x (moved x.q (Tells i words)) after refl) refl (λ t. refl) h.reads)
-  where
-    x : StandsAt d.requests (e.request.number - 1) (Telling i)
-    x = h.taking e refl
-
-    job : (let q : Asked = x.q in q.job) ≡ submitted_job transfer.Read e.request.sector e.request.count
-    job = h.known.each (e.request.number - 1) e.request x.q asked x.at ∙ ap (λ (t : Transfer). submitted_job t e.request.sector e.request.count) way
-
-    back : (let q : Asked = x.q in IsReadBack pages e.request e.request.count q.words)
-    back = h.reads.after (e.request.number - 1) e.request x.q asked x.at (ap is_write way) (ap has_data_at x.there)
-
-    after : (let q : Asked = x.q in station_after q.job (Tells i words)) ≡ Telling (i + 1)
-    after = further_told (let q : Asked = x.q in q.job) e.request.sector e.request.count i words job further
-
--- its last sector is told, with which it is finished
-pub tells_last : (config : Options) (g : Flow) (d : Pipeline) (connected issuing fetching : Bool) (replying : Option Reply) (requests : List Request) (works : List Work) (pages words : List ℕ) (e : Ending) (i : ℕ)
-    → slice_get g.submitted (e.request.number - 1) ≡ Some e.request
-    → 1 ≤ e.request.number
-    → e.request.transfer ≡ transfer.Read
-    → i + 1 ≡ e.request.count
-    → length words ≡ 128
-    → ((j : ℕ) → j < 128 → slice_index words j ≡ data_word pages e.request (128 * i + j))
-    → AreStations config g d connected issuing fetching (Some e) (Some i) replying requests works pages
-    → Stepped None IsSame d (lines.Data e.request.number i words ∷ []) (λ p. AreStations config g p connected issuing fetching None None replying requests works pages)
-tells_last config g d connected issuing fetching replying requests works pages words e i asked positive way last size same h =
-    taken_on x (Tells i words) h after refl (noted_at pages words e.request i _ back (omega arith) size same) (ap (λ (n : ℕ). lines.Data n i words ∷ []) (omega arith)) (λ a b e. e) refl (omega arith) refl refl
-    (λ m. (opened_finished e m refl (omega arith) h.opened, λ f it. absurd (none-some f it)))
-    (reads_moved (is_moved x (moved x.q (Tells i words)) after refl) refl (λ t. absurd (false≢true t)) h.reads)
-  where
-    x : StandsAt d.requests (e.request.number - 1) (Telling i)
-    x = h.taking e refl
-
-    job : (let q : Asked = x.q in q.job) ≡ submitted_job transfer.Read e.request.sector e.request.count
-    job = h.known.each (e.request.number - 1) e.request x.q asked x.at ∙ ap (λ (t : Transfer). submitted_job t e.request.sector e.request.count) way
-
-    back : (let q : Asked = x.q in IsReadBack pages e.request e.request.count q.words)
-    back = h.reads.after (e.request.number - 1) e.request x.q asked x.at (ap is_write way) (ap has_data_at x.there)
-
-    after : (let q : Asked = x.q in station_after q.job (Tells i words)) ≡ Finished Okay
-    after = last_told (let q : Asked = x.q in q.job) e.request.sector e.request.count i words job (omega arith)
+    → Stepped None IsSame d (lines.Data e.request.number i words ∷ []) (λ p. AreStations config g p connected issuing fetching (told_ending e next) next replying requests works pages)
+tells config g d connected issuing fetching replying requests works pages words e i next asked positive way within after size same h =
+    let x = h.taking e refl in
+    let job = h.known.each (e.request.number - 1) e.request x.q asked x.at in
+    let back = h.reads.after (e.request.number - 1) e.request x.q asked x.at (ap is_write way) (ap has_data_at x.there) in
+    tells_on e (Tells i words) next Okay h positive (rw (job, way) after, refl, noted_at pages words e.request i _ back within size same, refl)
+    (ap (λ (n : ℕ). lines.Data n i words ∷ []) (omega arith)) (λ a b same. same) refl (λ t. refl)
 
 -- a request more is submitted
 stands_more : (asked : List Asked) (q : Asked) (k : ℕ) (station : Station) → StandsAt asked k station → StandsAt (asked ++ q ∷ []) k station
@@ -455,20 +372,17 @@ submits config g d connected issuing fetching ending telling replying requests w
       ];
       waiting = record {
         issued = λ t r at. stands_more d.requests (submitted job) (r.number - 1) Issuing (h.waiting.issued t r (sym (grown_before g.series x g.pushed (some_issued t)) ∙ at));
-        rest = λ j r le at other. elim (push_was g.series x j r at) [
-          | inl was ↦ stands_more d.requests (submitted job) (r.number - 1) Waiting (h.waiting.rest j r le was other)
-          | inr last ↦ subst (λ (y : Request). StandsAt (d.requests ++ submitted job ∷ []) (y.number - 1) Waiting) (sym last.1) stands_last
-        ];
+        rest = λ j r le at. more_all (λ (i : ℕ) (y : Request). g.pushed ≤ i → (issuing ≡ true → i ≢ g.pushed) → StandsAt (d.requests ++ submitted job ∷ []) (y.number - 1) Waiting) g.series x
+            (λ i y was up other. stands_more d.requests (submitted job) (y.number - 1) Waiting (h.waiting.rest i y up was other)) (λ up other. stands_last) j r at le;
       };
       pushed = record {
         copied = λ t r at. stands_more d.requests (submitted job) (r.number - 1) Fetching (h.pushed.copied t r (sym (grown_before g.series x g.fetched (let lt = some_fetched t in omega arith)) ∙ at));
         rest = λ j r le lt at other. stands_more d.requests (submitted job) (r.number - 1) Pushed (h.pushed.rest j r le lt (sym (grown_before g.series x j (omega arith)) ∙ at) other);
       };
       works = λ i t e. stands_more d.requests (submitted job) (t.id - 1) (worked t.stage t.moved) (h.works i t e);
-      going = λ i y at. elim (push_was requests x i y at) [
-        | inl was ↦ (let stood = h.going i y was in record { q = stood.q; at = get_append d.requests (submitted job ∷ []) (y.number - 1) stood.q stood.at; early = stood.early })
-        | inr last ↦ subst (λ (z : Request). IsGoing (d.requests ++ submitted job ∷ []) (z.number - 1)) (sym last.1) (record { q = stands_last.q; at = stands_last.at; early = (let there = ap kind_of stands_last.there in omega (arith, there)) })
-      ];
+      going = more_all (λ (i : ℕ) (y : Request). IsGoing (d.requests ++ submitted job ∷ []) (y.number - 1)) requests x
+          (λ i y at. let stood = h.going i y at in record { q = stood.q; at = get_append d.requests (submitted job ∷ []) (y.number - 1) stood.q stood.at; early = stood.early })
+          (record { q = stands_last.q; at = stands_last.at; early = omega (arith, ap kind_of stands_last.there) });
       held = λ j q at kind. elim (push_was d.requests (submitted job) j q at) [ inl was ↦ h.held j q was kind | inr new ↦ absurd (let none = ap (λ (y : Asked). kind_of y.station) new.1 in omega (arith, none, kind)) ];
       replying = λ rep e. stands_more d.requests (submitted job) (rep.id - 1) (Replying rep.status) (h.replying rep e);
       replied = λ i rep e. stands_more d.requests (submitted job) (rep.id - 1) (Replied rep.status) (h.replied i rep e);

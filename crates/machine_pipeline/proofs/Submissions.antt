@@ -1,7 +1,8 @@
 -- A submission is refused, and changes nothing, or accepted, and then the pipeline has its request.
-use Rattle.std.proofs.Common.{◌≡◌, ◌≢◌, ℕ, ◌+◌, ◌-◌, ◌<◌, ◌≤◌, ◌==◌, ◌&&◌, Bool, true, false, true≢false, not, List, [], ◌∷◌, ◌++◌, length, refl, ap, sym, ◌∙◌, subst, inl, inr, arith}
-use Rattle.std.specs.Prelude.{All, Option, Some, None, Result, Err, slice_get, nat_lt, nat_le, min, max, if◌then◌else◌}
-use Rattle.std.proofs.lemmas.Bool.{cases_lt}
+use Rattle.machine_pipeline.proofs.Issuing.{fetching_pushed}
+use Rattle.std.proofs.Common.{◌≡◌, ◌≢◌, ℕ, ◌+◌, ◌<◌, ◌≤◌, ◌==◌, ◌&&◌, Bool, true, false, true≢false, not, List, [], ◌∷◌, ◌++◌, length, refl, ap, sym, ◌∙◌, subst, inl, inr, arith}
+use Rattle.std.specs.Prelude.{All, Option, Some, None, Result, Err, slice_get, nat_lt, nat_le, if◌then◌else◌}
+use Rattle.std.proofs.lemmas.Bool.{not-false, eqb-false, leb-false, ltb-false, cases_lt}
 use Rattle.std.proofs.lemmas.Bool.Decides.{nat_tests}
 use Rattle.blk_base.specs.Options.{Options}
 use Rattle.blk_base.specs.declared.config.Job.{Job}
@@ -12,25 +13,22 @@ use Rattle.blk_front.specs.declared.request.Request.{Request}
 use Rattle.blk_front.specs.declared.request.Transfer.{Transfer}
 use Rattle.blk_front.specs.declared.request.Transfer.TheVariants as transfer
 use Rattle.blk_front.specs.declared.request.Wish.{Wish}
-use Rattle.blk_front.specs.Request.{is_write, is_moving, is_indirect, may_be_indirect, named_of, frames_for, IsCounted}
+use Rattle.blk_front.specs.Request.{is_write, is_moving, is_indirect, named_of, frames_for, IsCounted}
 use Rattle.blk_front.specs.declared.state.Offers.{Offers}
 use Rattle.blk_front.specs.Pool.{taking}
 use Rattle.blk_front.specs.declared.told.Refusal.{Refusal}
 use Rattle.blk_front.specs.declared.told.Refusal.TheVariants as refusal
 use Rattle.blk_front.specs.View.{View, next_request}
-use Rattle.blk_front.specs.Submit.{is_ready, unfinished, most_segments, frames_taken, request_with, accepted, wished, wish_of, submit_one, submit_of, submit_with}
+use Rattle.blk_front.specs.Submit.{ending_of, is_ready, unfinished, most_segments, frames_taken, request_with, accepted, wished, wish_of, submit_one, submit_of, submit_with}
 use Rattle.split_model.specs.World.{World}
 use Rattle.split_model.specs.Happening.{Submits, submit_line, lines_at, happens}
 use Rattle.machine_pipeline.specs.Allowed.{IsServable}
 use Rattle.machine_pipeline.proofs.Flow.{Flow, submitted_job, ending_at, telling_at, is_issuing, is_fetching, reply_at}
-use Rattle.machine_pipeline.proofs.Holds.{AreOffered, BackAt, IsPooled, AreNumbers, ArePooled, Holds}
+use Rattle.machine_pipeline.proofs.Holds.{AreOffered, IsPooled, AreNumbers, ArePooled, Holds}
 use Rattle.machine_pipeline.proofs.Turns.{Stepped, does_alone, GoesBy, goes_by}
 use Rattle.machine_pipeline.proofs.Next.{waiting_few}
-use Rattle.back_jobs.specs.Task.{Work}
-use Rattle.blk_back.specs.declared.stage.Stage.{Stage as BackStage}
-use Rattle.blk_back.specs.declared.stage.Stage.TheVariants as back
 use Rattle.machine_pipeline.proofs.Growing.{longer, submitted_more, disk_more, queue_more, pooled_more}
-use Rattle.machine_pipeline.proofs.Submitting.{submitted_flow, indices_more, next_more, front_at_more, IsIdle, idle_at, slots_more, frames_more, entries_more, absent, works_more, replies_grown, front_at_grown, back_at_grown}
+use Rattle.machine_pipeline.proofs.Submitting.{submitted_flow, indices_more, next_more, front_at_grown, unissued, slots_more, frames_more, entries_more, absent, works_more, replies_grown, back_at_grown}
 use Rattle.machine_pipeline.proofs.Refusing.{answer_of, offered_is, refused_rightly}
 use Rattle.machine_pipeline.proofs.Stations.{AreStations}
 use Rattle.machine_pipeline.proofs.StationsFront.{submits}
@@ -44,28 +42,20 @@ use Rattle.pipeline_laws.specs.Allowed.{refusal_now}
 abbrev accepting : World → Wish → (List ℕ × List Bool) → World
 accepting w wish taken = record { front = accepted w.front wish taken; back = w.back; under = w.under }
 
--- where none waits nothing of a request is begun
-idle_now : (config : Options) (w : World) (g : Flow) (d : Pipeline) → Holds config w g d w.front.stage w.back.stage → g.pushed ≡ length g.series → IsIdle w.front.stage
-idle_now config w g d h same = idle_at g.shape g.start g.pushed g.taken g.front_seen g.submitted g.replies (next_request w.front) w.front.ring.entry w.front.ending w.front.stage (none_waits w.front.waiting w.front.requests (let i = h.indices in none_left i.all same)) h.front_at
+-- where none waits none is issued
+unissued_now : (config : Options) (w : World) (g : Flow) (d : Pipeline) → Holds config w g d w.front.stage w.back.stage → g.pushed ≡ length g.series → is_issuing w.front.stage ≡ false
+unissued_now config w g d h same = unissued g.shape g.start g.pushed g.taken g.front_seen g.submitted g.replies
+    (next_request w.front) w.front.ring.entry w.front.ending w.front.stage none_waits h.front_at
   where
-    none_left : {last pushed waiting : ℕ} → last ≡ pushed + waiting → pushed ≡ last → waiting ≡ 0
-    none_left a b = omega arith
-
-    none_waits : (waiting : ℕ) (requests : List Request) → waiting ≡ 0 → (if waiting == 0 then None else slice_get requests (length requests - waiting)) ≡ None
-    none_waits waiting requests e = rw e refl
+    none_waits : next_request w.front ≡ None
+    none_waits = let none : w.front.waiting ≡ 0 = omega (arith, h.indices.all) in rw none refl
 
 -- so one that is being issued waits
 issuing_waits : (config : Options) (w : World) (g : Flow) (d : Pipeline) → Holds config w g d w.front.stage w.back.stage → is_issuing w.front.stage ≡ true → g.pushed < length g.series
 issuing_waits config w g d h issues = elim (cases_lt g.pushed (length g.series)) [
   | inl lt ↦ lt
-  | inr le ↦
-      absurd (true≢false (sym issues ∙ (idle_now config w g d h (omega (arith, h.indices.all))).unissued))
+  | inr le ↦ absurd (true≢false (sym issues ∙ unissued_now config w g d h (omega (arith, h.indices.all))))
 ]
-
--- and one whose entry is being copied was pushed
-fetching_pushed : (shape : Shape) (start fetched back_seen replied pushed : ℕ) (series : List Request) (works : List Work) (entry : List ℕ) (b : BackStage) → back_seen ≤ pushed → BackAt shape start fetched back_seen replied series works entry b → is_fetching b ≡ true → fetched < pushed
-fetching_pushed shape start fetched back_seen replied pushed series works entry (back.Fetch k) upto at t = omega (arith, at.2)
-fetching_pushed shape start fetched back_seen replied pushed series works entry b upto at t = absurd (true≢false (sym t))
 
 accepted_on : (config : Options) (w : World) (g : Flow) (d d' : Pipeline) (wish : Wish) (taken : List ℕ × List Bool)
     → Holds config w g d w.front.stage w.back.stage
@@ -76,39 +66,23 @@ accepted_on : (config : Options) (w : World) (g : Flow) (d d' : Pipeline) (wish 
     → AreStations config (submitted_flow g (request_with w.front wish taken.0)) d' (is_ready w.front.stage) (is_issuing w.front.stage) (is_fetching w.back.stage) (ending_at w.front.stage w.front.ending) (telling_at w.front.stage) (reply_at w.back.stage) (w.front.requests ++ request_with w.front wish taken.0 ∷ []) w.back.jobs.works w.under.pages
     → Holds config (accepting w wish taken) (submitted_flow g (request_with w.front wish taken.0)) d' w.front.stage w.back.stage
 accepted_on config w g d d' wish taken h ready unspent free may serves limit on_disk numbers counted frames stations =
-    record {
-      settled = record {
-        started = h.started;
-        shaped = h.shaped;
-        sized = disk_more config w.front.sectors w.front.read_only g.submitted x may serves limit h.sized;
-        submitted = submitted_more g.submitted w.front.sectors w.front.last x refl on_disk numbers (record { counted = counted; frames = pooled.2 }) pooled.1
-            h.submitted;
-        info = h.info;
-        unhalted = h.unhalted;
-      };
-      indices = indices_more g x w.front.ring.indices w.back.ring.indices w.front.ring.seen w.back.ring.seen w.back.fetched w.front.last w.front.waiting (length w.front.requests) _ _ (longer w.front.requests x) unspent free h.indices;
-      queue = queue_more g.submitted g.series g.pushed w.front.sectors w.front.last w.front.requests w.front.waiting x refl (let i = h.indices in i.all) (waiting_few h.indices) h.submitted h.queue;
-      pool = pooled.0;
-      stations = stations;
-      works = works_more g.submitted g.fetched w.back.jobs.works x h.works;
-      counted = h.counted;
-      replies = replies_grown g.fetched g.taken g.replied g.replies x h.replies;
-      front_at = front_at_more g.shape g.start g.pushed g.taken g.front_seen (g.submitted ++ x ∷ []) g.replies (next_request w.front) (next_request (accepted w.front wish taken)) w.front.ring.entry w.front.ending w.front.stage (λ r e. next_more w.front.requests w.front.waiting x r e)
-          (front_at_grown g.shape g.start g.pushed g.taken g.front_seen g.submitted g.replies (next_request w.front) w.front.ring.entry w.front.ending x w.front.stage h.front_at);
-      offered = h.offered;
-      back_at = back_at_grown g.shape g.start g.fetched g.back_seen g.replied g.series w.back.jobs.works w.back.ring.entry x w.back.stage h.back_at;
-      memory = h.memory;
-      ring = h.ring;
-      slots = slots_more g.shape g.start g.fetched g.pushed g.taken g.replied g.series g.replies w.under.pages w.front.stage w.back.stage x pushed_few idle h.slots;
-      frames = frames_more g.pushed w.under.pages w.front.stage w.front.requests x new pushed_few idle h.frames;
-      telling = h.telling;
-      entries = entries_more g.pushed w.under.pages w.under.grants.live w.front.stage w.front.ending w.front.requests x new pushed_few idle h.entries;
-      mapped = h.mapped;
-      paged = h.paged;
-      front_sleep = h.front_sleep;
-      back_sleep = h.back_sleep;
-      ports = h.ports;
-    }
+    assumption (
+      disk_more config w.front.sectors w.front.read_only g.submitted x may serves limit h.sized,
+      submitted_more g.submitted w.front.sectors w.front.last x refl on_disk numbers (record { counted = counted; frames = pooled.2 }) pooled.1 h.submitted,
+      indices_more g x w.front.ring.indices w.back.ring.indices w.front.ring.seen w.back.ring.seen w.back.fetched w.front.last w.front.waiting (length w.front.requests) (length (w.front.requests ++ x ∷ []))
+          (ending_of w.front.stage) (longer w.front.requests x) unspent free h.indices,
+      queue_more g.submitted g.series g.pushed w.front.sectors w.front.last w.front.requests w.front.waiting x refl h.indices.all (waiting_few h.indices) h.submitted h.queue,
+      pooled.0,
+      works_more g.submitted g.fetched w.back.jobs.works x h.works,
+      replies_grown g.fetched g.taken g.replied g.replies x h.replies,
+      front_at_grown g.shape g.start g.pushed g.taken g.front_seen g.submitted g.replies (next_request w.front)
+          (next_request (accepted w.front wish taken)) w.front.ring.entry w.front.ending x w.front.stage
+          (next_more w.front.requests w.front.waiting x) h.front_at,
+      back_at_grown g.shape g.start g.fetched g.back_seen g.replied g.series w.back.jobs.works w.back.ring.entry x w.back.stage h.back_at,
+      slots_more g.series g.pushed w.under.pages w.front.stage x few none h.slots,
+      frames_more g.series g.pushed w.under.pages w.front.stage x few none w.front.requests new h.frames,
+      entries_more g.series g.pushed w.under.pages w.front.stage x few none w.front.requests new h.entries,
+    )
   where
     x : Request
     x = request_with w.front wish taken.0
@@ -120,22 +94,15 @@ accepted_on config w g d d' wish taken h ready unspent free may serves limit on_
     new : (i : ℕ) → slice_get g.series i ≡ Some x → ⊥
     new = absent g.submitted g.series w.front.sectors w.front.last x refl h.submitted (let queue = h.queue in queue.ordered)
 
-    pushed_few : g.pushed ≤ length g.series
-    pushed_few = let i = h.indices in let all = i.all in omega arith
+    few : g.pushed ≤ length g.series
+    few = omega (arith, h.indices.all)
 
-    idle : g.pushed ≡ length g.series → IsIdle w.front.stage
-    idle = idle_now config w g d h
+    none : g.pushed ≡ length g.series → is_issuing w.front.stage ≡ false
+    none = unissued_now config w g d h
 
 -- where a request goes through indirect pages the back takes as many segments
 short_enough : (offers : Offers) (way : Transfer) (count limit : ℕ) → nat_lt (most_segments offers way) (frames_for count) ≡ false → offers.indirect ≡ limit → is_indirect count ≡ true → frames_for count ≤ limit
-short_enough offers way count limit short published large = by_way (may_be_indirect way) short
-  where
-    by_way : (b : Bool) → nat_lt (if b then max 11 (min 960 offers.indirect) else 11) (frames_for count) ≡ false → frames_for count ≤ limit
-    by_way true short =
-        let few : frames_for count ≤ max 11 (min 960 offers.indirect) = grind (arith, nat_tests) in
-        let many : 11 < frames_for count = grind (arith, nat_tests) in
-        omega arith
-    by_way false short = absurd (true≢false (sym large ∙ short))
+short_enough offers way count limit short published large = grind (arith, nat_tests)
 
 -- what a submission with this answer makes of all, where the pipeline answers so too
 abbrev SubmitGoes : Options → World → Pipeline → Job → Result ℕ Refusal × View → Type 0
@@ -160,7 +127,7 @@ submit_wish config w g d wish offered asks serves counted numbers h =
     either config w d job (w.front.last == 4294967295) (Err refusal.Spent, w.front) _ (λ t. refused config w g d job refusal.Spent h) (λ unspent.
     either config w d job w.front.closing (Err refusal.Closing, w.front) _ (λ t. refused config w g d job refusal.Closing h) (λ stays_open.
     either config w d job (not (is_ready w.front.stage)) (Err refusal.NotReady, w.front) _ (λ t. refused config w g d job refusal.NotReady h) (λ unready.
-    by_offer offered (serves (is_true (is_ready w.front.stage) unready)) (is_true (is_ready w.front.stage) unready) unspent))))
+    by_offer offered (serves (not-false (is_ready w.front.stage) unready)) (not-false (is_ready w.front.stage) unready) unspent))))
   where
     job : Job
     job = submitted_job wish.transfer wish.sector wish.count
@@ -170,19 +137,6 @@ submit_wish config w g d wish offered asks serves counted numbers h =
         let known : length d.requests ≡ w.front.last = h.stations.known.as_many ∙ h.submitted.counted in
         submits config g d (is_ready w.front.stage) (is_issuing w.front.stage) (is_fetching w.back.stage) (ending_at w.front.stage w.front.ending) (telling_at w.front.stage) (reply_at w.back.stage) w.front.requests w.back.jobs.works w.under.pages (request_with w.front wish taken.0) (ap (λ (n : ℕ). n + 1) (sym known)) (omega (arith, h.indices.all)) h.indices.fetched_pushed (issuing_waits config w g d h) (fetching_pushed g.shape g.start g.fetched g.back_seen g.replied g.pushed g.series w.back.jobs.works w.back.ring.entry w.back.stage h.indices.back_to h.back_at) same h.stations
 
-    is_true : (b : Bool) → not b ≡ false → b ≡ true
-    is_true true e = refl
-    is_true false e = cc
-
-    differs : (n : ℕ) → (n == 4294967295) ≡ false → n ≢ 4294967295
-    differs n e = grind (arith, nat_tests)
-
-    below : (size n : ℕ) → nat_le size n ≡ false → n < size
-    below size n e = grind (arith, nat_tests)
-
-    above : (n m : ℕ) → nat_lt n m ≡ false → m ≤ n
-    above n m e = grind (arith, nat_tests)
-
     by_frames : (is_moving wish.transfer ≡ false → config.read_only ≡ false) → is_ready w.front.stage ≡ true → (w.front.last == 4294967295) ≡ false
         → (is_write wish.transfer && w.front.read_only) ≡ false → nat_lt w.front.sectors (wish.sector + named_of wish.transfer wish.count) ≡ false → nat_lt (most_segments w.front.offers wish.transfer) (frames_for wish.count) ≡ false
         → nat_le (entries_of w.front.shape.order) (unfinished w.front) ≡ false
@@ -191,9 +145,9 @@ submit_wish config w g d wish offered asks serves counted numbers h =
     by_frames serves ready unspent may on_disk short free (Some taken) some_taken = λ same.
         let s = stepped taken same in
         goes_by {g = submitted_flow g (request_with w.front wish taken.0)} (does_alone s)
-        (accepted_on config w g d (next d s.step) wish taken h ready (differs w.front.last unspent)
-        (subst (λ (x : Shape). unfinished w.front < entries_of x.order) h.shaped.known (below (entries_of w.front.shape.order) (unfinished w.front) free))
-        may serves (short_enough w.front.offers wish.transfer wish.count config.indirect short (offered_is (is_ready w.front.stage) config.read_only config.indirect w.front.offers g.pushed ready h.offered).indirect) (above w.front.sectors (wish.sector + named_of wish.transfer wish.count) on_disk) numbers (counted short) some_taken s.now)
+        (accepted_on config w g d (next d s.step) wish taken h ready (eqb-false w.front.last 4294967295 unspent)
+        (subst (λ (x : Shape). unfinished w.front < entries_of x.order) h.shaped.known (leb-false (entries_of w.front.shape.order) (unfinished w.front) free))
+        may serves (short_enough w.front.offers wish.transfer wish.count config.indirect short (offered_is (is_ready w.front.stage) config.read_only config.indirect w.front.offers g.pushed ready h.offered).indirect) (ltb-false w.front.sectors (wish.sector + named_of wish.transfer wish.count) on_disk) numbers (counted short) some_taken s.now)
 
     by_offer : (b : Bool) → (b ≡ true → is_moving wish.transfer ≡ false → config.read_only ≡ false) → is_ready w.front.stage ≡ true → (w.front.last == 4294967295) ≡ false → SubmitGoes config w d job (submit_one w.front (wished b wish))
     by_offer false serves ready unspent = refused config w g d job refusal.Unsupported h
@@ -206,27 +160,14 @@ submit_wish config w g d wish offered asks serves counted numbers h =
 
 -- a read, a write or a barrier moves a sector, and has no more segments than it may; another request moves none
 pub moves_some : (offers : Offers) (way : Transfer) (count : ℕ) → is_moving way ≡ true → 1 ≤ count → nat_lt (most_segments offers way) (frames_for count) ≡ false → IsCounted way count
-moves_some offers way count moving some short = by_way (may_be_indirect way) refl short
-  where
-    by_way : (b : Bool) → may_be_indirect way ≡ b → nat_lt (if b then max 11 (min 960 offers.indirect) else 11) (frames_for count) ≡ false → IsCounted way count
-    by_way true may short = record {
-      some = λ t. some;
-      none = λ t. absurd (true≢false (sym moving ∙ t));
-      few = (let few : frames_for count ≤ max 11 (min 960 offers.indirect) = grind (arith, nat_tests) in omega arith);
-      direct = λ t. absurd (true≢false (sym may ∙ t));
-    }
-    by_way false may short =
-        let few : frames_for count ≤ 11 = grind (arith, nat_tests) in
-        record { some = λ t. some; none = λ t. absurd (true≢false (sym moving ∙ t)); few = omega arith; direct = λ t. omega arith }
+moves_some offers way count moving some short = record { some = λ t. some; none = λ t. cc; few = grind (arith, nat_tests); direct = λ t. grind (arith, nat_tests) }
 
 pub moves_none : (way : Transfer) → is_moving way ≡ false → IsCounted way 0
-moves_none way still = record { some = λ t. absurd (true≢false (sym t ∙ still)); none = λ t. refl; few = omega arith; direct = λ t. omega arith }
+moves_none way still = record { some = λ t. cc; none = λ t. refl; few = omega arith; direct = λ t. omega arith }
 
 -- a flush or a discard is offered where the disk may be written alone
 may_write : (offered fixed : Bool) → offered ≡ not fixed → offered ≡ true → fixed ≡ false
-may_write true false e t = refl
-may_write true true e t = absurd (true≢false e)
-may_write false fixed e t = absurd (true≢false (sym t))
+may_write offered fixed e t = grind (arith, nat_tests)
 
 pub submit_kept : (config : Options) (w : World) (g : Flow) (d : Pipeline) (job : Job) → IsPlain config → Holds config w g d w.front.stage w.back.stage → IsServable job → GoesBy (Some job) IsSame config (lines_at w (Submits job)) (happens w (Submits job)) d
 submit_kept config w g d job plain h one = by_job job one (refused_rightly config w g d job plain h one)

@@ -1,5 +1,7 @@
 -- An accepted submission: the front has one request more, and so has the pipeline.
-use Rattle.std.proofs.Common.{◌≡◌, ◌≢◌, ℕ, ◌+◌, ◌-◌, ◌<◌, ◌≤◌, ◌==◌, Bool, true, false, List, [], ◌∷◌, ◌++◌, length, get_or, refl, sym, ◌∙◌, inl, inr, arith}
+use Rattle.std.proofs.lemmas.Bool.{cases_Bool}
+use Rattle.machine_pipeline.proofs.Issuing.{IsIdle, idle}
+use Rattle.std.proofs.Common.{◌⊎◌, ◌≡◌, ◌≢◌, ℕ, ◌+◌, ◌-◌, ◌<◌, ◌≤◌, ◌==◌, false, List, [], ◌∷◌, ◌++◌, length, get_or, refl, inl, inr, arith}
 use Rattle.std.specs.Prelude.{All, Option, Some, None, slice_get, if◌then◌else◌}
 use Rattle.std.proofs.lemmas.Bool.Decides.{nat_tests}
 use Rattle.std.proofs.lemmas.Option.{none-some, slice_get_within}
@@ -13,10 +15,10 @@ use Rattle.blk_front.specs.declared.stage.Stage.TheVariants as front
 use Rattle.blk_back.specs.declared.stage.Reply.{Reply}
 use Rattle.blk_back.specs.declared.stage.Stage.{Stage as BackStage}
 use Rattle.blk_back.specs.declared.stage.Stage.TheVariants as back
-use Rattle.machine_pipeline.proofs.Flow.{Flow, is_issuing, filled, named_frames, granted_frames, entered}
-use Rattle.machine_pipeline.proofs.Holds.{AreSubmitted, AreIndices, FrontAt, AreSlots, IsFilled, IsGranted, AreEntries, AreWorks, AreReplies, IsReplying, IsEnding, BackAt}
+use Rattle.machine_pipeline.proofs.Flow.{Flow, is_issuing}
+use Rattle.machine_pipeline.proofs.Holds.{AreSubmitted, AreIndices, FrontAt, AreSlots, IsFilled, IsGranted, AreEntries, AreWorks, AreReplies, IsReplying, BackAt, IsNextAt, IsEndingAt}
 use Rattle.ring_words.specs.Shape.{entries_of, Shape}
-use Rattle.machine_pipeline.proofs.Series.{IsSeries, IsAmong, among_was, numbered_grown}
+use Rattle.machine_pipeline.proofs.Series.{IsSeries, among_was, numbered_grown}
 use Rattle.machine_pipeline.proofs.Lists.{get_append}
 use Rattle.machine_pipeline.proofs.Growing.{longer, push_was}
 use Rattle.back_jobs.specs.Task.{Work}
@@ -37,127 +39,80 @@ indices_more g x front_ring back_ring front_seen back_seen number last waiting u
 pub next_more : (requests : List Request) (waiting : ℕ) (x r : Request)
     → (if waiting == 0 then None else slice_get requests (length requests - waiting)) ≡ Some r
     → (if waiting + 1 == 0 then None else slice_get (requests ++ x ∷ []) (length (requests ++ x ∷ []) - (waiting + 1))) ≡ Some r
-next_more requests waiting x r e = by_test (waiting == 0) e
-  where
-    by_test : (b : Bool) → (if b then None else slice_get requests (length requests - waiting)) ≡ Some r → (if waiting + 1 == 0 then None else slice_get (requests ++ x ∷ []) (length (requests ++ x ∷ []) - (waiting + 1))) ≡ Some r
-    by_test true f = absurd (none-some r f)
-    by_test false f =
-        let long = longer requests x in
-        let some : (waiting + 1 == 0) ≡ false = grind (arith, nat_tests) in
-        let place : length (requests ++ x ∷ []) - (waiting + 1) ≡ length requests - waiting = omega arith in
-        rw (some, place) (get_append requests (x ∷ []) (length requests - waiting) r f)
+next_more requests waiting x r e = elim (cases_Bool (waiting == 0)) [
+  | inl t ↦ absurd (none-some r (rw t at e))
+  | inr f ↦
+      let some : (waiting + 1 == 0) ≡ false = grind (arith, nat_tests) in
+      let place : length (requests ++ x ∷ []) - (waiting + 1) ≡ length requests - waiting = omega (arith, longer requests x) in
+      rw (some, place) (get_append requests (x ∷ []) (length requests - waiting) r (rw f at e))
+]
 
-pub front_at_more : (shape : Shape) (start pushed taken front_seen : ℕ) (submitted : List Request) (replies : List Reply) (next next' : Option Request) (entry : List ℕ) (ending : Option Ending) (s : FrontStage)
+-- of the request that is issued next, and of the one that is ending, the same is known
+next_grown : {next next' : Option Request} {P : Request → Type 0} → ((r : Request) → next ≡ Some r → next' ≡ Some r) → IsNextAt next P → IsNextAt next' P
+next_grown stays h = (h.0, stays h.0 h.1, h.2)
+
+ending_grown : {submitted : List Request} {replies : List Reply} {ending : Option Ending} {P : Ending → Type 0} (x : Request) → IsEndingAt submitted replies ending P
+    → IsEndingAt (submitted ++ x ∷ []) replies ending P
+ending_grown {submitted} x h = let e : Ending = h.0 in let was = h.2 in
+    (e, h.1, record { known = get_append submitted (x ∷ []) (e.request.number - 1) e.request was.known; positive = was.positive; alone = was.alone }, h.3)
+
+pub front_at_grown : (shape : Shape) (start pushed taken front_seen : ℕ) (submitted : List Request) (replies : List Reply) (next next' : Option Request) (entry : List ℕ) (ending : Option Ending) (x : Request) (s : FrontStage)
     → ((r : Request) → next ≡ Some r → next' ≡ Some r)
     → FrontAt shape start pushed taken front_seen submitted replies next entry ending s
-    → FrontAt shape start pushed taken front_seen submitted replies next' entry ending s
-front_at_more shape start pushed taken front_seen submitted replies next next' entry ending (front.Data n) stays h = (h.0, stays h.0 h.1, h.2)
-front_at_more shape start pushed taken front_seen submitted replies next next' entry ending (front.Pages n) stays h = (h.0, stays h.0 h.1, h.2)
-front_at_more shape start pushed taken front_seen submitted replies next next' entry ending (front.GrantFrame place) stays h = (h.0, stays h.0 h.1, h.2)
-front_at_more shape start pushed taken front_seen submitted replies next next' entry ending (front.GrantFence place) stays h = (h.0, stays h.0 h.1, h.2)
-front_at_more shape start pushed taken front_seen submitted replies next next' entry ending (front.GrantFlags place) stays h = (h.0, stays h.0 h.1, h.2)
-front_at_more shape start pushed taken front_seen submitted replies next next' entry ending (front.Slot k) stays h = (h.0, (h.1.0, stays h.1.0 h.1.1, h.1.2))
-front_at_more shape start pushed taken front_seen submitted replies next next' entry ending front.Producer stays h = (h.0, stays h.0 h.1, tt)
-front_at_more shape start pushed taken front_seen submitted replies next next' entry ending s stays h = h
+    → FrontAt shape start pushed taken front_seen (submitted ++ x ∷ []) replies next' entry ending s
+front_at_grown shape start pushed taken front_seen submitted replies next next' entry ending x front.Loop stays h = tt
+front_at_grown shape start pushed taken front_seen submitted replies next next' entry ending x s stays h = first_of (assumption, search next_grown, search ending_grown)
 
--- nothing of a request is begun
-pub record IsIdle (s : FrontStage) : Type 0 where
-  pub unfilled : (frames : ℕ) → filled s frames ≡ 0
-  pub unnamed : named_frames s ≡ 0
-  pub ungranted : granted_frames s ≡ 0
-  pub unentered : entered s ≡ 0
-  pub unissued : is_issuing s ≡ false
-
--- so it is where none waits
-pub idle_at : (shape : Shape) (start pushed taken front_seen : ℕ) (submitted : List Request) (replies : List Reply) (next : Option Request) (entry : List ℕ) (ending : Option Ending) (s : FrontStage)
-    → next ≡ None → FrontAt shape start pushed taken front_seen submitted replies next entry ending s → IsIdle s
-idle_at shape start pushed taken front_seen submitted replies next entry ending (front.Data n) none h = absurd (none-some h.0 (sym none ∙ h.1))
-idle_at shape start pushed taken front_seen submitted replies next entry ending (front.Pages n) none h = absurd (none-some h.0 (sym none ∙ h.1))
-idle_at shape start pushed taken front_seen submitted replies next entry ending (front.GrantFrame place) none h = absurd (none-some h.0 (sym none ∙ h.1))
-idle_at shape start pushed taken front_seen submitted replies next entry ending (front.GrantFence place) none h = absurd (none-some h.0 (sym none ∙ h.1))
-idle_at shape start pushed taken front_seen submitted replies next entry ending (front.GrantFlags place) none h = absurd (none-some h.0 (sym none ∙ h.1))
-idle_at shape start pushed taken front_seen submitted replies next entry ending (front.Slot k) none h = absurd (none-some h.1.0 (sym none ∙ h.1.1))
-idle_at shape start pushed taken front_seen submitted replies next entry ending front.Producer none h = absurd (none-some h.0 (sym none ∙ h.1))
-idle_at shape start pushed taken front_seen submitted replies next entry ending s none h =
-    record { unfilled = λ frames. refl; unnamed = refl; ungranted = refl; unentered = refl; unissued = refl }
-
-pub slots_more : (shape : Shape) (start fetched pushed taken replied : ℕ) (series : List Request) (replies : List Reply) (pages : List ℕ) (s : FrontStage) (b : BackStage) (x : Request)
-    → pushed ≤ length series → (pushed ≡ length series → IsIdle s)
-    → AreSlots shape start fetched pushed taken replied series replies pages s b
-    → AreSlots shape start fetched pushed taken replied (series ++ x ∷ []) replies pages s b
-slots_more shape start fetched pushed taken replied series replies pages s b x few idle h = record {
-  entries = λ k r from to e i lt. elim (push_was series x k r e) [
-    | inl was ↦ h.entries k r from to was i lt
-    | inr new ↦ absurd (let at = new.0 in omega arith)
-  ];
-  entry = λ r e i lt in_it. elim (push_was series x pushed r e) [
-    | inl was ↦ h.entry r was i lt in_it
-    | inr new ↦ absurd (let rest = idle new.0 in let none = rest.unentered in omega arith)
-  ];
-  responses = h.responses;
-  response = h.response;
-}
+-- nothing of a request is begun where none waits
+pub unissued : (shape : Shape) (start pushed taken front_seen : ℕ) (submitted : List Request) (replies : List Reply) (next : Option Request) (entry : List ℕ) (ending : Option Ending) (s : FrontStage)
+    → next ≡ None → FrontAt shape start pushed taken front_seen submitted replies next entry ending s → is_issuing s ≡ false
+unissued shape start pushed taken front_seen submitted replies next entry ending front.Loop none h = refl
+unissued shape start pushed taken front_seen submitted replies next entry ending s none h = cc
 
 -- a new request is none of those that were there
 pub absent : (submitted series : List Request) (sectors last : ℕ) (x : Request) → x.number ≡ last + 1 → AreSubmitted submitted sectors last → IsSeries submitted series → (i : ℕ) → slice_get series i ≡ Some x → ⊥
 absent submitted series sectors last x number all h i at =
     omega (arith, all.counted, slice_get_within submitted (x.number - 1) x (h.known i x at))
 
--- what stands in a series of one more, and stood in none before, is the last
-last_of : (series : List Request) (x q : Request) (k : ℕ) → slice_get (series ++ x ∷ []) k ≡ Some q → (slice_get series k ≡ Some q → ⊥) → k ≡ length series
-last_of series x q k e other = elim (push_was series x k q e) [ inl was ↦ absurd (other was) | inr at ↦ at.0 ]
+-- one request more in the series
+module _ (series : List Request) (pushed : ℕ) (pages : List ℕ) (s : FrontStage) (x : Request) (few : pushed ≤ length series) (none : pushed ≡ length series → is_issuing s ≡ false) where
+  -- the one that is issued was that before, or none is
+  next_was : (q : Request) → slice_get (series ++ x ∷ []) pushed ≡ Some q → (slice_get series pushed ≡ Some q) ⊎ IsIdle s
+  next_was q e = elim (push_was series x pushed q e) [ inl was ↦ inl was | inr new ↦ inr (idle s (none new.0)) ]
 
-pub frames_more : {series : List Request} (pushed : ℕ) (pages : List ℕ) (s : FrontStage) (requests : List Request) (x : Request)
-    → ((i : ℕ) → slice_get series i ≡ Some x → ⊥) → pushed ≤ length series → (pushed ≡ length series → IsIdle s)
-    → All (IsFilled series pushed pages s) requests
-    → All (IsFilled (series ++ x ∷ []) pushed pages s) (requests ++ x ∷ [])
-frames_more {series} pushed pages s requests x new few idle h = All-push (IsFilled (series ++ x ∷ []) pushed pages s) requests x (λ k d lt. grown (get_or requests k d) (h k d lt)) (record {
-  whole = λ one i l. absurd (none one);
-  begun = λ e n l. absurd (let rest : IsIdle s = idle (last_of series x x pushed e (new pushed)) in let none = rest.unfilled (frames_for x.count) in omega arith);
-})
-  where
-    none : IsAmong (series ++ x ∷ []) pushed x → ⊥
-    none one = let was = among_was pushed x x few one in new was.index was.at
+  pub slots_more : {shape : Shape} {start fetched taken replied : ℕ} {replies : List Reply} {b : BackStage} → AreSlots shape start fetched pushed taken replied series replies pages s b
+      → AreSlots shape start fetched pushed taken replied (series ++ x ∷ []) replies pages s b
+  slots_more h = record {
+    entries = λ k r from to e i lt. elim (push_was series x k r e) [ inl was ↦ h.entries k r from to was i lt | inr new ↦ absurd (omega (arith, new.0)) ];
+    entry = λ r e i lt in_it. elim (next_was r e) [ inl was ↦ h.entry r was i lt in_it | inr idle ↦ absurd (omega (arith, idle.unentered)) ];
+    responses = h.responses;
+    response = h.response;
+  }
 
-    grown : (q : Request) → IsFilled series pushed pages s q → IsFilled (series ++ x ∷ []) pushed pages s q
-    grown q was = record {
-      whole = λ one. was.whole (among_was pushed q x few one);
-      begun = λ e n f l own. elim (push_was series x pushed q e) [
-        | inl there ↦ was.begun there n f l own
-        | inr at ↦ absurd (let rest : IsIdle s = idle at.0 in let none = rest.unfilled (frames_for q.count) in omega arith)
-      ];
-    }
+  pub frames_more : (requests : List Request) → ((i : ℕ) → slice_get series i ≡ Some x → ⊥) → All (IsFilled series pushed pages s) requests
+      → All (IsFilled (series ++ x ∷ []) pushed pages s) (requests ++ x ∷ [])
+  frames_more requests new h k d lt =
+      let q : Request = get_or (requests ++ x ∷ []) k d in
+      let was = All-push (IsFilled series pushed pages s) requests x h (record { whole = λ one. absurd (new one.index one.at); begun = λ e. absurd (new pushed e) }) k d lt in
+      record {
+        whole = λ one. was.whole (among_was pushed q x few one);
+        begun = λ e n f l own. elim (next_was q e) [ inl there ↦ was.begun there n f l own | inr idle ↦ absurd (omega (arith, idle.unfilled (frames_for q.count))) ];
+      }
 
-pub entries_more : {series : List Request} (pushed : ℕ) (pages : List ℕ) (live : List Held) (s : FrontStage) (ending : Option Ending) (requests : List Request) (x : Request)
-    → ((i : ℕ) → slice_get series i ≡ Some x → ⊥) → pushed ≤ length series → (pushed ≡ length series → IsIdle s)
-    → AreEntries series pushed pages live s ending requests
-    → AreEntries (series ++ x ∷ []) pushed pages live s ending (requests ++ x ∷ [])
-entries_more {series} pushed pages live s ending requests x new few idle h = record {
-  each = All-push (IsGranted (series ++ x ∷ []) pushed pages live s) requests x (λ k d lt. grown (get_or requests k d) (h.each k d lt)) (record {
-    named = λ one. absurd (none one);
-    named_next = λ e place t. absurd (let rest : IsIdle s = idle (last_of series x x pushed e (new pushed)) in let none = rest.unnamed in omega arith);
-    flags = λ one. absurd (none one);
-    flags_next = λ e place t. absurd (let rest : IsIdle s = idle (last_of series x x pushed e (new pushed)) in let none = rest.ungranted in omega arith);
-  });
-  ending = h.ending;
-}
-  where
-    none : IsAmong (series ++ x ∷ []) pushed x → ⊥
-    none one = let was = among_was pushed x x few one in new was.index was.at
-
-    grown : (q : Request) → IsGranted series pushed pages live s q → IsGranted (series ++ x ∷ []) pushed pages live s q
-    grown q was = record {
-      named = λ one. was.named (among_was pushed q x few one);
-      named_next = λ e place t in_it. elim (push_was series x pushed q e) [
-        | inl there ↦ was.named_next there place t in_it
-        | inr at ↦ absurd (let rest : IsIdle s = idle at.0 in let none = rest.unnamed in omega arith)
-      ];
-      flags = λ one. was.flags (among_was pushed q x few one);
-      flags_next = λ e place t in_it. elim (push_was series x pushed q e) [
-        | inl there ↦ was.flags_next there place t in_it
-        | inr at ↦ absurd (let rest : IsIdle s = idle at.0 in let none = rest.ungranted in omega arith)
-      ];
-    }
+  pub entries_more : {live : List Held} {ending : Option Ending} (requests : List Request) → ((i : ℕ) → slice_get series i ≡ Some x → ⊥)
+      → AreEntries series pushed pages live s ending requests → AreEntries (series ++ x ∷ []) pushed pages live s ending (requests ++ x ∷ [])
+  entries_more {live} requests new h =
+      let before : IsGranted series pushed pages live s x =
+      record { named = λ one. absurd (new one.index one.at); named_next = λ e. absurd (new pushed e); flags = λ one. absurd (new one.index one.at); flags_next = λ e. absurd (new pushed e) } in
+      record {
+        each = λ k d lt. let q : Request = get_or (requests ++ x ∷ []) k d in let was = All-push (IsGranted series pushed pages live s) requests x h.each before k d lt in record {
+          named = λ one. was.named (among_was pushed q x few one);
+          named_next = λ e place t in_it. elim (next_was q e) [ inl there ↦ was.named_next there place t in_it | inr idle ↦ absurd (omega (arith, idle.unnamed)) ];
+          flags = λ one. was.flags (among_was pushed q x few one);
+          flags_next = λ e place t in_it. elim (next_was q e) [ inl there ↦ was.flags_next there place t in_it | inr idle ↦ absurd (omega (arith, idle.ungranted)) ];
+        };
+        ending = h.ending;
+      }
 
 -- what is known of the requests that were there stays known
 pub works_more : {series : List Request} (submitted : List Request) (fetched : ℕ) (works : List Work) (x : Request) → AreWorks submitted series fetched works → AreWorks (submitted ++ x ∷ []) (series ++ x ∷ []) fetched works
@@ -174,22 +129,6 @@ replies_grown fetched taken replied replies x h = record {
   distinct = h.distinct;
 }
 
-ending_more : (submitted : List Request) (replies : List Reply) (x : Request) (e : Ending) → IsEnding submitted replies e → IsEnding (submitted ++ x ∷ []) replies e
-ending_more submitted replies x e h = record { known = get_append submitted (x ∷ []) (e.request.number - 1) e.request h.known; positive = h.positive; alone = h.alone }
-
-pub front_at_grown : (shape : Shape) (start pushed taken front_seen : ℕ) (submitted : List Request) (replies : List Reply) (next : Option Request) (entry : List ℕ) (ending : Option Ending) (x : Request) (s : FrontStage)
-    → FrontAt shape start pushed taken front_seen submitted replies next entry ending s
-    → FrontAt shape start pushed taken front_seen (submitted ++ x ∷ []) replies next entry ending s
-front_at_grown shape start pushed taken front_seen submitted replies next entry ending x (front.GrantRead place) h =
-    (h.0, h.1, ending_more submitted replies x h.0 h.2, h.3)
-front_at_grown shape start pushed taken front_seen submitted replies next entry ending x (front.GrantEnd place before) h =
-    (h.0, h.1, ending_more submitted replies x h.0 h.2, h.3)
-front_at_grown shape start pushed taken front_seen submitted replies next entry ending x (front.ReadData n) h =
-    (h.0, h.1, ending_more submitted replies x h.0 h.2, h.3)
-front_at_grown shape start pushed taken front_seen submitted replies next entry ending x (front.LeftData n) h =
-    (h.0, h.1, ending_more submitted replies x h.0 h.2, h.3)
-front_at_grown shape start pushed taken front_seen submitted replies next entry ending x s h = h
-
 replying_grown : {series : List Request} (fetched : ℕ) (works : List Work) (rep : Reply) (x : Request) → IsReplying series fetched works rep → IsReplying (series ++ x ∷ []) fetched works rep
 replying_grown fetched works rep x h = record { positive = h.positive; reached = numbered_grown fetched rep.id x h.reached; op = h.op; alone = h.alone }
 
@@ -197,7 +136,4 @@ pub back_at_grown : (shape : Shape) (start fetched back_seen replied : ℕ) (ser
     → BackAt shape start fetched back_seen replied series works entry b
     → BackAt shape start fetched back_seen replied (series ++ x ∷ []) works entry b
 back_at_grown shape start fetched back_seen replied series works entry x (back.Fetch k) h = (h.0, h.1, h.2, (h.3.0, get_append series (x ∷ []) fetched h.3.0 h.3.1, h.3.2))
-back_at_grown shape start fetched back_seen replied series works entry x (back.ReplyHigh rep) h = replying_grown fetched works rep x h
-back_at_grown shape start fetched back_seen replied series works entry x (back.ReplyLast rep) h = replying_grown fetched works rep x h
-back_at_grown shape start fetched back_seen replied series works entry x (back.Producer rep) h = replying_grown fetched works rep x h
-back_at_grown shape start fetched back_seen replied series works entry x b h = h
+back_at_grown shape start fetched back_seen replied series works entry x b h = first_of (assumption, search replying_grown)

@@ -1,9 +1,10 @@
 -- The front takes a response: what all that holds becomes.
+use Rattle.std.proofs.lemmas.List.Sums.{count_by-le-length}
 use Rattle.std.proofs.Common.{◌≡◌, ◌≢◌, ℕ, suc, ◌+◌, ◌-◌, ◌*◌, ◌^◌, ◌<◌, ◌≤◌, ◌==◌, inl, inr, if◌then◌else◌, Bool, List, [], ◌∷◌, length, take, drop, refl, ap, sym, ◌∙◌, subst, arith, true≢false, true, false}
-use Rattle.std.specs.Prelude.{All, Option, Some, None, slice_get, remove, Result, Ok}
+use Rattle.std.specs.Prelude.{Option, Some, None, slice_get, remove, Result, Ok}
 use Rattle.std.proofs.lemmas.Option.{none-some, same_Some, slice_get_within}
 use Rattle.std.proofs.lemmas.List.Edits.{length-remove}
-use Rattle.std.proofs.lemmas.Bool.{cases_lt}
+use Rattle.std.proofs.lemmas.Bool.{eqb-false, eqb-true, cases_Bool, cases_lt}
 use Rattle.std.proofs.lemmas.Bool.Decides.{nat_tests}
 use Rattle.blk_base.specs.Options.{Options}
 use Rattle.blk_base.specs.declared.ask.FrontAnswer.TheVariants as answer
@@ -21,7 +22,6 @@ use Rattle.blk_base.specs.declared.operation.Status.{Status}
 use Rattle.blk_front.specs.declared.request.Transfer.{Transfer}
 use Rattle.blk_front.specs.declared.request.Transfer.TheVariants as transfer
 use Rattle.blk_front.specs.Request.{is_moving, has_data, flags_at, frame_at, IsShaped}
-use Rattle.blk_front.specs.Pool.{with_all_free}
 use Rattle.blk_front.specs.declared.stage.Ending.{Ending}
 use Rattle.blk_front.specs.declared.stage.Stage.{Stage as FrontStage}
 use Rattle.blk_front.specs.declared.stage.Stage.TheVariants as front
@@ -33,23 +33,23 @@ use Rattle.blk_back.specs.declared.stage.Reply.{Reply}
 use Rattle.blk_back.specs.Ask.{response_word}
 use Rattle.split_model.specs.World.{World}
 use Rattle.split_model.specs.Shown.{front_lines}
-use Rattle.machine_pipeline.proofs.Flow.{Flow, wrapped, entered, ending_at, telling_at, is_issuing, is_fetching, is_front_arming, is_bound_back, reply_at, worked, frames_of}
-use Rattle.machine_pipeline.proofs.Holds.{Holds, FrontAt, IsOffered, IsPooled, ArePooled, IsSubmitted, IsEnding, IsReply, IsTaken, IsFilled, IsGranted, AreRevoked, PortsAt, IsWork, flags_with, AreIndices, slot_of}
-use Rattle.machine_pipeline.proofs.Kept.{as_connected}
-use Rattle.machine_pipeline.proofs.Ending.{pooled_free}
+use Rattle.machine_pipeline.proofs.Flow.{uses, Flow, wrapped, ending_at, telling_at, is_issuing, is_fetching, is_front_arming, is_bound_back, reply_at, worked, frames_of}
+use Rattle.machine_pipeline.proofs.Holds.{Holds, FrontAt, IsOffered, ArePooled, IsSubmitted, IsEnding, IsReply, IsTaken, IsFilled, IsGranted, AreRevoked, PortsAt, IsWork, flags_with, AreIndices, slot_of}
+use Rattle.machine_pipeline.proofs.Kept.{as_connected, awake_front}
 use Rattle.pipeline_laws.specs.Station.{Replied}
 use Rattle.machine_pipeline.proofs.Turns.{Goes, FrontGoes, Stepped, does_step, does_after, goes_by}
 use Rattle.machine_pipeline.proofs.Lists.{all_at, all_from, pair_at}
-use Rattle.machine_pipeline.proofs.Removals.{removed_was, taken_has}
+use Rattle.machine_pipeline.proofs.Removals.{taken_has}
 use Rattle.machine_pipeline.proofs.Series.{IsAmong}
 use Rattle.machine_pipeline.proofs.Wrapped.{next_wrapped}
 use Rattle.machine_pipeline.proofs.Frames.{is_submitted, unmapped}
-use Rattle.machine_pipeline.proofs.Resting.{IsResting, at_loop, at_read, at_last, ring_rests, frames_rest, granted_rests, data_rests, back_sleep_rests}
+use Rattle.machine_pipeline.proofs.Resting.{is_resting, resting, data_rests}
+use Rattle.machine_pipeline.proofs.Issuing.{ring_turned, idle_turned, back_sleep_turned}
 use Rattle.machine_pipeline.proofs.Resuming.{response_read}
 use Rattle.machine_pipeline.proofs.Finding.{IsFound, finds, read_back, first_two, response_for}
-use Rattle.machine_pipeline.proofs.Taking.{queued_without, pooled_without, replies_without, dropped}
+use Rattle.machine_pipeline.proofs.Taking.{sum_removed, all_without, queued_without, pooled_without, replies_without, dropped}
 use Rattle.machine_pipeline.proofs.Stations.{AreStations, apart, worked_kind}
-use Rattle.machine_pipeline.proofs.StationsFront.{takes, answers}
+use Rattle.machine_pipeline.proofs.StationsFront.{takes, answers, unread}
 use Rattle.machine_pipeline.specs.Step.{IsSame}
 use Rattle.blk_front.specs.Submit.{is_ready, ending_of}
 
@@ -63,7 +63,7 @@ taken_flow g = record g { taken = g.taken + 1; replies = drop 1 g.replies }
 
 -- what holds goes on holding
 freed_holds : (config : Options) (w : World) (g : Flow) (d d' : Pipeline) (low high : ℕ) (rep : Reply) (s : FrontStage) (ending : Option Ending)
-    → IsResting s → telling_at s ≡ None → is_front_arming s ≡ false → ending_of s ≤ 1
+    → is_resting s ≡ true → telling_at s ≡ None → is_front_arming s ≡ false → ending_of s ≤ 1
     → Holds config w g d (front.ResponseLast low high) w.back.stage
     → slice_get g.replies 0 ≡ Some rep
     → g.taken < g.front_seen
@@ -73,49 +73,30 @@ freed_holds : (config : Options) (w : World) (g : Flow) (d d' : Pipeline) (low h
     → (let v : View = freed w.front f.place in FrontAt g.shape g.start g.pushed (g.taken + 1) g.front_seen g.submitted (drop 1 g.replies) (next_request v) w.front.ring.entry ending s)
     → AreRevoked w.under.pages s ending
     → Holds config (freed_at w f.place s ending) (taken_flow g) d' s w.back.stage
-freed_holds config w g d d' low high rep s ending i untold unarmed few h oldest seen f pooled stations at revoked = record {
-  settled = h.settled;
-  indices = indices_taken;
-  queue = queued_without g.submitted w.front.requests g.pushed w.front.waiting f.place f.r f.here f.early h.queue;
-  pool = pooled;
-  stations = stations;
-  works = h.works;
-  counted = h.counted;
-  replies = replies_without g.fetched g.taken g.replied g.replies rep oldest h.replies;
-  front_at = at;
-  offered = subst (λ (b : Bool). IsOffered b config.read_only config.indirect w.front.offers g.pushed) (sym i.ready) h.offered;
-  back_at = h.back_at;
-  memory = h.memory;
-  ring = ring_rests g.shape.order g.start g.pushed g.replied w.under.pages (front.ResponseLast low high) s (length w.back.pages) (at_last low high) i h.ring;
-  slots = (let was = h.slots in record {
-    entries = was.entries;
-    entry = λ r at i lt few. let none = entered_none in absurd (omega arith);
-    responses = λ k x at i lt. ap (λ (n : ℕ). slot_of w.under.pages g.shape (wrapped g.start n) i) (omega arith) ∙ was.responses (suc k) x (sym (dropped g.replies k) ∙ at) i lt;
-    response = was.response;
-  });
-  frames = frames_rest g.pushed w.under.pages (front.ResponseLast low high) s (remove w.front.requests f.place) i (all_from (IsFilled g.series g.pushed w.under.pages (front.ResponseLast low high)) (remove w.front.requests f.place) (λ j x at.
-      let was = removed_was w.front.requests f.place j x at in
-      all_at (IsFilled g.series g.pushed w.under.pages (front.ResponseLast low high)) w.front.requests was.0 x h.frames was.2));
-  telling = data_rests w.under.pages w.under.pages w.front.words w.front.ending ending (front.ResponseLast low high) s untold h.telling;
-  entries = record {
-    each = all_from (IsGranted g.series g.pushed w.under.pages w.under.grants.live s) (remove w.front.requests f.place) (λ j x at.
-        let was = removed_was w.front.requests f.place j x at in
-        let entries = h.entries in
-        granted_rests g.pushed w.under.pages w.under.grants.live (front.ResponseLast low high) s x i (all_at (IsGranted g.series g.pushed w.under.pages w.under.grants.live (front.ResponseLast low high)) w.front.requests was.0 x entries.each was.2));
-    ending = revoked;
-  };
-  mapped = h.mapped;
-  paged = h.paged;
-  front_sleep = (let was = h.front_sleep in record { arming = λ t. absurd (true≢false (sym t ∙ unarmed)); armed = λ t. absurd (true≢false (sym t ∙ was.may refl)); may = λ t. was.may refl; woken = λ t. absurd (true≢false (sym t ∙ was.may refl)) });
-  back_sleep = back_sleep_rests g.start g.fetched g.pushed w.under.pages w.under.pages w.back.ring.asleep w.under.channels.back_pending w.under.channels.back_pending (front.ResponseLast low high) s w.back.stage refl refl (λ sends. sends) h.back_sleep;
-  ports = subst (λ (b : Bool). PortsAt g.before b (is_bound_back w.back.stage) w.under.channels.made w.under.channels.ports) (as_connected (front.ResponseLast low high) s refl i.ready) h.ports;
-}
+freed_holds config w g d d' low high rep s ending t untold unarmed few h oldest seen f pooled stations at revoked =
+    let i = resting s t in
+    let kept = idle_turned h w.under.pages s ending i.unissued (λ n x from to in_it after. refl) (λ n x lt k l. refl) (λ n x lt a in_it. record { flags = refl; frame = refl }) revoked in
+    assumption (
+      indices_taken,
+      queued_without g.submitted w.front.requests g.pushed w.front.waiting f.place f.r f.here f.early h.queue,
+      replies_without g.fetched g.taken g.replied g.replies rep oldest h.replies,
+      subst (λ (b : Bool). IsOffered b config.read_only config.indirect w.front.offers g.pushed) (sym i.ready) h.offered,
+      ring_turned h w.under.pages s refl i.ready (λ x other lt. refl) (λ page lt. record { flags = refl; frame = refl }),
+      responses_left,
+      kept.0,
+      all_without (IsFilled g.series g.pushed w.under.pages s) w.front.requests f.place kept.1,
+      data_rests w.under.pages w.under.pages w.front.words w.front.ending ending (front.ResponseLast low high) s untold h.telling,
+      all_without (IsGranted g.series g.pushed w.under.pages w.under.grants.live s) w.front.requests f.place (let entries = kept.2 in entries.each),
+      awake_front g.start (g.taken + 1) g.replied w.under.pages w.front.ring.asleep w.under.channels.front_pending s w.back.stage (h.front_sleep.may refl) unarmed,
+      back_sleep_turned h w.under.pages s w.under.channels.back_pending refl refl (λ asleep sends. absurd sends),
+      subst (λ (b : Bool). PortsAt g.before b (is_bound_back w.back.stage) w.under.channels.made w.under.channels.ports) (as_connected (front.ResponseLast low high) s refl i.ready) h.ports,
+    )
   where
     within : f.place < length w.front.requests
     within = slice_get_within w.front.requests f.place f.r f.here
 
-    entered_none : entered s ≡ 0
-    entered_none = i.entered_none
+    responses_left : (k : ℕ) (x : Reply) → slice_get (drop 1 g.replies) k ≡ Some x → (j : ℕ) → j < 3 → slot_of w.under.pages g.shape (wrapped g.start (g.taken + 1 + k)) j ≡ response_word x j
+    responses_left k x at j lt = ap (λ (n : ℕ). slot_of w.under.pages g.shape (wrapped g.start n) j) (omega arith) ∙ h.slots.responses (suc k) x (sym (dropped g.replies k) ∙ at) j lt
 
     indices_taken : (let x : View = freed w.front f.place in AreIndices (taken_flow g) x.ring.indices w.back.ring.indices x.ring.seen w.back.ring.seen w.back.fetched x.last x.waiting (length x.requests) (ending_of s))
     indices_taken = let less = length-remove w.front.requests f.place within in let taken = next_wrapped g.start g.taken w.front.ring.indices.cons h.indices.taken in omega (arith, h.indices, seen)
@@ -154,11 +135,7 @@ flags_left config w g d s rep h oldest f place lt =
 
 -- a request without frames moves no sector
 still_of : (r : Request) → IsShaped r → frames_of r ≡ 0 → is_moving r.transfer ≡ false
-still_of r shaped bare = by_moving (is_moving r.transfer) refl
-  where
-    by_moving : (b : Bool) → is_moving r.transfer ≡ b → b ≡ false
-    by_moving false t = refl
-    by_moving true t = let some = shaped.counted.some t in let frames = shaped.frames in absurd (omega arith)
+still_of r shaped bare = elim (cases_Bool (is_moving r.transfer)) [ inl t ↦ absurd (omega (arith, shaped.counted.some t, shaped.frames)) | inr f ↦ f ]
 
 -- and has no data that are told
 dataless : (way : Transfer) (status : Status) → is_moving way ≡ false → has_data way status ≡ false
@@ -166,15 +143,13 @@ dataless transfer.Read status still = absurd (true≢false still)
 dataless way status still = refl
 
 -- the pool has nothing of it
-bare_items : (frames : List ℕ) → length frames ≡ 0 → frames ≡ []
-bare_items [] none = refl
-bare_items (frame ∷ frames) none = absurd (omega arith)
-
-pooled_bare : (pool : List Bool) (requests : List Request) (place : ℕ) (r : Request) (e : Ending)
-    → slice_get requests place ≡ Some r → e.request ≡ r → All IsPooled r.frames.items → frames_of r ≡ 0 → ArePooled pool requests None → ArePooled pool (remove requests place) None
-pooled_bare pool requests place r e here same pooled bare h =
-    subst (λ (frames : List ℕ). ArePooled (with_all_free pool frames) (remove requests place) None) (ap (λ (x : Request). x.frames.items) same ∙ bare_items r.frames.items bare)
-    (pooled_free pool (remove requests place) e (subst (λ (x : Request). All IsPooled x.frames.items) (sym same) pooled) (pooled_without pool requests place r e here same h))
+pooled_bare : (pool : List Bool) (requests : List Request) (place : ℕ) (r : Request) → slice_get requests place ≡ Some r → frames_of r ≡ 0
+    → ArePooled pool requests None → ArePooled pool (remove requests place) None
+pooled_bare pool requests place r here bare h = record {
+  size = h.size;
+  each = λ f lt. omega (arith, h.each f lt, sum_removed (uses (18 + f)) requests place r here, count_by-le-length (λ (x : ℕ). x == 18 + f) r.frames.items, bare);
+  used = omega (arith, h.used, sum_removed frames_of requests place r here, bare);
+}
 
 -- the last word of the oldest response is read, and the response taken: its grants are ended next, or it has none and is answered
 pub last_goes : (config : Options) (w : World) (g : Flow) (d : Pipeline) (low high : ℕ)
@@ -238,21 +213,15 @@ last_goes config w g d low high told h =
 
     by_frames : (b : Bool) → (frames_of found.r == 0) ≡ b → Becomes (if b then answered (freed w.front found.place) found.r rep.status else revokes (freed w.front found.place) found.r rep.status)
     by_frames true t = goes_by {g = taken_flow g} (does_after shown (lines.Answer found.r.number rep.status ∷ []) refl s tells)
-        (freed_holds config w g d (next (next d s.step) tells.step) low high rep front.Loop w.front.ending at_loop refl refl (omega arith) h place.0.oldest place.0.seen found
-        (pooled_bare w.front.pool w.front.requests found.place found.r e found.here refl its.frames bare h.pool) tells.now tt (λ x same. absurd (none-some x same)))
+        (freed_holds config w g d (next (next d s.step) tells.step) low high rep front.Loop w.front.ending refl refl refl (omega arith) h place.0.oldest place.0.seen found
+        (pooled_bare w.front.pool w.front.requests found.place found.r found.here (eqb-true (frames_of found.r) 0 t) h.pool) tells.now tt (λ x same. absurd (none-some x same)))
       where
-        bare : frames_of found.r ≡ 0
-        bare = grind (arith, nat_tests)
-
         tells : Stepped None IsSame (next d s.step) (lines.Answer found.r.number rep.status ∷ []) (λ p. AreStations config (taken_flow g) p true false (is_fetching w.back.stage) None None (reply_at w.back.stage) (remove w.front.requests found.place) w.back.jobs.works w.under.pages)
-        tells = answers config (taken_flow g) (next d s.step) true false (is_fetching w.back.stage) (reply_at w.back.stage) (remove w.front.requests found.place) w.back.jobs.works w.under.pages e ends.known ends.positive
-            (dataless found.r.transfer rep.status (still_of found.r its.shaped bare)) s.now
+        tells = answers config (taken_flow g) (next d s.step) true false (is_fetching w.back.stage) (reply_at w.back.stage) (remove w.front.requests found.place) w.back.jobs.works w.under.pages e None ends.known ends.positive
+            (unread found.r.transfer found.r.sector found.r.count rep.status (dataless found.r.transfer rep.status (still_of found.r its.shaped (eqb-true (frames_of found.r) 0 t)))) (λ x. cc) s.now
     by_frames false t = goes_by {g = taken_flow g} (does_step shown (front_lines w.front.told) (rw told refl) s)
-        (freed_holds config w g d (next d s.step) low high rep (front.GrantRead 0) (Some e) (at_read 0) refl refl (omega arith) h place.0.oldest place.0.seen found
-        (pooled_without w.front.pool w.front.requests found.place found.r e found.here refl h.pool) s.now (e, refl, ends, some_frame)
+        (freed_holds config w g d (next d s.step) low high rep (front.GrantRead 0) (Some e) refl refl refl (omega arith) h place.0.oldest place.0.seen found
+        (pooled_without w.front.pool w.front.requests found.place found.r e found.here refl h.pool) s.now (e, refl, ends, (let other = eqb-false (frames_of found.r) 0 t in omega arith))
         (λ x same. subst (λ (y : Ending). (place : ℕ) → 0 ≤ place → place < frames_of y.request
         → entry_word0 w.under.pages (frame_at y.request place + 6) ≡ flags_at y.request place) (same_Some e x same)
         (λ at le lt. flags_left config w g d (front.ResponseLast low high) rep h place.0.oldest found at lt)))
-      where
-        some_frame : 0 < frames_of found.r
-        some_frame = let other : frames_of found.r ≢ 0 = grind (arith, nat_tests) in omega arith

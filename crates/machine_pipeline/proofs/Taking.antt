@@ -1,11 +1,10 @@
 -- The front takes a response: its request is unfinished still, and its grant is ended next.
-use Rattle.std.proofs.Common.{◌≡◌, ◌≢◌, ℕ, suc, ◌+◌, ◌-◌, ◌<◌, ◌≤◌, ◌==◌, ◌⊎◌, inl, inr, Bool, true, false, List, [], ◌∷◌, length, take, drop, refl, ap, sym, ◌∙◌, arith}
-use Rattle.std.specs.Prelude.{Some, None, slice_get, slice_index_or, sum_by, remove}
-use Rattle.std.specs.List.{list_any}
+use Rattle.std.proofs.lemmas.Bool.{cases_eq}
+use Rattle.std.proofs.Common.{◌≡◌, ◌≢◌, ℕ, suc, ◌+◌, ◌-◌, ◌<◌, ◌≤◌, ◌==◌, ◌⊎◌, inl, inr, Bool, List, [], ◌∷◌, length, take, drop, refl, ap, sym, ◌∙◌, arith}
+use Rattle.std.specs.Prelude.{All, Some, None, slice_get, slice_index_or, sum_by, remove}
 use Rattle.std.proofs.lemmas.Option.{none-some, same_Some, slice_get_within, get_or_from_slice_get}
 use Rattle.std.proofs.lemmas.List.Edits.{length-remove}
 use Rattle.std.proofs.lemmas.List.Quantifiers.{all_pairs_remove}
-use Rattle.std.proofs.lemmas.List.Folds.{list_any_at}
 use Rattle.std.proofs.lemmas.List.Sums.{sum_by-remove}
 use Rattle.std.proofs.lemmas.Bool.Decides.{nat_tests}
 use Rattle.pipeline_laws.specs.Station.{Request as Asked}
@@ -17,7 +16,7 @@ use Rattle.machine_pipeline.proofs.Flow.{uses, frames_of}
 use Rattle.machine_pipeline.proofs.Series.{IsAmong}
 use Rattle.machine_pipeline.proofs.Holds.{AreQueued, ArePooled, AreReplies, IsReply}
 use Rattle.machine_pipeline.proofs.Stations.{AreOpen}
-use Rattle.machine_pipeline.proofs.Lists.{all_at, all_from, pair_at, pairs_from, place_of_any}
+use Rattle.machine_pipeline.proofs.Lists.{any_at, all_at, all_from, pair_at, pairs_from, place_of_any}
 use Rattle.machine_pipeline.proofs.Removals.{removed_was, removed_has, removed_after, taken_was, taken_has}
 
 -- the responses after the oldest
@@ -29,6 +28,9 @@ dropped_long : {X : Type 0} (xs : List X) (x : X) → slice_get xs 0 ≡ Some x 
 dropped_long [] x e = absurd (none-some x e)
 dropped_long (y ∷ xs) x e = omega arith
 
+pub all_without : {X : Type 0} (P : X → Type 0) (xs : List X) (place : ℕ) → All P xs → All P (remove xs place)
+all_without P xs place h = all_from P (remove xs place) (λ i x e. let was = removed_was xs place i x e in all_at P xs was.0 x h was.2)
+
 -- the front's requests without the one that was answered
 pub queued_without : {series : List Request} (submitted requests : List Request) (pushed waiting place : ℕ) (r : Request)
     → slice_get requests place ≡ Some r
@@ -37,9 +39,7 @@ pub queued_without : {series : List Request} (submitted requests : List Request)
     → AreQueued submitted series pushed (remove requests place) waiting
 queued_without {series} submitted requests pushed waiting place r here early h = record {
   ordered = h.ordered;
-  known = all_from (λ (x : Request). slice_get submitted (x.number - 1) ≡ Some x) (remove requests place) (λ i x e.
-      let was = removed_was requests place i x e in
-      all_at (λ (y : Request). slice_get submitted (y.number - 1) ≡ Some y) requests was.0 x h.known was.2);
+  known = all_without (λ (x : Request). slice_get submitted (x.number - 1) ≡ Some x) requests place h.known;
   ascending = all_pairs_remove (λ (x y : Request). x.number < y.number) requests place (slice_get_within requests place r here) h.ascending;
   issued = all_from (IsAmong series pushed) (take (length (remove requests place) - waiting) (remove requests place)) (λ i x e.
       let first = taken_was (length (remove requests place) - waiting) (remove requests place) i x e in
@@ -70,13 +70,8 @@ pub pooled_without : (pool : List Bool) (requests : List Request) (place : ℕ) 
     → ArePooled pool (remove requests place) (Some e)
 pooled_without pool requests place r e here same h = record {
   size = h.size;
-  each = λ f lt.
-      let counted : ◌≡◌ {A = ℕ} (uses (18 + f) e.request) (uses (18 + f) r) = ap (uses (18 + f)) same in
-      omega (arith, (h.each f lt), (sum_removed (uses (18 + f)) requests place r here), counted);
-  used =
-      (let used = h.used in
-      let counted : ◌≡◌ {A = ℕ} (frames_of e.request) (frames_of r) = ap frames_of same in
-      omega (arith, used, (sum_removed frames_of requests place r here), counted));
+  each = λ f lt. omega (arith, h.each f lt, sum_removed (uses (18 + f)) requests place r here, ap (uses (18 + f)) same);
+  used = omega (arith, h.used, sum_removed frames_of requests place r here, ap frames_of same);
 }
 
 pub opened_without : (asked : List Asked) (requests : List Request) (place : ℕ) (r : Request) (e : Ending)
@@ -86,24 +81,17 @@ pub opened_without : (asked : List Asked) (requests : List Request) (place : ℕ
     → AreOpen asked (remove requests place) (Some e)
 opened_without asked requests place r e here number h = record {
   unfinished = (let less = length-remove requests place (slice_get_within requests place r here) in let all = h.unfinished in omega arith);
-  held = λ k q at unfinished. by_place k (h.held k q at unfinished);
-}
-  where
-    by_place : (k : ℕ) → (list_any (λ (x : Request). x.number == k + 1) requests ≡ true) ⊎ ((f : Ending) × (None ≡ Some f) × (f.request.number ≡ k + 1)) → (list_any (λ (x : Request). x.number == k + 1) (remove requests place) ≡ true) ⊎ ((f : Ending) × (Some e ≡ Some f) × (f.request.number ≡ k + 1))
-    by_place k (inr other) = absurd (none-some other.0 other.1)
-    by_place k (inl any) =
+  held = λ k q at unfinished. elim (h.held k q at unfinished) [
+    | inr other ↦ absurd (none-some other.0 other.1)
+    | inl any ↦
         let found = place_of_any (λ (x : Request). x.number == k + 1) requests any in
-        by_test found.0 found.1 found.2 found.3 (found.0 == place) refl
-      where
-        by_test : (i : ℕ) (x : Request) → slice_get requests i ≡ Some x → (x.number == k + 1) ≡ true → (b : Bool) → (i == place) ≡ b → (list_any (λ (y : Request). y.number == k + 1) (remove requests place) ≡ true) ⊎ ((f : Ending) × (Some e ≡ Some f) × (f.request.number ≡ k + 1))
-        by_test i x at passes true t =
-            let same : i ≡ place = grind (arith, nat_tests) in
-            let numbered : x.number ≡ k + 1 = grind (arith, nat_tests) in
-            inr (e, refl, number ∙ (sym (ap (λ (y : Request). y.number) (same_Some x r (sym at ∙ (ap (slice_get requests) same ∙ here)))) ∙ numbered))
-        by_test i x at passes false t =
-            let left = removed_has requests place i x at (grind (arith, nat_tests)) in
-            let within = slice_get_within (remove requests place) left.0 x left.1 in
-            inl (list_any_at (λ (y : Request). y.number == k + 1) (remove requests place) left.0 x within (ap (λ (y : Request). y.number == k + 1) (get_or_from_slice_get (remove requests place) left.0 x x left.1) ∙ passes))
+        let numbered : (let x : Request = found.1 in x.number) ≡ k + 1 = grind (arith, nat_tests, found.3) in
+        elim (cases_eq found.0 place) [
+          | inl same ↦ inr (e, refl, number ∙ (sym (ap (λ (y : Request). y.number) (same_Some found.1 r (sym found.2 ∙ (ap (slice_get requests) same ∙ here)))) ∙ numbered))
+          | inr apart ↦ (let left = removed_has requests place found.0 found.1 found.2 apart in inl (any_at (λ (y : Request). y.number == k + 1) (remove requests place) left.0 found.1 left.1 found.3))
+        ]
+  ];
+}
 
 pub replies_without : {series : List Request} (fetched taken replied : ℕ) (replies : List Reply) (rep : Reply) → slice_get replies 0 ≡ Some rep → AreReplies series fetched taken replied replies → AreReplies series fetched (taken + 1) replied (drop 1 replies)
 replies_without {series} fetched taken replied replies rep oldest h = record {

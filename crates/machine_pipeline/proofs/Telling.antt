@@ -1,8 +1,13 @@
 -- The front reads the data of a read that was answered, word by word, and tells its sectors.
-use Rattle.std.proofs.Common.{◌≡◌, ◌≢◌, ℕ, ◌+◌, ◌-◌, ◌*◌, ◌/◌, ◌%◌, ◌<◌, ◌≤◌, ◌==◌, if◌then◌else◌, Bool, true, false, List, [], ◌∷◌, length, refl, ap, sym, ◌∙◌, subst, arith, length-set, get_or-set_other}
+use Rattle.blk_front.specs.declared.request.Transfer.TheVariants as transfer
+use Rattle.blk_base.specs.declared.operation.Status.TheVariants.{Okay}
+use Rattle.machine_pipeline.specs.Step.{IsSame}
+use Rattle.pipeline_laws.specs.Move.{told_station}
+use Rattle.std.proofs.lemmas.Bool.{cases_eq}
+use Rattle.std.proofs.Common.{inl, inr, ◌≡◌, ◌≢◌, ℕ, ◌+◌, ◌-◌, ◌*◌, ◌/◌, ◌%◌, ◌<◌, ◌≤◌, ◌==◌, if◌then◌else◌, Bool, true, false, List, [], ◌∷◌, length, refl, ap, sym, ◌∙◌, subst, arith, length-set, get_or-set_other}
 use Rattle.std.specs.Prelude.{Option, Some, None, slice_set, slice_index, nat_lt}
 use Rattle.std.proofs.lemmas.Grind.{get_or-set_at}
-use Rattle.std.proofs.lemmas.Option.{none-some, same_Some}
+use Rattle.std.proofs.lemmas.Option.{same_Some}
 use Rattle.std.proofs.lemmas.Bool.Decides.{nat_tests}
 use Rattle.blk_base.specs.Options.{Options}
 use Rattle.blk_base.specs.declared.moves.Move.TheVariants as moves
@@ -20,48 +25,23 @@ use Rattle.blk_front.specs.Step.{at as at_stage, finished, data_step}
 use Rattle.blk_front.specs.View.{View}
 use Rattle.split_model.specs.World.{World}
 use Rattle.split_model.specs.Shown.{front_lines}
-use Rattle.machine_pipeline.proofs.Flow.{Flow, is_fetching, reply_at, data_word}
-use Rattle.machine_pipeline.proofs.Holds.{Holds, IsEnding, IsToldAt, IsSubmitted, AreSubmitted, ArePooled, AreReadTo}
-use Rattle.machine_pipeline.proofs.Turns.{Goes, FrontGoes, said_nothing, does_step, goes_by}
-use Rattle.machine_pipeline.proofs.Resting.{at_loop, at_data, entries_rest}
+use Rattle.machine_pipeline.proofs.Flow.{submitted_job, Flow, is_fetching, reply_at, data_word}
+use Rattle.machine_pipeline.proofs.Holds.{Holds, IsToldAt, AreSubmitted, ArePooled, AreReadTo}
+use Rattle.machine_pipeline.proofs.Turns.{Stepped, Goes, FrontGoes, said_nothing, does_step, goes_by}
+use Rattle.machine_pipeline.proofs.Issuing.{entries_turned}
 use Rattle.machine_pipeline.proofs.Ending.{pooled_free}
 use Rattle.machine_pipeline.proofs.Ended.{ActGoes, finishing_at, ends_on}
 use Rattle.machine_pipeline.proofs.Stations.{AreStations}
-use Rattle.machine_pipeline.proofs.StationsFront.{tells, tells_last}
+use Rattle.machine_pipeline.proofs.StationsFront.{told_on, told_ending, tells}
 
 -- one word more of a sector was read
 more_read : (pages words : List ℕ) (r : Request) (n : ℕ) → length words ≡ 128
     → ((k : ℕ) → k < n % 128 → slice_index words k ≡ data_word pages r (n / 128 * 128 + k))
     → (k : ℕ) → k < n % 128 + 1 → slice_index (slice_set words (n % 128) (data_word pages r n)) k ≡ data_word pages r (n / 128 * 128 + k)
-more_read pages words r n sized read k lt = by_test (k == n % 128) refl
-  where
-    by_test : (b : Bool) → (k == n % 128) ≡ b → slice_index (slice_set words (n % 128) (data_word pages r n)) k ≡ data_word pages r (n / 128 * 128 + k)
-    by_test true t =
-        let same : k ≡ n % 128 = grind (arith, nat_tests) in
-        let place : n ≡ n / 128 * 128 + k = omega (arith, same) in
-        get_or-set_at words (n % 128) k (data_word pages r n) 0 same (omega arith) ∙ ap (data_word pages r) place
-    by_test false t =
-        let other : k ≢ n % 128 = grind (arith, nat_tests) in
-        get_or-set_other words (n % 128) k (data_word pages r n) 0 other ∙ read k (omega arith)
-
--- after the last word of a sector the next sector is begun, and else the same one is read on
-is_last : (n : ℕ) → (n % 128 == 127) ≡ true → n % 128 ≡ 127
-is_last n t = grind (arith, nat_tests)
-
-not_last : (n : ℕ) → (n % 128 == 127) ≡ false → n % 128 < 127
-not_last n t = let apart : n % 128 ≢ 127 = grind (arith, nat_tests) in omega (arith, apart)
-
-next_sector : (n : ℕ) → n % 128 ≡ 127 → (n + 1) / 128 ≡ n / 128 + 1
-next_sector n last = omega (arith, last)
-
-next_word : (n : ℕ) → n % 128 ≡ 127 → (n + 1) % 128 ≡ 0
-next_word n last = omega (arith, last)
-
-same_sector : (n : ℕ) → n % 128 < 127 → (n + 1) / 128 ≡ n / 128
-same_sector n further = omega (arith, further)
-
-further_word : (n : ℕ) → n % 128 < 127 → (n + 1) % 128 ≡ n % 128 + 1
-further_word n further = omega (arith, further)
+more_read pages words r n sized read k lt = elim (cases_eq k (n % 128)) [
+  | inl same ↦ get_or-set_at words (n % 128) k (data_word pages r n) 0 same (omega arith) ∙ ap (data_word pages r) (omega (arith, same))
+  | inr other ↦ get_or-set_other words (n % 128) k (data_word pages r n) 0 other ∙ read k (omega arith)
+]
 
 -- a read whose answer was told, with its first n words read, as the front is ready or not
 pub record IsTelling (config : Options) (w : World) (g : Flow) (d : Pipeline) (ready : Bool) (n : ℕ) : Type 0 where
@@ -90,18 +70,6 @@ module _ (config : Options) (w : World) (g : Flow) (d : Pipeline) (n : ℕ) (nex
   abbrev e : Ending
   e = h.at.0
 
-  here : w.front.ending ≡ Some e
-  here = h.at.1
-
-  is : IsEnding g.submitted g.replies e
-  is = h.at.2
-
-  within : n < words_in e.request
-  within = h.at.3.0
-
-  its : IsSubmitted w.front.sectors (e.request.number - 1) e.request
-  its = let submitted = h.submitted in submitted.each (e.request.number - 1) e.request is.known
-
   abbrev pub word : ℕ
   word = data_word w.under.pages e.request n
 
@@ -117,7 +85,7 @@ module _ (config : Options) (w : World) (g : Flow) (d : Pipeline) (n : ℕ) (nex
   sized = length-set w.front.words (n % 128) word ∙ h.size
 
   read : (k : ℕ) → k < n % 128 + 1 → slice_index words k ≡ data_word w.under.pages e.request (n / 128 * 128 + k)
-  read = more_read w.under.pages w.front.words e.request n h.size (h.so_far e here)
+  read = more_read w.under.pages w.front.words e.request n h.size (h.so_far e h.at.1)
 
   whole : n % 128 ≡ 127 → (j : ℕ) → j < 128 → slice_index words j ≡ data_word w.under.pages e.request (128 * (n / 128) + j)
   whole last j lt = read j (omega arith) ∙ ap (data_word w.under.pages e.request) (omega arith)
@@ -127,7 +95,7 @@ module _ (config : Options) (w : World) (g : Flow) (d : Pipeline) (n : ℕ) (nex
       (reply_at w.back.stage) w.front.requests w.back.jobs.works w.under.pages
 
   stations : At (Some e) (Some (n / 128)) d
-  stations = subst (λ (x : Option Ending). At x (Some (n / 128)) d) here h.stations
+  stations = subst (λ (x : Option Ending). At x (Some (n / 128)) d) h.at.1 h.stations
 
   abbrev told_of : Bool → View
   told_of b = if b then record w.front { words = words; told = Some (told.Sector e.request.number (n / 128) words) } else record w.front { words = words }
@@ -140,40 +108,49 @@ module _ (config : Options) (w : World) (g : Flow) (d : Pipeline) (n : ℕ) (nex
       → ((k : ℕ) → k < (n + 1) % 128 → slice_index words k ≡ data_word w.under.pages e.request ((n + 1) / 128 * 128 + k))
       → Holds config (finishing_at w next_stage w.front.ending w.front.pool words w.under.pages) g p next_stage w.back.stage
   goes_on more p further now so_far =
-      more p words (e, here, is, (further, h.at.3.1, h.at.3.2)) sized
-      (λ x same. subst (λ (y : Ending). (k : ℕ) → k < (n + 1) % 128 → slice_index words k ≡ data_word w.under.pages y.request ((n + 1) / 128 * 128 + k)) (same_Some e x (sym here ∙ same)) so_far)
-      (subst (λ (x : Option Ending). At x (Some ((n + 1) / 128)) p) (sym here) now)
+      more p words (e, h.at.1, h.at.2, (further, h.at.3.1, h.at.3.2)) sized
+      (λ x same. subst (λ (y : Ending). (k : ℕ) → k < (n + 1) % 128 → slice_index words k ≡ data_word w.under.pages y.request ((n + 1) / 128 * 128 + k)) (same_Some e x (sym h.at.1 ∙ same)) so_far)
+      (subst (λ (x : Option Ending). At x (Some ((n + 1) / 128)) p) (sym h.at.1) now)
 
-  -- a word of data is read: its sector is told once it was read whole, and the request is finished once all were told
+  -- its sector is told, once it was read whole: the next one is told then, or it was the last
+  told_next : (n % 128 == 127) ≡ true → (b : Bool) → nat_lt (n + 1) (words_in e.request) ≡ b
+      → told_station (submitted_job transfer.Read e.request.sector e.request.count) (n / 128) ≡ told_on Okay (if b then Some (n / 128 + 1) else None)
+  told_next u true t = let more : nat_lt (n / 128 + 1) e.request.count ≡ true = grind (arith, nat_tests) in rw more refl
+  told_next u false t = let none : nat_lt (n / 128 + 1) e.request.count ≡ false = grind (arith, nat_tests) in rw none refl
+
+  whole_told : (n % 128 == 127) ≡ true → (b : Bool) → nat_lt (n + 1) (words_in e.request) ≡ b
+      → Stepped None IsSame d (lines.Data e.request.number (n / 128) words ∷ []) (At (told_ending e (if b then Some (n / 128 + 1) else None)) (if b then Some (n / 128 + 1) else None))
+  whole_told u b t = tells config g d ready false (is_fetching w.back.stage) (reply_at w.back.stage) w.front.requests w.back.jobs.works w.under.pages words e
+      (n / 128) (if b then Some (n / 128 + 1) else None) h.at.2.known h.at.2.positive h.at.3.1 (omega arith) (told_next u b t) sized (whole (grind (arith, nat_tests))) stations
+
+  -- a word of data is read: the request is finished once all were told
   pub told_by : HoldsMore config w g ready n next_stage → HoldsAll config w g ready last_stage → Becomes (next_at (nat_lt (n + 1) (words_in e.request)) (n % 128 == 127))
   told_by more all = by_place (nat_lt (n + 1) (words_in e.request)) (n % 128 == 127) refl refl
     where
       by_place : (further last : Bool) → nat_lt (n + 1) (words_in e.request) ≡ further → (n % 128 == 127) ≡ last → Becomes (next_at further last)
       by_place true true t u =
           let further : n + 1 < words_in e.request = grind (arith, nat_tests) in
-          let last = is_last n u in
-          let s = tells config g d ready false (is_fetching w.back.stage) (reply_at w.back.stage) w.front.requests w.back.jobs.works w.under.pages words e
-          (n / 128) is.known is.positive h.at.3.1 (omega arith) sized (whole last) stations in
+          let last : n % 128 ≡ 127 = grind (arith, nat_tests) in
+          let s = whole_told u true t in
           goes_by (does_step (moves.FrontRead (frame_at e.request (n / 1024)) (n % 1024) word) (lines.Data e.request.number (n / 128) words ∷ []) refl s)
-          (goes_on more (next d s.step) further (subst (λ (i : ℕ). At (Some e) (Some i) (next d s.step)) (sym (next_sector n last)) s.now)
-          (λ k lt. absurd (let none = next_word n last in omega arith)))
+          (goes_on more (next d s.step) further (subst (λ (i : ℕ). At (Some e) (Some i) (next d s.step)) (omega (arith, last)) s.now) (λ k lt. absurd (omega (arith, last))))
       by_place true false t u =
           let further : n + 1 < words_in e.request = grind (arith, nat_tests) in
-          let on = not_last n u in
+          let on : n % 128 ≢ 127 = grind (arith, nat_tests) in
+          let same : n / 128 ≡ (n + 1) / 128 = omega (arith, on) in
           goes_by (said_nothing d (moves.FrontRead (frame_at e.request (n / 1024)) (n % 1024) word) w.front.told h.untold)
-          (goes_on more d further (subst (λ (i : ℕ). At (Some e) (Some i) d) (sym (same_sector n on)) stations)
-          (λ k lt. read k (let one = further_word n on in omega arith)
-          ∙ ap (λ (i : ℕ). data_word w.under.pages e.request (i * 128 + k)) (sym (same_sector n on))))
+          (goes_on more d further (subst (λ (i : ℕ). At (Some e) (Some i) d) same stations)
+          (λ k lt. read k (omega (arith, on)) ∙ ap (λ (i : ℕ). data_word w.under.pages e.request (i * 128 + k)) same))
       by_place false true t u =
-          let end : words_in e.request ≤ n + 1 = grind (arith, nat_tests) in
-          let s = tells_last config g d ready false (is_fetching w.back.stage) (reply_at w.back.stage) w.front.requests w.back.jobs.works w.under.pages words e
-          (n / 128) is.known is.positive h.at.3.1 (omega arith) sized (whole (is_last n u)) stations in
+          let s = whole_told u false t in
           goes_by (does_step (moves.FrontRead (frame_at e.request (n / 1024)) (n % 1024) word) (lines.Data e.request.number (n / 128) words ∷ []) refl s)
           (all (next d s.step) (with_all_free w.front.pool e.request.frames.items) words
-          (pooled_free w.front.pool w.front.requests e its.frames (subst (ArePooled w.front.pool w.front.requests) here h.pool)) sized s.now)
+          (pooled_free w.front.pool w.front.requests e (h.submitted.each (e.request.number - 1) e.request h.at.2.known).frames (subst (ArePooled w.front.pool w.front.requests) h.at.1 h.pool))
+          sized s.now)
       by_place false false t u =
           let end : words_in e.request ≤ n + 1 = grind (arith, nat_tests) in
-          absurd (omega (arith, not_last n u))
+          let on : n % 128 ≢ 127 = grind (arith, nat_tests) in
+          absurd (omega (arith, on))
 
 -- while the ring is served: the next request is looked for after all
 pub told_goes : (config : Options) (w : World) (g : Flow) (d : Pipeline) (n : ℕ)
@@ -192,16 +169,13 @@ told_goes config w g d n untold h =
 
     more : HoldsMore config w g true n (front.ReadData (n + 1))
     more p words at sized so_far now =
-        ends_on config w g d p (front.ReadData n) (front.ReadData (n + 1)) w.front.ending w.front.pool words w.under.pages (at_data n)
-        (at_data (n + 1)) refl refl (omega arith) h now h.pool at (record { size = sized; so_far = so_far })
-        (entries_rest g.pushed w.under.pages w.under.grants.live (front.ReadData n) (front.ReadData (n + 1)) w.front.ending w.front.ending w.front.requests
-        (at_data (n + 1)) (λ x same. absurd (none-some x same)) h.entries)
+        ends_on config w g d p (front.ReadData n) (front.ReadData (n + 1)) w.front.ending w.front.pool words w.under.pages refl refl refl refl
+        (omega arith) h now h.pool at (record { size = sized; so_far = so_far })
+        (entries_turned h w.under.pages (front.ReadData (n + 1)) w.front.ending (omega arith) (omega arith) (λ k x lt a in_it. record { flags = refl; frame = refl }) h.entries.ending)
         h.memory (λ f from x lt. refl) (λ page lt. record { flags = refl; frame = refl })
 
     all : HoldsAll config w g true front.Loop
     all p pool words pooled sized now =
-        ends_on config w g d p (front.ReadData n) front.Loop None pool words w.under.pages (at_data n) at_loop refl refl (omega arith) h
-        now pooled tt (record { size = sized; so_far = tt })
-        (entries_rest g.pushed w.under.pages w.under.grants.live (front.ReadData n) front.Loop w.front.ending None w.front.requests at_loop
-        (λ x same. absurd (none-some x same)) h.entries)
+        ends_on config w g d p (front.ReadData n) front.Loop None pool words w.under.pages refl refl refl refl (omega arith) h now pooled tt (record { size = sized; so_far = tt })
+        (entries_turned h w.under.pages front.Loop None (omega arith) (omega arith) (λ k x lt a in_it. record { flags = refl; frame = refl }) h.entries.ending)
         h.memory (λ f from x lt. refl) (λ page lt. record { flags = refl; frame = refl })

@@ -1,14 +1,13 @@
 -- Whatever happens is nothing to the pipeline or one step of it, and all that holds goes on holding.
 use Rattle.std.proofs.Common.{◌≡◌, inl, inr, List, [], ◌∷◌, refl, ap}
-use Rattle.std.specs.Prelude.{Option, Some, None, is_some}
+use Rattle.std.specs.Prelude.{is_some}
 use Rattle.blk_base.specs.Options.{Options}
-use Rattle.blk_front.specs.declared.request.Request.{Request}
 use Rattle.blk_front.specs.declared.stage.Stage.{Stage as FrontStage}
 use Rattle.blk_front.specs.declared.stage.Stage.TheVariants as front
 use Rattle.blk_front.specs.View.{next_request}
 use Rattle.split_model.specs.World.{World, start_of}
 use Rattle.split_model.specs.Safe.{IsSafe}
-use Rattle.split_model.specs.Happening.{Happening, FrontMoves, BackMoves, JobMoves, Negotiates, FrontEnters, BackAttaches, BackHalts, Submits, Notifies, Pokes, OverwritesKey, Suspends, Dumps, Looks, Settles, happens, lines_at, after as world_after}
+use Rattle.split_model.specs.Happening.{Happening, FrontMoves, BackMoves, JobMoves, FrontEnters, BackAttaches, BackHalts, Submits, Suspends, happens, lines_at, after as world_after}
 use Rattle.split_model.proofs.Safe.{safe_start, safe_happens}
 use Rattle.machine_pipeline.specs.Plain.{IsPlain}
 use Rattle.machine_pipeline.specs.Allowed.{IsServed, AreServed}
@@ -16,7 +15,7 @@ use Rattle.machine_pipeline.proofs.Flow.{Flow, start_flow}
 use Rattle.machine_pipeline.proofs.Holds.{Holds}
 use Rattle.machine_pipeline.proofs.Over.{Over, IsKept, HasGone, goes_on}
 use Rattle.machine_pipeline.proofs.Turns.{FrontGoes}
-use Rattle.machine_pipeline.proofs.StartingMoves.{start_moves}
+use Rattle.machine_pipeline.proofs.StartingMoves.{ring_word_goes, ring_frame_goes, ring_fence_goes, ring_flags_goes, port_goes}
 use Rattle.machine_pipeline.proofs.StartingHolds.{start_holds}
 use Rattle.machine_pipeline.proofs.Filling.{data_goes, pages_goes}
 use Rattle.machine_pipeline.proofs.Granting.{frame_goes, fence_goes, flags_goes}
@@ -32,34 +31,32 @@ use Rattle.machine_pipeline.proofs.Looking.{store_goes, event_fence_goes, look_a
 use Rattle.machine_pipeline.proofs.BackMoves.{back_moves}
 use Rattle.machine_pipeline.proofs.JobTurns.{job_kept}
 use Rattle.machine_pipeline.proofs.Submissions.{submit_kept}
-use Rattle.machine_pipeline.proofs.Notified.{notified_goes}
+use Rattle.machine_pipeline.proofs.Outside.{outside_goes}
 use Rattle.machine_pipeline.proofs.Connecting.{waits_goes, enters_goes}
 use Rattle.machine_pipeline.proofs.Attaching.{attaches_goes}
 use Rattle.machine_pipeline.proofs.Leaving.{halts_goes}
 use Rattle.machine_pipeline.proofs.OverMoves.{front_ends, back_ends, job_ends}
-use Rattle.machine_pipeline.proofs.OverRest.{keys_end, notified_ends, submit_ends, enters_ends, attaches_late, halts_no_more}
-use Rattle.machine_pipeline.proofs.Keyed.{negotiates_goes}
+use Rattle.machine_pipeline.proofs.OverRest.{submit_ends, enters_ends, attaches_late, halts_no_more}
 use Rattle.machine_pipeline.proofs.Left.{left_goes}
 use Rattle.machine_pipeline.proofs.ResumedHolds.{suspends_goes, suspends_ends}
-use Rattle.machine_pipeline.proofs.Quiet.{dumps_goes, looks_goes, settles_goes}
 use Rattle.pipeline_laws.specs.Pipeline.{Pipeline, pipeline_of, after_steps}
 use Rattle.machine_pipeline.specs.Step.{CallAt, GoesStepwise}
 use Rattle.machine_pipeline.specs.Submissions.{submitted_at}
+use Rattle.machine_pipeline.proofs.Lists.{none_or_some}
 
 -- the front's loop, whether a request waits or not
 loop_goes : (config : Options) (w : World) (g : Flow) (d : Pipeline) → IsSafe w → w.front.stage ≡ front.Loop → Holds config w g d front.Loop w.back.stage → FrontGoes config w d front.Loop
-loop_goes config w g d safe e h = by_next (next_request w.front) refl
-  where
-    by_next : (n : Option Request) → next_request w.front ≡ n → FrontGoes config w d front.Loop
-    by_next (Some r) t = loop_issues config w g d r safe t h
-    by_next None t = loop_resumes config w g d safe.front_told e t h
+loop_goes config w g d safe e h = elim (none_or_some (next_request w.front)) [
+  | inl none ↦ loop_resumes config w g d safe.front_told e none h
+  | inr some ↦ loop_issues config w g d some.0 safe some.1 h
+]
 
 front_goes : (config : Options) (w : World) (g : Flow) (d : Pipeline) (s : FrontStage) → IsPlain config → IsSafe w → w.front.stage ≡ s → Holds config w g d s w.back.stage → FrontGoes config w d s
-front_goes config w g d (front.RingWord k) plain safe e h = start_moves config w g d (front.RingWord k) plain safe.front_told refl refl h
-front_goes config w g d (front.RingFrame page) plain safe e h = start_moves config w g d (front.RingFrame page) plain safe.front_told refl refl h
-front_goes config w g d (front.RingFence page) plain safe e h = start_moves config w g d (front.RingFence page) plain safe.front_told refl refl h
-front_goes config w g d (front.RingFlags page) plain safe e h = start_moves config w g d (front.RingFlags page) plain safe.front_told refl refl h
-front_goes config w g d front.NewPort plain safe e h = start_moves config w g d front.NewPort plain safe.front_told refl refl h
+front_goes config w g d (front.RingWord k) plain safe e h = ring_word_goes config w g d k plain safe.front_told h
+front_goes config w g d (front.RingFrame page) plain safe e h = ring_frame_goes config w g d page safe.front_told h
+front_goes config w g d (front.RingFence page) plain safe e h = ring_fence_goes config w g d page safe.front_told h
+front_goes config w g d (front.RingFlags page) plain safe e h = ring_flags_goes config w g d page safe.front_told h
+front_goes config w g d front.NewPort plain safe e h = port_goes config w g d safe.front_told h
 front_goes config w g d (front.LeftData n) plain safe e h = left_goes config w g d n safe.front_told h
 front_goes config w g d front.Initialised plain safe e h = waits_goes config w g d safe.front_told e h
 front_goes config w g d front.Loop plain safe e h = loop_goes config w g d safe e h
@@ -88,36 +85,24 @@ serving_goes : (config : Options) (w : World) (g : Flow) (d : Pipeline) (h : Hap
 serving_goes config w g d FrontMoves plain safe holds may = goes_on config _ _ d (front_goes config w g d w.front.stage plain safe refl holds)
 serving_goes config w g d BackMoves plain safe holds may = goes_on config _ _ d (back_moves config w g d plain (may (ap is_some holds.unhalted)) (record { safe = safe; holds = holds }))
 serving_goes config w g d (JobMoves number outcome) plain safe holds may = goes_on config _ _ d (job_kept config w g d number outcome holds safe.held may)
-serving_goes config w g d (Negotiates at move) plain safe holds may = goes_on config _ _ d (negotiates_goes config w g d at move holds)
 serving_goes config w g d (FrontEnters state) plain safe holds may = goes_on config _ _ d (enters_goes config w g d state plain may holds)
 serving_goes config w g d (BackAttaches shape grefs port) plain safe holds may = goes_on config _ _ d (attaches_goes config w g d shape grefs port may holds)
 serving_goes config w g d (BackHalts why) plain safe holds may = halts_goes config w g d why holds may
 serving_goes config w g d (Submits job) plain safe holds may = goes_on config _ _ d (submit_kept config w g d job plain holds may)
-serving_goes config w g d (Notifies at) plain safe holds may = goes_on config _ _ d (notified_goes config w g d at (record { safe = safe; holds = holds }))
-serving_goes config w g d (Pokes frame word value) plain safe holds may = absurd may
-serving_goes config w g d (OverwritesKey name text) plain safe holds may = absurd may
 serving_goes config w g d Suspends plain safe holds may = suspends_goes config w g d plain holds
-serving_goes config w g d Dumps plain safe holds may = dumps_goes config w d (inl (g, holds))
-serving_goes config w g d (Looks quiet) plain safe holds may = looks_goes config w d quiet may safe (inl (g, holds))
-serving_goes config w g d (Settles quiet) plain safe holds may = settles_goes config w d quiet may safe (inl (g, holds))
+serving_goes config w g d h plain safe holds may = outside_goes config w d h tt may safe (inl (g, holds))
 
 -- and so it is once the back has halted
 ending_goes : (config : Options) (w : World) (d : Pipeline) (h : Happening) → IsPlain config → IsSafe w → Over config w d w.front.stage w.back.stage → IsServed w h → HasGone (submitted_at h) (CallAt w h) config (lines_at w h) (happens w h) d
 ending_goes config w d FrontMoves plain safe over may = front_ends config w d w.front.stage (may over.halted) safe.front_told refl over
 ending_goes config w d BackMoves plain safe over may = back_ends config w d w.back.stage safe refl over
 ending_goes config w d (JobMoves number outcome) plain safe over may = job_ends config w d number outcome over
-ending_goes config w d (Negotiates at move) plain safe over may = keys_end config w d at move over
 ending_goes config w d (FrontEnters state) plain safe over may = enters_ends config w d state may over
 ending_goes config w d (BackAttaches shape grefs port) plain safe over may = attaches_late config w d shape grefs port over
 ending_goes config w d (BackHalts why) plain safe over may = halts_no_more config w d why over
 ending_goes config w d (Submits job) plain safe over may = submit_ends config w d job over
-ending_goes config w d (Notifies at) plain safe over may = notified_ends config w d at over
-ending_goes config w d (Pokes frame word value) plain safe over may = absurd may
-ending_goes config w d (OverwritesKey name text) plain safe over may = absurd may
 ending_goes config w d Suspends plain safe over may = suspends_ends config w d plain over
-ending_goes config w d Dumps plain safe over may = dumps_goes config w d (inr over)
-ending_goes config w d (Looks quiet) plain safe over may = looks_goes config w d quiet may safe (inr over)
-ending_goes config w d (Settles quiet) plain safe over may = settles_goes config w d quiet may safe (inr over)
+ending_goes config w d h plain safe over may = outside_goes config w d h tt may safe (inr over)
 
 -- one happening more: what it is to the pipeline, and that all goes on
 pub step_kept : (config : Options) (w : World) (d : Pipeline) (h : Happening) → IsPlain config → IsSafe w → IsKept config w d → IsServed w h → HasGone (submitted_at h) (CallAt w h) config (lines_at w h) (happens w h) d

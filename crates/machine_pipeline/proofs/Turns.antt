@@ -1,5 +1,5 @@
 -- A move of each mover from a given stage, and what has to be shown of it: it is some steps of the pipeline, most often none or one, and what holds goes on holding.
-use Rattle.std.proofs.Common.{◌≡◌, ℕ, true, List, [], ◌∷◌, ◌++◌, refl, ap, sym, ◌∙◌}
+use Rattle.std.proofs.Common.{inl, inr, ◌≡◌, ℕ, true, List, [], ◌∷◌, ◌++◌, refl, ap, sym, ◌∙◌}
 use Rattle.std.specs.Prelude.{Option, Some, None}
 use Rattle.std.specs.Option.{option_to_list}
 use Rattle.std.specs.List.{list_all}
@@ -33,6 +33,7 @@ use Rattle.machine_pipeline.proofs.Flow.{Flow}
 use Rattle.machine_pipeline.proofs.Holds.{Holds}
 use Rattle.blk_base.specs.declared.config.Job.{Job}
 use Rattle.pipeline_laws.specs.Submissions.{submitted_at, submitted_of}
+use Rattle.machine_pipeline.proofs.Lists.{none_or_some}
 
 abbrev pub front_turn_at : FrontStage → World → Option FrontAct
 front_turn_at s w = front_act w.under (front_ask.ask_at s w.front)
@@ -109,11 +110,7 @@ pub record Stepped (asked : Option Job) (call : (before after : List (List ℕ))
 
 -- the requests that a first step submits, and those of the steps after it
 pub submits_first : (s : Step) (steps : List Step) → submitted_of (s ∷ steps) ≡ option_to_list (submitted_at s) ++ submitted_of steps
-submits_first s steps = by_step (submitted_at s) refl
-  where
-    by_step : (x : Option Job) → submitted_at s ≡ x → submitted_of (s ∷ steps) ≡ option_to_list (submitted_at s) ++ submitted_of steps
-    by_step None e = rw e refl
-    by_step (Some job) e = rw e refl
+submits_first s steps = elim (none_or_some (submitted_at s)) [ inl e ↦ rw e refl | inr some ↦ rw some.1 refl ]
 
 submits_one : (s : Step) → submitted_of (s ∷ []) ≡ option_to_list (submitted_at s)
 submits_one s = submits_first s [] ∙ append-nil (option_to_list (submitted_at s))
@@ -139,24 +136,24 @@ does_step shown said e s = rw e (does_shown (Move shown ∷ []) refl s)
 pub does_alone : {asked : Option Job} {call : (before after : List (List ℕ)) → Type 0} {d : Pipeline} {lines : List Line} {After : Pipeline → Type 0} (s : Stepped asked call d lines After) → Does asked call lines d (s.step ∷ [])
 does_alone s = does_shown [] refl s
 
--- a step, and then one that shows nothing
-pub does_then : {call : (before after : List (List ℕ)) → Type 0} {d : Pipeline} {lines : List Line} {After Last : Pipeline → Type 0} (shown : Shown) (said : List Line) → said ≡ lines → (s : Stepped None call d lines After) (t : Stepped None IsSame (next d s.step) [] Last) → Does None call (Move shown ∷ said) d (s.step ∷ t.step ∷ [])
-does_then {d = d} shown said e s t = record {
+-- two steps, one after another
+does_two : {first second call : (before after : List (List ℕ)) → Type 0} {d : Pipeline} {ls more : List Line} {After Last : Pipeline → Type 0} (shown : Shown) (said : List Line) → said ≡ ls ++ more
+    → (s : Stepped None first d ls After) (t : Stepped None second (next d s.step) more Last)
+    → ((before after : List (List ℕ)) → call before after → (between : List (List ℕ)) × first before between × second between after)
+    → Does None call (Move shown ∷ said) d (s.step ∷ t.step ∷ [])
+does_two shown said e s t split = record {
   asides = Move shown ∷ [];
   aside = refl;
-  shows = ap (λ (ls : List Line). Move shown ∷ ls) (e ∙ (sym s.shows ∙ sym (ap (λ (ls : List Line). step_lines d s.step ++ (ls ++ [])) t.shows ∙ append-nil (step_lines d s.step))));
+  shows = ap (λ (ls : List Line). Move shown ∷ ls) (rw (s.shows, t.shows, append-nil) e);
   asks = submits_two s.step t.step ∙ rw (s.asks, t.asks) refl;
   allowed = (s.allowed, (t.allowed, tt));
-  disk = λ before after made. (after, s.disk before after made, (after, t.disk after after refl, refl));
+  disk = λ before after made. let does = split before after made in (does.0, s.disk before does.0 does.1, (after, t.disk does.0 after does.2, refl));
 }
+
+-- a step, and then one that shows nothing
+pub does_then : {call : (before after : List (List ℕ)) → Type 0} {d : Pipeline} {lines : List Line} {After Last : Pipeline → Type 0} (shown : Shown) (said : List Line) → said ≡ lines → (s : Stepped None call d lines After) (t : Stepped None IsSame (next d s.step) [] Last) → Does None call (Move shown ∷ said) d (s.step ∷ t.step ∷ [])
+does_then {lines = lines} shown said e s t = does_two shown said (e ∙ sym (append-nil lines)) s t (λ before after made. (after, made, refl))
 
 -- a step that shows nothing, and then another
 pub does_after : {call : (before after : List (List ℕ)) → Type 0} {d : Pipeline} {lines : List Line} {After Last : Pipeline → Type 0} (shown : Shown) (said : List Line) → said ≡ lines → (s : Stepped None IsSame d [] After) (t : Stepped None call (next d s.step) lines Last) → Does None call (Move shown ∷ said) d (s.step ∷ t.step ∷ [])
-does_after {d = d} shown said e s t = record {
-  asides = Move shown ∷ [];
-  aside = refl;
-  shows = ap (λ (ls : List Line). Move shown ∷ ls) (e ∙ (sym t.shows ∙ (sym (append-nil (step_lines (next d s.step) t.step)) ∙ sym (ap (λ (ls : List Line). ls ++ (step_lines (next d s.step) t.step ++ [])) s.shows))));
-  asks = submits_two s.step t.step ∙ rw (s.asks, t.asks) refl;
-  allowed = (s.allowed, (t.allowed, tt));
-  disk = λ before after made. (before, s.disk before before refl, (after, t.disk before after made, refl));
-}
+does_after shown said e s t = does_two shown said e s t (λ before after made. (before, refl, made))

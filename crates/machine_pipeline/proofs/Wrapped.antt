@@ -5,11 +5,8 @@ use Rattle.ring_words.specs.Ring.{next_of}
 use Rattle.machine_pipeline.proofs.Flow.{wrapped}
 
 -- how far one index is ahead of another
-pub distance_wrapped : (start m n : ℕ) → m ≤ n → n < m + 2 ^ 32 → distance_of (wrapped start m) (wrapped start n) ≡ n - m
-distance_wrapped start m n le lt = omega arith
-
 pub distance_at : (start m n a b : ℕ) → a ≡ wrapped start m → b ≡ wrapped start n → m ≤ n → n < m + 2 ^ 32 → distance_of a b ≡ n - m
-distance_at start m n a b e f le lt = rw (e, f) (distance_wrapped start m n le lt)
+distance_at start m n a b e f le lt = rw (e, f) (omega arith)
 
 -- indices that are less than 2 ^ 32 apart are the same where their words are
 pub same_wrapped : (start m n : ℕ) → m ≤ n → n < m + 2 ^ 32 → wrapped start n ≡ wrapped start m → n ≡ m
