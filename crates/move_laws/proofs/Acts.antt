@@ -1,19 +1,14 @@
 -- An act shows a move that the rules allow, and the lines go on telling what is there.
 use Rattle.std.proofs.Common.{◌≡◌, ℕ, ◌+◌, ◌*◌, ◌/◌, ◌%◌, ◌<◌, ◌≤◌, ◌==◌, not, Bool, true, false, List, [], ◌∷◌, ◌++◌, map, refl, ap, sym, ◌∙◌, subst, arith}
 use Rattle.std.specs.Prelude.{Some, None, Result, Ok, Err, max}
-use Rattle.std.proofs.lemmas.Option.{none-some}
 use Rattle.std.proofs.lemmas.List.{append-nil, map-append}
 use Rattle.std.proofs.lemmas.List.Elements.{All-contains, All-push, All-filter}
 use Rattle.blk_base.specs.declared.parts.Mapping.{Mapping}
 use Rattle.blk_base.specs.declared.parts.Mode.{Mode}
 use Rattle.blk_base.specs.declared.parts.Mode.TheVariants.{ReadWrite}
 use Rattle.blk_base.specs.declared.ask.FrontAsk.{FrontAsk}
-use Rattle.blk_base.specs.declared.ask.FrontAsk.TheVariants as front_ask
 use Rattle.blk_base.specs.declared.ask.BackAsk.{BackAsk}
-use Rattle.blk_base.specs.declared.ask.BackAsk.TheVariants as back_ask
 use Rattle.blk_base.specs.declared.moves.BackMover.{BackMover}
-use Rattle.blk_base.specs.declared.moves.Mover.{Mover}
-use Rattle.blk_base.specs.declared.moves.Mover.TheVariants as mover
 use Rattle.blk_base.specs.declared.moves.Move.{Move}
 use Rattle.blk_base.specs.declared.moves.Move.TheVariants as moves
 use Rattle.xen_pages.specs.Pages.{word_of, with_word}
@@ -22,11 +17,8 @@ use Rattle.grant_table.specs.declared.entry.MapRefusal.{MapRefusal}
 use Rattle.grant_table.specs.Entry.{status_of, mapped_entry, unmapped_entry}
 use Rattle.grant_table.specs.Table.{GrantTable, IsLive, held_of, frame_of, without, mappings_of, writers_of, verdict_at, next_mapping, with_mapping, map_pages, unmap_table, unmap_pages, entry_word0, entry_word1}
 use Rattle.grant_table.specs.Sound.{IsGrantable}
-use Rattle.event_channel.specs.declared.channels.PortState.{PortState}
-use Rattle.event_channel.specs.declared.channels.PortState.TheVariants as port
-use Rattle.event_channel.specs.Channels.{state_of}
 use Rattle.hypervisor.specs.Hypervisor.{Hypervisor}
-use Rattle.hypervisor.specs.Act.{FrontAct, BackAct, Outcome, Gave, Took, Failed, front_act, back_act, map_act, bind_act, read_act, disk_act, wait_act, exchanged, mover_of, job_number, with_keys}
+use Rattle.hypervisor.specs.Act.{FrontAct, BackAct, Outcome, front_act, back_act, map_act, exchanged}
 use Rattle.schedule_text.specs.declared.line.Line.{Line}
 use Rattle.schedule_text.specs.declared.line.Line.TheVariants as lines
 use Rattle.report_rules.specs.declared.standing.Standing.{Standing}
@@ -35,13 +27,13 @@ use Rattle.report_rules.specs.Value.{value_after, after_write}
 use Rattle.blk_front.specs.Ask.{StaysInMemory}
 use Rattle.back_jobs.specs.Hands.{Names}
 use Rattle.split_model.specs.Safe.{AreHeld}
-use Rattle.split_model.proofs.SafeActs.{of_front, of_back, IsKeyMove, IsFrontKeyAct, IsBackKeyAct, front_keys, back_keys, front_wait, back_wait, front_watch, back_watch, front_watch_keys, back_watch_keys}
+use Rattle.split_model.proofs.Acting.{FrontRead, FrontWrite, FrontCas, front_acts, BackRead, BackWrite, BackMap, BackMapRefused, BackUnmap, back_acts}
 use Rattle.move_laws.specs.Tells.{Tells, standing_of}
 use Rattle.move_laws.proofs.Follows.{IsAllowed}
 use Rattle.move_laws.proofs.Memory.{length_written, word_written, flags_written}
 use Rattle.move_laws.proofs.Standing.{filter_none, numbered_live, without_live, others_live, writers_live}
 use Rattle.move_laws.proofs.Tells.{tells_more, new_number}
-use Rattle.move_laws.proofs.Still.{IsStill, IsPlain, plain_key, still, none_goes, tells_still}
+use Rattle.move_laws.proofs.Still.{IsStill, still, none_goes, tells_still}
 use Rattle.move_laws.proofs.Entries.{IsGranted, granted, verdict_told, Found, found, frame_found}
 
 -- the move's line may follow, and then the lines tell of that memory and those mappings
@@ -83,37 +75,20 @@ cas_kept before pages table frame word old new framed worded tells = by_test (wo
         subst (λ (p : List ℕ). Tells (before ++ lines.Move (moves.FrontCas frame word old new (word_of pages frame word)) ∷ []) p table) same
         (tells_still before (lines.Move (moves.FrontCas frame word old new (word_of pages frame word))) pages table (still _ refl (λ f w v b. rw t refl) (λ n. refl) refl) tells)
 
--- a move on a key or a watch changes neither memory nor mappings
-key_kept : (before : List Line) (who : Mover) (shown : Move) (h u : Hypervisor) → IsKeyMove who shown → u ≡ with_keys h u.keys → Tells before h.pages h.grants → IsKept before shown u.pages u.grants
-key_kept before who shown h u is same tells =
-    subst (λ (x : Hypervisor). IsKept before shown x.pages x.grants) (sym same)
-    (let plain : IsPlain (lines.Move shown) = plain_key who shown is in kept_still before shown h.pages h.grants plain.is_still (plain.free before) tells)
-
-front_key_kept : (before : List Line) (h : Hypervisor) → Tells before h.pages h.grants → (x : FrontAct) → IsFrontKeyAct h x → FrontKeeps before x
-front_key_kept before h tells x is = key_kept before mover.Front x.shown h x.under is.shown is.under tells
-
-back_key_kept : (before : List Line) (h : Hypervisor) → Tells before h.pages h.grants → (x : BackAct) → IsBackKeyAct h x → BackKeeps before x
-back_key_kept before h tells x is = key_kept before mover.Back x.shown h x.under is.shown is.under tells
-
 pub front_kept : (before : List Line) (h : Hypervisor) (ask : FrontAsk) (a : FrontAct) → Tells before h.pages h.grants → StaysInMemory ask → front_act h ask ≡ Some a → FrontKeeps before a
-front_kept before h front_ask.Wait a tells within e =
-    front_wait (FrontKeeps before) h a (kept_still before (moves.Event mover.Front) h.pages h.grants (still _ refl (λ f w v b. refl) (λ n. refl) refl) (record { coherent = tt; answered = tt; numbered = tt; touched = tt; grantable = tt }) tells) (λ path. front_key_kept before h tells (front_watch h path) (front_watch_keys h path)) e
-front_kept before h front_ask.Fence a tells within e = of_front (FrontKeeps before) _ a (kept_still before (moves.Fence mover.Front) h.pages h.grants (still _ refl (λ f w v b. refl) (λ n. refl) refl) (record { coherent = tt; answered = tt; numbered = tt; touched = tt; grantable = tt }) tells) e
-front_kept before h (front_ask.Read frame word) a tells within e = of_front (FrontKeeps before) _ a (kept_still before (moves.FrontRead frame word (word_of h.pages frame word)) h.pages h.grants (still _ refl (λ f w v b. refl) (λ n. refl) refl) (record { coherent = sym (tells.values frame word (omega (arith, within.0)) within.1); answered = tt; numbered = tt; touched = tt; grantable = tt }) tells) e
-front_kept before h (front_ask.Write frame word value) a tells within e = of_front (FrontKeeps before) _ a (record {
-  allowed = record { coherent = tt; answered = tt; numbered = tt; touched = tt; grantable = tt };
-  tells = tells_write before (lines.Move (moves.FrontWrite frame word value)) h.pages h.grants frame word value refl (λ n. refl) refl (λ f w v. refl) (omega (arith, within.0)) within.1 tells;
-}) e
-front_kept before h (front_ask.Cas frame word old new) a tells within e = of_front (FrontKeeps before) _ a (record {
-  allowed = record { coherent = sym (tells.values frame word (omega (arith, within.0)) within.1); answered = tt; numbered = tt; touched = tt; grantable = tt };
-  tells = cas_kept before h.pages h.grants frame word old new (omega (arith, within.0)) within.1 tells;
-}) e
-front_kept before h front_ask.NewPort a tells within e = of_front (FrontKeeps before) _ a (kept_still before (moves.FrontPort (h.channels.made + 1)) h.pages h.grants (still _ refl (λ f w v b. refl) (λ n. refl) refl) (record { coherent = tt; answered = tt; numbered = tt; touched = tt; grantable = tt }) tells) e
-front_kept before h front_ask.Send a tells within e = of_front (FrontKeeps before) _ a (kept_still before (moves.Send mover.Front) h.pages h.grants (still _ refl (λ f w v b. refl) (λ n. refl) refl) (record { coherent = tt; answered = tt; numbered = tt; touched = tt; grantable = tt }) tells) e
-front_kept before h front_ask.ClosePort a tells within e = of_front (FrontKeeps before) _ a (kept_still before (moves.ClosePort mover.Front) h.pages h.grants (still _ refl (λ f w v b. refl) (λ n. refl) refl) (record { coherent = tt; answered = tt; numbered = tt; touched = tt; grantable = tt }) tells) e
-front_kept before h (front_ask.GetKey path) a tells within e = front_keys (FrontKeeps before) h (front_ask.GetKey path) a tt (front_key_kept before h tells) e
-front_kept before h (front_ask.SetKey path text) a tells within e = front_keys (FrontKeeps before) h (front_ask.SetKey path text) a tt (front_key_kept before h tells) e
-front_kept before h (front_ask.Watch path) a tells within e = front_keys (FrontKeeps before) h (front_ask.Watch path) a tt (front_key_kept before h tells) e
+front_kept before h ask a tells within e = (elim (front_acts h ask a e) as (λ asked x acts. StaysInMemory asked → FrontKeeps before x) [
+  | FrontRead frame word ↦ λ within. kept_still before (moves.FrontRead frame word (word_of h.pages frame word)) h.pages h.grants (still _ refl (λ f w v b. refl) (λ n. refl) refl)
+      (record { coherent = sym (tells.values frame word (omega (arith, within.0)) within.1); answered = tt; numbered = tt; touched = tt; grantable = tt }) tells
+  | FrontWrite frame word value ↦ λ within. record {
+    allowed = record { coherent = tt; answered = tt; numbered = tt; touched = tt; grantable = tt };
+    tells = tells_write before (lines.Move (moves.FrontWrite frame word value)) h.pages h.grants frame word value refl (λ n. refl) refl (λ f w v. refl) (omega (arith, within.0)) within.1 tells;
+  }
+  | FrontCas frame word old new ↦ λ within. record {
+    allowed = record { coherent = sym (tells.values frame word (omega (arith, within.0)) within.1); answered = tt; numbered = tt; touched = tt; grantable = tt };
+    tells = cas_kept before h.pages h.grants frame word old new (omega (arith, within.0)) within.1 tells;
+  }
+  | acts ↦ λ within. kept_still before _ h.pages h.grants (still _ refl (λ f w v b. refl) (λ n. refl) refl) (record { coherent = tt; answered = tt; numbered = tt; touched = tt; grantable = tt }) tells
+]) within
 
 -- the mapping that an ask names stands, with its frame and mode
 standing_found : (before : List Line) (pages : List ℕ) (table : GrantTable) (m : Mapping) (f : Found table m) → Tells before pages table → numbered m.number (standing_after before) ≡ Some (standing_of f.held)
@@ -183,49 +158,22 @@ unmap_kept before pages table who m f tells =
     subst (λ (x : Mapping). IsKept before (moves.Unmap who x.number) (unmap_pages table pages x) (unmap_table table x)) f.same
     (unmap_held before pages table who f.held (subst (λ (x : Mapping). held_of x.number table.live ≡ Some f.held) (sym f.same) f.is) f.fits tells)
 
-read_disk : (before : List Line) (h : Hypervisor) (shown : Move) (o : Outcome) (a : BackAct) → IsStill (lines.Move shown) → IsAllowed before (lines.Move shown) → Tells before h.pages h.grants → read_act h shown o ≡ Some a → BackKeeps before a
-read_disk before h shown (Gave words) a s allowed tells e = of_back (BackKeeps before) _ a (kept_still before shown h.pages h.grants s allowed tells) e
-read_disk before h shown Failed a s allowed tells e = of_back (BackKeeps before) _ a (kept_still before shown h.pages h.grants s allowed tells) e
-read_disk before h shown Took a s allowed tells e = absurd (none-some a e)
-
-call_disk : (before : List Line) (h : Hypervisor) (shown : Move) (o : Outcome) (a : BackAct) → IsStill (lines.Move shown) → IsAllowed before (lines.Move shown) → Tells before h.pages h.grants → disk_act h shown o ≡ Some a → BackKeeps before a
-call_disk before h shown Took a s allowed tells e = of_back (BackKeeps before) _ a (kept_still before shown h.pages h.grants s allowed tells) e
-call_disk before h shown Failed a s allowed tells e = of_back (BackKeeps before) _ a (kept_still before shown h.pages h.grants s allowed tells) e
-call_disk before h shown (Gave words) a s allowed tells e = absurd (none-some a e)
-
-bind_kept : (before : List Line) (h : Hypervisor) (p : ℕ) (state : PortState) → Tells before h.pages h.grants → BackKeeps before (bind_act h p state)
-bind_kept before h p port.Unbound tells = kept_still before (moves.Bind p) h.pages h.grants (still _ refl (λ f w v b. refl) (λ n. refl) refl) (record { coherent = tt; answered = tt; numbered = tt; touched = tt; grantable = tt }) tells
-bind_kept before h p port.Closed tells = kept_still before (moves.BindRefused p) h.pages h.grants (still _ refl (λ f w v b. refl) (λ n. refl) refl) (record { coherent = tt; answered = tt; numbered = tt; touched = tt; grantable = tt }) tells
-bind_kept before h p port.Bound tells = kept_still before (moves.BindRefused p) h.pages h.grants (still _ refl (λ f w v b. refl) (λ n. refl) refl) (record { coherent = tt; answered = tt; numbered = tt; touched = tt; grantable = tt }) tells
-
-wait_kept : (before : List Line) (h : Hypervisor) (who : BackMover) (a : BackAct) → Tells before h.pages h.grants → wait_act h who ≡ Some a → BackKeeps before a
-wait_kept before h who a tells e =
-    back_wait (BackKeeps before) h who a (kept_still before (moves.Event mover.Back) h.pages h.grants (still _ refl (λ f w v b. refl) (λ n. refl) refl) (record { coherent = tt; answered = tt; numbered = tt; touched = tt; grantable = tt }) tells) (λ path. back_key_kept before h tells (back_watch h path) (back_watch_keys h path)) e
-
 pub back_kept : (before : List Line) (h : Hypervisor) (who : BackMover) (ask : BackAsk) (o : Outcome) (a : BackAct) (hands : List Mapping) → Tells before h.pages h.grants → AreHeld h.grants hands → Names hands ask → back_act h who ask o ≡ Some a → BackKeeps before a
-back_kept before h who back_ask.Wait o a hands tells held names e = wait_kept before h who a tells e
-back_kept before h who back_ask.Fence o a hands tells held names e = of_back (BackKeeps before) _ a (kept_still before (moves.Fence (mover_of who)) h.pages h.grants (still _ refl (λ f w v b. refl) (λ n. refl) refl) (record { coherent = tt; answered = tt; numbered = tt; touched = tt; grantable = tt }) tells) e
-back_kept before h who (back_ask.Read m word) o a hands tells held names e =
-    let f : Found h.grants m = found h.grants m (All-contains (IsLive h.grants) hands m held.live names.0) tells.grantable in
-    of_back (BackKeeps before) _ a (kept_still before (moves.Read who m.number (frame_of h.grants m) word (word_of h.pages (frame_of h.grants m) word)) h.pages h.grants (still _ refl (λ f w v b. refl) (λ n. refl) refl) (read_allowed before h.pages h.grants who m word f names.1 tells) tells) e
-back_kept before h who (back_ask.Write m word value) o a hands tells held names e =
-    let f : Found h.grants m = found h.grants m (All-contains (IsLive h.grants) hands m held.live names.0) tells.grantable in
-    let frame : frame_of h.grants m ≡ f.held.frame = frame_found h.grants m f in
-    let high : f.held.frame ≤ 1023 = f.fits.high in
-    of_back (BackKeeps before) _ a (record {
-      allowed = write_allowed before h.pages h.grants who m word value f names.1 names.2 tells;
-      tells = tells_write before (lines.Move (moves.Write who m.number (frame_of h.grants m) word value)) h.pages h.grants (frame_of h.grants m) word value refl (λ n. refl) refl (λ g w v. refl) (omega arith) names.2 tells;
-    }) e
-back_kept before h who (back_ask.Map gref mode) o a hands tells held names e = of_back (BackKeeps before) _ a (map_kept before h who gref mode (verdict_at h.pages gref mode) tells refl) e
-back_kept before h who (back_ask.Unmap m) o a hands tells held names e =
-    of_back (BackKeeps before) _ a (unmap_kept before h.pages h.grants who m (found h.grants m (All-contains (IsLive h.grants) hands m held.live names) tells.grantable) tells) e
-back_kept before h who (back_ask.Bind p) o a hands tells held names e = of_back (BackKeeps before) _ a (bind_kept before h p (state_of h.channels p) tells) e
-back_kept before h who back_ask.Send o a hands tells held names e = of_back (BackKeeps before) _ a (kept_still before (moves.Send (mover_of who)) h.pages h.grants (still _ refl (λ f w v b. refl) (λ n. refl) refl) (record { coherent = tt; answered = tt; numbered = tt; touched = tt; grantable = tt }) tells) e
-back_kept before h who back_ask.ClosePort o a hands tells held names e = of_back (BackKeeps before) _ a (kept_still before (moves.ClosePort (mover_of who)) h.pages h.grants (still _ refl (λ f w v b. refl) (λ n. refl) refl) (record { coherent = tt; answered = tt; numbered = tt; touched = tt; grantable = tt }) tells) e
-back_kept before h who (back_ask.GetKey path) o a hands tells held names e = back_keys (BackKeeps before) h who (back_ask.GetKey path) o a tt (back_key_kept before h tells) e
-back_kept before h who (back_ask.SetKey path text) o a hands tells held names e = back_keys (BackKeeps before) h who (back_ask.SetKey path text) o a tt (back_key_kept before h tells) e
-back_kept before h who (back_ask.Watch path) o a hands tells held names e = back_keys (BackKeeps before) h who (back_ask.Watch path) o a tt (back_key_kept before h tells) e
-back_kept before h who (back_ask.DiskRead sector) o a hands tells held names e = read_disk before h (moves.DiskRead (job_number who) sector) o a (still _ refl (λ f w v b. refl) (λ n. refl) refl) (record { coherent = tt; answered = tt; numbered = tt; touched = tt; grantable = tt }) tells e
-back_kept before h who (back_ask.DiskWrite sector words) o a hands tells held names e = call_disk before h (moves.DiskWrite (job_number who) sector) o a (still _ refl (λ f w v b. refl) (λ n. refl) refl) (record { coherent = tt; answered = tt; numbered = tt; touched = tt; grantable = tt }) tells e
-back_kept before h who back_ask.Flush o a hands tells held names e = call_disk before h (moves.DiskFlush (job_number who)) o a (still _ refl (λ f w v b. refl) (λ n. refl) refl) (record { coherent = tt; answered = tt; numbered = tt; touched = tt; grantable = tt }) tells e
-back_kept before h who (back_ask.Trim sector count) o a hands tells held names e = call_disk before h (moves.DiskTrim (job_number who) sector count) o a (still _ refl (λ f w v b. refl) (λ n. refl) refl) (record { coherent = tt; answered = tt; numbered = tt; touched = tt; grantable = tt }) tells e
+back_kept before h who ask o a hands tells held names e = (elim (back_acts h who ask o a e) as (λ mover asked outcome x acts. Names hands asked → BackKeeps before x) [
+  | BackRead m word ↦ λ names.
+      let f : Found h.grants m = found h.grants m (All-contains (IsLive h.grants) hands m held.live names.0) tells.grantable in
+      kept_still before _ h.pages h.grants (still _ refl (λ f w v b. refl) (λ n. refl) refl) (read_allowed before h.pages h.grants _ m word f names.1 tells) tells
+  | BackWrite m word value ↦ λ names.
+      let f : Found h.grants m = found h.grants m (All-contains (IsLive h.grants) hands m held.live names.0) tells.grantable in
+      let frame : frame_of h.grants m ≡ f.held.frame = frame_found h.grants m f in
+      let high : f.held.frame ≤ 1023 = f.fits.high in
+      record {
+        allowed = write_allowed before h.pages h.grants _ m word value f names.1 names.2 tells;
+        tells = tells_write before (lines.Move (moves.Write _ m.number (frame_of h.grants m) word value)) h.pages h.grants (frame_of h.grants m) word value
+            refl (λ n. refl) refl (λ g w v. refl) (omega arith) names.2 tells;
+      }
+  | BackMap gref mode frame is ↦ λ names. map_kept before h _ gref mode (Ok frame) tells is
+  | BackMapRefused gref mode refusal is ↦ λ names. map_kept before h _ gref mode (Err refusal) tells is
+  | BackUnmap m ↦ λ names. unmap_kept before h.pages h.grants _ m (found h.grants m (All-contains (IsLive h.grants) hands m held.live names) tells.grantable) tells
+  | acts ↦ λ names. kept_still before _ h.pages h.grants (still _ refl (λ f w v b. refl) (λ n. refl) refl) (record { coherent = tt; answered = tt; numbered = tt; touched = tt; grantable = tt }) tells
+]) names

@@ -1,46 +1,26 @@
 -- A dump of the machine shows every word of the ring that isn't 0.
-use Rattle.std.proofs.Common.{◌≡◌, ℕ, zero, suc, ◌+◌, ◌*◌, ◌/◌, ◌%◌, ◌^◌, ◌≤◌, inl, inr, Bool, true, false, if◌then◌else◌, List, [], ◌∷◌, ◌++◌, refl, sym, ◌∙◌, subst, arith, append_assoc, true≢false}
-use Rattle.std.specs.Prelude.{Option, Some, None, Result, Ok, Err, nat_lt}
+use Rattle.std.proofs.Common.{◌≡◌, ℕ, zero, suc, ◌+◌, ◌*◌, ◌/◌, ◌%◌, ◌^◌, ◌≤◌, inl, inr, Bool, true, false, List, [], ◌∷◌, ◌++◌, refl, sym, ◌∙◌, subst, arith, append_assoc, true≢false}
+use Rattle.std.specs.Prelude.{Option, Some, None, nat_lt}
 use Rattle.std.specs.List.{AllByRecursion}
 use Rattle.std.proofs.lemmas.Bool.Decides.{nat_tests}
 use Rattle.std.proofs.lemmas.List.{append-nil}
 use Rattle.std.proofs.lemmas.List.Sums.{fold-append}
 use Rattle.blk_base.specs.Options.{Options}
-use Rattle.blk_base.specs.declared.config.Job.{Job}
-use Rattle.blk_base.specs.declared.ask.BackAnswer.{BackAnswer}
-use Rattle.blk_base.specs.declared.ask.BackAnswer.TheVariants as answers
 use Rattle.xen_pages.specs.Pages.{word_of}
 use Rattle.grant_table.specs.Table.{GrantTable}
 use Rattle.schedule_text.specs.declared.line.Line.{Line}
 use Rattle.schedule_text.specs.declared.line.Line.TheVariants as lines
 use Rattle.schedule_text.specs.declared.line.Detail.{Detail}
-use Rattle.hypervisor.specs.Act.{FrontAct, BackAct, Took}
 use Rattle.report_rules.specs.Obeys.{Obeys}
 use Rattle.report_rules.specs.Value.{value_before}
 use Rattle.report_rules.proofs.Obeys.{obeys_none, obeys_more}
-use Rattle.blk_front.specs.declared.told.Told.{Told}
-use Rattle.blk_front.specs.declared.told.Told.TheVariants as front_told
-use Rattle.blk_front.specs.declared.told.Refusal.{Refusal}
-use Rattle.blk_front.specs.View as front
-use Rattle.blk_front.specs.Step as front_step
-use Rattle.blk_front.specs.Submit as front_submit
-use Rattle.blk_back.specs.declared.told.BackTold.{BackTold}
-use Rattle.blk_back.specs.declared.told.BackTold.TheVariants as back_told
-use Rattle.blk_back.specs.declared.told.Halt.{Halt}
-use Rattle.blk_back.specs.View as back
-use Rattle.blk_back.specs.Step as back_step
 use Rattle.split_model.specs.World.{World, start_of}
-use Rattle.split_model.specs.Shown.{front_lines, back_lines, halt_lines, effect_line}
-use Rattle.split_model.specs.Happening.{Happening, FrontMoves, BackMoves, JobMoves, Negotiates, FrontEnters, BackAttaches, BackHalts, Submits, Notifies, Pokes, OverwritesKey, Suspends, Dumps, Looks, Settles, word_lines, ring_lines, happens, lines_at, lines_of, front_shows, back_shows, job_shows, front_turn, back_turn, job_turn, submit_line}
+use Rattle.split_model.specs.Happening.{Happening, Dumps, word_lines, ring_lines, happens, lines_at, lines_of}
 use Rattle.split_model.specs.Report.{report_of, ended_report_of}
 use Rattle.split_model.specs.Safe.{IsSafe}
 use Rattle.split_model.proofs.Safe.{safe_start, safe_happens}
 use Rattle.blk_front.proofs.Shapes.{few_pages}
-use Rattle.split_model.proofs.Attaching.{attach_lines_are}
-use Rattle.split_model.proofs.Suspending.{suspend_lines_are}
-use Rattle.split_model.proofs.Overwriting.{poke_lines_are, overwritten_lines_are}
-use Rattle.split_model.proofs.Keys.{negotiated_lines_are}
-use Rattle.split_model.proofs.States.{enter_lines_are, state_lines_are}
+use Rattle.split_model.proofs.Showing.{MayShow, lines_are}
 use Rattle.move_laws.specs.Tells.{Tells}
 use Rattle.move_laws.specs.Permitted.{ArePermitted}
 use Rattle.move_laws.specs.Dumped.{place_in_ring, dump_after, dumped_to, AreZero, MayEnd, GoesOn, ComesTo, IsDumpedAt, AreWholeDumps, AreWished}
@@ -148,74 +128,19 @@ dump_shows order w before narrow is follows d =
     (walk (1024 * 2 ^ order) w.under.pages w.under.grants 0 (1024 * 2 ^ order) (omega arith) (omega arith) before
     (record { tells = follows.tells; obeys = d.obeys; comes = inr (record { ended = d.over; first = λ p low below. absurd (omega arith) }) }))
 
--- all other lines show no word of a dump
-both_none : (a b : List Line) → AllByRecursion IsNoWord a → AllByRecursion IsNoWord b → AllByRecursion IsNoWord (a ++ b)
-both_none [] b p q = q
-both_none (line ∷ a) b p q = (p.0, both_none a b p.1 q)
+-- all others show no word of a dump
+abbrev IsOther : Happening → Type 0
+IsOther Dumps = ⊥
+IsOther h = Unit {0}
 
-front_none : (t : Option Told) → AllByRecursion IsNoWord (front_lines t)
-front_none None = tt
-front_none (Some (front_told.Answer id status)) = (refl, tt)
-front_none (Some (front_told.Sector id index words)) = (refl, tt)
-front_none (Some (front_told.Broken word)) = (refl, tt)
-
-effect_none : (id index : ℕ) (a : BackAnswer) → IsNoWord (effect_line id index a)
-effect_none id index (answers.Sector words) = refl
-effect_none id index a = refl
-
-back_none : (t : Option BackTold) (a : BackAnswer) → AllByRecursion IsNoWord (back_lines t a)
-back_none None a = tt
-back_none (Some (back_told.Effect id index)) a = (effect_none id index a, tt)
-back_none (Some (back_told.Flushed id)) a = (refl, tt)
-back_none (Some (back_told.Trimmed id)) a = (refl, tt)
-back_none (Some (back_told.Fault id index)) a = (refl, tt)
-back_none (Some (back_told.Reply id status)) a = (refl, tt)
-
-halt_none : (before now : Option Halt) → AllByRecursion IsNoWord (halt_lines before now)
-halt_none None None = tt
-halt_none None (Some h) = (refl, tt)
-halt_none (Some g) now = tt
-
-front_shows_none : (w : World) (act : Option FrontAct) → AllByRecursion IsNoWord (front_shows w act)
-front_shows_none w None = tt
-front_shows_none w (Some a) = let f : front.View = front_step.step_of w.front a.answer in (refl, front_none f.told)
-
-back_shows_none : (w : World) (act : Option BackAct) → AllByRecursion IsNoWord (back_shows w act)
-back_shows_none w None = tt
-back_shows_none w (Some a) =
-    let b : back.View = back_step.step_of w.back a.answer in
-    (refl, both_none (back_lines b.told a.answer) (halt_lines w.back.halted b.halted) (back_none b.told a.answer) (halt_none w.back.halted b.halted))
-
-job_shows_none : (w : World) (number : ℕ) (act : Option BackAct) → AllByRecursion IsNoWord (job_shows w number act)
-job_shows_none w number None = tt
-job_shows_none w number (Some a) = let b : back.View = back_step.job_step w.back number a.answer in (refl, back_none b.told a.answer)
-
-submit_none : (job : Job) (r : Result ℕ Refusal) → IsNoWord (submit_line job r)
-submit_none job (Ok number) = refl
-submit_none job (Err r) = refl
-
-one_none : (b : Bool) (x y : Line) → IsNoWord x → IsNoWord y → IsNoWord (if b then x else y)
-one_none true x y p q = p
-one_none false x y p q = q
+wordless : (h : Happening) (line : Line) → IsOther h → MayShow h line → IsNoWord line
+wordless Dumps line other shows = absurd other
+wordless h (lines.Word frame word value) other shows = absurd shows
+wordless h line other shows = refl
 
 dumped_happens : (order : ℕ) (w : World) (h : Happening) (before : List Line) → order ≤ 4 → HasOrder order w → FollowsTo before w → AreDumped (1024 * 2 ^ order) before → AreDumped (1024 * 2 ^ order) (before ++ lines_at w h)
-dumped_happens order w FrontMoves before narrow is f d = others (1024 * 2 ^ order) _ before (front_shows_none w (front_turn w)) d
-dumped_happens order w BackMoves before narrow is f d = others (1024 * 2 ^ order) _ before (back_shows_none w (back_turn w Took)) d
-dumped_happens order w (JobMoves number outcome) before narrow is f d = others (1024 * 2 ^ order) _ before (job_shows_none w number (job_turn w number outcome)) d
-dumped_happens order w (Negotiates at move) before narrow is f d =
-    others (1024 * 2 ^ order) _ before (negotiated_lines_are IsNoWord w.back.stage at move w.under.keys (λ path. refl) (λ path text. refl) (λ path. refl) (λ path. refl)) d
-dumped_happens order w (FrontEnters state) before narrow is f d =
-    others (1024 * 2 ^ order) _ before (enter_lines_are IsNoWord state w.front (λ may. state_lines_are IsNoWord state refl refl refl (λ word. refl))) d
-dumped_happens order w (BackAttaches shape grefs port) before narrow is f d = others (1024 * 2 ^ order) _ before (attach_lines_are IsNoWord w shape grefs refl) d
-dumped_happens order w (BackHalts why) before narrow is f d = others (1024 * 2 ^ order) _ before (halt_none w.back.halted (let b : back.View = back_step.halts why w.back in b.halted)) d
-dumped_happens order w (Submits job) before narrow is f d = others (1024 * 2 ^ order) _ before (submit_none job (front_submit.submit_of w.front job).0, tt) d
-dumped_happens order w (Notifies at) before narrow is f d = others (1024 * 2 ^ order) [] before tt d
-dumped_happens order w (Pokes frame word value) before narrow is f d = others (1024 * 2 ^ order) _ before (poke_lines_are IsNoWord frame word value refl) d
-dumped_happens order w (OverwritesKey name text) before narrow is f d = others (1024 * 2 ^ order) _ before (overwritten_lines_are IsNoWord name text refl) d
-dumped_happens order w Suspends before narrow is f d = others (1024 * 2 ^ order) _ before (suspend_lines_are IsNoWord w refl) d
 dumped_happens order w Dumps before narrow is f d = dump_shows order w before narrow is f d
-dumped_happens order w (Looks quiet) before narrow is f d = others (1024 * 2 ^ order) _ before (one_none quiet lines.Quiet lines.Busy refl refl, tt) d
-dumped_happens order w (Settles quiet) before narrow is f d = others (1024 * 2 ^ order) _ before (one_none quiet lines.Quiet lines.Unsettled refl refl, tt) d
+dumped_happens order w h before narrow is f d = others (1024 * 2 ^ order) (lines_at w h) before (lines_are IsNoWord w h (λ line shows. wordless h line tt shows)) d
 
 dumped_after : (order : ℕ) (hs : List Happening) (w : World) (before : List Line) → order ≤ 4 → AreWished order hs → HasOrder order w → IsSafe w → ArePermitted hs w → FollowsTo before w → AreDumped (1024 * 2 ^ order) before
     → AreDumped (1024 * 2 ^ order) (before ++ lines_of hs w)

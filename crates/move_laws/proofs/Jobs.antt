@@ -87,16 +87,12 @@ names_at stage.Map t sound p = names_map t.rest t.writes
 names_at (stage.ReadWord m k) t sound p =
     let small = last_small t.rest (sound refl) in let word = p.0 in let inside = p.1 in
     (only m, omega arith)
-names_at (stage.DiskWrite m) t sound p = tt
-names_at (stage.DiskRead m) t sound p = tt
 names_at (stage.WriteWord m k) t sound p =
     let small = last_small t.rest (sound refl) in let word = p.0 in let inside = p.1 in
     (only m, p.2.0 ∙ ap mode_of p.2.1, omega arith)
 names_at (stage.Unmap m) t sound p = only m
 names_at (stage.Abort m) t sound p = only m
-names_at stage.Flush t sound p = tt
-names_at (stage.Trim count) t sound p = tt
-names_at (stage.Done status) t sound p = tt
+names_at s t sound p = tt
 
 job_names_hand : (t : Work) → IsJob t → Names (hand_of t) (ask_of t)
 job_names_hand t j = names_at t.stage t j.segments j.placed

@@ -7,9 +7,9 @@ use Rattle.schedule_text.specs.declared.line.Line.{Line}
 use Rattle.schedule_text.specs.declared.line.Line.TheVariants as lines
 use Rattle.schedule_text.specs.Recorder.{recorded, kept_of}
 use Rattle.split_model.specs.World.{World, start_of}
-use Rattle.split_model.specs.Happening.{Happening, happens, lines_at, lines_of}
+use Rattle.split_model.specs.Happening.{Happening, Dumps, happens, lines_at, lines_of}
 use Rattle.split_model.specs.Report.{report_of, ended_report_of}
-use Rattle.split_model.proofs.Lines.{OfAny, lines_all}
+use Rattle.split_model.proofs.Showing.{MayShow, lines_are}
 use Rattle.split_model.proofs.Running.{kept_of-append}
 
 abbrev AreKept : List Line → Type 0
@@ -26,21 +26,13 @@ both_kept : (a b : List Line) → AreKept a → AreKept b → AreKept (a ++ b)
 both_kept a b p q = kept_of-append Moves a b ∙ (ap (λ (l : List Line). l ++ kept_of Moves b) p ∙ ap (λ (l : List Line). a ++ l) q)
 
 -- a recorder writes its own word into a `begin` line, and no happening shows one
-kept : OfAny IsKept
-kept = record {
-  front = record { answer = λ id status. refl; sector = λ id index words. refl; broken = λ word. refl; ready = refl; closing = refl; closed = refl; submit = λ id job. refl; refuse = λ refusal. refl };
-  back = record { move = λ m. refl; effect = λ id index. refl; effect_read = λ id index words. refl; flushed = λ id. refl; trimmed = λ id. refl; fault = λ id index. refl; reply = λ id status. refl; halt = λ why. refl };
-  outside = record {
-    under = record { got = λ who path text. refl; set = λ who path text. refl; watch = λ who path. refl; watched = λ who path. refl; poke = λ frame word value. refl; key = λ name text. refl; word = λ frame word value. refl };
-    quiet = refl;
-    busy = refl;
-    unsettled = refl;
-  };
-  epoch = refl;
-}
+kept : (h : Happening) (line : Line) → MayShow h line → IsKept line
+kept Dumps (lines.Begin config detail) shows = absurd shows
+kept h (lines.Begin config detail) shows = absurd shows
+kept h line shows = refl
 
 lines_at_kept : (w : World) (h : Happening) → AreKept (lines_at w h)
-lines_at_kept w h = all_kept (lines_at w h) (lines_all IsKept kept w h)
+lines_at_kept w h = all_kept (lines_at w h) (lines_are IsKept w h (kept h))
 
 pub lines_kept : (history : List Happening) (w : World) → kept_of Moves (lines_of history w) ≡ lines_of history w
 lines_kept [] w = refl

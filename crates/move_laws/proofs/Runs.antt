@@ -1,14 +1,12 @@
 -- Whatever happens, the lines obey the rules on memory and mappings, and tell what is there.
-use Rattle.std.proofs.Common.{◌≡◌, ℕ, zero, suc, ◌+◌, ◌*◌, ◌/◌, ◌%◌, ◌^◌, ◌<◌, ◌≤◌, arith, List, [], ◌∷◌, ◌++◌, Bool, true, false, if◌then◌else◌, refl, sym, subst, append_assoc}
+use Rattle.std.proofs.Common.{◌≡◌, ℕ, zero, suc, ◌+◌, ◌*◌, ◌/◌, ◌%◌, ◌^◌, ◌<◌, ◌≤◌, arith, List, [], ◌∷◌, ◌++◌, true, refl, sym, subst, append_assoc}
 use Rattle.std.specs.Prelude.{Option, Some, None}
 use Rattle.std.specs.List.{AllByRecursion}
 use Rattle.std.proofs.lemmas.List.{append-nil}
 use Rattle.std.proofs.lemmas.List.Elements.{All-nil}
 use Rattle.blk_base.specs.Options.{Options}
 use Rattle.blk_base.specs.declared.moves.BackMover.TheVariants as back_mover
-use Rattle.blk_base.specs.declared.moves.Mover.TheVariants as mover
 use Rattle.blk_base.specs.declared.moves.Move.{Move}
-use Rattle.blk_base.specs.declared.parts.End.{End}
 use Rattle.xen_pages.specs.Pages.{fresh_pages, word_of, with_word}
 use Rattle.xen_pages.proofs.Words.{length-fresh_pages, word_of-fresh_pages}
 use Rattle.grant_table.specs.Table.{GrantTable, fresh_table, revoked_table}
@@ -16,6 +14,7 @@ use Rattle.hypervisor.specs.Suspend.{tables_cleared}
 use Rattle.grant_table.specs.Sound.{IsGrantable}
 use Rattle.schedule_text.specs.declared.line.Line.{Line}
 use Rattle.schedule_text.specs.declared.line.Line.TheVariants as lines
+use Rattle.schedule_text.specs.declared.line.Halt.{Halt as HaltLine}
 use Rattle.schedule_text.specs.declared.line.Detail.{Detail}
 use Rattle.hypervisor.specs.Act.{FrontAct, BackAct, Outcome, Took}
 use Rattle.report_rules.specs.Obeys.{Obeys}
@@ -25,20 +24,16 @@ use Rattle.report_rules.specs.Touch.{AreTouches}
 use Rattle.move_laws.specs.Numbers.{AreNumbered}
 use Rattle.report_rules.proofs.Obeys.{obeys_none}
 use Rattle.blk_front.specs.Ask as front_ask
-use Rattle.blk_front.specs.Submit as front_submit
 use Rattle.blk_back.specs.Ask as back_ask
 use Rattle.blk_back.specs.Step as back_step
 use Rattle.blk_back.specs.Hands.{hands_of}
 use Rattle.blk_back.specs.View as back
 use Rattle.split_model.specs.World.{World, start_of, may_suspend, suspended}
-use Rattle.split_model.specs.Happening.{Happening, FrontMoves, BackMoves, JobMoves, Negotiates, FrontEnters, BackAttaches, BackHalts, Submits, Notifies, Pokes, OverwritesKey, Suspends, Dumps, Looks, Settles, happens, word_lines, ring_lines, layout_read, lines_at, after, lines_of, front_after, front_shows, back_after, back_shows, job_after, job_shows, front_turn, back_turn, job_turn}
+use Rattle.split_model.specs.Happening.{Happening, FrontMoves, BackMoves, JobMoves, Pokes, OverwritesKey, Suspends, Dumps, happens, word_lines, ring_lines, lines_at, after, lines_of, front_after, front_shows, back_after, back_shows, job_after, job_shows, front_turn, back_turn, job_turn}
 use Rattle.split_model.specs.Safe.{IsSafe}
 use Rattle.split_model.specs.Shown.{back_lines, halt_lines}
-use Rattle.split_model.specs.Keys.{KeyMove, mover_at}
-use Rattle.split_model.proofs.Keys.{negotiated_lines_are}
-use Rattle.split_model.proofs.States.{enter_lines_are}
+use Rattle.split_model.proofs.Showing.{lines_are, front_told_is, back_told_is, halt_is, both_all}
 use Rattle.split_model.proofs.Safe.{safe_start, safe_happens}
-use Rattle.split_model.proofs.Attaching.{attach_lines_are}
 use Rattle.split_model.proofs.Suspending.{suspend_cases}
 use Rattle.split_model.proofs.Overwriting.{poke_cases, overwriting_cases}
 use Rattle.move_laws.specs.Permitted.{IsPermitted, ArePermitted}
@@ -48,7 +43,7 @@ use Rattle.move_laws.specs.Tells.{Tells}
 use Rattle.move_laws.proofs.Follows.{IsAllowed, Follows}
 use Rattle.move_laws.proofs.Tells.{tells_epoch}
 use Rattle.split_model.specs.Report.{report_of, ended_report_of}
-use Rattle.move_laws.proofs.Still.{IsStill, ArePlain, IsPlain, still, plain_front, plain_back, plain_halt, plain_submit, plain_state, plain_key, plain_quiet, plain_busy, plain_unsettled, tells_still, follow_one, follow_plain}
+use Rattle.move_laws.proofs.Still.{IsStill, ArePlain, IsPlain, shown_plain, still, tells_still, follow_one, follow_plain}
 use Rattle.move_laws.proofs.Acts.{IsKept, tells_write, front_kept, back_kept}
 
 -- the lines so far obey the rules, and tell what lies under the ends
@@ -61,9 +56,8 @@ follow_move before more shown pages pages' table table' follows kept plain =
     let one : Follows (before ++ lines.Move shown ∷ []) pages' table' = follow_one before (lines.Move shown) pages pages' table table' follows kept.allowed kept.tells in
     subst (λ (ls : List Line). Follows ls pages' table') (append_assoc before (lines.Move shown ∷ []) more) (follow_plain more (before ++ lines.Move shown ∷ []) pages' table' plain one)
 
-plain_both : (a b : List Line) → ArePlain a → ArePlain b → ArePlain (a ++ b)
-plain_both [] b p q = q
-plain_both (line ∷ a) b p q = (p.0, plain_both a b p.1 q)
+plain_halt : (why : HaltLine) → IsPlain (lines.Halt why)
+plain_halt why = record { is_still = still (lines.Halt why) refl (λ f w v b. refl) (λ n. refl) refl; free = λ b. record { coherent = tt; answered = tt; numbered = tt; touched = tt; grantable = tt } }
 
 no_lines : (before : List Line) (w : World) → FollowsTo before w → FollowsTo (before ++ []) w
 no_lines before w follows = subst (λ (ls : List Line). FollowsTo ls w) (sym (append-nil before)) follows
@@ -71,7 +65,8 @@ no_lines before w follows = subst (λ (ls : List Line). FollowsTo ls w) (sym (ap
 front_follows : (w : World) (before : List Line) (act : Option FrontAct) → IsPermitted w FrontMoves → FollowsTo before w → front_turn w ≡ act → FollowsTo (before ++ front_shows w act) (front_after w act)
 front_follows w before None within follows e = no_lines before w follows
 front_follows w before (Some a) within follows e =
-    follow_move before _ a.shown w.under.pages a.under.pages w.under.grants a.under.grants follows (front_kept before w.under (front_ask.ask_of w.front) a follows.tells within e) (plain_front _)
+    follow_move before _ a.shown w.under.pages a.under.pages w.under.grants a.under.grants follows
+    (front_kept before w.under (front_ask.ask_of w.front) a follows.tells within e) (front_told_is IsPlain (shown_plain FrontMoves) _)
 
 back_follows : (w : World) (before : List Line) (o : Outcome) (act : Option BackAct) → IsSafe w → IsPermitted w BackMoves → FollowsTo before w → back_turn w o ≡ act → FollowsTo (before ++ back_shows w act) (back_after w act)
 back_follows w before o None safe within follows e = no_lines before w follows
@@ -79,7 +74,8 @@ back_follows w before o (Some a) safe within follows e =
     let b : back.View = back_step.step_of w.back a.answer in
     follow_move before (back_lines b.told a.answer ++ halt_lines w.back.halted b.halted) a.shown w.under.pages a.under.pages w.under.grants a.under.grants follows
     (back_kept before w.under back_mover.Back (back_ask.ask_of w.back) o a (hands_of w.back) follows.tells safe.held within e)
-    (plain_both (back_lines b.told a.answer) (halt_lines w.back.halted b.halted) (plain_back b.told a.answer) (plain_halt w.back.halted b.halted))
+    (both_all IsPlain (back_lines b.told a.answer) (halt_lines w.back.halted b.halted) (back_told_is IsPlain (shown_plain BackMoves) b.told a.answer)
+    (halt_is IsPlain plain_halt w.back.halted b.halted))
 
 job_follows : (w : World) (before : List Line) (k : ℕ) (o : Outcome) (act : Option BackAct) → IsSafe w → IsPermitted w (JobMoves k o) → FollowsTo before w → job_turn w k o ≡ act → FollowsTo (before ++ job_shows w k act) (job_after w k act)
 job_follows w before k o None safe within follows e = no_lines before w follows
@@ -87,11 +83,7 @@ job_follows w before k o (Some a) safe within follows e =
     let b : back.View = back_step.job_step w.back k a.answer in
     follow_move before (back_lines b.told a.answer) a.shown w.under.pages a.under.pages w.under.grants a.under.grants follows
     (back_kept before w.under (back_mover.Job k) (back_step.job_ask_of w.back k) o a (hands_of w.back) follows.tells safe.held within e)
-    (plain_back b.told a.answer)
-
-one_plain : (b : Bool) (x y : Line) → IsPlain x → IsPlain y → IsPlain (if b then x else y)
-one_plain true x y p q = p
-one_plain false x y p q = q
+    (back_told_is IsPlain (shown_plain BackMoves) b.told a.answer)
 
 -- a word of the guest's memory that a hostile hand overwrites
 poke_follows : (w : World) (before : List Line) (frame word value : ℕ) → FollowsTo before w → FollowsTo (before ++ lines_at w (Pokes frame word value)) (happens w (Pokes frame word value))
@@ -108,10 +100,7 @@ poke_follows w before frame word value follows =
 overwritten_follows : (w : World) (before : List Line) (name text : List ℕ) → FollowsTo before w → FollowsTo (before ++ lines_at w (OverwritesKey name text)) (happens w (OverwritesKey name text))
 overwritten_follows w before name text follows =
     overwriting_cases (λ under shown. Follows (before ++ shown) under.pages under.grants) w.under name text
-    (λ allowed. follow_plain (lines.Key name text ∷ []) before w.under.pages w.under.grants (plain, tt) follows) (no_lines before w follows)
-  where
-    plain : IsPlain (lines.Key name text)
-    plain = record { is_still = still (lines.Key name text) refl (λ f w' v b. refl) (λ n. refl) refl; free = λ b. record { coherent = tt; answered = tt; numbered = tt; touched = tt; grantable = tt } }
+    (λ allowed. follow_plain (lines.Key name text ∷ []) before w.under.pages w.under.grants (shown_plain (OverwritesKey name text) (lines.Key name text) tt tt, tt) follows) (no_lines before w follows)
 
 -- a suspend clears the grant table, and no mapping stands then
 suspend_follows : (w : World) (before : List Line) → FollowsTo before w → FollowsTo (before ++ lines_at w Suspends) (happens w Suspends)
@@ -158,27 +147,15 @@ dump_follows w before few follows =
     follow_shown w.under.pages w.under.grants (lines_at w Dumps) before
     (dump_words_are (IsShown w.under.pages w.under.grants) w.under.pages 0 (1024 * 2 ^ w.front.shape.order) (omega (arith, few)) (λ frame word framed worded. word_shown w.under.pages w.under.grants frame word (omega arith) worded)) follows
 
--- what an end does with the keys
-keys_plain : (w : World) (at : End) (move : KeyMove) → ArePlain (lines_at w (Negotiates at move))
-keys_plain w at move =
-    negotiated_lines_are IsPlain w.back.stage at move w.under.keys (λ path. plain_key (mover_at at) _ refl) (λ path text. plain_key (mover_at at) _ refl) (λ path. plain_key (mover_at at) _ refl) (λ path. plain_key (mover_at at) _ refl)
-
 pub follows_happens : (w : World) (h : Happening) (before : List Line) → IsSafe w → IsPermitted w h → FollowsTo before w → FollowsTo (before ++ lines_at w h) (happens w h)
 follows_happens w FrontMoves before safe within follows = front_follows w before (front_turn w) within follows refl
 follows_happens w BackMoves before safe within follows = back_follows w before Took (back_turn w Took) safe within follows refl
 follows_happens w (JobMoves number outcome) before safe within follows = job_follows w before number outcome (job_turn w number outcome) safe within follows refl
-follows_happens w (Negotiates at move) before safe within follows = follow_plain (lines_at w (Negotiates at move)) before w.under.pages w.under.grants (keys_plain w at move) follows
-follows_happens w (FrontEnters state) before safe within follows = follow_plain (lines_at w (FrontEnters state)) before w.under.pages w.under.grants (enter_lines_are IsPlain state w.front (λ may. plain_state state)) follows
-follows_happens w (BackAttaches shape grefs port) before safe within follows = follow_plain (lines_at w (BackAttaches shape grefs port)) before w.under.pages w.under.grants (attach_lines_are IsPlain w shape grefs (plain_key mover.Back (layout_read w) refl)) follows
-follows_happens w (BackHalts why) before safe within follows = follow_plain (lines_at w (BackHalts why)) before w.under.pages w.under.grants (plain_halt w.back.halted _) follows
-follows_happens w (Submits job) before safe within follows = follow_plain (lines_at w (Submits job)) before w.under.pages w.under.grants (plain_submit job (front_submit.submit_of w.front job).0, tt) follows
-follows_happens w (Notifies at) before safe within follows = no_lines before w follows
 follows_happens w (Pokes frame word value) before safe within follows = poke_follows w before frame word value follows
 follows_happens w (OverwritesKey name text) before safe within follows = overwritten_follows w before name text follows
 follows_happens w Suspends before safe within follows = suspend_follows w before follows
 follows_happens w Dumps before safe within follows = dump_follows w before within follows
-follows_happens w (Looks quiet) before safe within follows = follow_plain (lines_at w (Looks quiet)) before w.under.pages w.under.grants (one_plain quiet lines.Quiet lines.Busy plain_quiet plain_busy, tt) follows
-follows_happens w (Settles quiet) before safe within follows = follow_plain (lines_at w (Settles quiet)) before w.under.pages w.under.grants (one_plain quiet lines.Quiet lines.Unsettled plain_quiet plain_unsettled, tt) follows
+follows_happens w h before safe within follows = follow_plain (lines_at w h) before w.under.pages w.under.grants (lines_are IsPlain w h (λ line shows. shown_plain h line tt shows)) follows
 
 pub follows_after : (hs : List Happening) (w : World) (before : List Line) → IsSafe w → ArePermitted hs w → FollowsTo before w → FollowsTo (before ++ lines_of hs w) (after hs w)
 follows_after [] w before safe within follows = no_lines before w follows
@@ -193,7 +170,8 @@ pub follows_start : Follows [] fresh_pages fresh_table
 follows_start = record { obeys = obeys_none IsAllowed; tells = tells_start }
 
 plain_begin : (o : Options) (detail : Detail) → IsPlain (lines.Begin o detail)
-plain_begin o detail = record { is_still = still (lines.Begin o detail) refl (λ f w v b. refl) (λ n. refl) refl; free = λ b. record { coherent = tt; answered = tt; numbered = tt; touched = tt; grantable = tt } }
+plain_begin o detail =
+    record { is_still = still (lines.Begin o detail) refl (λ f w v b. refl) (λ n. refl) refl; free = λ b. record { coherent = tt; answered = tt; numbered = tt; touched = tt; grantable = tt } }
 
 plain_end : IsPlain lines.End
 plain_end = record { is_still = still lines.End refl (λ f w v b. refl) (λ n. refl) refl; free = λ b. record { coherent = tt; answered = tt; numbered = tt; touched = tt; grantable = tt } }

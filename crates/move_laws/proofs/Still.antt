@@ -1,13 +1,8 @@
 -- Lines that change neither memory nor mappings.
 use Rattle.std.proofs.Common.{◌≡◌, ℕ, Bool, true, false, not, List, [], ◌∷◌, ◌++◌, map, filter, refl, ap, sym, ◌∙◌, subst, append_assoc}
-use Rattle.std.specs.Prelude.{Option, Some, None}
+use Rattle.std.specs.Prelude.{None}
 use Rattle.std.specs.List.{AllByRecursion}
 use Rattle.std.proofs.lemmas.List.{append-nil}
-use Rattle.blk_base.specs.declared.config.Job.{Job}
-use Rattle.blk_base.specs.declared.ask.BackAnswer.{BackAnswer}
-use Rattle.blk_base.specs.declared.ask.BackAnswer.TheVariants as answers
-use Rattle.blk_base.specs.declared.moves.Mover.{Mover}
-use Rattle.blk_base.specs.declared.moves.Move.{Move}
 use Rattle.blk_base.specs.declared.moves.Move.TheVariants as moves
 use Rattle.grant_table.specs.Table.{GrantTable}
 use Rattle.schedule_text.specs.declared.line.Line.{Line}
@@ -16,18 +11,8 @@ use Rattle.report_rules.specs.declared.standing.Standing.{Standing}
 use Rattle.report_rules.specs.Standing.{is_epoch, is_unmap_of, mapping_made}
 use Rattle.report_rules.specs.Value.{value_after}
 use Rattle.report_rules.proofs.Obeys.{obeys_more}
-use Rattle.blk_front.specs.declared.state.FrontState.{FrontState}
-use Rattle.blk_front.specs.declared.told.Told.{Told}
-use Rattle.blk_front.specs.declared.told.Told.TheVariants as front_told
-use Rattle.blk_front.specs.declared.told.Refusal.{Refusal}
-use Rattle.blk_back.specs.declared.told.BackTold.{BackTold}
-use Rattle.blk_back.specs.declared.told.BackTold.TheVariants as back_told
-use Rattle.blk_back.specs.declared.told.Halt.{Halt}
-use Rattle.std.specs.Prelude.{Result, Ok, Err}
-use Rattle.split_model.specs.Shown.{front_lines, back_lines, halt_lines, state_lines, effect_line}
-use Rattle.split_model.specs.Happening.{submit_line}
-use Rattle.split_model.proofs.SafeActs.{IsKeyMove}
-use Rattle.split_model.proofs.States.{state_lines_are}
+use Rattle.split_model.specs.Happening.{Happening, FrontMoves, BackMoves, JobMoves, Pokes, Suspends, Dumps}
+use Rattle.split_model.proofs.Showing.{IsTold, MayShow}
 use Rattle.move_laws.specs.Tells.{Tells, standing_of}
 use Rattle.move_laws.proofs.Follows.{IsAllowed, Follows}
 use Rattle.move_laws.proofs.Standing.{filter_none, filter_same}
@@ -62,68 +47,30 @@ pub record IsPlain (line : Line) : Type 0 where
 abbrev pub ArePlain : List Line → Type 0
 ArePlain ls = AllByRecursion IsPlain ls
 
-pub plain_front : (t : Option Told) → ArePlain (front_lines t)
-plain_front None = tt
-plain_front (Some (front_told.Answer id status)) = (record { is_still = still (lines.Answer id status) refl (λ f w v b. refl) (λ n. refl) refl; free = λ b. record { coherent = tt; answered = tt; numbered = tt; touched = tt; grantable = tt } }, tt)
-plain_front (Some (front_told.Sector id index words)) = (record { is_still = still (lines.Data id index words) refl (λ f w v b. refl) (λ n. refl) refl; free = λ b. record { coherent = tt; answered = tt; numbered = tt; touched = tt; grantable = tt } }, tt)
-plain_front (Some (front_told.Broken word)) = (record { is_still = still (lines.Broken word) refl (λ f w v b. refl) (λ n. refl) refl; free = λ b. record { coherent = tt; answered = tt; numbered = tt; touched = tt; grantable = tt } }, tt)
+-- what a happening shows that changes neither memory nor mappings, and what a move tells
+abbrev ShowsApart : Happening → Line → Type 0
+ShowsApart FrontMoves line = IsTold line
+ShowsApart BackMoves line = IsTold line
+ShowsApart (JobMoves number outcome) line = IsTold line
+ShowsApart (Pokes frame word value) line = ⊥
+ShowsApart Suspends line = ⊥
+ShowsApart Dumps line = ⊥
+ShowsApart h line = Unit {0}
 
-plain_effect : (id index : ℕ) → IsPlain (lines.Effect id index)
-plain_effect id index = record { is_still = still (lines.Effect id index) refl (λ f w v b. refl) (λ n. refl) refl; free = λ b. record { coherent = tt; answered = tt; numbered = tt; touched = tt; grantable = tt } }
-
-plain_effect_line : (id index : ℕ) (a : BackAnswer) → IsPlain (effect_line id index a)
-plain_effect_line id index answers.Event = plain_effect id index
-plain_effect_line id index (answers.Watched path) = plain_effect id index
-plain_effect_line id index answers.Done = plain_effect id index
-plain_effect_line id index (answers.Word word) = plain_effect id index
-plain_effect_line id index (answers.Mapped m) = plain_effect id index
-plain_effect_line id index (answers.MapRefused status) = plain_effect id index
-plain_effect_line id index answers.BindRefused = plain_effect id index
-plain_effect_line id index (answers.Key text) = plain_effect id index
-plain_effect_line id index (answers.Sector words) = record { is_still = still (lines.EffectRead id index words) refl (λ f w v b. refl) (λ n. refl) refl; free = λ b. record { coherent = tt; answered = tt; numbered = tt; touched = tt; grantable = tt } }
-plain_effect_line id index answers.DiskFailed = plain_effect id index
-
-pub plain_back : (t : Option BackTold) (a : BackAnswer) → ArePlain (back_lines t a)
-plain_back None a = tt
-plain_back (Some (back_told.Effect id index)) a = (plain_effect_line id index a, tt)
-plain_back (Some (back_told.Flushed id)) a = (record { is_still = still (lines.Flushed id) refl (λ f w v b. refl) (λ n. refl) refl; free = λ b. record { coherent = tt; answered = tt; numbered = tt; touched = tt; grantable = tt } }, tt)
-plain_back (Some (back_told.Trimmed id)) a = (record { is_still = still (lines.Trimmed id) refl (λ f w v b. refl) (λ n. refl) refl; free = λ b. record { coherent = tt; answered = tt; numbered = tt; touched = tt; grantable = tt } }, tt)
-plain_back (Some (back_told.Fault id index)) a = (record { is_still = still (lines.Fault id index) refl (λ f w v b. refl) (λ n. refl) refl; free = λ b. record { coherent = tt; answered = tt; numbered = tt; touched = tt; grantable = tt } }, tt)
-plain_back (Some (back_told.Reply id status)) a = (record { is_still = still (lines.Reply id status) refl (λ f w v b. refl) (λ n. refl) refl; free = λ b. record { coherent = tt; answered = tt; numbered = tt; touched = tt; grantable = tt } }, tt)
-
-pub plain_halt : (before now : Option Halt) → ArePlain (halt_lines before now)
-plain_halt None None = tt
-plain_halt None (Some h) = (record { is_still = still _ refl (λ f w v b. refl) (λ n. refl) refl; free = λ b. record { coherent = tt; answered = tt; numbered = tt; touched = tt; grantable = tt } }, tt)
-plain_halt (Some g) now = tt
-
-pub plain_submit : (job : Job) (r : Result ℕ Refusal) → IsPlain (submit_line job r)
-plain_submit job (Ok number) = record { is_still = still (lines.Submit number job) refl (λ f w v b. refl) (λ n. refl) refl; free = λ b. record { coherent = tt; answered = tt; numbered = tt; touched = tt; grantable = tt } }
-plain_submit job (Err r) = record { is_still = still _ refl (λ f w v b. refl) (λ n. refl) refl; free = λ b. record { coherent = tt; answered = tt; numbered = tt; touched = tt; grantable = tt } }
-
-pub plain_state : (s : FrontState) → ArePlain (state_lines s)
-plain_state s =
-    state_lines_are IsPlain s
-    (record { is_still = still lines.Ready refl (λ f w v b. refl) (λ n. refl) refl; free = λ b. record { coherent = tt; answered = tt; numbered = tt; touched = tt; grantable = tt } })
-    (record { is_still = still lines.Closing refl (λ f w v b. refl) (λ n. refl) refl; free = λ b. record { coherent = tt; answered = tt; numbered = tt; touched = tt; grantable = tt } })
-    (record { is_still = still lines.Closed refl (λ f w v b. refl) (λ n. refl) refl; free = λ b. record { coherent = tt; answered = tt; numbered = tt; touched = tt; grantable = tt } })
-    (λ word. record { is_still = still (lines.Broken word) refl (λ f w v b. refl) (λ n. refl) refl; free = λ b. record { coherent = tt; answered = tt; numbered = tt; touched = tt; grantable = tt } })
-
--- a move on a key or a watch
-pub plain_key : (who : Mover) (shown : Move) → IsKeyMove who shown → IsPlain (lines.Move shown)
-plain_key who (moves.Watch m path) is = record { is_still = still _ refl (λ f w v b. refl) (λ n. refl) refl; free = λ b. record { coherent = tt; answered = tt; numbered = tt; touched = tt; grantable = tt } }
-plain_key who (moves.Watched m path) is = record { is_still = still _ refl (λ f w v b. refl) (λ n. refl) refl; free = λ b. record { coherent = tt; answered = tt; numbered = tt; touched = tt; grantable = tt } }
-plain_key who (moves.GetKey m path text) is = record { is_still = still _ refl (λ f w v b. refl) (λ n. refl) refl; free = λ b. record { coherent = tt; answered = tt; numbered = tt; touched = tt; grantable = tt } }
-plain_key who (moves.SetKey m path text) is = record { is_still = still _ refl (λ f w v b. refl) (λ n. refl) refl; free = λ b. record { coherent = tt; answered = tt; numbered = tt; touched = tt; grantable = tt } }
-plain_key who shown is = absurd is
-
-pub plain_quiet : IsPlain lines.Quiet
-plain_quiet = record { is_still = still lines.Quiet refl (λ f w v b. refl) (λ n. refl) refl; free = λ b. record { coherent = tt; answered = tt; numbered = tt; touched = tt; grantable = tt } }
-
-pub plain_busy : IsPlain lines.Busy
-plain_busy = record { is_still = still lines.Busy refl (λ f w v b. refl) (λ n. refl) refl; free = λ b. record { coherent = tt; answered = tt; numbered = tt; touched = tt; grantable = tt } }
-
-pub plain_unsettled : IsPlain lines.Unsettled
-plain_unsettled = record { is_still = still lines.Unsettled refl (λ f w v b. refl) (λ n. refl) refl; free = λ b. record { coherent = tt; answered = tt; numbered = tt; touched = tt; grantable = tt } }
+pub shown_plain : (h : Happening) (line : Line) → ShowsApart h line → MayShow h line → IsPlain line
+shown_plain Dumps line so shows = absurd so
+shown_plain h (lines.Move (moves.FrontRead frame word value)) so shows = absurd (assumption)
+shown_plain h (lines.Move (moves.FrontWrite frame word value)) so shows = absurd (assumption)
+shown_plain h (lines.Move (moves.FrontCas frame word old new seen)) so shows = absurd (assumption)
+shown_plain h (lines.Move (moves.Read who m frame word value)) so shows = absurd (assumption)
+shown_plain h (lines.Move (moves.Write who m frame word value)) so shows = absurd (assumption)
+shown_plain h (lines.Move (moves.Map who gref mode m frame)) so shows = absurd (assumption)
+shown_plain h (lines.Move (moves.MapRefused who gref mode status)) so shows = absurd (assumption)
+shown_plain h (lines.Move (moves.Unmap who m)) so shows = absurd (assumption)
+shown_plain h lines.Epoch so shows = absurd (assumption)
+shown_plain h (lines.Poke frame word value) so shows = absurd (assumption)
+shown_plain h (lines.Word frame word value) so shows = absurd (assumption)
+shown_plain h line so shows = record { is_still = still line refl (λ f w v b. refl) (λ n. refl) refl; free = λ b. record { coherent = tt; answered = tt; numbered = tt; touched = tt; grantable = tt } }
 
 -- one line more
 pub follow_one : (before : List Line) (line : Line) (pages pages' : List ℕ) (table table' : GrantTable) → Follows before pages table → IsAllowed before line → Tells (before ++ line ∷ []) pages' table' → Follows (before ++ line ∷ []) pages' table'

@@ -27,18 +27,15 @@ use Rattle.grant_table.specs.declared.entry.MapRefusal.TheVariants.{General, Bad
 use Rattle.grant_table.specs.Entry.{status_of}
 use Rattle.grant_table.specs.Table.{GrantTable, IsLive, entry_word0, entry_word1, frame_of, held_of, verdict_at}
 use Rattle.grant_table.specs.Sound.{IsGrantable}
-use Rattle.event_channel.specs.declared.channels.PortState.{PortState}
-use Rattle.event_channel.specs.declared.channels.PortState.TheVariants as port
-use Rattle.event_channel.specs.Channels.{state_of}
 use Rattle.line_text.specs.Sector.{IsSector}
 use Rattle.schedule_text.specs.declared.line.Line.TheVariants as lines
 use Rattle.schedule_text.specs.Range.{IsInRange, MoveHasWidths, MoverHasWidths, BackHasWidths, is_move_allowed, is_mover_allowed, is_back_allowed}
 use Rattle.hypervisor.specs.Hypervisor.{Hypervisor}
-use Rattle.hypervisor.specs.Act.{FrontAct, BackAct, Outcome, Gave, Took, Failed, IsGiven, front_act, back_act, mover_of, job_number, map_act, bind_act, wait_act, read_act, disk_act}
+use Rattle.hypervisor.specs.Act.{FrontAct, BackAct, Outcome, IsGiven, front_act, back_act, mover_of, job_number, map_act}
 use Rattle.blk_front.specs.Ask.{StaysInMemory}
 use Rattle.back_jobs.specs.Hands.{Names}
 use Rattle.split_model.specs.Safe.{AreHeld}
-use Rattle.split_model.proofs.SafeActs.{of_front, of_back, front_takes, back_takes, front_wait, back_wait}
+use Rattle.split_model.proofs.Acting.{FrontWatched, FrontRead, FrontWrite, FrontCas, FrontPort, FrontGet, FrontSet, FrontWatch, front_acts, BackEvent, BackWatched, BackRead, BackWrite, BackMap, BackMapRefused, BackUnmap, BackBind, BackBindRefused, BackGet, BackSet, BackWatch, DiskGives, ReadFails, DiskTakes, WriteFails, DiskFlushes, FlushFails, DiskTrims, TrimFails, back_acts}
 use Rattle.move_laws.proofs.Entries.{Found, found, frame_found, IsGranted, granted}
 use Rattle.report_laws.proofs.Spelled.{AreSpelled, next_path}
 use Rattle.report_laws.proofs.Words.{AreWords, word_fits, write_fits, exchange_fits, map_fits, unmap_fits}
@@ -60,58 +57,44 @@ FrontFits h (front_ask.SetKey path text) = ⊥
 FrontFits h (front_ask.Watch path) = ⊥
 FrontFits h ask = Unit {0}
 
-abbrev FrontActFits : FrontAct → Type 0
-FrontActFits a = ActFits a.shown a.under.pages
-
 pub front_act_fits : (h : Hypervisor) (ask : FrontAsk) (a : FrontAct) → AreWords h.pages → StaysInMemory ask → FrontFits h ask → AreSpelled h.keys → front_act h ask ≡ Some a → ActFits a.shown a.under.pages
-front_act_fits h front_ask.Wait a words within fits spelled e = front_takes FrontActFits h a (act_fits (moves.Event mover.Front) h.pages tt refl words) (λ path first. act_fits (moves.Watched mover.Front path) h.pages tt (next_path h.keys.front path spelled.front first) words) e
-front_act_fits h front_ask.Fence a words within fits spelled e = of_front FrontActFits _ a (act_fits (moves.Fence mover.Front) h.pages tt refl words) e
-front_act_fits h (front_ask.Read frame word) a words within fits spelled e =
-    of_front FrontActFits _ a (act_fits (moves.FrontRead frame word (word_of h.pages frame word)) h.pages (omega (arith, within.0), omega (arith, within.1), word_fits h.pages frame word words) refl words) e
-front_act_fits h (front_ask.Write frame word value) a words within fits spelled e =
-    of_front FrontActFits _ a (act_fits (moves.FrontWrite frame word value) _ (omega (arith, within.0), omega (arith, within.1), fits) refl (write_fits h.pages frame word value words fits)) e
-front_act_fits h (front_ask.Cas frame word old new) a words within fits spelled e =
-    of_front FrontActFits _ a (act_fits (moves.FrontCas frame word old new (word_of h.pages frame word)) _ (omega (arith, within.0), omega (arith, within.1), fits.0, fits.1, word_fits h.pages frame word words) refl (exchange_fits h.pages frame word old new words fits.1)) e
-front_act_fits h front_ask.NewPort a words within fits spelled e = of_front FrontActFits _ a (act_fits (moves.FrontPort (h.channels.made + 1)) h.pages fits refl words) e
-front_act_fits h front_ask.Send a words within fits spelled e = of_front FrontActFits _ a (act_fits (moves.Send mover.Front) h.pages tt refl words) e
-front_act_fits h front_ask.ClosePort a words within fits spelled e = of_front FrontActFits _ a (act_fits (moves.ClosePort mover.Front) h.pages tt refl words) e
-front_act_fits h (front_ask.GetKey path) a words within fits spelled e = absurd fits
-front_act_fits h (front_ask.SetKey path text) a words within fits spelled e = absurd fits
-front_act_fits h (front_ask.Watch path) a words within fits spelled e = absurd fits
+front_act_fits h ask a words within fits spelled e = (elim (front_acts h ask a e) as (λ asked x acts. StaysInMemory asked → FrontFits h asked → ActFits x.shown x.under.pages) [
+  | FrontWatched path first ↦ λ within fits. act_fits (moves.Watched mover.Front path) h.pages tt (next_path h.keys.front path spelled.front first) words
+  | FrontRead frame word ↦ λ within fits.
+      act_fits (moves.FrontRead frame word (word_of h.pages frame word)) h.pages (omega (arith, within.0), omega (arith, within.1), word_fits h.pages frame word words) refl words
+  | FrontWrite frame word value ↦ λ within fits.
+      act_fits (moves.FrontWrite frame word value) _ (omega (arith, within.0), omega (arith, within.1), fits) refl (write_fits h.pages frame word value words fits)
+  | FrontCas frame word old new ↦ λ within fits.
+      act_fits (moves.FrontCas frame word old new (word_of h.pages frame word)) _ (omega (arith, within.0), omega (arith, within.1), fits.0, fits.1, word_fits h.pages frame word words) refl
+      (exchange_fits h.pages frame word old new words fits.1)
+  | FrontPort ↦ λ within fits. act_fits (moves.FrontPort (h.channels.made + 1)) h.pages fits refl words
+  | FrontGet path ↦ λ within fits. absurd fits
+  | FrontSet path text is ↦ λ within fits. absurd fits
+  | FrontWatch path ↦ λ within fits. absurd fits
+  | acts ↦ λ within fits. act_fits _ h.pages tt refl words
+]) within fits
 
 -- a word that it is told has 32 bits
 abbrev pub FrontTells : FrontAnswer → Type 0
 FrontTells (front_answer.Word word) = word < 2 ^ 32
 FrontTells a = Unit {0}
 
-abbrev FrontActTells : FrontAct → Type 0
-FrontActTells a = FrontTells a.answer
-
 pub front_told_fits : (h : Hypervisor) (ask : FrontAsk) (a : FrontAct) → AreWords h.pages → FrontFits h ask → front_act h ask ≡ Some a → FrontTells a.answer
-front_told_fits h front_ask.Wait a words fits e = front_wait FrontActTells h a tt (λ path. tt) e
-front_told_fits h front_ask.Fence a words fits e = of_front FrontActTells _ a tt e
-front_told_fits h (front_ask.Read frame word) a words fits e = of_front FrontActTells _ a (word_fits h.pages frame word words) e
-front_told_fits h (front_ask.Write frame word value) a words fits e = of_front FrontActTells _ a tt e
-front_told_fits h (front_ask.Cas frame word old new) a words fits e = of_front FrontActTells _ a (word_fits h.pages frame word words) e
-front_told_fits h front_ask.NewPort a words fits e = of_front FrontActTells _ a tt e
-front_told_fits h front_ask.Send a words fits e = of_front FrontActTells _ a tt e
-front_told_fits h front_ask.ClosePort a words fits e = of_front FrontActTells _ a tt e
-front_told_fits h (front_ask.GetKey path) a words fits e = absurd fits
-front_told_fits h (front_ask.SetKey path text) a words fits e = absurd fits
-front_told_fits h (front_ask.Watch path) a words fits e = absurd fits
+front_told_fits h ask a words fits e = elim (front_acts h ask a e) as (λ asked x acts. FrontTells x.answer) [
+  | FrontRead frame word ↦ word_fits h.pages frame word words
+  | FrontCas frame word old new ↦ word_fits h.pages frame word words
+  | acts ↦ tt
+]
 
 -- the back or a job of a number of 64 bits, above 0
 pub record IsMover (who : BackMover) : Type 0 where
   pub widths : BackHasWidths who
   pub allowed : is_back_allowed who ≡ true
 
-mover_widths : (who : BackMover) → BackHasWidths who → MoverHasWidths (mover_of who)
-mover_widths back_mover.Back h = tt
-mover_widths (back_mover.Job k) h = h
-
-mover_allowed : (who : BackMover) → is_back_allowed who ≡ true → is_mover_allowed (mover_of who) ≡ true
-mover_allowed back_mover.Back h = refl
-mover_allowed (back_mover.Job k) h = h
+-- so has a move that shows who it is by
+mover_fits : {who : BackMover} → IsMover who → MoverHasWidths (mover_of who) × (is_mover_allowed (mover_of who) ≡ true)
+mover_fits {who = back_mover.Back} is = (tt, refl)
+mover_fits {who = back_mover.Job k} is = (is.widths, is.allowed)
 
 -- a call of the disk is a job's
 abbrev pub IsCaller : BackMover → Type 0
@@ -169,52 +152,45 @@ map_act_fits h who gref mode (Ok frame) words is fits few e =
     act_fits (moves.Map who gref mode (h.grants.made + 1) frame) _ (is.widths, fits, few, omega arith) is.allowed (map_fits h.pages gref mode words)
 map_act_fits h who gref mode (Err refusal) words is fits few e = act_fits (moves.MapRefused who gref mode (status_of refusal)) h.pages (is.widths, fits, status_fits refusal) is.allowed words
 
-bind_act_fits : (h : Hypervisor) (p : ℕ) (state : PortState) → AreWords h.pages → p < 2 ^ 32 → BackActFits (bind_act h p state)
-bind_act_fits h p port.Unbound words fits = act_fits (moves.Bind p) h.pages fits refl words
-bind_act_fits h p port.Closed words fits = act_fits (moves.BindRefused p) h.pages fits refl words
-bind_act_fits h p port.Bound words fits = act_fits (moves.BindRefused p) h.pages fits refl words
-
-wait_act_fits : (h : Hypervisor) (who : BackMover) (a : BackAct) → AreWords h.pages → AreSpelled h.keys → wait_act h who ≡ Some a → BackActFits a
-wait_act_fits h who a words spelled e = back_takes BackActFits h who a (act_fits (moves.Event mover.Back) h.pages tt refl words) (λ path first. act_fits (moves.Watched mover.Back path) h.pages tt (next_path h.keys.back path spelled.back first) words) e
-
-read_act_fits : (h : Hypervisor) (shown : Move) (o : Outcome) (a : BackAct) → ActFits shown h.pages → read_act h shown o ≡ Some a → BackActFits a
-read_act_fits h shown (Gave words) a fits e = of_back BackActFits _ a fits e
-read_act_fits h shown Failed a fits e = of_back BackActFits _ a fits e
-read_act_fits h shown Took a fits e = absurd (none-some a e)
-
-disk_act_fits : (h : Hypervisor) (shown : Move) (o : Outcome) (a : BackAct) → ActFits shown h.pages → disk_act h shown o ≡ Some a → BackActFits a
-disk_act_fits h shown Took a fits e = of_back BackActFits _ a fits e
-disk_act_fits h shown Failed a fits e = of_back BackActFits _ a fits e
-disk_act_fits h shown (Gave words) a fits e = absurd (none-some a e)
+-- it fits where its ask does
+abbrev AskedFits : (hands : List Mapping) → BackMover → BackAsk → BackAct → Type 0
+AskedFits hands who ask a = IsMover who → Names hands ask → BackFits who ask → ActFits a.shown a.under.pages
 
 pub back_act_fits : (h : Hypervisor) (who : BackMover) (ask : BackAsk) (o : Outcome) (a : BackAct) (hands : List Mapping) → AreWords h.pages → All IsGrantable h.grants.live → AreHeld h.grants hands → h.grants.made + 1 < 2 ^ 64 → IsMover who → Names hands ask → BackFits who ask → AreSpelled h.keys → back_act h who ask o ≡ Some a → ActFits a.shown a.under.pages
-back_act_fits h who back_ask.Wait o a hands words grantable held few is names fits spelled e = wait_act_fits h who a words spelled e
-back_act_fits h who back_ask.Fence o a hands words grantable held few is names fits spelled e = of_back BackActFits _ a (act_fits (moves.Fence (mover_of who)) h.pages (mover_widths who is.widths) (mover_allowed who is.allowed) words) e
-back_act_fits h who (back_ask.Read m word) o a hands words grantable held few is names fits spelled e =
-    let well = held_well h.grants hands m grantable held (All-contains (IsLive h.grants) hands m held.live names.0) in
-    let number = well.number in
-    let frame = well.frame in
-    of_back BackActFits _ a (act_fits (moves.Read who m.number (frame_of h.grants m) word (word_of h.pages (frame_of h.grants m) word)) h.pages (is.widths, omega arith, omega arith, omega (arith, names.1), word_fits h.pages (frame_of h.grants m) word words) is.allowed words) e
-back_act_fits h who (back_ask.Write m word value) o a hands words grantable held few is names fits spelled e =
-    let well = held_well h.grants hands m grantable held (All-contains (IsLive h.grants) hands m held.live names.0) in
-    let number = well.number in
-    let frame = well.frame in
-    of_back BackActFits _ a (act_fits (moves.Write who m.number (frame_of h.grants m) word value) _ (is.widths, omega arith, omega arith, omega (arith, names.2), fits) is.allowed (write_fits h.pages (frame_of h.grants m) word value words fits)) e
-back_act_fits h who (back_ask.Map gref mode) o a hands words grantable held few is names fits spelled e = of_back BackActFits _ a (map_act_fits h who gref mode (verdict_at h.pages gref mode) words is fits few refl) e
-back_act_fits h who (back_ask.Unmap m) o a hands words grantable held few is names fits spelled e =
-    let well = held_well h.grants hands m grantable held (All-contains (IsLive h.grants) hands m held.live names) in
-    let number = well.number in
-    of_back BackActFits _ a (act_fits (moves.Unmap who m.number) _ (is.widths, omega arith) is.allowed (unmap_fits h.grants h.pages m words)) e
-back_act_fits h who (back_ask.Bind p) o a hands words grantable held few is names fits spelled e = of_back BackActFits _ a (bind_act_fits h p (state_of h.channels p) words fits) e
-back_act_fits h who back_ask.Send o a hands words grantable held few is names fits spelled e = of_back BackActFits _ a (act_fits (moves.Send (mover_of who)) h.pages (mover_widths who is.widths) (mover_allowed who is.allowed) words) e
-back_act_fits h who back_ask.ClosePort o a hands words grantable held few is names fits spelled e = of_back BackActFits _ a (act_fits (moves.ClosePort (mover_of who)) h.pages (mover_widths who is.widths) (mover_allowed who is.allowed) words) e
-back_act_fits h who (back_ask.GetKey path) o a hands words grantable held few is names fits spelled e = absurd fits
-back_act_fits h who (back_ask.SetKey path text) o a hands words grantable held few is names fits spelled e = absurd fits
-back_act_fits h who (back_ask.Watch path) o a hands words grantable held few is names fits spelled e = absurd fits
-back_act_fits h who (back_ask.DiskRead sector) o a hands words grantable held few is names fits spelled e = read_act_fits h (moves.DiskRead (job_number who) sector) o a (act_fits (moves.DiskRead (job_number who) sector) h.pages (fits.1.0, fits.0) fits.1.1 words) e
-back_act_fits h who (back_ask.DiskWrite sector sector_words) o a hands words grantable held few is names fits spelled e = disk_act_fits h (moves.DiskWrite (job_number who) sector) o a (act_fits (moves.DiskWrite (job_number who) sector) h.pages (fits.1.0, fits.0) fits.1.1 words) e
-back_act_fits h who back_ask.Flush o a hands words grantable held few is names fits spelled e = disk_act_fits h (moves.DiskFlush (job_number who)) o a (act_fits (moves.DiskFlush (job_number who)) h.pages fits.0 fits.1 words) e
-back_act_fits h who (back_ask.Trim sector count) o a hands words grantable held few is names fits spelled e = disk_act_fits h (moves.DiskTrim (job_number who) sector count) o a (act_fits (moves.DiskTrim (job_number who) sector count) h.pages (fits.2.0, fits.0, fits.1) fits.2.1 words) e
+back_act_fits h who ask o a hands words grantable held few is names fits spelled e = (elim (back_acts h who ask o a e) as (λ mover asked outcome x acts. AskedFits hands mover asked x) [
+  | BackEvent ↦ λ is names fits. act_fits (moves.Event mover.Back) h.pages tt refl words
+  | BackWatched path first ↦ λ is names fits. act_fits (moves.Watched mover.Back path) h.pages tt (next_path h.keys.back path spelled.back first) words
+  | BackRead m word ↦ λ is names fits.
+      let well = held_well h.grants hands m grantable held (All-contains (IsLive h.grants) hands m held.live names.0) in
+      let number = well.number in
+      let frame = well.frame in
+      act_fits _ h.pages (is.widths, omega arith, omega arith, omega (arith, names.1), word_fits h.pages (frame_of h.grants m) word words) is.allowed words
+  | BackWrite m word value ↦ λ is names fits.
+      let well = held_well h.grants hands m grantable held (All-contains (IsLive h.grants) hands m held.live names.0) in
+      let number = well.number in
+      let frame = well.frame in
+      act_fits _ _ (is.widths, omega arith, omega arith, omega (arith, names.2), fits) is.allowed (write_fits h.pages (frame_of h.grants m) word value words fits)
+  | BackMap gref mode frame granted ↦ λ is names fits. map_act_fits h _ gref mode (Ok frame) words is fits few granted
+  | BackMapRefused gref mode refusal refused ↦ λ is names fits. map_act_fits h _ gref mode (Err refusal) words is fits few refused
+  | BackUnmap m ↦ λ is names fits.
+      let well = held_well h.grants hands m grantable held (All-contains (IsLive h.grants) hands m held.live names) in
+      let number = well.number in
+      act_fits _ _ (is.widths, omega arith) is.allowed (unmap_fits h.grants h.pages m words)
+  | BackBind p unbound ↦ λ is names fits. act_fits (moves.Bind p) h.pages fits refl words
+  | BackBindRefused p ↦ λ is names fits. act_fits (moves.BindRefused p) h.pages fits refl words
+  | BackGet path ↦ λ is names fits. absurd fits
+  | BackSet path text own ↦ λ is names fits. absurd fits
+  | BackWatch path ↦ λ is names fits. absurd fits
+  | DiskGives sector given ↦ λ is names fits. act_fits _ h.pages (fits.1.0, fits.0) fits.1.1 words
+  | ReadFails sector ↦ λ is names fits. act_fits _ h.pages (fits.1.0, fits.0) fits.1.1 words
+  | DiskTakes sector taken ↦ λ is names fits. act_fits _ h.pages (fits.1.0, fits.0) fits.1.1 words
+  | WriteFails sector failed ↦ λ is names fits. act_fits _ h.pages (fits.1.0, fits.0) fits.1.1 words
+  | DiskFlushes ↦ λ is names fits. act_fits _ h.pages fits.0 fits.1 words
+  | FlushFails ↦ λ is names fits. act_fits _ h.pages fits.0 fits.1 words
+  | DiskTrims sector count ↦ λ is names fits. act_fits _ h.pages (fits.2.0, fits.0, fits.1) fits.2.1 words
+  | TrimFails sector count ↦ λ is names fits. act_fits _ h.pages (fits.2.0, fits.0, fits.1) fits.2.1 words
+  | acts ↦ λ is names fits. let own = mover_fits is in act_fits _ h.pages own.0 own.1 words
+]) is names fits
 
 -- a word that the back or a job is told has 32 bits, a sector is one of the grammar, and so is the status of a refusal
 abbrev pub BackTells : BackAnswer → Type 0
@@ -223,42 +199,10 @@ BackTells (back_answer.Sector words) = IsSector words
 BackTells (back_answer.MapRefused status) = FitsSigned w32 status
 BackTells a = Unit {0}
 
-abbrev BackActTells : BackAct → Type 0
-BackActTells a = BackTells a.answer
-
-map_told : (h : Hypervisor) (who : BackMover) (gref : ℕ) (mode : Mode) (verdict : Result ℕ MapRefusal) → BackActTells (map_act h who gref mode verdict)
-map_told h who gref mode (Ok frame) = tt
-map_told h who gref mode (Err refusal) = status_fits refusal
-
-bind_told : (h : Hypervisor) (p : ℕ) (state : PortState) → BackActTells (bind_act h p state)
-bind_told h p port.Unbound = tt
-bind_told h p port.Closed = tt
-bind_told h p port.Bound = tt
-
-read_told : (h : Hypervisor) (shown : Move) (o : Outcome) (a : BackAct) → IsGiven o → read_act h shown o ≡ Some a → BackActTells a
-read_told h shown (Gave words) a given e = of_back BackActTells _ a (record { size = given.0; fits = given.1 }) e
-read_told h shown Failed a given e = of_back BackActTells _ a tt e
-read_told h shown Took a given e = absurd (none-some a e)
-
-disk_told : (h : Hypervisor) (shown : Move) (o : Outcome) (a : BackAct) → disk_act h shown o ≡ Some a → BackActTells a
-disk_told h shown Took a e = of_back BackActTells _ a tt e
-disk_told h shown Failed a e = of_back BackActTells _ a tt e
-disk_told h shown (Gave words) a e = absurd (none-some a e)
-
 pub back_told_fits : (h : Hypervisor) (who : BackMover) (ask : BackAsk) (o : Outcome) (a : BackAct) → AreWords h.pages → IsGiven o → BackFits who ask → back_act h who ask o ≡ Some a → BackTells a.answer
-back_told_fits h who back_ask.Wait o a words given fits e = back_wait BackActTells h who a tt (λ path. tt) e
-back_told_fits h who back_ask.Fence o a words given fits e = of_back BackActTells _ a tt e
-back_told_fits h who (back_ask.Read m word) o a words given fits e = of_back BackActTells _ a (word_fits h.pages (frame_of h.grants m) word words) e
-back_told_fits h who (back_ask.Write m word value) o a words given fits e = of_back BackActTells _ a tt e
-back_told_fits h who (back_ask.Map gref mode) o a words given fits e = of_back BackActTells _ a (map_told h who gref mode (verdict_at h.pages gref mode)) e
-back_told_fits h who (back_ask.Unmap m) o a words given fits e = of_back BackActTells _ a tt e
-back_told_fits h who (back_ask.Bind p) o a words given fits e = of_back BackActTells _ a (bind_told h p (state_of h.channels p)) e
-back_told_fits h who back_ask.Send o a words given fits e = of_back BackActTells _ a tt e
-back_told_fits h who back_ask.ClosePort o a words given fits e = of_back BackActTells _ a tt e
-back_told_fits h who (back_ask.GetKey path) o a words given fits e = absurd fits
-back_told_fits h who (back_ask.SetKey path text) o a words given fits e = absurd fits
-back_told_fits h who (back_ask.Watch path) o a words given fits e = absurd fits
-back_told_fits h who (back_ask.DiskRead sector) o a words given fits e = read_told h _ o a given e
-back_told_fits h who (back_ask.DiskWrite sector sector_words) o a words given fits e = disk_told h _ o a e
-back_told_fits h who back_ask.Flush o a words given fits e = disk_told h _ o a e
-back_told_fits h who (back_ask.Trim sector count) o a words given fits e = disk_told h _ o a e
+back_told_fits h who ask o a words given fits e = (elim (back_acts h who ask o a e) as (λ who asked outcome x acts. IsGiven outcome → BackTells x.answer) [
+  | BackRead m word ↦ λ given. word_fits h.pages (frame_of h.grants m) word words
+  | BackMapRefused gref mode refusal is ↦ λ given. status_fits refusal
+  | DiskGives sector gives ↦ λ given. record { size = given.0; fits = given.1 }
+  | acts ↦ λ given. tt
+]) given

@@ -222,7 +222,6 @@ enters_counts start s v before was =
 -- a suspend: an open front begins its ring anew, and has told nothing in this epoch
 anew_counts : (start begins : ℕ) (s : Stage) → start < 2 ^ 32 → begins ≡ start → CountsAt start 0 begins begins (stage_after s)
 anew_counts start begins (stage.ReadData n) fits same = (omega arith, refl)
-anew_counts start begins (stage.LeftData n) fits same = (omega arith, refl)
 anew_counts start begins s fits same = (omega arith, refl)
 
 suspended_counts : (start : ℕ) (v : View) (before : List Line) → start < 2 ^ 32 → v.start ≡ start → IsCountedFor start (before ++ lines.Epoch ∷ []) (suspended v)

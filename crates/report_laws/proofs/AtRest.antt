@@ -5,17 +5,15 @@ use Rattle.std.proofs.lemmas.List.Elements.{All-from_recursion, All-contains}
 use Rattle.blk_base.specs.Options.{Options}
 use Rattle.schedule_text.specs.declared.line.Line.{Line}
 use Rattle.schedule_text.specs.declared.line.Line.TheVariants as lines
-use Rattle.hypervisor.specs.Act.{Took}
-use Rattle.blk_front.specs.Submit as front_submit
 use Rattle.split_model.specs.World.{World, start_of, is_quiet}
-use Rattle.split_model.specs.Happening.{Happening, FrontMoves, BackMoves, JobMoves, FrontEnters, BackAttaches, BackHalts, Submits, Suspends, Looks, Settles, lines_at, after, front_shows, back_shows, job_shows, front_turn, back_turn, job_turn, submit_line}
+use Rattle.split_model.specs.Happening.{Happening, Looks, Settles, lines_at, after}
 use Rattle.machine_pipeline.specs.Plain.{IsPlain}
 use Rattle.machine_pipeline.specs.Allowed.{IsServed, AreServed}
 use Rattle.machine_pipeline.proofs.Over.{IsDrained}
 use Rattle.machine_pipeline.proofs.Together.{always_stands}
 use Rattle.machine_pipeline.proofs.AtRest.{IsIdleRing, quiet_rests}
 use Rattle.report_laws.specs.AtRest.{IsReadRing, IsAtRest}
-use Rattle.report_laws.proofs.Lines.{says_quiet, is_usual, AreUsual, AreUnquiet, usual_unquiet, front_usual, back_usual, job_usual, attach_usual, states_unquiet, halt_usual, submit_usual, suspend_usual, outside_usual}
+use Rattle.report_laws.proofs.Lines.{says_quiet, AreUnquiet, shows_unquiet}
 
 pub always_rests : (config : Options) (history : List Happening) → IsPlain config → AreServed history (start_of config) → is_quiet (after history (start_of config)) ≡ true → IsAtRest (after history (start_of config))
 always_rests config history plain may quiet = record { ring = read; no_job = rest.no_job; no_request = rest.no_request }
@@ -33,22 +31,11 @@ always_rests config history plain may quiet = record { ring = read; no_job = res
 none_quiet : (ls : List Line) → AreUnquiet ls → Contains ls lines.Quiet → ⊥
 none_quiet ls all has = true≢false (All-contains (λ (line : Line). says_quiet line ≡ false) ls lines.Quiet (All-from_recursion (λ (line : Line). says_quiet line ≡ false) ls all) has)
 
-none_usual : (ls : List Line) → AreUsual ls → Contains ls lines.Quiet → ⊥
-none_usual ls all has = none_quiet ls (usual_unquiet ls all) has
-
-look_quiet : (quiet : Bool) (other : Line) → is_usual other ≡ true → Contains ((if quiet then lines.Quiet else other) ∷ []) lines.Quiet → quiet ≡ true
+look_quiet : (quiet : Bool) (other : Line) → says_quiet other ≡ false → Contains ((if quiet then lines.Quiet else other) ∷ []) lines.Quiet → quiet ≡ true
 look_quiet true other e has = refl
-look_quiet false other e has = absurd (none_usual (other ∷ []) (e, tt) has)
+look_quiet false other e has = absurd (none_quiet (other ∷ []) (e, tt) has)
 
 pub shown_quiet : (w : World) (h : Happening) → IsServed w h → Contains (lines_at w h) lines.Quiet → is_quiet w ≡ true
-shown_quiet w FrontMoves may has = absurd (none_usual (front_shows w (front_turn w)) (front_usual w (front_turn w)) has)
-shown_quiet w BackMoves may has = absurd (none_usual (back_shows w (back_turn w Took)) (back_usual w (back_turn w Took)) has)
-shown_quiet w (JobMoves number outcome) may has = absurd (none_usual (job_shows w number (job_turn w number outcome)) (job_usual w number (job_turn w number outcome)) has)
-shown_quiet w (FrontEnters state) may has = absurd (none_quiet _ (states_unquiet state w.front) has)
-shown_quiet w (BackAttaches shape grefs port) may has = absurd (none_usual _ (attach_usual w shape grefs port) has)
-shown_quiet w (BackHalts why) may has = absurd (none_usual _ (halt_usual w.back.halted _) has)
-shown_quiet w (Submits job) may has = absurd (none_usual (submit_line job (front_submit.submit_of w.front job).0 ∷ []) (submit_usual job (front_submit.submit_of w.front job).0) has)
-shown_quiet w Suspends may has = absurd (none_usual _ (suspend_usual w) has)
 shown_quiet w (Looks quiet) may has = may (look_quiet quiet lines.Busy refl has)
 shown_quiet w (Settles quiet) may has = may (look_quiet quiet lines.Unsettled refl has)
-shown_quiet w h may has = absurd (none_usual (lines_at w h) (outside_usual w h tt) has)
+shown_quiet w h may has = absurd (none_quiet (lines_at w h) (shows_unquiet w h tt) has)

@@ -86,19 +86,13 @@ disk_fits disk within (s ∷ rest) h = let fits = h.1 in omega arith
 
 work_fits : (number : ℕ) (s : JobStage) (t : Work) → number < 2 ^ 64 → nat_lt 0 number ≡ true → LiesAt s t.disk t.within t.rest → IsWork t → BackFits (Job number) (task.ask_at s t)
 work_fits number job.MapPage t long positive lies is = page_fits number t.pages is.0.listed
-work_fits number (job.PageReference m) t long positive lies is = tt
-work_fits number (job.PageSectors m gref) t long positive lies is = tt
-work_fits number (job.UnmapPage m) t long positive lies is = tt
 work_fits number job.Map t long positive lies is = map_fits number t.rest t.writes is.0.grefs
-work_fits number (job.ReadWord m k) t long positive lies is = tt
 work_fits number (job.DiskWrite m) t long positive lies is = (disk_fits t.disk t.within t.rest lies, (long, positive))
 work_fits number (job.DiskRead m) t long positive lies is = (disk_fits t.disk t.within t.rest lies, (long, positive))
 work_fits number (job.WriteWord m k) t long positive lies is = index_fits t.words k is.0.held
-work_fits number (job.Unmap m) t long positive lies is = tt
-work_fits number (job.Abort m) t long positive lies is = tt
 work_fits number job.Flush t long positive lies is = (long, positive)
 work_fits number (job.Trim count) t long positive lies is = (lies.0, lies.1, (long, positive))
-work_fits number (job.Done status) t long positive lies is = tt
+work_fits number s t long positive lies is = tt
 
 found_asks : (number : ℕ) (t : Work) → (t.number == number) ≡ true → IsWork t → JobAsks number (task.ask_of t)
 found_asks number t same is =

@@ -14,7 +14,7 @@ use Rattle.split_model.specs.Happening.{Happening, lines_of}
 use Rattle.schedule_text.specs.Recorder.{kept_of}
 use Rattle.split_model.specs.Report.{report_of, ended_report_of}
 use Rattle.report_laws.specs.Begun.{is_begin, is_move, IsBegun, IsBegunSoFar}
-use Rattle.split_model.proofs.Lines.{both_all}
+use Rattle.split_model.proofs.Showing.{both_all}
 use Rattle.report_laws.proofs.Lines.{AreLater, both_later, all_later}
 
 abbrev AreUnmoved : List Line → Type 0

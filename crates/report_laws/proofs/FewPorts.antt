@@ -1,48 +1,29 @@
 -- The front makes one port at most in an epoch: the moves that make one are as many as the ports of this epoch.
-use Rattle.std.proofs.Common.{◌≡◌, ℕ, ◌+◌, ◌*◌, ◌^◌, ◌≤◌, Bool, true, false, cond, ◌||◌, if◌then◌else◌, List, [], ◌∷◌, ◌++◌, length, refl, ap, sym, ◌∙◌, subst, append_assoc, length-append, length-set, arith}
-use Rattle.std.specs.Prelude.{Option, Some, None, Result, Ok, Err, count_by}
+use Rattle.std.proofs.Common.{◌≡◌, ℕ, ◌+◌, ◌≤◌, Bool, true, false, cond, ◌||◌, if◌then◌else◌, List, [], ◌∷◌, ◌++◌, length, refl, ap, sym, ◌∙◌, subst, append_assoc, length-append, length-set, arith}
+use Rattle.std.specs.Prelude.{Option, Some, None, count_by}
 use Rattle.std.specs.List.{AllByRecursion}
-use Rattle.std.proofs.lemmas.Option.{none-some}
 use Rattle.std.proofs.lemmas.List.Sums.{sum_by_push}
 use Rattle.std.proofs.lemmas.List.{append-nil, length-map}
 use Rattle.blk_base.specs.Options.{Options}
-use Rattle.blk_base.specs.declared.config.Job.{Job}
-use Rattle.blk_base.specs.declared.parts.End.{End}
-use Rattle.blk_base.specs.declared.parts.End.TheVariants as end
-use Rattle.blk_base.specs.declared.parts.Mode.{Mode}
 use Rattle.blk_base.specs.declared.ask.FrontAsk.{FrontAsk}
-use Rattle.blk_base.specs.declared.ask.FrontAsk.TheVariants as front_ask
 use Rattle.blk_base.specs.declared.ask.BackAsk.{BackAsk}
-use Rattle.blk_base.specs.declared.ask.BackAsk.TheVariants as back_ask
-use Rattle.blk_base.specs.declared.ask.BackAnswer.{BackAnswer}
-use Rattle.blk_base.specs.declared.ask.BackAnswer.TheVariants as answers
 use Rattle.blk_base.specs.declared.moves.BackMover.{BackMover}
+use Rattle.blk_base.specs.declared.moves.Move.TheVariants as moves
 use Rattle.blk_base.specs.declared.moves.BackMover.TheVariants as back_mover
-use Rattle.blk_base.specs.declared.moves.Move.{Move}
 use Rattle.blk_base.specs.declared.moves.Move.TheVariants as moves
 use Rattle.schedule_text.specs.declared.line.Detail.{Detail}
 use Rattle.schedule_text.specs.declared.line.Detail.TheVariants.{Lines, Moves}
 use Rattle.schedule_text.specs.declared.line.Line.{Line}
 use Rattle.schedule_text.specs.declared.line.Line.TheVariants as lines
 use Rattle.schedule_text.specs.Recorder.{recorded, kept_of}
-use Rattle.grant_table.specs.declared.entry.MapRefusal.{MapRefusal}
-use Rattle.grant_table.specs.Table.{verdict_at}
 use Rattle.event_channel.specs.declared.channels.PortState.{PortState}
-use Rattle.event_channel.specs.declared.channels.PortState.TheVariants as port
 use Rattle.event_channel.specs.declared.channels.PortState.TheVariants.{Unbound, Bound}
-use Rattle.event_channel.specs.Channels.{ChannelState, state_of, place_of, sent, closed_port, unbound_port}
+use Rattle.event_channel.specs.Channels.{place_of, closed_port, unbound_port}
 use Rattle.hypervisor.specs.Hypervisor.{Hypervisor}
-use Rattle.hypervisor.specs.Act.{FrontAct, BackAct, Outcome, Gave, Took, Failed, front_act, back_act, map_act, bind_act, read_act, disk_act}
-use Rattle.blk_front.specs.declared.told.Told.{Told}
-use Rattle.blk_front.specs.declared.told.Told.TheVariants as front_told
-use Rattle.blk_front.specs.declared.told.Refusal.{Refusal}
+use Rattle.hypervisor.specs.Act.{FrontAct, BackAct, Outcome, Took, front_act, back_act}
 use Rattle.blk_front.specs.View as front
 use Rattle.blk_front.specs.Ask as front_ends
 use Rattle.blk_front.specs.Step as front_step
-use Rattle.blk_front.specs.Submit as front_submit
-use Rattle.blk_back.specs.declared.told.BackTold.{BackTold}
-use Rattle.blk_back.specs.declared.told.BackTold.TheVariants as back_told
-use Rattle.blk_back.specs.declared.told.Halt.{Halt}
 use Rattle.blk_back.specs.View as back
 use Rattle.blk_back.specs.Ask as back_ends
 use Rattle.blk_back.specs.Step as back_step
@@ -50,19 +31,16 @@ use Rattle.report_rules.specs.Standing.{is_epoch, this_epoch}
 use Rattle.report_rules.proofs.Back.{epoch_more}
 use Rattle.split_model.specs.World.{World, start_of}
 use Rattle.split_model.specs.Safe.{IsSafe}
-use Rattle.split_model.specs.Shown.{front_lines, back_lines, halt_lines, effect_line}
-use Rattle.split_model.specs.Happening.{Happening, FrontMoves, BackMoves, JobMoves, Negotiates, FrontEnters, BackAttaches, BackHalts, Submits, Notifies, Pokes, OverwritesKey, Suspends, Dumps, Looks, Settles, other_end, submit_line, happens, lines_at, lines_of, front_after, front_shows, back_after, back_shows, job_after, job_shows, front_turn, back_turn, job_turn}
+use Rattle.split_model.specs.Shown.{front_lines, back_lines, halt_lines}
+use Rattle.split_model.specs.Happening.{Happening, FrontMoves, BackMoves, JobMoves, FrontEnters, BackAttaches, BackHalts, Submits, Suspends, happens, lines_at, lines_of, front_after, front_shows, back_after, back_shows, job_after, job_shows, front_turn, back_turn, job_turn}
 use Rattle.split_model.specs.Report.{report_of, ended_report_of}
-use Rattle.split_model.proofs.Keys.{negotiated_lines_are, backs_no_key, jobs_no_key}
-use Rattle.split_model.proofs.States.{enter_lines_are, state_lines_are}
-use Rattle.split_model.proofs.Attaching.{attach_lines_are}
-use Rattle.split_model.proofs.Overwriting.{poke_cases, dump_lines_are, overwriting_cases}
-use Rattle.split_model.proofs.SafeActs.{of_front, of_back, AsksBackKey, front_wait, back_wait}
-use Rattle.split_model.proofs.SafeAnswers.{IsFronts, fronts_at, backs_of, jobs_of}
+use Rattle.split_model.proofs.SafeAnswers.{IsFronts, fronts_at}
 use Rattle.split_model.proofs.Suspending.{suspend_cases}
 use Rattle.split_model.proofs.Safe.{safe_start, safe_happens}
 use Rattle.report_laws.specs.Ports.{makes_port, ports_made, IsFewPortsAt, AreFewPorts}
-use Rattle.split_model.proofs.Lines.{both_all}
+use Rattle.split_model.proofs.Showing.{IsTold, MayShow, lines_are, front_told_is, back_told_is, halt_is, both_all}
+use Rattle.split_model.proofs.Acting.{FrontPort, FrontClose, front_acts, BackBind, BackClose, back_acts}
+use Rattle.split_model.proofs.Outside.{LeavesEnds, leaves_ends, KeepsPorts, sent_keeps}
 
 -- a line that makes no port and begins no epoch
 abbrev pub is_counted : Line → Bool
@@ -122,96 +100,40 @@ record IsTallied (h : Hypervisor) (a : FrontAct) : Type 0 where
   few : ports_of h ≤ 1 → ports_of a.under ≤ 1
 
 front_tallied : (h : Hypervisor) (ask : FrontAsk) (a : FrontAct) → IsFronts h.channels ask → front_act h ask ≡ Some a → IsTallied h a
-front_tallied h front_ask.Wait a own e = front_wait (IsTallied h) h a (record { told = refl; few = λ few. few }) (λ path. record { told = refl; few = λ few. few }) e
-front_tallied h front_ask.Fence a own e = of_front (IsTallied h) _ a (record { told = refl; few = λ few. few }) e
-front_tallied h (front_ask.Read frame word) a own e = of_front (IsTallied h) _ a (record { told = refl; few = λ few. few }) e
-front_tallied h (front_ask.Write frame word value) a own e = of_front (IsTallied h) _ a (record { told = refl; few = λ few. few }) e
-front_tallied h (front_ask.Cas frame word old new) a own e = of_front (IsTallied h) _ a (record { told = refl; few = λ few. few }) e
-front_tallied h front_ask.NewPort a own e =
-    let one : length (h.channels.ports ++ Unbound ∷ []) ≡ ports_of h + 1 = length-append h.channels.ports (Unbound ∷ []) in
-    let none : ports_of h ≡ 0 = ap (λ (ps : List PortState). length ps) own.1 in
-    of_front (IsTallied h) _ a (record { told = sym one; few = λ few. omega arith }) e
-front_tallied h front_ask.Send a own e = of_front (IsTallied h) _ a (record { told = refl; few = λ few. few }) e
-front_tallied h front_ask.ClosePort a own e =
-    let as_many = length-map h.channels.ports closed_port in
-    of_front (IsTallied h) _ a (record { told = sym as_many; few = λ few. omega arith }) e
-front_tallied h (front_ask.GetKey path) a own e = absurd own
-front_tallied h (front_ask.SetKey path text) a own e = absurd own
-front_tallied h (front_ask.Watch path) a own e = absurd own
+front_tallied h ask a own e = (elim (front_acts h ask a e) as (λ asked x acts. IsFronts h.channels asked → IsTallied h x) [
+  | FrontPort ↦ λ own.
+      let one : length (h.channels.ports ++ Unbound ∷ []) ≡ ports_of h + 1 = length-append h.channels.ports (Unbound ∷ []) in
+      let none : ports_of h ≡ 0 = ap (λ (ps : List PortState). length ps) own.1 in
+      record { told = sym one; few = λ few. omega arith }
+  | FrontClose ↦ λ own. let as_many = length-map h.channels.ports closed_port in record { told = sym as_many; few = λ few. omega arith }
+  | acts ↦ λ own. record { told = refl; few = λ few. few }
+]) own
 
 -- the move of the back or a job makes none
 pub record BackMakesNone (h : Hypervisor) (a : BackAct) : Type 0 where
   pub told : MakesNone (lines.Move a.shown)
   pub same : ports_of a.under ≡ ports_of h
 
-map_none : (h : Hypervisor) (who : BackMover) (gref : ℕ) (mode : Mode) (verdict : Result ℕ MapRefusal) → BackMakesNone h (map_act h who gref mode verdict)
-map_none h who gref mode (Ok frame) = record { told = refl; same = refl }
-map_none h who gref mode (Err refusal) = record { told = refl; same = refl }
+pub back_none : (h : Hypervisor) (who : BackMover) (ask : BackAsk) (o : Outcome) (a : BackAct) → back_act h who ask o ≡ Some a → BackMakesNone h a
+back_none h who ask o a e = elim (back_acts h who ask o a e) as (λ mover asked outcome x acts. BackMakesNone h x) [
+  | BackBind p unbound ↦ record { told = refl; same = length-set h.channels.ports (place_of h.channels p) Bound }
+  | BackClose ↦ record { told = refl; same = length-map h.channels.ports unbound_port }
+  | acts ↦ record { told = refl; same = refl }
+]
 
-bind_none : (h : Hypervisor) (p : ℕ) (state : PortState) → BackMakesNone h (bind_act h p state)
-bind_none h p port.Unbound = record { told = refl; same = length-set h.channels.ports (place_of h.channels p) Bound }
-bind_none h p port.Closed = record { told = refl; same = refl }
-bind_none h p port.Bound = record { told = refl; same = refl }
+-- nor does a line that an end tells, or one of whatever else happens but a suspend
+abbrev MakesNo : Happening → Line → Type 0
+MakesNo FrontMoves line = IsTold line
+MakesNo BackMoves line = IsTold line
+MakesNo (JobMoves number outcome) line = IsTold line
+MakesNo Suspends line = ⊥
+MakesNo h line = Unit {0}
 
-read_none : (h : Hypervisor) (shown : Move) (o : Outcome) (a : BackAct) → MakesNone (lines.Move shown) → read_act h shown o ≡ Some a → BackMakesNone h a
-read_none h shown (Gave words) a is e = of_back (BackMakesNone h) _ a (record { told = is; same = refl }) e
-read_none h shown Failed a is e = of_back (BackMakesNone h) _ a (record { told = is; same = refl }) e
-read_none h shown Took a is e = absurd (none-some a e)
-
-disk_none : (h : Hypervisor) (shown : Move) (o : Outcome) (a : BackAct) → MakesNone (lines.Move shown) → disk_act h shown o ≡ Some a → BackMakesNone h a
-disk_none h shown Took a is e = of_back (BackMakesNone h) _ a (record { told = is; same = refl }) e
-disk_none h shown Failed a is e = of_back (BackMakesNone h) _ a (record { told = is; same = refl }) e
-disk_none h shown (Gave words) a is e = absurd (none-some a e)
-
-pub back_none : (h : Hypervisor) (who : BackMover) (ask : BackAsk) (o : Outcome) (a : BackAct) → (AsksBackKey ask → ⊥) → back_act h who ask o ≡ Some a → BackMakesNone h a
-back_none h who back_ask.Wait o a own e = back_wait (BackMakesNone h) h who a (record { told = refl; same = refl }) (λ path. record { told = refl; same = refl }) e
-back_none h who back_ask.Fence o a own e = of_back (BackMakesNone h) _ a (record { told = refl; same = refl }) e
-back_none h who (back_ask.Read m word) o a own e = of_back (BackMakesNone h) _ a (record { told = refl; same = refl }) e
-back_none h who (back_ask.Write m word value) o a own e = of_back (BackMakesNone h) _ a (record { told = refl; same = refl }) e
-back_none h who (back_ask.Map gref mode) o a own e = of_back (BackMakesNone h) _ a (map_none h who gref mode (verdict_at h.pages gref mode)) e
-back_none h who (back_ask.Unmap m) o a own e = of_back (BackMakesNone h) _ a (record { told = refl; same = refl }) e
-back_none h who (back_ask.Bind p) o a own e = of_back (BackMakesNone h) _ a (bind_none h p (state_of h.channels p)) e
-back_none h who back_ask.Send o a own e = of_back (BackMakesNone h) _ a (record { told = refl; same = refl }) e
-back_none h who back_ask.ClosePort o a own e = of_back (BackMakesNone h) _ a (record { told = refl; same = length-map h.channels.ports unbound_port }) e
-back_none h who (back_ask.GetKey path) o a own e = absurd (own tt)
-back_none h who (back_ask.SetKey path text) o a own e = absurd (own tt)
-back_none h who (back_ask.Watch path) o a own e = absurd (own tt)
-back_none h who (back_ask.DiskRead sector) o a own e = read_none h _ o a refl e
-back_none h who (back_ask.DiskWrite sector words) o a own e = disk_none h _ o a refl e
-back_none h who back_ask.Flush o a own e = disk_none h _ o a refl e
-back_none h who (back_ask.Trim sector count) o a own e = disk_none h _ o a refl e
-
--- nor do the lines that follow a move
-front_lines_none : (t : Option Told) → MakeNone (front_lines t)
-front_lines_none None = tt
-front_lines_none (Some (front_told.Answer id status)) = (refl, tt)
-front_lines_none (Some (front_told.Sector id index words)) = (refl, tt)
-front_lines_none (Some (front_told.Broken word)) = (refl, tt)
-
-effect_none : (id index : ℕ) (a : BackAnswer) → MakesNone (effect_line id index a)
-effect_none id index (answers.Sector words) = refl
-effect_none id index a = refl
-
-back_lines_none : (t : Option BackTold) (a : BackAnswer) → MakeNone (back_lines t a)
-back_lines_none None a = tt
-back_lines_none (Some (back_told.Effect id index)) a = (effect_none id index a, tt)
-back_lines_none (Some (back_told.Flushed id)) a = (refl, tt)
-back_lines_none (Some (back_told.Trimmed id)) a = (refl, tt)
-back_lines_none (Some (back_told.Fault id index)) a = (refl, tt)
-back_lines_none (Some (back_told.Reply id status)) a = (refl, tt)
-
-halt_none : (before now : Option Halt) → MakeNone (halt_lines before now)
-halt_none None None = tt
-halt_none None (Some h) = (refl, tt)
-halt_none (Some g) now = tt
-
-submit_none : (job : Job) (r : Result ℕ Refusal) → MakeNone (submit_line job r ∷ [])
-submit_none job (Ok number) = (refl, tt)
-submit_none job (Err r) = (refl, tt)
-
-look_none : (quiet : Bool) (other : Line) → MakesNone other → MakeNone ((if quiet then lines.Quiet else other) ∷ [])
-look_none true other e = (refl, tt)
-look_none false other e = (e, tt)
+one_none : (h : Happening) (line : Line) → MakesNo h line → MayShow h line → MakesNone line
+one_none Suspends line makes shows = absurd makes
+one_none h (lines.Move (moves.FrontPort number)) makes shows = absurd (assumption)
+one_none h lines.Epoch makes shows = absurd (assumption)
+one_none h line makes shows = refl
 
 -- whatever happens, the lines of it make as many ports as there are then in this epoch, and one at most
 pub record IsCounted (h : Hypervisor) (ls : List Line) (h' : Hypervisor) : Type 0 where
@@ -226,7 +148,7 @@ front_counted w None safe e = uncounted w.under w.under [] tt refl
 front_counted w (Some a) safe e =
     let is : IsTallied w.under a = front_tallied w.under (front_ends.ask_of w.front) a (fronts_at w.under.channels w.front.stage w.front safe.ported) e in
     let follow = front_lines (let f : front.View = front_step.step_of w.front a.answer in f.told) in
-    let none : MakeNone follow = front_lines_none (let f : front.View = front_step.step_of w.front a.answer in f.told) in
+    let none : MakeNone follow = front_told_is MakesNone (one_none FrontMoves) (let f : front.View = front_step.step_of w.front a.answer in f.told) in
     let same : count_after (ports_of a.under) follow ≡ ports_of a.under = none_made (ports_of a.under) follow none in
     record {
       told = ap (λ (n : ℕ). count_after n follow) is.told ∙ same;
@@ -237,41 +159,39 @@ back_counted : (w : World) (act : Option BackAct) → back_turn w Took ≡ act �
 back_counted w None e = uncounted w.under w.under [] tt refl
 back_counted w (Some a) e =
     let b : back.View = back_step.step_of w.back a.answer in
-    let is : BackMakesNone w.under a = back_none w.under back_mover.Back (back_ends.ask_of w.back) Took a (backs_no_key (back_ends.ask_of w.back) (backs_of w.back)) e in
+    let is : BackMakesNone w.under a = back_none w.under back_mover.Back (back_ends.ask_of w.back) Took a e in
     uncounted w.under a.under (back_shows w (Some a)) (
       is.told,
-      both_all MakesNone (back_lines b.told a.answer) (halt_lines w.back.halted b.halted) (back_lines_none b.told a.answer) (halt_none w.back.halted b.halted),
+      both_all MakesNone (back_lines b.told a.answer) (halt_lines w.back.halted b.halted) (back_told_is MakesNone (one_none BackMoves) b.told a.answer)
+          (halt_is MakesNone (λ why. refl) w.back.halted b.halted),
     ) is.same
 
 job_counted : (w : World) (k : ℕ) (o : Outcome) (act : Option BackAct) → job_turn w k o ≡ act → IsCounted w.under (job_shows w k act) (let x : World = job_after w k act in x.under)
 job_counted w k o None e = uncounted w.under w.under [] tt refl
 job_counted w k o (Some a) e =
     let b : back.View = back_step.job_step w.back k a.answer in
-    let is : BackMakesNone w.under a = back_none w.under (back_mover.Job k) (back_step.job_ask_of w.back k) o a (jobs_no_key (back_step.job_ask_of w.back k) (jobs_of w.back k)) e in
-    uncounted w.under a.under (job_shows w k (Some a)) (is.told, back_lines_none b.told a.answer) is.same
+    let is : BackMakesNone w.under a = back_none w.under (back_mover.Job k) (back_step.job_ask_of w.back k) o a e in
+    uncounted w.under a.under (job_shows w k (Some a)) (is.told, back_told_is MakesNone (one_none BackMoves) b.told a.answer) is.same
 
-sent_same : (c : ChannelState) (at : End) → (let x : ChannelState = sent c (other_end at) in length x.ports) ≡ length c.ports
-sent_same c end.Front = refl
-sent_same c end.Back = refl
+unshown : (w : World) (h : Happening) → ((line : Line) → MakesNo h line)
+    → (let x : World = happens w h in ports_of x.under ≡ ports_of w.under) → IsCounted w.under (lines_at w h) (let x : World = happens w h in x.under)
+unshown w h makes same = uncounted w.under _ (lines_at w h) (lines_are MakesNone w h (λ line shows. one_none h line (makes line) shows)) same
 
 pub one_counted : (w : World) (h : Happening) → IsSafe w → IsCounted w.under (lines_at w h) (let x : World = happens w h in x.under)
 one_counted w FrontMoves safe = front_counted w (front_turn w) safe refl
 one_counted w BackMoves safe = back_counted w (back_turn w Took) refl
 one_counted w (JobMoves number outcome) safe = job_counted w number outcome (job_turn w number outcome) refl
-one_counted w (Negotiates at move) safe = uncounted w.under _ (lines_at w (Negotiates at move)) (negotiated_lines_are MakesNone w.back.stage at move w.under.keys (λ path. refl) (λ path text. refl) (λ path. refl) (λ path. refl)) refl
-one_counted w (FrontEnters state) safe = uncounted w.under w.under _ (enter_lines_are MakesNone state w.front (λ may. state_lines_are MakesNone state refl refl refl (λ word. refl))) refl
-one_counted w (BackAttaches shape grefs port) safe = uncounted w.under w.under _ (attach_lines_are MakesNone w shape grefs refl) refl
-one_counted w (BackHalts why) safe = uncounted w.under w.under _ (halt_none w.back.halted _) refl
-one_counted w (Submits job) safe = uncounted w.under w.under _ (submit_none job (front_submit.submit_of w.front job).0) refl
-one_counted w (Notifies at) safe = uncounted w.under _ [] tt (sent_same w.under.channels at)
-one_counted w (Pokes frame word value) safe = poke_cases (λ under shown. IsCounted w.under shown under) w.under frame word value (λ framed worded. uncounted w.under _ _ (refl, tt) refl) (uncounted w.under w.under [] tt refl)
-one_counted w (OverwritesKey name text) safe = overwriting_cases (λ under shown. IsCounted w.under shown under) w.under name text (λ allowed. uncounted w.under _ _ (refl, tt) refl) (uncounted w.under w.under [] tt refl)
+one_counted w (FrontEnters state) safe = unshown w (FrontEnters state) (λ line. tt) refl
+one_counted w (BackAttaches shape grefs port) safe = unshown w (BackAttaches shape grefs port) (λ line. tt) refl
+one_counted w (BackHalts why) safe = unshown w (BackHalts why) (λ line. tt) refl
+one_counted w (Submits job) safe = unshown w (Submits job) (λ line. tt) refl
 one_counted w Suspends safe =
     suspend_cases (λ v shown. IsCounted w.under shown v.under) w
     (λ may. record { told = refl; few = λ few. ((few, omega arith), omega arith) }) (uncounted w.under w.under [] tt refl)
-one_counted w Dumps safe = uncounted w.under w.under _ (dump_lines_are MakesNone w.under.pages 0 (1024 * 2 ^ w.front.shape.order) (λ frame word value. refl)) refl
-one_counted w (Looks quiet) safe = uncounted w.under w.under _ (look_none quiet lines.Busy refl) refl
-one_counted w (Settles quiet) safe = uncounted w.under w.under _ (look_none quiet lines.Unsettled refl) refl
+one_counted w h safe =
+    let left : LeavesEnds w (happens w h) = leaves_ends w h tt in
+    let kept : KeepsPorts w.under.channels (let x : World = happens w h in x.under.channels) = sent_keeps w.under.channels _ left.channels in
+    unshown w h (λ line. tt) (ap (λ (ps : List PortState). length ps) kept.ports)
 
 -- so all that happens makes one at most in each epoch
 all_few : (history : List Happening) (w : World) → IsSafe w → ports_of w.under ≤ 1 → AreThrifty (ports_of w.under) (lines_of history w)

@@ -72,7 +72,6 @@ none_fits = omega arith
 
 pub flags_few : (way : Transfer) → grant_flags way ≤ 5
 flags_few (transfer.Write tag) = omega arith
-flags_few (transfer.Barrier tag) = omega arith
 flags_few way = omega arith
 
 -- a segment's words, and those of none

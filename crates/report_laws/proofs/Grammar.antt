@@ -1,5 +1,5 @@
 -- Whatever happens, each line is one of the grammar.
-use Rattle.std.proofs.Common.{◌≡◌, ℕ, ◌*◌, ◌^◌, ◌<◌, ◌⊎◌, inl, inr, Bool, true, false, if◌then◌else◌, List, [], ◌∷◌, ◌++◌, refl, sym, ap, ◌∙◌, arith}
+use Rattle.std.proofs.Common.{◌≡◌, ℕ, ◌*◌, ◌^◌, ◌<◌, ◌⊎◌, inl, inr, true, List, [], ◌∷◌, ◌++◌, refl, sym, ap, ◌∙◌, arith}
 use Rattle.std.specs.Prelude.{Option, Some, None, nat_lt, ◌&&◌}
 use Rattle.std.proofs.lemmas.Option.{none-some}
 use Rattle.std.proofs.lemmas.Bool.Decides.{nat_tests}
@@ -32,7 +32,8 @@ use Rattle.blk_back.specs.Hands.{hands_of}
 use Rattle.split_model.specs.World.{World, start_of}
 use Rattle.split_model.specs.Safe.{IsSafe}
 use Rattle.split_model.specs.Shown.{back_lines, halt_line, halt_lines}
-use Rattle.split_model.specs.Happening.{Happening, FrontMoves, BackMoves, JobMoves, Negotiates, FrontEnters, BackAttaches, BackHalts, Submits, Notifies, Pokes, OverwritesKey, Suspends, Dumps, Looks, Settles, happens, lines_at, lines_of, front_after, front_shows, back_after, back_shows, job_after, job_shows, front_turn, back_turn, job_turn}
+use Rattle.split_model.proofs.Showing.{IsFound, lines_are}
+use Rattle.split_model.specs.Happening.{Happening, FrontMoves, BackMoves, JobMoves, Negotiates, FrontEnters, BackAttaches, BackHalts, Submits, Pokes, OverwritesKey, Suspends, Dumps, Looks, Settles, happens, lines_at, lines_of, front_after, front_shows, back_after, back_shows, job_after, job_shows, front_turn, back_turn, job_turn}
 use Rattle.split_model.specs.Report.{report_of, ended_report_of}
 use Rattle.split_model.proofs.Overwriting.{poke_cases, overwriting_cases}
 use Rattle.split_model.proofs.Attaching.{attach_cases}
@@ -139,9 +140,12 @@ job_good before w number o (Some a) is given within e numbers = by_asks (job_ask
         let v : back_numbers.IsFit most b = back_numbers.job_fits most w.back number a.answer n.back told in
         moved before (back_lines b.told a.answer) w a b n fits v (back_numbers.back_good b.told a.answer v.2 told)
 
-look_good : (quiet : Bool) (other : Line) → IsInRange other → AreGood ((if quiet then lines.Quiet else other) ∷ [])
-look_good true other h = (good lines.Quiet tt refl, tt)
-look_good false other h = (h, tt)
+-- what is found is a line of the grammar
+found_good : (line : Line) → IsFound line → IsInRange line
+found_good lines.Quiet found = good lines.Quiet tt refl
+found_good lines.Busy found = good lines.Busy tt refl
+found_good lines.Unsettled found = good lines.Unsettled tt refl
+found_good line found = absurd found
 
 -- a word that a hostile hand overwrites is one of the guest's
 is_guests : (frame word : ℕ) → frame < 1024 → word < 1024 → (nat_lt frame 1024 && nat_lt word 1024) ≡ true
@@ -224,13 +228,13 @@ one_good before w (BackAttaches shape grefs port) is may short = attached_good b
 one_good before w (BackHalts why) is may short = halted_good before w why may is.numbered
 one_good before w (Submits job) is may short =
     let n = is.numbered in let submitted = front_numbers.submit_fits w.front job may n.front in stays before _ w _ w.under n submitted.1 n.words (submitted.0, tt)
-one_good before w (Notifies at) is may short = let n = is.numbered in stays before [] w w.front _ n n.front n.words tt
 one_good before w (Pokes frame word value) is may short = poke_good before w frame word value may.1 is.numbered
 one_good before w (OverwritesKey name text) is may short = overwritten_good before w name text is.numbered
 one_good before w Suspends is may short = suspended_good before w is.numbered
 one_good before w Dumps is may short = let n = is.numbered in stays before _ w w.front w.under n n.front n.words (dump_good w (within_here w Dumps is.orderly) n.words)
-one_good before w (Looks quiet) is may short = let n = is.numbered in stays before _ w w.front w.under n n.front n.words (look_good quiet lines.Busy (good lines.Busy tt refl))
-one_good before w (Settles quiet) is may short = let n = is.numbered in stays before _ w w.front w.under n n.front n.words (look_good quiet lines.Unsettled (good lines.Unsettled tt refl))
+one_good before w (Looks quiet) is may short = let n = is.numbered in stays before _ w w.front w.under n n.front n.words (lines_are IsInRange w (Looks quiet) found_good)
+one_good before w (Settles quiet) is may short = let n = is.numbered in stays before _ w w.front w.under n n.front n.words (lines_are IsInRange w (Settles quiet) found_good)
+one_good before w h is may short = let n = is.numbered in stays before [] w w.front _ n n.front n.words tt
 
 all_good : (hs : List Happening) (before : List Line) (w : World) → IsWell before w → ArePossible hs w → HaveNumbers hs w → AreGood (lines_of hs w)
 all_good [] before w is may numbers = tt

@@ -155,8 +155,6 @@ entered_holds (state.Broken word) v h = refl
 
 -- a suspend leaves the data that are in hand
 after_holds : (s : Stage) (ending : Option Ending) → lacks s ending ≡ false → lacks (stage_after s) (ending_after s ending) ≡ false
-after_holds (stage.ReadData n) (Some e) h = refl
-after_holds (stage.LeftData n) (Some e) h = refl
 after_holds (stage.ReadData n) None h = absurd (true≢false h)
 after_holds (stage.LeftData n) None h = absurd (true≢false h)
 after_holds s ending h = refl

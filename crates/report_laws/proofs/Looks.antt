@@ -9,15 +9,13 @@ use Rattle.schedule_text.specs.declared.line.Line.TheVariants as lines
 use Rattle.schedule_text.specs.Recorder.{recorded}
 use Rattle.report_rules.specs.Obeys.{Obeys}
 use Rattle.report_rules.proofs.Obeys.{obeys_none, obeys_more}
-use Rattle.hypervisor.specs.Act.{Took}
-use Rattle.blk_front.specs.Submit as front_submit
 use Rattle.split_model.specs.World.{World, start_of, is_quiet}
-use Rattle.split_model.specs.Happening.{Happening, FrontMoves, BackMoves, JobMoves, FrontEnters, BackAttaches, BackHalts, Submits, Suspends, Looks, Settles, happens, lines_at, after, lines_of, front_turn, back_turn, job_turn}
+use Rattle.split_model.specs.Happening.{Happening, Looks, Settles, happens, lines_at, after, lines_of}
 use Rattle.schedule_text.specs.Recorder.{kept_of}
 use Rattle.split_model.specs.Report.{report_of, ended_report_of}
 use Rattle.split_model.proofs.Running.{lines_of-append, kept_of-append}
 use Rattle.machine_pipeline.specs.Allowed.{IsServed, AreServed}
-use Rattle.report_laws.proofs.Lines.{says_quiet, AreUsual, AreUnquiet, usual_unquiet, front_usual, back_usual, job_usual, attach_usual, states_unquiet, halt_usual, submit_usual, suspend_usual, outside_usual}
+use Rattle.report_laws.proofs.Lines.{says_quiet, AreUnquiet, shows_unquiet}
 
 -- a rule that says nothing of any other line than `quiet`
 abbrev pub SpeaksOfQuiet : (List Line → Line → Type 0) → Type 0
@@ -28,9 +26,6 @@ unquiet_obey Rule free [] before all obeys = subst (Obeys Rule) (sym (append-nil
 unquiet_obey Rule free (line ∷ more) before all obeys =
     subst (Obeys Rule) (append_assoc before (line ∷ []) more)
     (unquiet_obey Rule free more (before ++ line ∷ []) all.1 (obeys_more Rule before line obeys (free before line all.0)))
-
-usual_obey : (Rule : List Line → Line → Type 0) → SpeaksOfQuiet Rule → (more before : List Line) → AreUsual more → Obeys Rule before → Obeys Rule (before ++ more)
-usual_obey Rule free more before all obeys = unquiet_obey Rule free more before (usual_unquiet more all) obeys
 
 look_obeys : (Rule : List Line → Line → Type 0) → SpeaksOfQuiet Rule → (before : List Line) (quiet : Bool) (other : Line) → says_quiet other ≡ false → (quiet ≡ true → Rule before lines.Quiet) → Obeys Rule before → Obeys Rule (before ++ (if quiet then lines.Quiet else other) ∷ [])
 look_obeys Rule free before true other e holds obeys = obeys_more Rule before lines.Quiet obeys (holds refl)
@@ -43,17 +38,9 @@ finds_quiet (Settles quiet) = quiet
 finds_quiet h = false
 
 one_obeys : (Rule : List Line → Line → Type 0) → SpeaksOfQuiet Rule → (before : List Line) (w : World) (h : Happening) → (finds_quiet h ≡ true → Rule before lines.Quiet) → Obeys Rule before → Obeys Rule (before ++ lines_at w h)
-one_obeys Rule free before w FrontMoves holds obeys = usual_obey Rule free _ before (front_usual w (front_turn w)) obeys
-one_obeys Rule free before w BackMoves holds obeys = usual_obey Rule free _ before (back_usual w (back_turn w Took)) obeys
-one_obeys Rule free before w (JobMoves number outcome) holds obeys = usual_obey Rule free _ before (job_usual w number (job_turn w number outcome)) obeys
-one_obeys Rule free before w (FrontEnters state) holds obeys = unquiet_obey Rule free _ before (states_unquiet state w.front) obeys
-one_obeys Rule free before w (BackAttaches shape grefs port) holds obeys = usual_obey Rule free _ before (attach_usual w shape grefs port) obeys
-one_obeys Rule free before w (BackHalts why) holds obeys = usual_obey Rule free _ before (halt_usual w.back.halted _) obeys
-one_obeys Rule free before w (Submits job) holds obeys = usual_obey Rule free _ before (submit_usual job (front_submit.submit_of w.front job).0) obeys
-one_obeys Rule free before w Suspends holds obeys = usual_obey Rule free _ before (suspend_usual w) obeys
 one_obeys Rule free before w (Looks quiet) holds obeys = look_obeys Rule free before quiet lines.Busy refl holds obeys
 one_obeys Rule free before w (Settles quiet) holds obeys = look_obeys Rule free before quiet lines.Unsettled refl holds obeys
-one_obeys Rule free before w h holds obeys = usual_obey Rule free (lines_at w h) before (outside_usual w h tt) obeys
+one_obeys Rule free before w h holds obeys = unquiet_obey Rule free (lines_at w h) before (shows_unquiet w h tt) obeys
 
 -- the report of one happening more
 pub report_more : (config : Options) (detail : Detail) (earlier : List Happening) (h : Happening) → report_of config detail (earlier ++ h ∷ []) ≡ report_of config detail earlier ++ lines_at (after earlier (start_of config)) h

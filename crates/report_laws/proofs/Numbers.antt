@@ -63,19 +63,8 @@ step_few stage.Bind v answer.BindRefused = omega arith
 step_few stage.Loop v x = let few = loop_few v (next_reply v) x in omega arith
 step_few (stage.Fetch k) v (answer.Word word) =
     either_few (k + 1 == entry_words_of v.shape.abi) (fetched v (v.ring.entry ++ word ∷ [])) (record v { ring = record v.ring { entry = v.ring.entry ++ word ∷ [] }; stage = stage.Fetch (k + 1) }) (v.fetched + 1) (omega arith) (omega arith)
-step_few (stage.ReplyHigh r) v x = omega arith
-step_few (stage.ReplyLast r) v x = omega arith
-step_few (stage.Producer r) v x = omega arith
-step_few (stage.ProducerFence old) v x = omega arith
 step_few (stage.ResponseEvent old) v (answer.Word event) = omega arith
-step_few stage.Send v x = omega arith
-step_few stage.StoreEvent v x = omega arith
-step_few stage.EventFence v x = omega arith
 step_few stage.LookAgain v (answer.Word word) = looked_few v word (record v { ring = record v.ring { seen = word; asleep = true }; stage = stage.Loop }) (v.fetched + 1) (omega arith) (omega arith)
-step_few (stage.Abort m) v x = omega arith
-step_few stage.UnmapRing v x = omega arith
-step_few stage.ClosePort v x = omega arith
-step_few stage.UnmapUnbound v x = omega arith
 step_few s v x = omega arith
 
 halted_few : (why : Halt) (v : View) → (halts why v).fetched ≤ v.fetched

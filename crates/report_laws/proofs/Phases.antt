@@ -47,7 +47,6 @@ phase s = 2
 
 pub open_phase : (s : Stage) → is_open s ≡ not (phase s == 4)
 open_phase stage.Closed = refl
-open_phase (stage.Broken word) = refl
 open_phase s = refl
 
 pub ready_phase : (s : Stage) → is_ready s ≡ (phase s == 2)
@@ -121,7 +120,6 @@ enters_open s v may = by_test (is_open v.stage) refl
 -- a suspend of an open front has it begin anew
 pub anew_phase : (s : Stage) → phase (stage_after s) ≡ 0
 anew_phase (stage.ReadData n) = refl
-anew_phase (stage.LeftData n) = refl
 anew_phase s = refl
 
 -- what the front then tells doesn't say that it is over

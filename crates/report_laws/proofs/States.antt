@@ -1,74 +1,54 @@
 -- Each end's state has the text that the lines of the epoch set last, or the one that an epoch begins with, so where all is found quiet the lines say what the directory says.
-use Rattle.std.proofs.Common.{◌≡◌, ◌≢◌, ℕ, ◌*◌, ◌^◌, ◌||◌, not, Bool, true, false, true≢false, if◌then◌else◌, List, [], ◌∷◌, ◌++◌, inl, inr, refl, sym, ap, ◌∙◌, subst, append_assoc}
-use Rattle.std.specs.Prelude.{Option, Some, None, Result, Ok, Err, codes}
+use Rattle.std.proofs.Common.{◌≡◌, ◌≢◌, ℕ, ◌||◌, not, Bool, true, false, true≢false, if◌then◌else◌, List, [], ◌∷◌, ◌++◌, inl, inr, refl, sym, ap, ◌∙◌, subst, append_assoc}
+use Rattle.std.specs.Prelude.{Option, Some, None, codes}
 use Rattle.std.specs.List.{AllByRecursion, list_any}
 use Rattle.std.specs.Str.{bytes_eq}
 use Rattle.std.proofs.lemmas.List.{append-nil}
-use Rattle.std.proofs.lemmas.Option.{none-some, same_Some}
+use Rattle.std.proofs.lemmas.Option.{same_Some}
 use Rattle.std.proofs.lemmas.Slice.Eq.{bytes_eq-Decides}
 use Rattle.blk_base.specs.Options.{Options}
-use Rattle.blk_base.specs.declared.config.Job.{Job}
 use Rattle.blk_base.specs.declared.parts.End.{End}
 use Rattle.blk_base.specs.declared.parts.End.TheVariants as end
-use Rattle.blk_base.specs.declared.parts.Mode.{Mode}
 use Rattle.blk_base.specs.declared.ask.FrontAsk.{FrontAsk}
-use Rattle.blk_base.specs.declared.ask.FrontAsk.TheVariants as front_ask
 use Rattle.blk_base.specs.declared.ask.BackAsk.{BackAsk}
-use Rattle.blk_base.specs.declared.ask.BackAsk.TheVariants as back_ask
-use Rattle.blk_base.specs.declared.ask.BackAnswer.{BackAnswer}
-use Rattle.blk_base.specs.declared.ask.BackAnswer.TheVariants as answers
 use Rattle.blk_base.specs.declared.moves.BackMover.{BackMover}
 use Rattle.blk_base.specs.declared.moves.BackMover.TheVariants as back_mover
-use Rattle.blk_base.specs.declared.moves.Move.{Move}
 use Rattle.blk_base.specs.declared.moves.Move.TheVariants as moves
 use Rattle.schedule_text.specs.declared.line.Detail.TheVariants.{Moves}
 use Rattle.schedule_text.specs.declared.line.Line.{Line}
 use Rattle.schedule_text.specs.declared.line.Line.TheVariants as lines
 use Rattle.schedule_text.specs.Recorder.{kept_of}
-use Rattle.grant_table.specs.declared.entry.MapRefusal.{MapRefusal}
-use Rattle.grant_table.specs.Table.{verdict_at}
-use Rattle.event_channel.specs.declared.channels.PortState.{PortState}
-use Rattle.event_channel.specs.declared.channels.PortState.TheVariants as port
-use Rattle.event_channel.specs.Channels.{state_of}
 use Rattle.key_directory.specs.Watches.{Watches}
 use Rattle.key_directory.specs.Directory.{Directory, key_of, with_key, with_watches, fresh_directory}
 use Rattle.key_directory.proofs.Entries.{key_of-with_key_same, key_of-with_key_other}
 use Rattle.hypervisor.specs.Hypervisor.{Hypervisor}
-use Rattle.hypervisor.specs.Act.{FrontAct, BackAct, Outcome, Gave, Took, Failed, front_act, back_act, map_act, bind_act, read_act, disk_act}
-use Rattle.blk_front.specs.declared.told.Told.{Told}
-use Rattle.blk_front.specs.declared.told.Told.TheVariants as front_told
-use Rattle.blk_front.specs.declared.told.Refusal.{Refusal}
-use Rattle.blk_front.specs.declared.state.FrontState.{FrontState}
+use Rattle.hypervisor.specs.Act.{FrontAct, BackAct, Outcome, Took, front_act, back_act}
 use Rattle.blk_front.specs.View as front
 use Rattle.blk_front.specs.State.{is_open}
 use Rattle.blk_front.specs.Ask as front_ends
 use Rattle.blk_front.specs.Step as front_step
-use Rattle.blk_front.specs.Submit as front_submit
-use Rattle.blk_back.specs.declared.told.BackTold.{BackTold}
-use Rattle.blk_back.specs.declared.told.BackTold.TheVariants as back_told
-use Rattle.blk_back.specs.declared.told.Halt.{Halt}
 use Rattle.blk_back.specs.View as back
 use Rattle.blk_back.specs.Ask as back_ends
 use Rattle.blk_back.specs.Step as back_step
 use Rattle.split_model.specs.World.{World, start_of, state_after}
 use Rattle.split_model.specs.Safe.{IsSafe}
-use Rattle.split_model.specs.Shown.{front_lines, back_lines, halt_lines, effect_line}
+use Rattle.split_model.specs.Shown.{back_lines, halt_lines}
 use Rattle.split_model.specs.Keys.{KeyMove, front_path}
-use Rattle.split_model.specs.Happening.{Happening, FrontMoves, BackMoves, JobMoves, Negotiates, FrontEnters, BackAttaches, BackHalts, Submits, Notifies, Pokes, OverwritesKey, Suspends, Dumps, Looks, Settles, enter_lines, submit_line, happens, after, lines_at, lines_of, front_shows, back_shows, job_shows, front_turn, back_turn, job_turn}
+use Rattle.split_model.specs.Happening.{Happening, FrontMoves, BackMoves, JobMoves, Negotiates, BackAttaches, OverwritesKey, Suspends, Looks, Settles, happens, after, lines_at, lines_of, front_shows, back_shows, job_shows, front_turn, back_turn, job_turn}
 use Rattle.split_model.specs.Report.{report_of, ended_report_of}
 use Rattle.split_model.proofs.Keys.{key_cases, negotiated_cases, keys_happen, backs_no_key, jobs_no_key}
-use Rattle.split_model.proofs.States.{enter_lines_are, state_lines_are}
 use Rattle.split_model.proofs.Safe.{safe_start, safe_happens}
 use Rattle.split_model.proofs.Suspending.{suspend_cases}
 use Rattle.split_model.proofs.Attaching.{attach_lines_are}
-use Rattle.split_model.proofs.Overwriting.{poke_lines_are, dump_lines_are, overwriting_cases}
-use Rattle.split_model.proofs.SafeActs.{of_front, of_back, AsksBackKey, front_wait, back_wait}
+use Rattle.split_model.proofs.Overwriting.{overwriting_cases}
+use Rattle.split_model.proofs.SafeActs.{AsksBackKey}
 use Rattle.split_model.proofs.SafeAnswers.{AsksNoKey, fronts_no_key, backs_of, jobs_of}
 use Rattle.move_laws.proofs.Recorded.{report_kept, ended_kept}
 use Rattle.report_laws.specs.Ready.{says_over}
 use Rattle.report_laws.specs.States.{front_state, back_state, begun_text, text_at, text_after, said_last, SayBoth, says_closing, IsAgreedAt, AreStatesAgreed}
 use Rattle.report_laws.specs.Agreed.{HasBoth, AreAlike, IsAgreed, AreAgreed}
-use Rattle.split_model.proofs.Lines.{both_all}
+use Rattle.split_model.proofs.Showing.{IsTold, MayShow, lines_are, front_told_is, back_told_is, halt_is, both_all}
+use Rattle.split_model.proofs.Acting.{FrontSet, front_acts, BackSet, back_acts}
 use Rattle.report_laws.proofs.Announced.{all_said}
 use Rattle.report_laws.proofs.Closing.{closing_announced}
 use Rattle.report_laws.proofs.Gone.{IsToldOver, one_over}
@@ -90,7 +70,6 @@ AreSilent ls = AllByRecursion IsSilent ls
 -- leaves the text of each key
 one_silent : (path : List ℕ) (over : Bool) (text : List ℕ) (line : Line) → IsSilent line → text_at path over text line ≡ text
 one_silent path over text (lines.Move (moves.SetKey who set now)) e = absurd (true≢false (sym e))
-one_silent path over text (lines.Move move) e = refl
 one_silent path over text (lines.Key name now) e = absurd (true≢false (sym e))
 one_silent path over text lines.Epoch e = absurd (true≢false (sym e))
 one_silent path over text line e = refl
@@ -101,117 +80,56 @@ silent_text path over text (line ∷ ls) all =
     ap (λ (t : List ℕ). text_after path (over || says_over line) t ls) (one_silent path over text line all.0) ∙ silent_text path (over || says_over line) text ls all.1
 
 -- the move of an end that asks for no key
-abbrev FrontSilent : FrontAct → Type 0
-FrontSilent a = IsSilent (lines.Move a.shown)
-
 front_silent : (h : Hypervisor) (ask : FrontAsk) (a : FrontAct) → AsksNoKey ask → front_act h ask ≡ Some a → IsSilent (lines.Move a.shown)
-front_silent h front_ask.Wait a own e = front_wait FrontSilent h a refl (λ path. refl) e
-front_silent h front_ask.Fence a own e = of_front FrontSilent _ a refl e
-front_silent h (front_ask.Read frame word) a own e = of_front FrontSilent _ a refl e
-front_silent h (front_ask.Write frame word value) a own e = of_front FrontSilent _ a refl e
-front_silent h (front_ask.Cas frame word old new) a own e = of_front FrontSilent _ a refl e
-front_silent h front_ask.NewPort a own e = of_front FrontSilent _ a refl e
-front_silent h front_ask.Send a own e = of_front FrontSilent _ a refl e
-front_silent h front_ask.ClosePort a own e = of_front FrontSilent _ a refl e
-front_silent h (front_ask.GetKey path) a own e = absurd own
-front_silent h (front_ask.SetKey path text) a own e = absurd own
-front_silent h (front_ask.Watch path) a own e = absurd own
-
-abbrev BackSilent : BackAct → Type 0
-BackSilent a = IsSilent (lines.Move a.shown)
-
-map_silent : (h : Hypervisor) (who : BackMover) (gref : ℕ) (mode : Mode) (verdict : Result ℕ MapRefusal) → BackSilent (map_act h who gref mode verdict)
-map_silent h who gref mode (Ok frame) = refl
-map_silent h who gref mode (Err refusal) = refl
-
-bind_silent : (h : Hypervisor) (p : ℕ) (state : PortState) → BackSilent (bind_act h p state)
-bind_silent h p port.Unbound = refl
-bind_silent h p port.Closed = refl
-bind_silent h p port.Bound = refl
-
-read_silent : (h : Hypervisor) (shown : Move) (o : Outcome) (a : BackAct) → IsSilent (lines.Move shown) → read_act h shown o ≡ Some a → BackSilent a
-read_silent h shown (Gave words) a is e = of_back BackSilent _ a is e
-read_silent h shown Failed a is e = of_back BackSilent _ a is e
-read_silent h shown Took a is e = absurd (none-some a e)
-
-disk_silent : (h : Hypervisor) (shown : Move) (o : Outcome) (a : BackAct) → IsSilent (lines.Move shown) → disk_act h shown o ≡ Some a → BackSilent a
-disk_silent h shown Took a is e = of_back BackSilent _ a is e
-disk_silent h shown Failed a is e = of_back BackSilent _ a is e
-disk_silent h shown (Gave words) a is e = absurd (none-some a e)
+front_silent h ask a own e = (elim (front_acts h ask a e) as (λ asked x acts. AsksNoKey asked → IsSilent (lines.Move x.shown)) [ FrontSet path text is ↦ λ own. absurd own | acts ↦ λ own. refl ]) own
 
 back_silent : (h : Hypervisor) (who : BackMover) (ask : BackAsk) (o : Outcome) (a : BackAct) → (AsksBackKey ask → ⊥) → back_act h who ask o ≡ Some a → IsSilent (lines.Move a.shown)
-back_silent h who back_ask.Wait o a own e = back_wait BackSilent h who a refl (λ path. refl) e
-back_silent h who back_ask.Fence o a own e = of_back BackSilent _ a refl e
-back_silent h who (back_ask.Read m word) o a own e = of_back BackSilent _ a refl e
-back_silent h who (back_ask.Write m word value) o a own e = of_back BackSilent _ a refl e
-back_silent h who (back_ask.Map gref mode) o a own e = of_back BackSilent _ a (map_silent h who gref mode (verdict_at h.pages gref mode)) e
-back_silent h who (back_ask.Unmap m) o a own e = of_back BackSilent _ a refl e
-back_silent h who (back_ask.Bind p) o a own e = of_back BackSilent _ a (bind_silent h p (state_of h.channels p)) e
-back_silent h who back_ask.Send o a own e = of_back BackSilent _ a refl e
-back_silent h who back_ask.ClosePort o a own e = of_back BackSilent _ a refl e
-back_silent h who (back_ask.GetKey path) o a own e = absurd (own tt)
-back_silent h who (back_ask.SetKey path text) o a own e = absurd (own tt)
-back_silent h who (back_ask.Watch path) o a own e = absurd (own tt)
-back_silent h who (back_ask.DiskRead sector) o a own e = read_silent h _ o a refl e
-back_silent h who (back_ask.DiskWrite sector words) o a own e = disk_silent h _ o a refl e
-back_silent h who back_ask.Flush o a own e = disk_silent h _ o a refl e
-back_silent h who (back_ask.Trim sector count) o a own e = disk_silent h _ o a refl e
+back_silent h who ask o a own e = (elim (back_acts h who ask o a e) as (λ mover asked outcome x acts. (AsksBackKey asked → ⊥) → IsSilent (lines.Move x.shown)) [
+  | BackSet path text is ↦ λ own. absurd (own tt)
+  | acts ↦ λ own. refl
+]) own
 
--- the lines that follow a move
-front_lines_silent : (t : Option Told) → AreSilent (front_lines t)
-front_lines_silent None = tt
-front_lines_silent (Some (front_told.Answer id status)) = (refl, tt)
-front_lines_silent (Some (front_told.Sector id index words)) = (refl, tt)
-front_lines_silent (Some (front_told.Broken word)) = (refl, tt)
+-- a line that an end tells, or one of whatever else happens but to keys, and a suspend
+abbrev SetsNo : Happening → Line → Type 0
+SetsNo FrontMoves line = IsTold line
+SetsNo BackMoves line = IsTold line
+SetsNo (JobMoves number outcome) line = IsTold line
+SetsNo (Negotiates at move) line = ⊥
+SetsNo (BackAttaches shape grefs port) line = ⊥
+SetsNo (OverwritesKey name text) line = ⊥
+SetsNo Suspends line = ⊥
+SetsNo h line = Unit {0}
 
-effect_silent : (id index : ℕ) (a : BackAnswer) → IsSilent (effect_line id index a)
-effect_silent id index (answers.Sector words) = refl
-effect_silent id index a = refl
+none_set : (h : Happening) (line : Line) → SetsNo h line → MayShow h line → IsSilent line
+none_set Suspends line sets shows = absurd sets
+none_set h (lines.Move (moves.SetKey who path text)) sets shows = absurd (assumption)
+none_set h (lines.Key name text) sets shows = absurd (assumption)
+none_set h lines.Epoch sets shows = absurd (assumption)
+none_set h line sets shows = refl
 
-back_lines_silent : (t : Option BackTold) (a : BackAnswer) → AreSilent (back_lines t a)
-back_lines_silent None a = tt
-back_lines_silent (Some (back_told.Effect id index)) a = (effect_silent id index a, tt)
-back_lines_silent (Some (back_told.Flushed id)) a = (refl, tt)
-back_lines_silent (Some (back_told.Trimmed id)) a = (refl, tt)
-back_lines_silent (Some (back_told.Fault id index)) a = (refl, tt)
-back_lines_silent (Some (back_told.Reply id status)) a = (refl, tt)
-
-halt_silent : (before now : Option Halt) → AreSilent (halt_lines before now)
-halt_silent None None = tt
-halt_silent None (Some h) = (refl, tt)
-halt_silent (Some g) now = tt
-
--- the lines of the moves of the ring's ends, and of whatever else happens
+-- the lines of the moves of the ring's ends
 front_turn_silent : (w : World) (act : Option FrontAct) → front_turn w ≡ act → AreSilent (front_shows w act)
 front_turn_silent w None e = tt
 front_turn_silent w (Some a) e =
     let f : front.View = front_step.step_of w.front a.answer in
-    (front_silent w.under (front_ends.ask_of w.front) a (fronts_no_key w.front) e, front_lines_silent f.told)
+    (front_silent w.under (front_ends.ask_of w.front) a (fronts_no_key w.front) e, front_told_is IsSilent (none_set FrontMoves) f.told)
 
 back_turn_silent : (w : World) (act : Option BackAct) → back_turn w Took ≡ act → AreSilent (back_shows w act)
 back_turn_silent w None e = tt
 back_turn_silent w (Some a) e =
     let b : back.View = back_step.step_of w.back a.answer in (
       back_silent w.under back_mover.Back (back_ends.ask_of w.back) Took a (backs_no_key (back_ends.ask_of w.back) (backs_of w.back)) e,
-      both_all IsSilent (back_lines b.told a.answer) (halt_lines w.back.halted b.halted) (back_lines_silent b.told a.answer) (halt_silent w.back.halted b.halted),
+      both_all IsSilent (back_lines b.told a.answer) (halt_lines w.back.halted b.halted) (back_told_is IsSilent (none_set BackMoves) b.told a.answer)
+          (halt_is IsSilent (λ why. refl) w.back.halted b.halted),
     )
 
 job_turn_silent : (w : World) (k : ℕ) (o : Outcome) (act : Option BackAct) → job_turn w k o ≡ act → AreSilent (job_shows w k act)
 job_turn_silent w k o None e = tt
 job_turn_silent w k o (Some a) e =
-    let b : back.View = back_step.job_step w.back k a.answer in
-    (back_silent w.under (back_mover.Job k) (back_step.job_ask_of w.back k) o a (jobs_no_key (back_step.job_ask_of w.back k) (jobs_of w.back k)) e, back_lines_silent b.told a.answer)
-
-state_silent : (s : FrontState) (v : front.View) → AreSilent (enter_lines s v)
-state_silent s v = enter_lines_are IsSilent s v (λ may. state_lines_are IsSilent s refl refl refl (λ word. refl))
-
-submit_silent : (job : Job) (r : Result ℕ Refusal) → AreSilent (submit_line job r ∷ [])
-submit_silent job (Ok number) = (refl, tt)
-submit_silent job (Err r) = (refl, tt)
-
-look_silent : (quiet : Bool) (other : Line) → IsSilent other → AreSilent ((if quiet then lines.Quiet else other) ∷ [])
-look_silent true other e = (refl, tt)
-look_silent false other e = (e, tt)
+    let b : back.View = back_step.job_step w.back k a.answer in (
+      back_silent w.under (back_mover.Job k) (back_step.job_ask_of w.back k) o a (jobs_no_key (back_step.job_ask_of w.back k) (jobs_of w.back k)) e,
+      back_told_is IsSilent (none_set BackMoves) b.told a.answer,
+    )
 
 -- a watch changes no key
 watch_told : (path text : List ℕ) (d : Directory) (at : End) (watches : Watches) → key_of d.keys path ≡ Some text → (let x : Directory = with_watches d at watches in key_of x.keys path ≡ Some text)
@@ -228,14 +146,15 @@ set_told path text d set now has = by_test (bytes_eq set path) refl
         let differs : path ≢ set = λ same. true≢false (sym ((bytes_eq-Decides set path).1 (sym same)) ∙ e) in
         key_of-with_key_other d.keys set now path differs ∙ has
 
-abbrev IsTold : (path : List ℕ) (over : Bool) (text : List ℕ) → Directory → List Line → Type 0
-IsTold path over text d shown = key_of d.keys path ≡ Some (text_after path over text shown)
+abbrev TellsText : (path : List ℕ) (over : Bool) (text : List ℕ) → Directory → List Line → Type 0
+TellsText path over text d shown = key_of d.keys path ≡ Some (text_after path over text shown)
 
 -- what an end does with the keys is told
-keys_told : (path : List ℕ) (over : Bool) (text : List ℕ) (w : World) (at : End) (move : KeyMove) → key_of w.under.keys.keys path ≡ Some text → (let v : World = happens w (Negotiates at move) in IsTold path over text v.under.keys (lines_at w (Negotiates at move)))
+keys_told : (path : List ℕ) (over : Bool) (text : List ℕ) (w : World) (at : End) (move : KeyMove) → key_of w.under.keys.keys path ≡ Some text
+    → (let v : World = happens w (Negotiates at move) in TellsText path over text v.under.keys (lines_at w (Negotiates at move)))
 keys_told path over text w at move has =
-    negotiated_cases (IsTold path over text) w.back.stage at move w.under.keys
-    (λ may. key_cases (IsTold path over text) at move w.under.keys
+    negotiated_cases (TellsText path over text) w.back.stage at move w.under.keys
+    (λ may. key_cases (TellsText path over text) at move w.under.keys
     (λ got same. has) (λ set now same may_set. set_told path text w.under.keys set now has)
     (λ watched same. watch_told path text w.under.keys at _ has) (λ watched first. watch_told path text w.under.keys at _ has) has) has
 
@@ -246,7 +165,8 @@ is_of_keys Suspends = true
 is_of_keys h = false
 
 -- whatever else happens changes no key
-other_told : (path : List ℕ) (over : Bool) (text : List ℕ) (w : World) (h : Happening) → is_of_keys h ≡ false → AreSilent (lines_at w h) → key_of w.under.keys.keys path ≡ Some text → (let v : World = happens w h in IsTold path over text v.under.keys (lines_at w h))
+other_told : (path : List ℕ) (over : Bool) (text : List ℕ) (w : World) (h : Happening) → is_of_keys h ≡ false → AreSilent (lines_at w h) → key_of w.under.keys.keys path ≡ Some text
+    → (let v : World = happens w h in TellsText path over text v.under.keys (lines_at w h))
 other_told path over text w h other silent has =
     keys_happen (λ (d : Directory). key_of d.keys path ≡ Some text) (λ at d here. watch_told path text d at _ here) w h (λ at move is here. absurd (true≢false (sym (ap is_of_keys is) ∙ other)))
     (λ name now is allowed here. absurd (true≢false (sym (ap is_of_keys is) ∙ other))) (λ is may here. absurd (true≢false (sym (ap is_of_keys is) ∙ other))) has
@@ -267,25 +187,18 @@ begun_state true = refl
 begun_state false = refl
 
 one_told : (path : List ℕ) → IsRenewed path → (over : Bool) (text : List ℕ) (w : World) (h : Happening) → over ≡ not (is_open w.front.stage) → key_of w.under.keys.keys path ≡ Some text
-    → (let v : World = happens w h in IsTold path over text v.under.keys (lines_at w h))
+    → (let v : World = happens w h in TellsText path over text v.under.keys (lines_at w h))
 one_told path renewed over text w FrontMoves is has = other_told path over text w FrontMoves refl (front_turn_silent w (front_turn w) refl) has
 one_told path renewed over text w BackMoves is has = other_told path over text w BackMoves refl (back_turn_silent w (back_turn w Took) refl) has
 one_told path renewed over text w (JobMoves number outcome) is has = other_told path over text w (JobMoves number outcome) refl (job_turn_silent w number outcome (job_turn w number outcome) refl) has
 one_told path renewed over text w (Negotiates at move) is has = keys_told path over text w at move has
-one_told path renewed over text w (FrontEnters state) is has = other_told path over text w (FrontEnters state) refl (state_silent state w.front) has
 one_told path renewed over text w (BackAttaches shape grefs port) is has = other_told path over text w (BackAttaches shape grefs port) refl (attach_lines_are IsSilent w shape grefs refl) has
-one_told path renewed over text w (BackHalts why) is has = other_told path over text w (BackHalts why) refl (halt_silent w.back.halted _) has
-one_told path renewed over text w (Submits job) is has = other_told path over text w (Submits job) refl (submit_silent job (front_submit.submit_of w.front job).0) has
-one_told path renewed over text w (Notifies at) is has = other_told path over text w (Notifies at) refl tt has
-one_told path renewed over text w (Pokes frame word value) is has = other_told path over text w (Pokes frame word value) refl (poke_lines_are IsSilent frame word value refl) has
 one_told path renewed over text w (OverwritesKey name now) is has =
-    overwriting_cases (λ under shown. IsTold path over text under.keys shown) w.under name now (λ allowed. set_told path text w.under.keys (front_path name) now has) has
+    overwriting_cases (λ under shown. TellsText path over text under.keys shown) w.under name now (λ allowed. set_told path text w.under.keys (front_path name) now has) has
 one_told path renewed over text w Suspends is has =
-    suspend_cases (λ v shown. IsTold path over text v.under.keys shown) w
+    suspend_cases (λ v shown. TellsText path over text v.under.keys shown) w
     (λ may. renewed (state_after (is_open w.front.stage)) ∙ ap (λ (t : List ℕ). Some t) (begun_state (is_open w.front.stage) ∙ ap begun_text (sym is))) has
-one_told path renewed over text w Dumps is has = other_told path over text w Dumps refl (dump_lines_are IsSilent w.under.pages 0 (1024 * 2 ^ w.front.shape.order) (λ frame word value. refl)) has
-one_told path renewed over text w (Looks quiet) is has = other_told path over text w (Looks quiet) refl (look_silent quiet lines.Busy refl) has
-one_told path renewed over text w (Settles quiet) is has = other_told path over text w (Settles quiet) refl (look_silent quiet lines.Unsettled refl) has
+one_told path renewed over text w h is has = other_told path over text w h refl (lines_are IsSilent w h (λ line shows. none_set h line tt shows)) has
 
 or_none : (b : Bool) → (b || false) ≡ b
 or_none true = refl

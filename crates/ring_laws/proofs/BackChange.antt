@@ -5,10 +5,7 @@ use Rattle.blk_base.specs.declared.operation.Abi.{Abi}
 use Rattle.blk_base.specs.declared.parts.Mapping.{Mapping}
 use Rattle.blk_base.specs.declared.parts.Mode.{Mode}
 use Rattle.blk_base.specs.declared.parts.Mode.TheVariants.{ReadWrite}
-use Rattle.blk_base.specs.declared.ask.FrontAsk.{FrontAsk}
-use Rattle.blk_base.specs.declared.ask.FrontAsk.TheVariants as front_ask
 use Rattle.blk_base.specs.declared.ask.BackAsk.{BackAsk}
-use Rattle.blk_base.specs.declared.ask.BackAsk.TheVariants as ask
 use Rattle.blk_base.specs.declared.ask.BackAnswer.{BackAnswer}
 use Rattle.blk_base.specs.declared.ask.BackAnswer.TheVariants as answers
 use Rattle.blk_base.specs.declared.moves.BackMover.TheVariants as back
@@ -18,7 +15,7 @@ use Rattle.event_channel.specs.declared.channels.PortState.{PortState}
 use Rattle.event_channel.specs.declared.channels.PortState.TheVariants as port
 use Rattle.event_channel.specs.Channels.{state_of}
 use Rattle.hypervisor.specs.Hypervisor.{Hypervisor}
-use Rattle.hypervisor.specs.Act.{FrontAct, BackAct, Outcome, front_act, back_act, map_act, bind_act}
+use Rattle.hypervisor.specs.Act.{BackAct, Outcome, back_act, map_act, bind_act}
 use Rattle.ring_words.specs.Ring.{requests_of, overruns, notifies}
 use Rattle.ring_words.specs.Shape.{entry_words_of}
 use Rattle.schedule_text.specs.declared.line.Line.{Line}
@@ -27,8 +24,6 @@ use Rattle.schedule_text.specs.declared.line.Line.TheVariants as lines
 use Rattle.blk_layout.specs.Entry.{request_of}
 use Rattle.back_jobs.specs.Task.{Work}
 use Rattle.back_jobs.specs.Jobs.{removed_at, is_done, start_job}
-use Rattle.blk_front.specs.declared.told.Told.{Told}
-use Rattle.blk_front.specs.declared.told.Told.TheVariants as front_told
 use Rattle.blk_back.specs.declared.told.BackTold.{BackTold}
 use Rattle.blk_back.specs.declared.told.BackTold.TheVariants as told
 use Rattle.blk_back.specs.declared.told.Halt.{Halt}
@@ -38,9 +33,11 @@ use Rattle.blk_back.specs.declared.stage.Stage.TheVariants as stage
 use Rattle.blk_back.specs.View.{View}
 use Rattle.blk_back.specs.Ask.{ask_at, loop_ask, unmap_ask, next_gref, next_reply}
 use Rattle.blk_back.specs.Step.{at, mapped, unmapped_bound, unmapped_unbound, overrun, looked, loop_step, fetched, fetch_step, next_number, replied, step_at}
-use Rattle.split_model.specs.Shown.{front_lines, back_lines, halt_lines}
-use Rattle.split_model.proofs.SafeActs.{of_front, of_back, front_wait, back_wait}
-use Rattle.split_model.proofs.SafeAnswers.{IsBacks, AsksNoKey}
+use Rattle.split_model.specs.Shown.{back_lines, halt_lines}
+use Rattle.split_model.proofs.Showing.{halt_is}
+use Rattle.split_model.proofs.Acting.{BackActs, BackSet, DiskGives, ReadFails, DiskTakes, WriteFails, DiskFlushes, FlushFails, DiskTrims, TrimFails, back_acts}
+use Rattle.split_model.proofs.SafeActs.{of_back, back_wait}
+use Rattle.split_model.proofs.SafeAnswers.{IsBacks}
 use Rattle.ring_laws.proofs.Shows.{Sight, Shows, other_on_pages, untouched_value, shows_map}
 use Rattle.ring_laws.proofs.Knows.{Serves, KnowsAt}
 use Rattle.ring_laws.proofs.Bystanders.{sets_none, IsBystander, AreBystanders}
@@ -127,32 +124,20 @@ change_at s v x a k t = changed (length x.values) v v refl refl refl t (λ r. r)
 abbrev BackBy : BackAct → Type 0
 BackBy a = IsBystander (lines.Move a.shown) × (sets_none (lines.Move a.shown) ≡ true)
 
-map_by : (h : Hypervisor) (gref : ℕ) (mode : Mode) (verdict : Result ℕ MapRefusal) → BackBy (map_act h back.Back gref mode verdict)
-map_by h gref mode (Ok frame) = (record { plain = refl; unstepped = refl }, refl)
-map_by h gref mode (Err refusal) = (record { plain = refl; unstepped = refl }, refl)
-
-bind_by : (h : Hypervisor) (p : ℕ) (state : PortState) → BackBy (bind_act h p state)
-bind_by h p port.Unbound = (record { plain = refl; unstepped = refl }, refl)
-bind_by h p port.Closed = (record { plain = refl; unstepped = refl }, refl)
-bind_by h p port.Bound = (record { plain = refl; unstepped = refl }, refl)
+acts_both : (h : Hypervisor) (a' : BackAsk) (o : Outcome) (a : BackAct) → IsBacks a' → BackActs h back.Back a' o a → BackBy a
+acts_both h a' o a own (BackSet path text is) = absurd own
+acts_both h a' o a own (DiskGives sector words) = absurd own
+acts_both h a' o a own (ReadFails sector) = absurd own
+acts_both h a' o a own (DiskTakes sector words) = absurd own
+acts_both h a' o a own (WriteFails sector words) = absurd own
+acts_both h a' o a own DiskFlushes = absurd own
+acts_both h a' o a own FlushFails = absurd own
+acts_both h a' o a own (DiskTrims sector count) = absurd own
+acts_both h a' o a own (TrimFails sector count) = absurd own
+acts_both h a' o a own acts = (record { plain = refl; unstepped = refl }, refl)
 
 back_both : (h : Hypervisor) (a' : BackAsk) (o : Outcome) (a : BackAct) → IsBacks a' → back_act h back.Back a' o ≡ Some a → BackBy a
-back_both h ask.Wait o a own e = back_wait BackBy h back.Back a (record { plain = refl; unstepped = refl }, refl) (λ path. (record { plain = refl; unstepped = refl }, refl)) e
-back_both h ask.Fence o a own e = of_back BackBy _ a (record { plain = refl; unstepped = refl }, refl) e
-back_both h (ask.Read m word) o a own e = of_back BackBy _ a (record { plain = refl; unstepped = refl }, refl) e
-back_both h (ask.Write m word value) o a own e = of_back BackBy _ a (record { plain = refl; unstepped = refl }, refl) e
-back_both h (ask.Map gref mode) o a own e = of_back BackBy _ a (map_by h gref mode (verdict_at h.pages gref mode)) e
-back_both h (ask.Unmap m) o a own e = of_back BackBy _ a (record { plain = refl; unstepped = refl }, refl) e
-back_both h (ask.Bind p) o a own e = of_back BackBy _ a (bind_by h p (state_of h.channels p)) e
-back_both h ask.Send o a own e = of_back BackBy _ a (record { plain = refl; unstepped = refl }, refl) e
-back_both h ask.ClosePort o a own e = of_back BackBy _ a (record { plain = refl; unstepped = refl }, refl) e
-back_both h (ask.GetKey path) o a own e = absurd own
-back_both h (ask.SetKey path text) o a own e = absurd own
-back_both h (ask.Watch path) o a own e = absurd own
-back_both h (ask.DiskRead sector) o a own e = absurd own
-back_both h (ask.DiskWrite sector words) o a own e = absurd own
-back_both h ask.Flush o a own e = absurd own
-back_both h (ask.Trim sector count) o a own e = absurd own
+back_both h a' o a own e = acts_both h a' o a own (back_acts h back.Back a' o a e)
 
 pub back_by : (h : Hypervisor) (a' : BackAsk) (o : Outcome) (a : BackAct) → IsBacks a' → back_act h back.Back a' o ≡ Some a → IsBystander (lines.Move a.shown)
 back_by h a' o a own e = (back_both h a' o a own e).0
@@ -161,9 +146,7 @@ pub back_sets : (h : Hypervisor) (a' : BackAsk) (o : Outcome) (a : BackAct) → 
 back_sets h a' o a own e = (back_both h a' o a own e).1
 
 pub halt_by : (old new : Option Halt) → AreBystanders (halt_lines old new)
-halt_by None None = tt
-halt_by None (Some h) = (record { plain = refl; unstepped = refl }, tt)
-halt_by (Some g) new = tt
+halt_by old new = halt_is IsBystander (λ why. record { plain = refl; unstepped = refl }) old new
 
 pub told_by : (t : Option BackTold) (a : BackAnswer) (old new : Option Halt) → IsBackTold t → AreBystanders (back_lines t a ++ halt_lines old new)
 told_by None a old new is = halt_by old new
@@ -172,28 +155,6 @@ told_by (Some (told.Effect id index)) a old new is = absurd is
 told_by (Some (told.Flushed id)) a old new is = absurd is
 told_by (Some (told.Trimmed id)) a old new is = absurd is
 told_by (Some (told.Fault id index)) a old new is = absurd is
-
-abbrev FrontBy : FrontAct → Type 0
-FrontBy a = IsBystander (lines.Move a.shown)
-
-pub front_by : (h : Hypervisor) (a' : FrontAsk) (a : FrontAct) → AsksNoKey a' → front_act h a' ≡ Some a → FrontBy a
-front_by h front_ask.Wait a own e = front_wait FrontBy h a (record { plain = refl; unstepped = refl }) (λ path. record { plain = refl; unstepped = refl }) e
-front_by h front_ask.Fence a own e = of_front FrontBy _ a (record { plain = refl; unstepped = refl }) e
-front_by h (front_ask.Read frame word) a own e = of_front FrontBy _ a (record { plain = refl; unstepped = refl }) e
-front_by h (front_ask.Write frame word value) a own e = of_front FrontBy _ a (record { plain = refl; unstepped = refl }) e
-front_by h (front_ask.Cas frame word old new) a own e = of_front FrontBy _ a (record { plain = refl; unstepped = refl }) e
-front_by h front_ask.NewPort a own e = of_front FrontBy _ a (record { plain = refl; unstepped = refl }) e
-front_by h front_ask.Send a own e = of_front FrontBy _ a (record { plain = refl; unstepped = refl }) e
-front_by h front_ask.ClosePort a own e = of_front FrontBy _ a (record { plain = refl; unstepped = refl }) e
-front_by h (front_ask.GetKey path) a own e = absurd own
-front_by h (front_ask.SetKey path text) a own e = absurd own
-front_by h (front_ask.Watch path) a own e = absurd own
-
-pub front_told_by : (t : Option Told) → AreBystanders (front_lines t)
-front_told_by None = tt
-front_told_by (Some (front_told.Answer id status)) = (record { plain = refl; unstepped = refl }, tt)
-front_told_by (Some (front_told.Sector id index words)) = (record { plain = refl; unstepped = refl }, tt)
-front_told_by (Some (front_told.Broken word)) = (record { plain = refl; unstepped = refl }, tt)
 
 -- a line of the back's reads words of entries of its layout, or none
 abbrev Looks : List Line → Bool → View → BackAct → Type 0

@@ -1,42 +1,30 @@
 -- Lines of others than the back, and those that say what a job did: the rules of the ring pass over them.
 use Rattle.std.proofs.Common.{◌≡◌, ℕ, Bool, true, false, List, [], ◌∷◌, ◌++◌, refl, sym, subst, append_assoc}
-use Rattle.std.specs.Prelude.{Option, Some, None, is_some, Result, Ok, Err, if◌then◌else◌}
+use Rattle.std.specs.Prelude.{Option, Some, None, is_some, if◌then◌else◌}
 use Rattle.std.specs.List.{AllByRecursion}
 use Rattle.std.proofs.lemmas.Option.{none-some}
 use Rattle.std.proofs.lemmas.List.{append-nil}
-use Rattle.blk_base.specs.declared.config.Job.{Job}
 use Rattle.blk_base.specs.declared.operation.Abi.{Abi}
-use Rattle.blk_base.specs.declared.parts.Mode.{Mode}
-use Rattle.blk_base.specs.declared.ask.FrontAsk.{FrontAsk}
-use Rattle.blk_base.specs.declared.ask.FrontAsk.TheVariants as front_ask
 use Rattle.blk_base.specs.declared.ask.BackAsk.{BackAsk}
 use Rattle.blk_base.specs.declared.ask.BackAsk.TheVariants as back_ask
 use Rattle.blk_base.specs.declared.ask.BackAnswer.{BackAnswer}
 use Rattle.blk_base.specs.declared.ask.BackAnswer.TheVariants as answers
 use Rattle.blk_base.specs.declared.moves.BackMover.TheVariants as back
-use Rattle.blk_base.specs.declared.moves.Move.{Move}
-use Rattle.blk_base.specs.declared.moves.Move.TheVariants as moves
-use Rattle.grant_table.specs.declared.entry.MapRefusal.{MapRefusal}
-use Rattle.grant_table.specs.Table.{verdict_at}
 use Rattle.hypervisor.specs.Hypervisor.{Hypervisor}
-use Rattle.hypervisor.specs.Act.{FrontAct, BackAct, Outcome, Gave, Took, Failed, front_act, back_act, map_act, read_act, disk_act}
+use Rattle.hypervisor.specs.Act.{BackAct, Outcome, back_act}
 use Rattle.schedule_text.specs.declared.line.Line.{Line}
 use Rattle.schedule_text.specs.declared.line.Line.TheVariants as lines
 use Rattle.report_rules.specs.Ring.{abi_after}
 use Rattle.report_rules.specs.Overrun.{is_service}
 use Rattle.report_rules.specs.Stretch.{IsStretchAt}
 use Rattle.report_rules.specs.Reply.{is_of_back}
-use Rattle.blk_front.specs.declared.told.Told.{Told}
-use Rattle.blk_front.specs.declared.told.Told.TheVariants as front_told
-use Rattle.blk_front.specs.declared.told.Refusal.{Refusal}
 use Rattle.blk_back.specs.declared.told.BackTold.{BackTold}
 use Rattle.blk_back.specs.declared.told.BackTold.TheVariants as back_told
 use Rattle.blk_back.specs.declared.told.Halt.{Halt}
 use Rattle.blk_back.specs.View.{View}
-use Rattle.split_model.specs.Shown.{front_lines, back_lines, effect_line}
-use Rattle.split_model.specs.Happening.{submit_line}
-use Rattle.split_model.proofs.SafeActs.{of_front, of_back, front_wait}
-use Rattle.split_model.proofs.SafeAnswers.{IsJobs, AsksNoKey}
+use Rattle.split_model.specs.Shown.{back_lines, effect_line}
+use Rattle.split_model.proofs.Acting.{BackActs, BackFence, BackBind, BackBindRefused, BackSend, BackClose, back_acts}
+use Rattle.split_model.proofs.SafeAnswers.{IsJobs}
 use Rattle.ring_laws.specs.Layout.{reads_protocol, IsNamedFirstAt}
 use Rattle.ring_laws.proofs.Sight.{is_other, other_epoch, other_touch, same_abi, foreign_abi, untouched_produced, untouched_word}
 use Rattle.ring_laws.proofs.Shows.{Sight, shows_named}
@@ -90,67 +78,24 @@ free over line o f s p = record { other = o; foreign = f; idle = λ e. s; plain 
 busy : (over : Bool) (line : Line) → over ≡ false → is_other line ≡ true → is_of_back line ≡ false → is_overrun line ≡ false → IsFree over line
 busy over line running o f p = record { other = o; foreign = f; idle = λ e. absurd (cc); plain = p }
 
-abbrev FrontFree : Bool → FrontAct → Type 0
-FrontFree over a = IsFree over (lines.Move a.shown)
-
-pub front_free : (over : Bool) (h : Hypervisor) (ask : FrontAsk) (a : FrontAct) → AsksNoKey ask → front_act h ask ≡ Some a → FrontFree over a
-front_free over h front_ask.Wait a own e = front_wait (FrontFree over) h a (free over _ refl refl refl refl) (λ path. free over _ refl refl refl refl) e
-front_free over h front_ask.Fence a own e = of_front (FrontFree over) _ a (free over _ refl refl refl refl) e
-front_free over h (front_ask.Read frame word) a own e = of_front (FrontFree over) _ a (free over _ refl refl refl refl) e
-front_free over h (front_ask.Write frame word value) a own e = of_front (FrontFree over) _ a (free over _ refl refl refl refl) e
-front_free over h (front_ask.Cas frame word old new) a own e = of_front (FrontFree over) _ a (free over _ refl refl refl refl) e
-front_free over h front_ask.NewPort a own e = of_front (FrontFree over) _ a (free over _ refl refl refl refl) e
-front_free over h front_ask.Send a own e = of_front (FrontFree over) _ a (free over _ refl refl refl refl) e
-front_free over h front_ask.ClosePort a own e = of_front (FrontFree over) _ a (free over _ refl refl refl refl) e
-front_free over h (front_ask.GetKey path) a own e = absurd own
-front_free over h (front_ask.SetKey path text) a own e = absurd own
-front_free over h (front_ask.Watch path) a own e = absurd own
-
 abbrev JobFree : Bool → BackAct → Type 0
 JobFree over a = IsFree over (lines.Move a.shown)
 
-map_free : (over : Bool) (h : Hypervisor) (k gref : ℕ) (mode : Mode) (verdict : Result ℕ MapRefusal) → over ≡ false → JobFree over (map_act h (back.Job k) gref mode verdict)
-map_free over h k gref mode (Ok frame) running = busy over _ running refl refl refl
-map_free over h k gref mode (Err refusal) running = busy over _ running refl refl refl
-
-read_free : (over : Bool) (h : Hypervisor) (shown : Move) (o : Outcome) (a : BackAct) → IsFree over (lines.Move shown) → read_act h shown o ≡ Some a → JobFree over a
-read_free over h shown (Gave words) a f e = of_back (JobFree over) _ a f e
-read_free over h shown Failed a f e = of_back (JobFree over) _ a f e
-read_free over h shown Took a f e = absurd (none-some a e)
-
-call_free : (over : Bool) (h : Hypervisor) (shown : Move) (o : Outcome) (a : BackAct) → IsFree over (lines.Move shown) → disk_act h shown o ≡ Some a → JobFree over a
-call_free over h shown Took a f e = of_back (JobFree over) _ a f e
-call_free over h shown Failed a f e = of_back (JobFree over) _ a f e
-call_free over h shown (Gave words) a f e = absurd (none-some a e)
+acts_free : (over : Bool) (h : Hypervisor) (k : ℕ) (ask : BackAsk) (o : Outcome) (a : BackAct) → over ≡ false → IsJobs ask → BackActs h (back.Job k) ask o a → JobFree over a
+acts_free over h k ask o a running own BackFence = absurd own
+acts_free over h k ask o a running own (BackBind p unbound) = absurd own
+acts_free over h k ask o a running own (BackBindRefused p) = absurd own
+acts_free over h k ask o a running own BackSend = absurd own
+acts_free over h k ask o a running own BackClose = absurd own
+acts_free over h k ask o a running own acts = busy over _ running refl refl refl
 
 pub job_free : (over : Bool) (h : Hypervisor) (k : ℕ) (ask : BackAsk) (o : Outcome) (a : BackAct) → over ≡ false → IsJobs ask → back_act h (back.Job k) ask o ≡ Some a → JobFree over a
-job_free over h k back_ask.Wait o a running own e = absurd (none-some a e)
-job_free over h k back_ask.Fence o a running own e = absurd own
-job_free over h k (back_ask.Read m word) o a running own e = of_back (JobFree over) _ a (busy over _ running refl refl refl) e
-job_free over h k (back_ask.Write m word value) o a running own e = of_back (JobFree over) _ a (busy over _ running refl refl refl) e
-job_free over h k (back_ask.Map gref mode) o a running own e = of_back (JobFree over) _ a (map_free over h k gref mode (verdict_at h.pages gref mode) running) e
-job_free over h k (back_ask.Unmap m) o a running own e = of_back (JobFree over) _ a (busy over _ running refl refl refl) e
-job_free over h k (back_ask.Bind p) o a running own e = absurd own
-job_free over h k back_ask.Send o a running own e = absurd own
-job_free over h k back_ask.ClosePort o a running own e = absurd own
-job_free over h k (back_ask.GetKey path) o a running own e = absurd own
-job_free over h k (back_ask.SetKey path text) o a running own e = absurd own
-job_free over h k (back_ask.Watch path) o a running own e = absurd own
-job_free over h k (back_ask.DiskRead sector) o a running own e = read_free over h (moves.DiskRead k sector) o a (busy over _ running refl refl refl) e
-job_free over h k (back_ask.DiskWrite sector words) o a running own e = call_free over h (moves.DiskWrite k sector) o a (busy over _ running refl refl refl) e
-job_free over h k back_ask.Flush o a running own e = call_free over h (moves.DiskFlush k) o a (busy over _ running refl refl refl) e
-job_free over h k (back_ask.Trim sector count) o a running own e = call_free over h (moves.DiskTrim k sector count) o a (busy over _ running refl refl refl) e
+job_free over h k ask o a running own e = acts_free over h k ask o a running own (back_acts h (back.Job k) ask o a e)
 
 -- after a halt no job moves
 pub job_running : (over : Bool) (h : Hypervisor) (k : ℕ) (ask : BackAsk) (o : Outcome) (a : BackAct) → back_act h (back.Job k) (if over then back_ask.Wait else ask) o ≡ Some a → over ≡ false
 job_running true h k ask o a e = absurd (none-some a e)
 job_running false h k ask o a e = refl
-
-pub free_front : (over : Bool) (t : Option Told) → AreFree over (front_lines t)
-free_front over None = tt
-free_front over (Some (front_told.Answer id status)) = (free over (lines.Answer id status) refl refl refl refl, tt)
-free_front over (Some (front_told.Sector id index words)) = (free over (lines.Data id index words) refl refl refl refl, tt)
-free_front over (Some (front_told.Broken word)) = (free over (lines.Broken word) refl refl refl refl, tt)
 
 free_effect : (over : Bool) (id index : ℕ) (a : BackAnswer) → over ≡ false → IsFree over (effect_line id index a)
 free_effect over id index (answers.Sector words) running = busy over (lines.EffectRead id index words) running refl refl refl
@@ -163,18 +108,6 @@ free_told over (Some (back_told.Flushed id)) a running = (busy over (lines.Flush
 free_told over (Some (back_told.Trimmed id)) a running = (busy over (lines.Trimmed id) running refl refl refl, tt)
 free_told over (Some (back_told.Fault id index)) a running = (busy over (lines.Fault id index) running refl refl refl, tt)
 free_told over (Some (back_told.Reply id status)) a running = (busy over (lines.Reply id status) running refl refl refl, tt)
-
-pub free_submit : (over : Bool) (job : Job) (r : Result ℕ Refusal) → IsFree over (submit_line job r)
-free_submit over job (Ok number) = free over (lines.Submit number job) refl refl refl refl
-free_submit over job (Err r) = free over _ refl refl refl refl
-
-pub free_look : (over quiet : Bool) → IsFree over (if quiet then lines.Quiet else lines.Busy)
-free_look over true = free over lines.Quiet refl refl refl refl
-free_look over false = free over lines.Busy refl refl refl refl
-
-pub free_settle : (over quiet : Bool) → IsFree over (if quiet then lines.Quiet else lines.Unsettled)
-free_settle over true = free over lines.Quiet refl refl refl refl
-free_settle over false = free over lines.Unsettled refl refl refl refl
 
 pub free_end : (over : Bool) → IsFree over lines.End
 free_end over = free over lines.End refl refl refl refl

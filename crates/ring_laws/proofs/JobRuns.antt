@@ -1,15 +1,13 @@
 -- Whatever happens from the start, the lines keep the rules on jobs.
-use Rattle.key_directory.specs.Directory.{written}
 use Rattle.std.proofs.Common.{◌≡◌, ℕ, ◌<◌, ◌≤◌, ◌^◌, Bool, true, false, if◌then◌else◌, List, [], ◌∷◌, ◌++◌, refl, ap, sym, ◌∙◌, subst, append-nil}
-use Rattle.std.specs.Prelude.{Option, Some, None, is_some, Result, Ok, Err}
+use Rattle.std.specs.Prelude.{Option, Some, None, is_some}
 use Rattle.blk_base.specs.Options.{Options}
-use Rattle.blk_base.specs.declared.config.Job.{Job}
 use Rattle.schedule_text.specs.declared.line.Line.{Line}
 use Rattle.schedule_text.specs.declared.line.Line.TheVariants as lines
 use Rattle.schedule_text.specs.declared.line.Detail.{Detail}
 use Rattle.blk_base.specs.declared.ask.BackAsk.TheVariants as ask
 use Rattle.blk_base.specs.declared.moves.BackMover.TheVariants as mover
-use Rattle.hypervisor.specs.Act.{FrontAct, BackAct, Outcome, Took, back_act, with_pages, with_keys}
+use Rattle.hypervisor.specs.Act.{FrontAct, BackAct, Outcome, Took, back_act}
 use Rattle.report_rules.specs.Obeys.{Obeys}
 use Rattle.report_rules.specs.Steps.{AreSteps}
 use Rattle.report_rules.specs.Data.{AreData}
@@ -18,29 +16,23 @@ use Rattle.report_rules.specs.Job.{entry_values}
 use Rattle.report_rules.specs.Ring.{start_of as told_start}
 use Rattle.report_rules.proofs.Obeys.{obeys_none, obeys_more}
 use Rattle.back_jobs.specs.Jobs.{ask_job, place_of, work_of, waits}
-use Rattle.blk_front.specs.declared.told.Refusal.{Refusal}
 use Rattle.blk_front.specs.Ask as front_ask
-use Rattle.blk_front.specs.Step as front_step
-use Rattle.blk_front.specs.Submit as front_submit
-use Rattle.blk_front.specs.View as front
 use Rattle.blk_back.specs.declared.told.Halt.{Halt}
 use Rattle.blk_back.specs.declared.told.BackTold.{BackTold}
 use Rattle.blk_back.specs.Step.{may_attach, attached}
 use Rattle.blk_base.specs.declared.ask.BackAnswer.{BackAnswer}
 use Rattle.ring_words.specs.Shape.{Shape}
 use Rattle.grant_table.specs.Table.{GrantTable}
-use Rattle.xen_pages.specs.Pages.{with_word}
-use Rattle.hypervisor.specs.Hypervisor.{Hypervisor}
 use Rattle.blk_back.specs.Ask.{ask_of}
 use Rattle.blk_back.specs.View as back
 use Rattle.blk_back.specs.Step as back_step
 use Rattle.split_model.specs.World.{World, start_of, suspended}
-use Rattle.split_model.specs.Happening.{Happening, FrontMoves, BackMoves, JobMoves, BackAttaches, BackHalts, Submits, Pokes, OverwritesKey, Suspends, Looks, Settles, is_guest_word, poke_lines, overwritten_lines, layout_text, layout_read, happens, lines_at, after, front_after, front_shows, back_after, back_shows, job_after, job_shows, front_turn, back_turn, job_turn, submit_line, is_guest_key}
+use Rattle.split_model.specs.Happening.{Happening, FrontMoves, BackMoves, JobMoves, FrontEnters, BackAttaches, BackHalts, Submits, Suspends, layout_text, layout_read, happens, lines_at, after, front_after, front_shows, back_after, back_shows, job_after, job_shows, front_turn, back_turn, job_turn}
 use Rattle.split_model.specs.Safe.{IsSafe}
 use Rattle.split_model.proofs.Safe.{safe_start, safe_happens}
 use Rattle.split_model.specs.Shown.{back_lines, halt_lines}
-use Rattle.split_model.proofs.SafeAnswers.{backs_of, jobs_of, fronts_no_key}
-use Rattle.split_model.specs.Keys.{is_layout, front_path}
+use Rattle.split_model.proofs.SafeAnswers.{backs_of, jobs_of}
+use Rattle.split_model.specs.Keys.{is_layout}
 use Rattle.split_model.proofs.SafeActs.{made_front}
 use Rattle.split_model.proofs.Shapes.{back_shape}
 use Rattle.split_model.proofs.Suspending.{suspend_cases, begun_back, gone_back, back_cases}
@@ -52,17 +44,19 @@ use Rattle.ring_laws.proofs.BackReads.{reads_of}
 use Rattle.ring_laws.proofs.Sight.{is_other}
 use Rattle.ring_laws.proofs.Shows.{Sight, Shows}
 use Rattle.ring_laws.proofs.Knows.{Follows}
-use Rattle.ring_laws.proofs.Outsiders.{AreOutsiders, poke_outsiders, overwritten_outsiders, outsiders_other, outsiders_by, outsiders_calm, beside_outsiders}
-use Rattle.ring_laws.proofs.Free.{IsFree, AreFree, front_free, job_free, job_running, free_front, free_told, free_submit, free_look, free_settle}
+use Rattle.split_model.proofs.Showing.{halt_is}
+use Rattle.split_model.proofs.Outside.{LeavesEnds, leaves_ends}
+use Rattle.ring_laws.proofs.Outsiders.{AreOutsiders, front_outsiders, front_leaves, outsiders_other, outsiders_by, outsiders_calm, beside_outsiders}
+use Rattle.ring_laws.proofs.Free.{IsFree, AreFree, job_free, job_running, free_told}
 use Rattle.ring_laws.proofs.Runs.{FollowsTo, earlier_pages, unread, follows_happens, follows_begin}
 use Rattle.ring_laws.proofs.Works.{jobs_anew}
 use Rattle.ring_laws.proofs.Began.{Terms}
 use Rattle.ring_laws.proofs.Lists.{all_both}
 use Rattle.ring_laws.proofs.Standings.{Stands, stands_aside, turn_stands}
-use Rattle.ring_laws.proofs.MakerLines.{AreCalm, calm_quiet, front_lines_calm, back_calm, halt_calm, told_calm, submit_calm, look_calm, settle_calm}
+use Rattle.ring_laws.proofs.MakerLines.{calm_quiet, back_calm, halt_calm, told_calm}
 use Rattle.ring_laws.proofs.Bystanders.{IsRule, IsBystander, AreBystanders, Aside, bystanders_go, no_effect}
 use Rattle.ring_laws.proofs.Fetched.{is_ready, AreFetched, AreOther, fetched_anew, values_aside, others_fetched, back_fetched}
-use Rattle.ring_laws.proofs.BackChange.{back_by, back_sets, back_reads, front_by, front_told_by, halt_by}
+use Rattle.ring_laws.proofs.BackChange.{back_by, back_sets, back_reads, halt_by}
 use Rattle.ring_laws.proofs.Halting.{Stops, stops_cases}
 use Rattle.ring_laws.proofs.Tells.{Tells, terms_of, tells_aside, shows_free}
 use Rattle.ring_laws.proofs.BackTells.{back_tells}
@@ -83,24 +77,11 @@ pub record Stand (config : Options) (before : List Line) (w : World) : Type 0 wh
 pub same_values : (over : Bool) (before ys : List Line) (x : Sight) → AreFree over ys → Shows before x → entry_values (before ++ ys) ≡ entry_values before
 same_values over before ys x free shows = let longer : Shows (before ++ ys) x = shows_free over ys before x free shows in longer.values ∙ sym shows.values
 
-aside : (config : Options) (start : ℕ) (before ys : List Line) (v : back.View) → Follows start [] before v → AreFree (is_some v.halted) ys → AreBystanders ys → Tells config before v → Tells config (before ++ ys) v
-aside config start before ys v f free all t = tells_aside config before ys v all (same_values (is_some v.halted) before ys f.sight free f.shows) t
-
 no_lines : (config : Options) (before : List Line) (v : back.View) → Tells config before v → Tells config (before ++ []) v
 no_lines config before v t = subst (λ (ls : List Line). Tells config ls v) (sym (append-nil before)) t
 
 retold : (config : Options) (before : List Line) (v : back.View) → Tells config before v → Tells config before (record v { told = None })
 retold config before v t = record { tale = t.tale; quiet = t.quiet; info = t.info; room = t.room; jobs = t.jobs; unseen = t.unseen }
-
-front_tells : (config : Options) (w : World) (before : List Line) (act : Option FrontAct) → FollowsTo config.start before w → Tells config before w.back → front_turn w ≡ act → Tells config (before ++ front_shows w act) w.back
-front_tells config w before None f t e = no_lines config before w.back t
-front_tells config w before (Some a) f t e =
-    let g : front.View = front_step.step_of w.front a.answer in
-    aside config config.start before (front_shows w (Some a)) w.back f.follows (front_free (is_some w.back.halted) w.under (front_ask.ask_of w.front) a (fronts_no_key w.front) e, free_front (is_some w.back.halted) g.told) (front_by w.under (front_ask.ask_of w.front) a (fronts_no_key w.front) e, front_told_by g.told) t
-
-front_after_tells : (config : Options) (w : World) (before : List Line) (act : Option FrontAct) → Tells config before w.back → (let n : World = front_after w act in Tells config before n.back)
-front_after_tells config w before None t = t
-front_after_tells config w before (Some a) t = t
 
 back_goes_on : (config : Options) (w : World) (before : List Line) (o : Outcome) (act : Option BackAct) → IsSafe w → FollowsTo config.start before w → Tells config before w.back → back_turn w o ≡ act → reads_of (before ++ back_shows w act) < 2 ^ 64 → (let n : World = back_after w act in Tells config (before ++ back_shows w act) n.back)
 back_goes_on config w before o None safe f t e few = no_lines config before w.back t
@@ -117,18 +98,6 @@ job_goes_on config w before k o (Some a) s e =
     let past : After config before (job_shows w k (Some a)) = told.after in
     record { tale = past.tale; quiet = past.quiet; info = t.info; room = t.room; jobs = λ r. told.jobs; unseen = told.unseen }
 
-pub submit_by : (job : Job) (r : Result ℕ Refusal) → IsBystander (submit_line job r)
-submit_by job (Ok number) = record { plain = refl; unstepped = refl }
-submit_by job (Err r) = record { plain = refl; unstepped = refl }
-
-pub look_by : (quiet : Bool) → IsBystander (if quiet then lines.Quiet else lines.Busy)
-look_by true = record { plain = refl; unstepped = refl }
-look_by false = record { plain = refl; unstepped = refl }
-
-pub settle_by : (quiet : Bool) → IsBystander (if quiet then lines.Quiet else lines.Unsettled)
-settle_by true = record { plain = refl; unstepped = refl }
-settle_by false = record { plain = refl; unstepped = refl }
-
 -- lines between all others
 outside : (config : Options) (w : World) (before ys : List Line) → AreOutsiders w.back.stage ys → Stand config before w → Tells config (before ++ ys) w.back
 outside config w before ys all s = tells_aside config before ys w.back (outsiders_by w.back.stage ys all) (values_aside ys before (outsiders_other w.back.stage ys all)) s.tells
@@ -138,9 +107,7 @@ others_of over [] free = tt
 others_of over (y ∷ ys) free = let f : IsFree over y = free.0 in (f.other, others_of over ys free.1)
 
 halts_other : (before now : Option Halt) → AreOther (halt_lines before now)
-halts_other None None = tt
-halts_other None (Some h) = (refl, tt)
-halts_other (Some g) now = tt
+halts_other before now = halt_is (λ (line : Line). is_other line ≡ true) (λ why. refl) before now
 
 -- the line of a halt says nothing of jobs
 pub halt_values : (before : List Line) (old new : Option Halt) → entry_values (before ++ halt_lines old new) ≡ entry_values before
@@ -181,27 +148,18 @@ suspended_tells : (config : Options) (w : World) (before : List Line) → Tells 
 suspended_tells config w before t = back_cases (λ (b : back.View). Tells config (before ++ lines.Epoch ∷ []) b) w (epoch_tells config before w.back (begun_back w) t refl refl) (epoch_tells config before w.back (gone_back w) t refl refl)
 
 tells_happens : (config : Options) (w : World) (h : Happening) (before : List Line) → Stand config before w → reads_of (before ++ lines_at w h) < 2 ^ 64 → (let n : World = happens w h in Tells config (before ++ lines_at w h) n.back)
-tells_happens config w FrontMoves before s few = front_after_tells config w (before ++ front_shows w (front_turn w)) (front_turn w) (front_tells config w before (front_turn w) s.ring s.tells refl)
+tells_happens config w FrontMoves before s few =
+    front_leaves (Tells config (before ++ lines_at w FrontMoves)) w (front_turn w) (outside config w before (lines_at w FrontMoves) (front_outsiders w.back.stage w (front_turn w) refl) s)
 tells_happens config w BackMoves before s few = back_goes_on config w before Took (back_turn w Took) s.safe s.ring s.tells refl few
 tells_happens config w (JobMoves number outcome) before s few = job_goes_on config w before number outcome (job_turn w number outcome) s refl
 tells_happens config w (BackAttaches shape grefs port) before s few = attached_tells config w before shape grefs port s
 tells_happens config w (BackHalts why) before s few = halted_tells config w before why s
-tells_happens config w (Submits job) before s few = aside config config.start before (lines_at w (Submits job)) w.back s.ring.follows (free_submit (is_some w.back.halted) job (front_submit.submit_of w.front job).0, tt) (submit_by job (front_submit.submit_of w.front job).0, tt) s.tells
 tells_happens config w Suspends before s few = suspend_cases (λ (v : World) (shown : List Line). Tells config (before ++ shown) v.back) w (λ may. suspended_tells config w before s.tells) (no_lines config before w.back s.tells)
-tells_happens config w (Looks quiet) before s few = aside config config.start before (lines_at w (Looks quiet)) w.back s.ring.follows (free_look (is_some w.back.halted) quiet, tt) (look_by quiet, tt) s.tells
-tells_happens config w (Settles quiet) before s few = aside config config.start before (lines_at w (Settles quiet)) w.back s.ring.follows (free_settle (is_some w.back.halted) quiet, tt) (settle_by quiet, tt) s.tells
 tells_happens config w h before s few = outside config w before (lines_at w h) (beside_outsiders w h tt) s
 
 -- the lines of each mover tell what was fetched
 no_fetch : (terms : Terms) (before : List Line) → AreFetched terms before → AreFetched terms (before ++ [])
 no_fetch terms before are = subst (λ (ls : List Line). AreFetched terms ls) (sym (append-nil before)) are
-
-front_fetches : (terms : Terms) (w : World) (before : List Line) (act : Option FrontAct) → front_turn w ≡ act → AreFetched terms before → AreFetched terms (before ++ front_shows w act)
-front_fetches terms w before None e are = no_fetch terms before are
-front_fetches terms w before (Some a) e are =
-    let g : front.View = front_step.step_of w.front a.answer in
-    let over : Bool = is_some w.back.halted in
-    others_fetched terms before (front_shows w (Some a)) (others_of over (front_shows w (Some a)) (front_free over w.under (front_ask.ask_of w.front) a (fronts_no_key w.front) e, free_front over g.told)) are
 
 -- the lines that stand after a move of the back
 back_other : (v : back.View) (t : Option BackTold) (answer : BackAnswer) (new : Option Halt) → AreOther (back_lines t answer ++ halt_lines v.halted new)
@@ -228,10 +186,6 @@ job_fetches terms w before k o (Some a) e are =
     others_fetched terms before (job_shows w k (Some a)) (others_of over (job_shows w k (Some a)) (job_free over w.under k (back_step.job_ask_of w.back k) o a running (jobs_of w.back k) e, free_told over _ a.answer running)) are
 
 -- the back serves on the same terms
-front_terms : (config : Options) (w : World) (ls : List Line) (act : Option FrontAct) → AreFetched (terms_of config w.back) ls → (let n : World = front_after w act in AreFetched (terms_of config n.back) ls)
-front_terms config w ls None are = are
-front_terms config w ls (Some a) are = are
-
 job_terms : (config : Options) (w : World) (ls : List Line) (k : ℕ) (act : Option BackAct) → AreFetched (terms_of config w.back) ls → (let n : World = job_after w k act in AreFetched (terms_of config n.back) ls)
 job_terms config w ls k None are = are
 job_terms config w ls k (Some a) are = are
@@ -258,23 +212,19 @@ attached_fetches config w before shape grefs port s =
 outside_fetched : (config : Options) (w : World) (before ys : List Line) → AreOutsiders w.back.stage ys → Stand config before w → AreFetched (terms_of config w.back) (before ++ ys)
 outside_fetched config w before ys all s = others_fetched (terms_of config w.back) before ys (outsiders_other w.back.stage ys all) s.fetched
 
-free_fetched : (config : Options) (w : World) (before ys : List Line) → AreFree (is_some w.back.halted) ys → Stand config before w → AreFetched (terms_of config w.back) (before ++ ys)
-free_fetched config w before ys free s = others_fetched (terms_of config w.back) before ys (others_of (is_some w.back.halted) ys free) s.fetched
-
 suspended_fetched : (config : Options) (w : World) (before : List Line) → (let v : World = suspended w in AreFetched (terms_of config v.back) (before ++ lines.Epoch ∷ []))
 suspended_fetched config w before = epoch_fetched (let v : World = suspended w in terms_of config v.back) before (let shows : Shows (before ++ lines.Epoch ∷ []) (new_sight (told_start before)) = shows_epoch before (told_start before) refl in shows.values)
 
 fetched_happens : (config : Options) (w : World) (h : Happening) (before : List Line) → Stand config before w → (let n : World = happens w h in AreFetched (terms_of config n.back) (before ++ lines_at w h))
-fetched_happens config w FrontMoves before s = front_terms config w (before ++ front_shows w (front_turn w)) (front_turn w) (front_fetches (terms_of config w.back) w before (front_turn w) refl s.fetched)
+fetched_happens config w FrontMoves before s =
+    front_leaves (λ (v : back.View). AreFetched (terms_of config v) (before ++ lines_at w FrontMoves)) w (front_turn w)
+    (outside_fetched config w before (lines_at w FrontMoves) (front_outsiders w.back.stage w (front_turn w) refl) s)
 fetched_happens config w BackMoves before s = back_fetches config w before (back_turn w Took) refl s
 fetched_happens config w (JobMoves number outcome) before s =
     job_terms config w (before ++ job_shows w number (job_turn w number outcome)) number (job_turn w number outcome) (job_fetches (terms_of config w.back) w before number outcome (job_turn w number outcome) refl s.fetched)
 fetched_happens config w (BackAttaches shape grefs port) before s = attached_fetches config w before shape grefs port s
 fetched_happens config w (BackHalts why) before s = halted_fetches config w before why s
-fetched_happens config w (Submits job) before s = free_fetched config w before (lines_at w (Submits job)) (free_submit (is_some w.back.halted) job (front_submit.submit_of w.front job).0, tt) s
 fetched_happens config w Suspends before s = suspend_cases (λ (v : World) (shown : List Line). AreFetched (terms_of config v.back) (before ++ shown)) w (λ may. suspended_fetched config w before) (no_fetch (terms_of config w.back) before s.fetched)
-fetched_happens config w (Looks quiet) before s = free_fetched config w before (lines_at w (Looks quiet)) (free_look (is_some w.back.halted) quiet, tt) s
-fetched_happens config w (Settles quiet) before s = free_fetched config w before (lines_at w (Settles quiet)) (free_settle (is_some w.back.halted) quiet, tt) s
 fetched_happens config w h before s = outside_fetched config w before (lines_at w h) (beside_outsiders w h tt) s
 
 -- the mappings that stand are those that live
@@ -284,10 +234,10 @@ none_stands before table s = subst (λ (ls : List Line). Stands ls table) (sym (
 front_stands : (w : World) (before : List Line) (act : Option FrontAct) → front_turn w ≡ act → Stands before w.under.grants → (let n : World = front_after w act in Stands (before ++ front_shows w act) n.under.grants)
 front_stands w before None e s = none_stands before w.under.grants s
 front_stands w before (Some a) e s =
-    let g : front.View = front_step.step_of w.front a.answer in
-    subst (Stands (before ++ front_shows w (Some a))) (sym (made_front w.under (front_ask.ask_of w.front) a e))
-    (stands_aside before (front_shows w (Some a)) w.under.grants (calm_quiet (front_shows w (Some a)) (front_lines_calm w.under (front_ask.ask_of w.front) a g.told e))
-    (others_of false (front_shows w (Some a)) (front_free false w.under (front_ask.ask_of w.front) a (fronts_no_key w.front) e, free_front false g.told)) s)
+    let ls : List Line = front_shows w (Some a) in
+    let all : AreOutsiders w.back.stage (front_shows w (Some a)) = front_outsiders w.back.stage w (Some a) e in
+    subst (Stands (before ++ ls)) (sym (made_front w.under (front_ask.ask_of w.front) a e))
+    (stands_aside before ls w.under.grants (calm_quiet ls (outsiders_calm w.back.stage ls all)) (outsiders_other w.back.stage ls all) s)
 
 back_stands : (w : World) (before : List Line) (o : Outcome) (act : Option BackAct) → back_turn w o ≡ act → Stands before w.under.grants → (let n : World = back_after w act in Stands (before ++ back_shows w act) n.under.grants)
 back_stands w before o None e s = none_stands before w.under.grants s
@@ -304,23 +254,6 @@ job_stands w before k o (Some a) e s =
 outside_stands : (config : Options) (w : World) (before ys : List Line) → AreOutsiders w.back.stage ys → Stand config before w → Stands (before ++ ys) w.under.grants
 outside_stands config w before ys all s = stands_aside before ys w.under.grants (calm_quiet ys (outsiders_calm w.back.stage ys all)) (outsiders_other w.back.stage ys all) s.standing
 
-free_stands : (config : Options) (w : World) (before ys : List Line) → AreCalm ys → AreFree false ys → Stand config before w → Stands (before ++ ys) w.under.grants
-free_stands config w before ys calm free s = stands_aside before ys w.under.grants (calm_quiet ys calm) (others_of false ys free) s.standing
-
-poked_stands : (w : World) (frame word value : ℕ) (ls : List Line) → Stands ls w.under.grants → (let n : World = happens w (Pokes frame word value) in Stands ls n.under.grants)
-poked_stands w frame word value ls s = by_word (is_guest_word frame word)
-  where
-    by_word : (b : Bool) → (let h : Hypervisor = if b then with_pages w.under (with_word w.under.pages frame word value) else w.under in Stands ls h.grants)
-    by_word true = s
-    by_word false = s
-
-overwritten_stands : (w : World) (name text : List ℕ) (ls : List Line) → Stands ls w.under.grants → (let n : World = happens w (OverwritesKey name text) in Stands ls n.under.grants)
-overwritten_stands w name text ls s = by_name (is_guest_key name text)
-  where
-    by_name : (b : Bool) → (let h : Hypervisor = if b then with_keys w.under (written w.under.keys (front_path name) text) else w.under in Stands ls h.grants)
-    by_name true = s
-    by_name false = s
-
 stands_happen : (config : Options) (w : World) (h : Happening) (before : List Line) → Stand config before w → (let n : World = happens w h in Stands (before ++ lines_at w h) n.under.grants)
 stands_happen config w FrontMoves before s = front_stands w before (front_turn w) refl s.standing
 stands_happen config w BackMoves before s = back_stands w before Took (back_turn w Took) refl s.standing
@@ -329,13 +262,12 @@ stands_happen config w (BackAttaches shape grefs port) before s =
     attach_cases (λ (new : back.View) (shown : List Line). Stands (before ++ shown) w.under.grants) w shape grefs port
     (λ may layout says. stands_aside before (lines.Move (layout_read w) ∷ []) w.under.grants (record { same_epoch = refl; none_gone = λ n. refl; none_made = λ k. refl }, tt) (refl, tt) s.standing) (none_stands before w.under.grants s.standing)
 stands_happen config w (BackHalts why) before s = stands_aside before (lines_at w (BackHalts why)) w.under.grants (calm_quiet _ (halt_calm w.back.halted _)) (halts_other w.back.halted _) s.standing
-stands_happen config w (Submits job) before s = free_stands config w before (lines_at w (Submits job)) (submit_calm job (front_submit.submit_of w.front job).0, tt) (free_submit false job (front_submit.submit_of w.front job).0, tt) s
-stands_happen config w (Pokes frame word value) before s = poked_stands w frame word value (before ++ poke_lines frame word value) (outside_stands config w before (poke_lines frame word value) (poke_outsiders w.back.stage frame word value) s)
-stands_happen config w (OverwritesKey name text) before s = overwritten_stands w name text (before ++ overwritten_lines name text) (outside_stands config w before (overwritten_lines name text) (overwritten_outsiders w.back.stage name text) s)
 stands_happen config w Suspends before s = suspend_cases (λ (v : World) (shown : List Line). Stands (before ++ shown) v.under.grants) w (λ may. epoch_stands before w.under.grants) (none_stands before w.under.grants s.standing)
-stands_happen config w (Looks quiet) before s = free_stands config w before (lines_at w (Looks quiet)) (look_calm quiet, tt) (free_look false quiet, tt) s
-stands_happen config w (Settles quiet) before s = free_stands config w before (lines_at w (Settles quiet)) (settle_calm quiet, tt) (free_settle false quiet, tt) s
-stands_happen config w h before s = outside_stands config w before (lines_at w h) (beside_outsiders w h tt) s
+stands_happen config w (FrontEnters state) before s = outside_stands config w before (lines_at w (FrontEnters state)) (beside_outsiders w (FrontEnters state) tt) s
+stands_happen config w (Submits job) before s = outside_stands config w before (lines_at w (Submits job)) (beside_outsiders w (Submits job) tt) s
+stands_happen config w h before s =
+    let left : LeavesEnds w (happens w h) = leaves_ends w h tt in
+    subst (Stands (before ++ lines_at w h)) (sym left.grants) (outside_stands config w before (lines_at w h) (beside_outsiders w h tt) s)
 
 pub stand_happens : (config : Options) (w : World) (h : Happening) (before : List Line) → Stand config before w → reads_of (before ++ lines_at w h) < 2 ^ 64 → Stand config (before ++ lines_at w h) (happens w h)
 stand_happens config w h before s few = record {

@@ -195,24 +195,18 @@ page_same : (t : Work) → IsSame t (page_done t)
 page_same t = either_same t (length t.rest == t.named) (judged t) (record t { pages = drop 1 t.pages; stage = stage.MapPage }) (judged_same t) (record { number = refl; id = refl; op = refl })
 
 pub step_same : (s : Stage) (t : Work) (a : BackAnswer) → IsSame t (step_at s t a)
-step_same stage.MapPage t (answers.Mapped m) = record { number = refl; id = refl; op = refl }
 step_same stage.MapPage t (answers.MapRefused status) = record { number = refl; id = refl; op = refl }
 step_same (stage.PageReference m) t (answers.Word word) = record { number = refl; id = refl; op = refl }
 step_same (stage.PageSectors m gref) t (answers.Word word) = record { number = refl; id = refl; op = refl }
 step_same (stage.UnmapPage m) t answers.Done = page_same t
-step_same stage.Map t (answers.Mapped m) = record { number = refl; id = refl; op = refl }
 step_same stage.Map t (answers.MapRefused status) = record { number = refl; id = refl; op = refl }
 step_same (stage.ReadWord m k) t (answers.Word word) = record { number = refl; id = refl; op = refl }
 step_same (stage.DiskWrite m) t answers.Done = sector_same t (counted t) m (record { number = refl; id = refl; op = refl })
-step_same (stage.DiskWrite m) t answers.DiskFailed = record { number = refl; id = refl; op = refl }
-step_same (stage.DiskRead m) t (answers.Sector words) = record { number = refl; id = refl; op = refl }
 step_same (stage.DiskRead m) t answers.DiskFailed = record { number = refl; id = refl; op = refl }
 step_same (stage.WriteWord m k) t answers.Done = either_same t (k == 127) (next_sector t m) (record t { stage = stage.WriteWord m (k + 1) }) (sector_same t t m (record { number = refl; id = refl; op = refl })) (record { number = refl; id = refl; op = refl })
 step_same (stage.Unmap m) t answers.Done = segment_same t (rest_of t.rest)
 step_same (stage.Abort m) t answers.Done = record { number = refl; id = refl; op = refl }
-step_same stage.Flush t answers.Done = record { number = refl; id = refl; op = refl }
 step_same stage.Flush t answers.DiskFailed = record { number = refl; id = refl; op = refl }
-step_same (stage.Trim count) t answers.Done = record { number = refl; id = refl; op = refl }
 step_same (stage.Trim count) t answers.DiskFailed = record { number = refl; id = refl; op = refl }
 step_same s t a = record { number = refl; id = refl; op = refl }
 

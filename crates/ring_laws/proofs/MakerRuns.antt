@@ -22,23 +22,19 @@ use Rattle.report_rules.proofs.Obeys.{obeys_none, obeys_more}
 use Rattle.back_jobs.specs.Task.{Work}
 use Rattle.back_jobs.specs.Jobs.{ask_job, place_of, work_of, waits, mapping_at}
 use Rattle.back_jobs.proofs.Hands.{IsAmong, place_among}
-use Rattle.blk_front.specs.Ask as front_ask
-use Rattle.blk_front.specs.Step as front_step
-use Rattle.blk_front.specs.Submit as front_submit
-use Rattle.blk_front.specs.View as front
 use Rattle.blk_back.specs.Ask.{ask_of}
 use Rattle.blk_back.specs.declared.told.Halt.{Halt}
 use Rattle.blk_back.specs.View as back
 use Rattle.blk_back.specs.Step as back_step
 use Rattle.split_model.specs.World.{World, start_of, suspended}
-use Rattle.split_model.specs.Happening.{Happening, FrontMoves, BackMoves, JobMoves, BackAttaches, BackHalts, Submits, Suspends, Looks, Settles, layout_read, happens, lines_at, after, front_after, front_shows, back_after, back_shows, job_after, job_shows, front_turn, back_turn, job_turn}
+use Rattle.split_model.specs.Happening.{Happening, FrontMoves, BackMoves, JobMoves, BackAttaches, BackHalts, Suspends, layout_read, happens, lines_at, after, front_after, front_shows, back_after, back_shows, job_after, job_shows, front_turn, back_turn, job_turn}
 use Rattle.split_model.specs.Report.{report_of, ended_report_of}
 use Rattle.split_model.specs.Shown.{back_lines, halt_lines}
 use Rattle.split_model.proofs.SafeAnswers.{backs_of}
 use Rattle.split_model.proofs.Attaching.{attach_cases}
 use Rattle.split_model.proofs.Suspending.{suspend_cases, begun_back, gone_back, back_cases}
 use Rattle.ring_laws.proofs.Epochs.{new_made, epoch_made}
-use Rattle.ring_laws.proofs.Outsiders.{outsiders_calm, beside_outsiders}
+use Rattle.ring_laws.proofs.Outsiders.{front_outsiders, outsiders_calm, beside_outsiders}
 use Rattle.ring_laws.proofs.Knows.{Follows}
 use Rattle.ring_laws.proofs.Free.{job_running}
 use Rattle.ring_laws.proofs.Began.{Terms, IsJobOf}
@@ -53,7 +49,7 @@ use Rattle.ring_laws.proofs.Runs.{FollowsTo}
 use Rattle.ring_laws.proofs.After.{kept_after}
 use Rattle.ring_laws.proofs.JobRuns.{Stand, stand_start, stand_happens}
 use Rattle.ring_laws.proofs.Makers.{Holds, IsMine, open_more}
-use Rattle.ring_laws.proofs.MakerLines.{key_calm, calm_quiet, calm_open, front_lines_calm, submit_calm, look_calm, settle_calm, halt_calm, told_calm, Does, back_does, serving_asks}
+use Rattle.ring_laws.proofs.MakerLines.{key_calm, calm_quiet, calm_open, halt_calm, told_calm, Does, back_does, serving_asks}
 use Rattle.ring_laws.proofs.MakerTurns.{IsMadeBy, Made, made_aside, quiet_hands, changed_hands, HandStands, Turned, job_turned, all_by_place}
 
 no_lines : (before : List Line) (v : back.View) → Made before v → Made (before ++ []) v
@@ -61,7 +57,7 @@ no_lines before v m = subst (λ (ls : List Line). Made ls v) (sym (append-nil be
 
 front_made : (w : World) (before : List Line) (act : Option FrontAct) → front_turn w ≡ act → Made before w.back → (let n : World = front_after w act in Made (before ++ front_shows w act) n.back)
 front_made w before None e m = no_lines before w.back m
-front_made w before (Some a) e m = let g : front.View = front_step.step_of w.front a.answer in made_aside before (front_shows w (Some a)) w.back (front_lines_calm w.under (front_ask.ask_of w.front) a g.told e) m
+front_made w before (Some a) e m = made_aside before (front_shows w (Some a)) w.back (outsiders_calm w.back.stage (front_shows w (Some a)) (front_outsiders w.back.stage w (Some a) e)) m
 
 first_numbers : (terms : Terms) (values : List ℕ) (epoch : List Line) (fetched : ℕ) (works : List Work) → AreJobs terms values epoch fetched works → AllByRecursion (λ (t : Work). 1 ≤ t.number) works
 first_numbers terms values epoch fetched works jobs = all_more (IsJobOf terms values epoch) (λ (t : Work). 1 ≤ t.number) works (λ t j. j.first) jobs.each
@@ -125,10 +121,7 @@ made_happens config w (BackAttaches shape grefs port) before s t m =
     attach_cases (λ (new : back.View) (shown : List Line). Made (before ++ shown) new) w shape grefs port
     (λ may layout says. let now : Made (before ++ lines.Move (layout_read w) ∷ []) w.back = made_aside before (lines.Move (layout_read w) ∷ []) w.back (key_calm who.Back (layout_read w) refl, tt) m in record { obeys = now.obeys; hands = now.hands }) (no_lines before w.back m)
 made_happens config w (BackHalts why) before s t m = halted_made config w before why s m
-made_happens config w (Submits job) before s t m = made_aside before (lines_at w (Submits job)) w.back (submit_calm job (front_submit.submit_of w.front job).0, tt) m
 made_happens config w Suspends before s t m = suspend_cases (λ (v : World) (shown : List Line). Made (before ++ shown) v.back) w (λ may. suspended_made w before m) (no_lines before w.back m)
-made_happens config w (Looks quiet) before s t m = made_aside before (lines_at w (Looks quiet)) w.back (look_calm quiet, tt) m
-made_happens config w (Settles quiet) before s t m = made_aside before (lines_at w (Settles quiet)) w.back (settle_calm quiet, tt) m
 made_happens config w h before s t m = made_aside before (lines_at w h) w.back (outsiders_calm w.back.stage (lines_at w h) (beside_outsiders w h tt)) m
 
 pub made_start : (config : Options) (detail : Detail) → (let w : World = start_of config in Made (lines.Begin config detail ∷ []) w.back)

@@ -1,6 +1,6 @@
 -- Lines that come between all others: a word that a hostile hand overwrote, a word that a dump shows, a state that the front enters, and what an end does with its keys.
-use Rattle.std.proofs.Common.{◌*◌, ◌^◌, ◌≡◌, ℕ, ◌||◌, ◌&&◌, not, Bool, true, false, List, [], ◌∷◌, ◌++◌, refl, ap, sym, ◌∙◌, subst, append_assoc, append-nil}
-use Rattle.std.specs.Prelude.{Option, None}
+use Rattle.std.proofs.Common.{◌≡◌, ℕ, ◌||◌, ◌&&◌, not, Bool, true, false, List, [], ◌∷◌, ◌++◌, refl, ap, sym, ◌∙◌, subst, append_assoc, append-nil}
+use Rattle.std.specs.Prelude.{Option, Some, None}
 use Rattle.std.specs.List.{AllByRecursion}
 use Rattle.blk_base.specs.declared.parts.End.{End}
 use Rattle.blk_base.specs.declared.parts.End.TheVariants as end
@@ -10,7 +10,9 @@ use Rattle.blk_base.specs.declared.moves.Mover.TheVariants as mover
 use Rattle.blk_base.specs.declared.moves.Move.{Move}
 use Rattle.blk_base.specs.declared.moves.Move.TheVariants as moves
 use Rattle.key_directory.specs.Directory.{Directory, key_of}
-use Rattle.hypervisor.specs.Act.{is_own_path}
+use Rattle.hypervisor.specs.Hypervisor.{Hypervisor}
+use Rattle.hypervisor.specs.Act.{FrontAct, front_act, is_own_path}
+use Rattle.blk_base.specs.declared.ask.FrontAsk.{FrontAsk}
 use Rattle.schedule_text.specs.declared.line.Line.{Line}
 use Rattle.schedule_text.specs.declared.line.Line.TheVariants as lines
 use Rattle.report_rules.specs.Ring.{abi_after}
@@ -21,20 +23,20 @@ use Rattle.report_rules.specs.Step.{stepper}
 use Rattle.report_rules.specs.Standing.{is_epoch, is_unmap_of}
 use Rattle.report_rules.specs.Made.{made_by}
 use Rattle.report_rules.specs.Reply.{is_of_back, is_reply}
-use Rattle.blk_front.specs.declared.state.FrontState.{FrontState}
 use Rattle.blk_front.specs.View as front
+use Rattle.blk_front.specs.Ask as front_ask
+use Rattle.blk_front.specs.Step as front_step
 use Rattle.blk_back.specs.declared.stage.Stage.{Stage}
 use Rattle.blk_back.specs.declared.stage.Stage.TheVariants as stage
 use Rattle.blk_back.specs.Ask.{is_led}
 use Rattle.blk_back.specs.View.{View}
 use Rattle.split_model.specs.Keys.{KeyMove, Gets, mover_at, is_early, may_set, may_negotiate, is_between, key_lines, negotiated_lines}
 use Rattle.split_model.specs.World.{World}
-use Rattle.split_model.specs.Happening.{Happening, Negotiates, FrontEnters, Notifies, Pokes, OverwritesKey, Dumps, lines_at, poke_lines, overwritten_lines, ring_lines, enter_lines}
-use Rattle.split_model.proofs.Outside.{IsUnder}
+use Rattle.split_model.specs.Happening.{Happening, FrontMoves, BackMoves, JobMoves, Negotiates, BackAttaches, BackHalts, Suspends, lines_at, front_after, front_shows, front_turn}
+use Rattle.split_model.proofs.Showing.{IsTold, MayShow, lines_are, front_told_is}
+use Rattle.split_model.proofs.Acting.{FrontFence, front_acts}
 use Rattle.split_model.proofs.SafeActs.{IsKeyMove}
 use Rattle.split_model.proofs.Keys.{key_cases, negotiated_cases}
-use Rattle.split_model.proofs.States.{enter_lines_are, state_lines_are}
-use Rattle.split_model.proofs.Overwriting.{poke_lines_are, overwritten_lines_are, dump_lines_are}
 use Rattle.ring_laws.specs.Layout.{reads_protocol, IsNamedFirstAt}
 use Rattle.ring_laws.proofs.Sight.{is_other, other_touch, same_abi, foreign_abi, untouched_word}
 use Rattle.ring_laws.proofs.Shows.{Sight, Shows}
@@ -75,14 +77,55 @@ said s line other foreign idle unhalting plain unstepped untold same gone made f
   calm = record { quiet = record { same_epoch = same; none_gone = gone; none_made = made }; free = free };
 }
 
-poke_outsider : (s : Stage) (frame word value : ℕ) → IsOutsider s (lines.Poke frame word value)
-poke_outsider s frame word value = said s (lines.Poke frame word value) refl refl refl refl refl refl refl refl (λ n. refl) (λ k. refl) (λ before. record { unmap = tt; touch = tt })
+-- what happens beside the back
+abbrev pub IsBeside : Happening → Type 0
+IsBeside FrontMoves = ⊥
+IsBeside BackMoves = ⊥
+IsBeside (JobMoves number outcome) = ⊥
+IsBeside (BackAttaches shape grefs port) = ⊥
+IsBeside (BackHalts why) = ⊥
+IsBeside Suspends = ⊥
+IsBeside h = Unit {0}
 
-named_outsider : (s : Stage) (name text : List ℕ) → IsOutsider s (lines.Key name text)
-named_outsider s name text = said s (lines.Key name text) refl refl refl refl refl refl refl refl (λ n. refl) (λ k. refl) (λ before. record { unmap = tt; touch = tt })
+-- what tells of no move: all that happens beside the back but for what an end does with its keys, and what the front tells
+abbrev pub IsSaid : Happening → Line → Type 0
+IsSaid FrontMoves line = IsTold line
+IsSaid (Negotiates at move) line = ⊥
+IsSaid h line = IsBeside h
 
-word_outsider : (s : Stage) (frame word value : ℕ) → IsOutsider s (lines.Word frame word value)
-word_outsider s frame word value = said s (lines.Word frame word value) refl refl refl refl refl refl refl refl (λ n. refl) (λ k. refl) (λ before. record { unmap = tt; touch = tt })
+-- none of these lines is one of the back's, of a job's or of an epoch
+outsider : (s : Stage) (h : Happening) (line : Line) → IsSaid h line → MayShow h line → IsOutsider s line
+outsider s (Negotiates at move) line is shows = absurd is
+outsider s h (lines.Begin config detail) is shows = absurd (assumption)
+outsider s h (lines.Move shown) is shows = absurd (assumption)
+outsider s h lines.Epoch is shows = absurd (assumption)
+outsider s h (lines.Effect id index) is shows = absurd (assumption)
+outsider s h (lines.EffectRead id index words) is shows = absurd (assumption)
+outsider s h (lines.Flushed id) is shows = absurd (assumption)
+outsider s h (lines.Trimmed id) is shows = absurd (assumption)
+outsider s h (lines.Fault id index) is shows = absurd (assumption)
+outsider s h (lines.Reply id status) is shows = absurd (assumption)
+outsider s h (lines.Halt why) is shows = absurd (assumption)
+outsider s h line is shows = said s line refl refl refl refl refl refl refl refl (λ n. refl) (λ k. refl) (λ before. record { unmap = tt; touch = tt })
+
+pub said_outsiders : (s : Stage) (w : World) (h : Happening) → ((line : Line) → IsSaid h line) → AreOutsiders s (lines_at w h)
+said_outsiders s w h is = lines_are (IsOutsider s) w h (λ line shows. outsider s h line (is line) shows)
+
+-- nor is a move of the front, and it leaves the back as it is
+front_outsider : (s : Stage) (h : Hypervisor) (ask : FrontAsk) (a : FrontAct) → front_act h ask ≡ Some a → IsOutsider s (lines.Move a.shown)
+front_outsider s h ask a e = elim (front_acts h ask a e) as (λ asked x acts. IsOutsider s (lines.Move x.shown)) [
+  | FrontFence ↦ said s _ refl refl refl refl refl refl refl refl (λ n. refl) (λ k. refl) (λ before. record { unmap = tt; touch = tt })
+  | acts ↦ said s _ refl refl refl refl refl refl refl refl (λ n. refl) (λ k. refl) (λ before. record { unmap = tt; touch = tt })
+]
+
+pub front_outsiders : (s : Stage) (w : World) (act : Option FrontAct) → front_turn w ≡ act → AreOutsiders s (front_shows w act)
+front_outsiders s w None e = tt
+front_outsiders s w (Some a) e =
+    (front_outsider s w.under (front_ask.ask_of w.front) a e, front_told_is (IsOutsider s) (outsider s FrontMoves) (let f : front.View = front_step.step_of w.front a.answer in f.told))
+
+pub front_leaves : (P : View → Type 0) (w : World) (act : Option FrontAct) → P w.back → (let n : World = front_after w act in P n.back)
+front_leaves P w None p = p
+front_leaves P w (Some a) p = p
 
 -- a move of an end on a key or a watch
 of_end : (s : Stage) (at : End) (m : Mover) → m ≡ mover_at at → (is_between s ≡ false → is_mover_back (mover_at at) ≡ false) → is_between s ≡ false → is_mover_back m ≡ false
@@ -147,37 +190,10 @@ keys_outsiders s end.Back move d = negotiated_cases (λ keys shown. AreOutsiders
         end_outsiders s end.Back move d (λ own. let is : is_between s ≡ true = between (is_between s) (not (is_early move) || is_led s) may in absurd (cc))
         (λ path text same led. ap is_early (sym same) ∙ not_early (is_between s) (is_early move) (is_led s) may led)
 
-pub state_outsiders : (s : Stage) (state : FrontState) (v : front.View) → AreOutsiders s (enter_lines state v)
-state_outsiders s state v =
-    enter_lines_are (IsOutsider s) state v
-    (λ may. state_lines_are (IsOutsider s) state
-    (said s lines.Ready refl refl refl refl refl refl refl refl (λ n. refl) (λ k. refl) (λ before. record { unmap = tt; touch = tt }))
-    (said s lines.Closing refl refl refl refl refl refl refl refl (λ n. refl) (λ k. refl) (λ before. record { unmap = tt; touch = tt }))
-    (said s lines.Closed refl refl refl refl refl refl refl refl (λ n. refl) (λ k. refl) (λ before. record { unmap = tt; touch = tt }))
-    (λ word. said s (lines.Broken word) refl refl refl refl refl refl refl refl (λ n. refl) (λ k. refl) (λ before. record { unmap = tt; touch = tt })))
-
-pub poke_outsiders : (s : Stage) (frame word value : ℕ) → AreOutsiders s (poke_lines frame word value)
-poke_outsiders s frame word value = poke_lines_are (IsOutsider s) frame word value (poke_outsider s frame word value)
-
-pub overwritten_outsiders : (s : Stage) (name text : List ℕ) → AreOutsiders s (overwritten_lines name text)
-overwritten_outsiders s name text = overwritten_lines_are (IsOutsider s) name text (named_outsider s name text)
-
-pub dump_outsiders : (s : Stage) (pages : List ℕ) (count : ℕ) → AreOutsiders s (ring_lines pages 0 count)
-dump_outsiders s pages count = dump_lines_are (IsOutsider s) pages 0 count (word_outsider s)
-
--- what happens beside the back, but for a submission and a look
-abbrev pub IsBeside : Happening → Type 0
-IsBeside (FrontEnters state) = Unit {0}
-IsBeside h = IsUnder h
-
 pub beside_outsiders : (w : World) (h : Happening) → IsBeside h → AreOutsiders w.back.stage (lines_at w h)
 beside_outsiders w (Negotiates at move) beside = keys_outsiders w.back.stage at move w.under.keys
-beside_outsiders w (FrontEnters state) beside = state_outsiders w.back.stage state w.front
-beside_outsiders w (Notifies at) beside = tt
-beside_outsiders w (Pokes frame word value) beside = poke_outsiders w.back.stage frame word value
-beside_outsiders w (OverwritesKey name text) beside = overwritten_outsiders w.back.stage name text
-beside_outsiders w Dumps beside = dump_outsiders w.back.stage w.under.pages (1024 * 2 ^ w.front.shape.order)
-beside_outsiders w h beside = absurd beside
+beside_outsiders w FrontMoves beside = absurd beside
+beside_outsiders w h beside = said_outsiders w.back.stage w h (λ line. beside)
 
 pub outsiders_other : (s : Stage) (ls : List Line) → AreOutsiders s ls → AreOther ls
 outsiders_other s ls all = all_more (IsOutsider s) (λ (l : Line). is_other l ≡ true) ls (λ l o. o.other) all

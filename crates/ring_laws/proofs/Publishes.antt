@@ -1,5 +1,5 @@
 -- What the back publishes that it serves beside reads and writes (`io/blkif.h`): the lines tell just what its keys say, and as it serves that is the disk that it knows.
-use Rattle.std.proofs.Common.{◌≡◌, ◌≢◌, ℕ, ◌*◌, ◌==◌, ◌^◌, ◌&&◌, ◌||◌, not, Bool, true, false, true≢false, if◌then◌else◌, List, [], ◌∷◌, ◌++◌, length, refl, ap, sym, ◌∙◌, subst, append_assoc, append-nil, arith}
+use Rattle.std.proofs.Common.{◌≡◌, ◌≢◌, ℕ, ◌==◌, ◌&&◌, ◌||◌, not, Bool, true, false, true≢false, if◌then◌else◌, List, [], ◌∷◌, ◌++◌, length, refl, ap, sym, ◌∙◌, subst, append_assoc, append-nil, arith}
 use Rattle.std.specs.Prelude.{fold, Option, Some, None, is_some}
 use Rattle.std.specs.List.{AllByRecursion}
 use Rattle.std.specs.Str.{bytes_eq}
@@ -24,10 +24,6 @@ use Rattle.report_rules.specs.Standing.{is_epoch, this_epoch}
 use Rattle.report_rules.specs.Published.{info_of, no_disk, info_told, serving, is_offer, serving_after, served_by, disk_with, disk_of}
 use Rattle.back_jobs.specs.Jobs.{ask_job}
 use Rattle.blk_front.specs.State.{is_open}
-use Rattle.blk_front.specs.Ask as front_ask
-use Rattle.blk_front.specs.Step as front_step
-use Rattle.blk_front.specs.Submit as front_submit
-use Rattle.blk_front.specs.View as front
 use Rattle.blk_back.specs.declared.told.Halt.{Halt}
 use Rattle.blk_back.specs.declared.stage.Stage.{Stage}
 use Rattle.blk_back.specs.declared.stage.Stage.TheVariants as stage
@@ -37,23 +33,24 @@ use Rattle.blk_back.specs.View.{info_of as back_info}
 use Rattle.blk_back.specs.Step as back_step
 use Rattle.split_model.specs.World.{World, state_after, suspended}
 use Rattle.split_model.specs.Keys.{KeyMove, Sets, barrier_path, flush_path, discard_path, indirect_path, names_feature, mover_at, may_set, may_negotiate, is_between, offers, said_by, is_like, says_served, keys_after, key_lines, negotiated, negotiated_lines, front_path}
-use Rattle.split_model.specs.Happening.{Happening, FrontMoves, BackMoves, JobMoves, Negotiates, FrontEnters, BackAttaches, BackHalts, Submits, Notifies, Pokes, OverwritesKey, Suspends, Dumps, Looks, Settles, happens, lines_at, front_after, front_shows, back_after, back_shows, job_after, job_shows, front_turn, back_turn, job_turn}
+use Rattle.split_model.specs.Happening.{Happening, FrontMoves, BackMoves, JobMoves, Negotiates, BackAttaches, BackHalts, Suspends, happens, lines_at, front_after, back_after, back_shows, job_after, job_shows, front_turn, back_turn, job_turn}
 use Rattle.split_model.specs.Shown.{back_lines, halt_lines}
-use Rattle.split_model.proofs.SafeAnswers.{backs_of, jobs_of, fronts_no_key}
+use Rattle.split_model.proofs.SafeAnswers.{backs_of, jobs_of}
 use Rattle.split_model.proofs.Keys.{key_cases, negotiated_cases, keys_happen}
 use Rattle.split_model.proofs.Suspending.{suspend_cases, back_cases}
 use Rattle.split_model.proofs.Attaching.{attach_cases, attach_lines_are}
 use Rattle.ring_laws.proofs.Anew.{epoch_begins}
 use Rattle.ring_laws.proofs.Shows.{epoch_longer}
 use Rattle.ring_laws.proofs.Knows.{Follows}
-use Rattle.ring_laws.proofs.Free.{IsFree, AreFree, front_free, job_free, job_running, free_front, free_told, free_submit, free_look, free_settle}
+use Rattle.ring_laws.proofs.Free.{IsFree, AreFree, job_free, job_running, free_told}
 use Rattle.ring_laws.proofs.Lists.{all_both, all_more}
 use Rattle.ring_laws.proofs.Bystanders.{sets_none, Tale}
 use Rattle.ring_laws.proofs.Fetched.{is_ready, IsPublished}
 use Rattle.ring_laws.proofs.BackChange.{Changed, change_at, back_sets}
 use Rattle.ring_laws.proofs.BackTells.{told_none}
 use Rattle.ring_laws.proofs.Halting.{stops_cases}
-use Rattle.ring_laws.proofs.Outsiders.{IsOutsider, AreOutsiders, not_early, state_outsiders, poke_outsiders, overwritten_outsiders, dump_outsiders}
+use Rattle.split_model.proofs.Showing.{halt_is}
+use Rattle.ring_laws.proofs.Outsiders.{IsOutsider, AreOutsiders, not_early, said_outsiders, front_outsiders}
 use Rattle.ring_laws.proofs.Runs.{FollowsTo}
 
 -- an end sets a key under its own directory
@@ -214,15 +211,7 @@ outside_sets ls all = all_more (IsOutsider stage.Send) (λ (line : Line). sets_n
     one line o = refl
 
 halt_sets : (old new : Option Halt) → SetNone (halt_lines old new)
-halt_sets None None = tt
-halt_sets None (Some h) = (refl, tt)
-halt_sets (Some g) new = tt
-
-front_sets : (w : World) (act : Option FrontAct) → front_turn w ≡ act → SetNone (front_shows w act)
-front_sets w None e = tt
-front_sets w (Some a) e =
-    let g : front.View = front_step.step_of w.front a.answer in
-    free_sets false (front_shows w (Some a)) (front_free false w.under (front_ask.ask_of w.front) a (fronts_no_key w.front) e, free_front false g.told)
+halt_sets old new = halt_is (λ (line : Line). sets_none line ≡ true) (λ why. refl) old new
 
 own_sets : (w : World) (act : Option BackAct) → back_turn w Took ≡ act → SetNone (back_shows w act)
 own_sets w None e = tt
@@ -243,21 +232,14 @@ IsElse Suspends = ⊥
 IsElse h = Unit {0}
 
 lines_set_none : (w : World) (h : Happening) → IsElse h → SetNone (lines_at w h)
-lines_set_none w FrontMoves other = front_sets w (front_turn w) refl
+lines_set_none w FrontMoves other = outside_sets (lines_at w FrontMoves) (front_outsiders stage.Send w (front_turn w) refl)
 lines_set_none w BackMoves other = own_sets w (back_turn w Took) refl
 lines_set_none w (JobMoves number outcome) other = job_sets w number outcome (job_turn w number outcome) refl
 lines_set_none w (Negotiates at move) other = absurd other
-lines_set_none w (FrontEnters state) other = outside_sets (lines_at w (FrontEnters state)) (state_outsiders stage.Send state w.front)
 lines_set_none w (BackAttaches shape grefs port) other = attach_lines_are (λ (line : Line). sets_none line ≡ true) w shape grefs refl
 lines_set_none w (BackHalts why) other = halt_sets w.back.halted _
-lines_set_none w (Submits job) other = free_sets false (lines_at w (Submits job)) (free_submit false job (front_submit.submit_of w.front job).0, tt)
-lines_set_none w (Notifies at) other = tt
-lines_set_none w (Pokes frame word value) other = outside_sets (lines_at w (Pokes frame word value)) (poke_outsiders stage.Send frame word value)
-lines_set_none w (OverwritesKey name text) other = outside_sets (lines_at w (OverwritesKey name text)) (overwritten_outsiders stage.Send name text)
 lines_set_none w Suspends other = absurd other
-lines_set_none w Dumps other = outside_sets (lines_at w Dumps) (dump_outsiders stage.Send w.under.pages (1024 * 2 ^ w.front.shape.order))
-lines_set_none w (Looks quiet) other = free_sets false (lines_at w (Looks quiet)) (free_look false quiet, tt)
-lines_set_none w (Settles quiet) other = free_sets false (lines_at w (Settles quiet)) (free_settle false quiet, tt)
+lines_set_none w h other = outside_sets (lines_at w h) (said_outsiders stage.Send w h (λ line. tt))
 
 keys_still : (w : World) (h : Happening) → IsElse h → (let n : World = happens w h in said_by n.under.keys) ≡ said_by w.under.keys
 keys_still w h other = keys_happen (λ (d : Directory). said_by d ≡ said_by w.under.keys) (λ at d here. watches_said at d _ ∙ here) w h (λ at move is here. absurd (subst IsElse is other))

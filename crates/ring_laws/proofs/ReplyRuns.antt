@@ -9,7 +9,7 @@ use Rattle.blk_base.specs.declared.moves.BackMover.TheVariants as mover
 use Rattle.schedule_text.specs.declared.line.Line.{Line}
 use Rattle.schedule_text.specs.declared.line.Line.TheVariants as lines
 use Rattle.schedule_text.specs.declared.line.Detail.{Detail}
-use Rattle.hypervisor.specs.Act.{FrontAct, BackAct, Outcome, Took, back_act}
+use Rattle.hypervisor.specs.Act.{BackAct, Outcome, Took, back_act}
 use Rattle.report_rules.specs.Job.{entry_values}
 use Rattle.report_rules.specs.Standing.{is_epoch, this_epoch}
 use Rattle.report_rules.specs.Reply.{answered_in, AreReplies}
@@ -18,10 +18,6 @@ use Rattle.back_jobs.specs.Task.{Work, step_of}
 use Rattle.ring_words.specs.Shape.{Shape}
 use Rattle.blk_base.specs.declared.parts.End.TheVariants as end
 use Rattle.blk_back.specs.Step.{may_attach, attached}
-use Rattle.blk_front.specs.Ask as front_ask
-use Rattle.blk_front.specs.Step as front_step
-use Rattle.blk_front.specs.Submit as front_submit
-use Rattle.blk_front.specs.View as front
 use Rattle.blk_back.specs.Ask.{ask_of}
 use Rattle.blk_back.specs.View as back
 use Rattle.blk_back.specs.Step as back_step
@@ -31,14 +27,14 @@ use Rattle.blk_back.specs.declared.stage.Stage.{Stage}
 use Rattle.blk_back.specs.declared.told.Halt.{Halt}
 use Rattle.hypervisor.specs.Hypervisor.{Hypervisor}
 use Rattle.split_model.specs.World.{World, start_of, suspended}
-use Rattle.split_model.specs.Happening.{Happening, FrontMoves, BackMoves, JobMoves, BackAttaches, BackHalts, Submits, Suspends, Looks, Settles, layout_text, layout_read, happens, lines_at, after, front_after, front_shows, back_after, back_shows, job_after, job_shows, front_turn, back_turn, job_turn}
+use Rattle.split_model.specs.Happening.{Happening, FrontMoves, BackMoves, JobMoves, BackAttaches, BackHalts, Suspends, layout_text, layout_read, happens, lines_at, after, back_after, back_shows, job_after, job_shows, front_turn, back_turn, job_turn}
 use Rattle.split_model.specs.Shown.{halt_lines}
 use Rattle.split_model.specs.Report.{report_of, ended_report_of}
 use Rattle.split_model.proofs.Suspending.{suspend_cases, begun_back, gone_back, back_cases}
 use Rattle.ring_laws.proofs.Epochs.{epoch_writes, epoch_unanswered}
 use Rattle.split_model.proofs.Attaching.{SaysServed, attach_cases}
 use Rattle.split_model.proofs.Shapes.{back_shape, attaches_waiting}
-use Rattle.split_model.proofs.SafeAnswers.{backs_of, jobs_of, fronts_no_key}
+use Rattle.split_model.proofs.SafeAnswers.{backs_of, jobs_of}
 use Rattle.back_jobs.specs.Jobs.{mapping_at}
 use Rattle.ring_laws.proofs.BackReads.{reads_of}
 use Rattle.ring_laws.proofs.Shows.{Sight}
@@ -46,14 +42,14 @@ use Rattle.ring_laws.proofs.Knows.{KnowsAt, Knows, Follows, unhalted}
 use Rattle.ring_laws.proofs.Stages.{back_goes}
 use Rattle.ring_laws.proofs.Sight.{other_epoch}
 use Rattle.split_model.specs.Keys.{is_layout, layout_path, is_between}
-use Rattle.ring_laws.proofs.Outsiders.{IsOutsider, AreOutsiders, get_key, outsiders_other, outsiders_by, outsiders_pass, beside_outsiders}
-use Rattle.ring_laws.proofs.Free.{IsFree, AreFree, front_free, job_free, job_running, free_front, free_told, free_submit, free_look, free_settle}
+use Rattle.ring_laws.proofs.Outsiders.{IsOutsider, AreOutsiders, front_outsiders, front_leaves, get_key, outsiders_other, outsiders_by, outsiders_pass, beside_outsiders}
+use Rattle.ring_laws.proofs.Free.{IsFree, AreFree, job_free, job_running, free_told}
 use Rattle.ring_laws.proofs.Lists.{all_second}
 use Rattle.ring_laws.proofs.Works.{AreJobs, job_found}
 use Rattle.ring_laws.proofs.Bystanders.{Tale, IsBystander, AreBystanders, Aside, plain_epoch, bystanders_go, bystanders_aside}
 use Rattle.ring_laws.proofs.Fetched.{values_aside}
 use Rattle.ring_laws.proofs.Stays.{IsOn, AreIdle, move_idle}
-use Rattle.ring_laws.proofs.BackChange.{Changed, change_at, back_by, halt_by, told_by, front_by, front_told_by}
+use Rattle.ring_laws.proofs.BackChange.{Changed, change_at, back_by, halt_by, told_by}
 use Rattle.ring_laws.proofs.Tells.{Tells, terms_of, small_number}
 use Rattle.ring_laws.proofs.Began.{Terms}
 use Rattle.ring_laws.proofs.Runs.{earlier_pages, unread}
@@ -61,7 +57,7 @@ use Rattle.ring_laws.proofs.BackTells.{lines_of_back, told_none}
 use Rattle.ring_laws.proofs.JobTells.{JobTells, job_tells, lines_of_job, low_number, found_number}
 use Rattle.ring_laws.proofs.JobTurn.{After, IsSame, step_same}
 use Rattle.ring_laws.proofs.After.{kept_after}
-use Rattle.ring_laws.proofs.JobRuns.{Stand, same_values, halt_values, stand_start, stand_happens, submit_by, look_by, settle_by}
+use Rattle.ring_laws.proofs.JobRuns.{Stand, same_values, halt_values, stand_start, stand_happens}
 use Rattle.ring_laws.proofs.MakerTurns.{Made}
 use Rattle.ring_laws.proofs.MakerRuns.{made_happens, made_start, hand_empty}
 use Rattle.ring_laws.proofs.Due.{Answered, Writes, under_way, IsWorkOver, response_in, answered_then}
@@ -73,7 +69,7 @@ use Rattle.ring_laws.proofs.WrittenBack.{MoveWrites, halt_passes, back_writes}
 use Rattle.ring_laws.proofs.Halting.{Stops, stops_cases}
 use Rattle.ring_laws.proofs.Chosen.{IsChosen, new_chosen, chosen_aside, chosen_stage, chosen_goes}
 use Rattle.ring_laws.proofs.Written.{AllPass, writes_all, writes_stage, start_writes, end_writes}
-use Rattle.ring_laws.proofs.WrittenElse.{AreElse, other_writes, front_else, job_else, submit_else, look_else, settle_else}
+use Rattle.ring_laws.proofs.WrittenElse.{AreElse, other_writes, job_else}
 
 -- the replies that the lines so far tell, and the one under way
 pub record Replies (config : Options) (before : List Line) (v : back.View) : Type 0 where
@@ -111,22 +107,6 @@ others config own before ys v none passed all same t r =
           (owes_aside (terms_of config v) (entry_values before) [] (this_epoch before) ys v.fetched v.jobs.works _ (λ k. bystanders_aside k ys all) (r.owes runs));
       chosen = chosen_aside own before ys v.stage r.answered passed (bystanders_on config before ys all go.epoch) (bystanders_idle before ys all) r.chosen;
     }
-
-others_free : (config : Options) (w : World) (before ys : List Line) → AreElse ys → AreBystanders ys → AreFree (is_some w.back.halted) ys → Stand config before w → Replies config before w.back → Replies config (before ++ ys) w.back
-others_free config w before ys elses all free s r =
-    let f : Follows config.start [] before w.back = s.ring.follows in
-    others config false before ys w.back (λ own. absurd (cc)) elses all (same_values (is_some w.back.halted) before ys f.sight free f.shows) s.tells r
-
-front_replies : (config : Options) (w : World) (before : List Line) (act : Option FrontAct) → Stand config before w → front_turn w ≡ act → Replies config before w.back → Replies config (before ++ front_shows w act) w.back
-front_replies config w before None s e r = no_lines config before w.back r
-front_replies config w before (Some a) s e r =
-    let g : front.View = front_step.step_of w.front a.answer in
-    others_free config w before (front_shows w (Some a)) (front_else w.under (front_ask.ask_of w.front) a g.told (fronts_no_key w.front) e) (front_by w.under (front_ask.ask_of w.front) a (fronts_no_key w.front) e, front_told_by g.told)
-    (front_free (is_some w.back.halted) w.under (front_ask.ask_of w.front) a (fronts_no_key w.front) e, free_front (is_some w.back.halted) g.told) s r
-
-front_after_replies : (config : Options) (w : World) (before : List Line) (act : Option FrontAct) → Replies config before w.back → (let n : World = front_after w act in Replies config before n.back)
-front_after_replies config w before None r = r
-front_after_replies config w before (Some a) r = r
 
 -- the job whose reply begins is over
 done_owed : (config : Options) (before : List Line) (v : back.View) (r : Reply) (d : IsReplyOf v.jobs.works r) → is_some v.halted ≡ false → Tells config before v → Made before v → IsOwed (terms_of config v) (entry_values before) (this_epoch before) (let t : Work = d.job in pending t.number r)
@@ -312,15 +292,13 @@ suspended_replies config w before r =
     (new_replies config (before ++ lines.Epoch ∷ []) (gone_back w) (epoch_writes before w.back.stage stage.Halted r.answered refl r.writes) refl refl unanswered refl)
 
 replies_happen : (config : Options) (w : World) (h : Happening) (before : List Line) → Stand config before w → Stand config (before ++ lines_at w h) (happens w h) → Made before w.back → Replies config before w.back → (let n : World = happens w h in Replies config (before ++ lines_at w h) n.back)
-replies_happen config w FrontMoves before s t made r = front_after_replies config w (before ++ front_shows w (front_turn w)) (front_turn w) (front_replies config w before (front_turn w) s refl r)
+replies_happen config w FrontMoves before s t made r =
+    front_leaves (Replies config (before ++ lines_at w FrontMoves)) w (front_turn w) (outside_replies config w before (lines_at w FrontMoves) (front_outsiders w.back.stage w (front_turn w) refl) s r)
 replies_happen config w BackMoves before s t made r = back_replies config w before Took (back_turn w Took) refl s t made r
 replies_happen config w (JobMoves number outcome) before s t made r = job_replies config w before number outcome (job_turn w number outcome) refl s r
 replies_happen config w (BackAttaches shape grefs port) before s t made r = attached_replies config w before shape grefs port s r
 replies_happen config w (BackHalts why) before s t made r = halted_replies config w before why s r
-replies_happen config w (Submits job) before s t made r = others_free config w before (lines_at w (Submits job)) (submit_else job (front_submit.submit_of w.front job).0) (submit_by job (front_submit.submit_of w.front job).0, tt) (free_submit (is_some w.back.halted) job (front_submit.submit_of w.front job).0, tt) s r
 replies_happen config w Suspends before s t made r = suspend_cases (λ (v : World) (shown : List Line). Replies config (before ++ shown) v.back) w (λ may. suspended_replies config w before r) (no_lines config before w.back r)
-replies_happen config w (Looks quiet) before s t made r = others_free config w before (lines_at w (Looks quiet)) (look_else quiet) (look_by quiet, tt) (free_look (is_some w.back.halted) quiet, tt) s r
-replies_happen config w (Settles quiet) before s t made r = others_free config w before (lines_at w (Settles quiet)) (settle_else quiet) (settle_by quiet, tt) (free_settle (is_some w.back.halted) quiet, tt) s r
 replies_happen config w h before s t made r = outside_replies config w before (lines_at w h) (beside_outsiders w h tt) s r
 
 -- all that the lines so far tell

@@ -22,8 +22,6 @@ use Rattle.hypervisor.specs.Act.{FrontAct, BackAct, Outcome, Took}
 use Rattle.report_rules.specs.Overrun.{IsOverrunRule}
 use Rattle.report_rules.specs.Stretch.{AreStretches}
 use Rattle.back_jobs.specs.Jobs.{ask_job, complete_job}
-use Rattle.blk_front.specs.Ask as front_ask
-use Rattle.blk_front.specs.Submit as front_submit
 use Rattle.blk_back.specs.declared.told.Halt.{Halt}
 use Rattle.blk_back.specs.declared.stage.Stage.{Stage as BackStage}
 use Rattle.blk_back.specs.declared.stage.Stage.TheVariants as stage
@@ -32,8 +30,8 @@ use Rattle.report_rules.specs.Job.{entry_values}
 use Rattle.blk_back.specs.View as back
 use Rattle.blk_back.specs.Step as back_step
 use Rattle.split_model.specs.World.{World, start_of, suspended}
-use Rattle.split_model.specs.Happening.{Happening, FrontMoves, BackMoves, JobMoves, FrontEnters, BackAttaches, BackHalts, Submits, Suspends, Looks, Settles, layout_text, layout_read, happens, lines_at, after, lines_of, front_after, front_shows, back_after, back_shows, job_after, job_shows, front_turn, back_turn, job_turn}
-use Rattle.split_model.proofs.SafeAnswers.{jobs_of, fronts_no_key}
+use Rattle.split_model.specs.Happening.{Happening, FrontMoves, BackMoves, JobMoves, FrontEnters, BackAttaches, BackHalts, Submits, Suspends, layout_text, layout_read, happens, lines_at, after, lines_of, front_after, front_shows, back_after, back_shows, job_after, job_shows, front_turn, back_turn, job_turn}
+use Rattle.split_model.proofs.SafeAnswers.{jobs_of}
 use Rattle.split_model.specs.Keys.{is_layout, layout_path}
 use Rattle.split_model.specs.Shown.{halt_lines, halt_line}
 use Rattle.split_model.specs.Report.{report_of, ended_report_of}
@@ -52,8 +50,8 @@ use Rattle.ring_laws.proofs.Knows.{AreMapped, Waits, Untold, Maps, KnowsAt, Foll
 use Rattle.ring_laws.proofs.Back.{halt_follows}
 use Rattle.ring_laws.proofs.Halting.{Stops, stops_cases}
 use Rattle.ring_laws.proofs.Stages.{back_goes}
-use Rattle.ring_laws.proofs.Outsiders.{state_outsiders, outsiders_follow, beside_outsiders}
-use Rattle.ring_laws.proofs.Free.{follow_named, follow_free, follow_all, front_free, job_free, job_running, free_front, free_told, free_submit, free_look, free_settle, free_end}
+use Rattle.ring_laws.proofs.Outsiders.{IsBeside, outsiders_follow, front_outsiders, beside_outsiders}
+use Rattle.ring_laws.proofs.Free.{follow_named, follow_free, follow_all, job_free, job_running, free_told, free_end}
 
 -- the lines so far keep the rules, the back has nothing left to tell, and the front's rings begin at that index
 pub record FollowsTo (start : ℕ) (before : List Line) (w : World) : Type 0 where
@@ -71,7 +69,7 @@ no_lines start before w f = subst (λ (ls : List Line). FollowsTo start ls w) (s
 front_follows : (start : ℕ) (w : World) (before : List Line) (act : Option FrontAct) → FollowsTo start before w → front_turn w ≡ act → FollowsTo start (before ++ front_shows w act) (front_after w act)
 front_follows start w before None f e = no_lines start before w f
 front_follows start w before (Some a) f e = record {
-  follows = follow_all start [] _ before w.back (front_free (is_some w.back.halted) w.under (front_ask.ask_of w.front) a (fronts_no_key w.front) e, free_front (is_some w.back.halted) _) f.follows;
+  follows = outsiders_follow start [] _ before w.back (front_outsiders w.back.stage w (Some a) e) f.follows;
   told = f.told;
   begins = start_front w.front a.answer ∙ f.begins;
 }
@@ -192,18 +190,20 @@ suspended_follows start w before f = record {
 suspend_follows : (start : ℕ) (w : World) (before : List Line) → FollowsTo start before w → FollowsTo start (before ++ lines_at w Suspends) (happens w Suspends)
 suspend_follows start w before f = suspend_cases (λ (v : World) (shown : List Line). FollowsTo start (before ++ shown) v) w (λ may. suspended_follows start w before f) (no_lines start before w f)
 
+beside_follows : (start : ℕ) (w : World) (h : Happening) (before : List Line) → IsBeside h → FollowsTo start before w → Follows start [] (before ++ lines_at w h) w.back
+beside_follows start w h before is f = outsiders_follow start [] (lines_at w h) before w.back (beside_outsiders w h is) f.follows
+
 pub follows_happens : (start : ℕ) (w : World) (h : Happening) (before : List Line) → IsSafe w → FollowsTo start before w → FollowsTo start (before ++ lines_at w h) (happens w h)
 follows_happens start w FrontMoves before safe f = front_follows start w before (front_turn w) f refl
 follows_happens start w BackMoves before safe f = back_follows start w before Took (back_turn w Took) safe f refl
 follows_happens start w (JobMoves number outcome) before safe f = job_follows start w before number outcome (job_turn w number outcome) f refl
-follows_happens start w (FrontEnters state) before safe f = record { follows = outsiders_follow start [] (lines_at w (FrontEnters state)) before w.back (state_outsiders w.back.stage state w.front) f.follows; told = f.told; begins = (entered_kept state w.front).start ∙ f.begins }
+follows_happens start w (FrontEnters state) before safe f =
+    record { follows = beside_follows start w (FrontEnters state) before tt f; told = f.told; begins = (entered_kept state w.front).start ∙ f.begins }
 follows_happens start w (BackAttaches shape grefs port) before safe f = attached_follows start w before shape grefs port f
 follows_happens start w (BackHalts why) before safe f = halted_follows start w before why f
-follows_happens start w (Submits job) before safe f = record { follows = follow_free start [] before _ w.back (free_submit (is_some w.back.halted) job (front_submit.submit_of w.front job).0) f.follows; told = f.told; begins = (submit_kept w.front job).start ∙ f.begins }
+follows_happens start w (Submits job) before safe f = record { follows = beside_follows start w (Submits job) before tt f; told = f.told; begins = (submit_kept w.front job).start ∙ f.begins }
 follows_happens start w Suspends before safe f = suspend_follows start w before f
-follows_happens start w (Looks quiet) before safe f = record { follows = follow_free start [] before _ w.back (free_look (is_some w.back.halted) quiet) f.follows; told = f.told; begins = f.begins }
-follows_happens start w (Settles quiet) before safe f = record { follows = follow_free start [] before _ w.back (free_settle (is_some w.back.halted) quiet) f.follows; told = f.told; begins = f.begins }
-follows_happens start w h before safe f = record { follows = outsiders_follow start [] (lines_at w h) before w.back (beside_outsiders w h tt) f.follows; told = f.told; begins = f.begins }
+follows_happens start w h before safe f = record { follows = beside_follows start w h before tt f; told = f.told; begins = f.begins }
 
 follows_after : (start : ℕ) (hs : List Happening) (w : World) (before : List Line) → IsSafe w → FollowsTo start before w → FollowsTo start (before ++ lines_of hs w) (after hs w)
 follows_after start [] w before safe f = no_lines start before w f

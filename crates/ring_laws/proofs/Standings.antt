@@ -1,6 +1,6 @@
 -- The mappings that stand by the lines are those that live, whatever happens; so the mapping in a job's hand stands.
 use Rattle.std.proofs.Common.{◌≡◌, ℕ, ◌+◌, ◌==◌, Bool, true, false, not, if◌then◌else◌, List, [], ◌∷◌, ◌++◌, map, filter, refl, ap, sym, ◌∙◌, subst, append_assoc, append-nil}
-use Rattle.std.specs.Prelude.{Option, Some, None, IsSomeAnd, Contains, slice_get, Result, Ok, Err}
+use Rattle.std.specs.Prelude.{Option, Some, None, IsSomeAnd, Contains, slice_get, Ok}
 use Rattle.std.specs.Option.{option_to_list, option_map}
 use Rattle.std.proofs.lemmas.Option.{none-some}
 use Rattle.std.proofs.lemmas.List.{map-append}
@@ -11,17 +11,11 @@ use Rattle.blk_base.specs.declared.ask.BackAsk.{BackAsk}
 use Rattle.blk_base.specs.declared.ask.BackAsk.TheVariants as ask
 use Rattle.blk_base.specs.declared.moves.BackMover.{BackMover}
 use Rattle.blk_base.specs.declared.moves.BackMover.TheVariants as back
-use Rattle.blk_base.specs.declared.moves.Mover.TheVariants as mover
-use Rattle.blk_base.specs.declared.moves.Move.{Move}
 use Rattle.blk_base.specs.declared.moves.Move.TheVariants as moves
-use Rattle.grant_table.specs.declared.entry.MapRefusal.{MapRefusal}
 use Rattle.grant_table.specs.declared.held.Held.{Held}
-use Rattle.grant_table.specs.Table.{GrantTable, IsLive, held_of, next_mapping, verdict_at, without}
-use Rattle.event_channel.specs.declared.channels.PortState.{PortState}
-use Rattle.event_channel.specs.declared.channels.PortState.TheVariants as port
-use Rattle.event_channel.specs.Channels.{state_of}
+use Rattle.grant_table.specs.Table.{GrantTable, IsLive, held_of, next_mapping, without}
 use Rattle.hypervisor.specs.Hypervisor.{Hypervisor}
-use Rattle.hypervisor.specs.Act.{BackAct, Outcome, Gave, Took, Failed, back_act, map_act, bind_act, read_act, disk_act}
+use Rattle.hypervisor.specs.Act.{BackAct, Outcome, back_act, map_act}
 use Rattle.schedule_text.specs.declared.line.Line.{Line}
 use Rattle.schedule_text.specs.declared.line.Line.TheVariants as lines
 use Rattle.report_rules.specs.declared.standing.Standing.{Standing}
@@ -37,7 +31,7 @@ use Rattle.back_jobs.proofs.Sizes.{only}
 use Rattle.blk_back.specs.View.{View}
 use Rattle.blk_back.specs.Hands.{aborted, hands_of}
 use Rattle.split_model.specs.Safe.{AreHeld}
-use Rattle.split_model.proofs.SafeActs.{IsKeyMove, of_back, back_wait, back_keys, back_key_grants}
+use Rattle.split_model.proofs.Acting.{BackMap, BackUnmap, back_acts}
 use Rattle.move_laws.specs.Tells.{standing_of}
 use Rattle.move_laws.proofs.Standing.{filter_none, numbered_live, without_live}
 use Rattle.move_laws.proofs.Still.{none_goes}
@@ -71,58 +65,24 @@ stands_aside before (y ∷ ys) table quiet other s =
 abbrev StandsThen : List Line → BackAct → Type 0
 StandsThen before a = Stands (before ++ lines.Move a.shown ∷ []) a.under.grants
 
-map_stands : (before : List Line) (h : Hypervisor) (who : BackMover) (gref : ℕ) (mode : Mode) (verdict : Result ℕ MapRefusal) → Stands before h.grants → StandsThen before (map_act h who gref mode verdict)
-map_stands before h who gref mode (Ok frame) s =
+map_stands : (before : List Line) (h : Hypervisor) (who : BackMover) (gref : ℕ) (mode : Mode) (frame : ℕ) → Stands before h.grants → StandsThen before (map_act h who gref mode (Ok frame))
+map_stands before h who gref mode frame s =
     let next : Held = record { mapping = next_mapping h.grants gref mode; frame = frame } in
     standing_more before (lines.Move (moves.Map who gref mode (h.grants.made + 1) frame))
     ∙ (ap (λ (left : List Standing). filter (λ (x : Standing). true) left ++ standing_of next ∷ []) s
     ∙ (ap (λ (left : List Standing). left ++ standing_of next ∷ []) (filter_none (map standing_of h.grants.live)) ∙ sym (map-append standing_of h.grants.live (next ∷ []))))
-map_stands before h who gref mode (Err refusal) s = stands_still before _ h.grants refl (λ n. refl) refl s
 
 unmap_stands : (before : List Line) (h : Hypervisor) (who : BackMover) (m : Mapping) → Stands before h.grants → standing_after (before ++ lines.Move (moves.Unmap who m.number) ∷ []) ≡ map standing_of (without m.number h.grants.live)
 unmap_stands before h who m s =
     standing_more before (lines.Move (moves.Unmap who m.number))
     ∙ (ap (λ (left : List Standing). filter (λ (x : Standing). not (m.number == x.number)) left ++ []) s ∙ (append-nil _ ∙ without_live m.number h.grants.live))
 
-bind_stands : (before : List Line) (h : Hypervisor) (p : ℕ) (state : PortState) → Stands before h.grants → StandsThen before (bind_act h p state)
-bind_stands before h p port.Unbound s = stands_still before _ h.grants refl (λ n. refl) refl s
-bind_stands before h p port.Closed s = stands_still before _ h.grants refl (λ n. refl) refl s
-bind_stands before h p port.Bound s = stands_still before _ h.grants refl (λ n. refl) refl s
-
-key_stands : (before : List Line) (shown : Move) (table : GrantTable) → IsKeyMove mover.Back shown → Stands before table → Stands (before ++ lines.Move shown ∷ []) table
-key_stands before (moves.Watch m path) table is s = stands_still before _ table refl (λ n. refl) refl s
-key_stands before (moves.Watched m path) table is s = stands_still before _ table refl (λ n. refl) refl s
-key_stands before (moves.GetKey m path text) table is s = stands_still before _ table refl (λ n. refl) refl s
-key_stands before (moves.SetKey m path text) table is s = stands_still before _ table refl (λ n. refl) refl s
-key_stands before shown table is s = absurd is
-
-read_stands : (before : List Line) (h : Hypervisor) (shown : Move) (o : Outcome) (a : BackAct) → Stands (before ++ lines.Move shown ∷ []) h.grants → read_act h shown o ≡ Some a → StandsThen before a
-read_stands before h shown (Gave words) a s e = of_back (StandsThen before) _ a s e
-read_stands before h shown Failed a s e = of_back (StandsThen before) _ a s e
-read_stands before h shown Took a s e = absurd (none-some a e)
-
-call_stands : (before : List Line) (h : Hypervisor) (shown : Move) (o : Outcome) (a : BackAct) → Stands (before ++ lines.Move shown ∷ []) h.grants → disk_act h shown o ≡ Some a → StandsThen before a
-call_stands before h shown Took a s e = of_back (StandsThen before) _ a s e
-call_stands before h shown Failed a s e = of_back (StandsThen before) _ a s e
-call_stands before h shown (Gave words) a s e = absurd (none-some a e)
-
 pub act_stands : (before : List Line) (h : Hypervisor) (who : BackMover) (asked : BackAsk) (o : Outcome) (a : BackAct) → Stands before h.grants → back_act h who asked o ≡ Some a → StandsThen before a
-act_stands before h who ask.Wait o a s e = back_wait (StandsThen before) h who a (stands_still before _ h.grants refl (λ n. refl) refl s) (λ path. stands_still before _ h.grants refl (λ n. refl) refl s) e
-act_stands before h who ask.Fence o a s e = of_back (StandsThen before) _ a (stands_still before _ h.grants refl (λ n. refl) refl s) e
-act_stands before h who (ask.Read m word) o a s e = of_back (StandsThen before) _ a (stands_still before _ h.grants refl (λ n. refl) refl s) e
-act_stands before h who (ask.Write m word value) o a s e = of_back (StandsThen before) _ a (stands_still before _ h.grants refl (λ n. refl) refl s) e
-act_stands before h who (ask.Map gref mode) o a s e = of_back (StandsThen before) _ a (map_stands before h who gref mode (verdict_at h.pages gref mode) s) e
-act_stands before h who (ask.Unmap m) o a s e = of_back (StandsThen before) _ a (unmap_stands before h who m s) e
-act_stands before h who (ask.Bind p) o a s e = of_back (StandsThen before) _ a (bind_stands before h p (state_of h.channels p) s) e
-act_stands before h who ask.Send o a s e = of_back (StandsThen before) _ a (stands_still before _ h.grants refl (λ n. refl) refl s) e
-act_stands before h who ask.ClosePort o a s e = of_back (StandsThen before) _ a (stands_still before _ h.grants refl (λ n. refl) refl s) e
-act_stands before h who (ask.GetKey path) o a s e = back_keys (StandsThen before) h who (ask.GetKey path) o a tt (λ x is. key_stands before x.shown x.under.grants is.shown (subst (Stands before) (sym (back_key_grants h x is)) s)) e
-act_stands before h who (ask.SetKey path text) o a s e = back_keys (StandsThen before) h who (ask.SetKey path text) o a tt (λ x is. key_stands before x.shown x.under.grants is.shown (subst (Stands before) (sym (back_key_grants h x is)) s)) e
-act_stands before h who (ask.Watch path) o a s e = back_keys (StandsThen before) h who (ask.Watch path) o a tt (λ x is. key_stands before x.shown x.under.grants is.shown (subst (Stands before) (sym (back_key_grants h x is)) s)) e
-act_stands before h who (ask.DiskRead sector) o a s e = read_stands before h _ o a (stands_still before _ h.grants refl (λ n. refl) refl s) e
-act_stands before h who (ask.DiskWrite sector words) o a s e = call_stands before h _ o a (stands_still before _ h.grants refl (λ n. refl) refl s) e
-act_stands before h who ask.Flush o a s e = call_stands before h _ o a (stands_still before _ h.grants refl (λ n. refl) refl s) e
-act_stands before h who (ask.Trim sector count) o a s e = call_stands before h _ o a (stands_still before _ h.grants refl (λ n. refl) refl s) e
+act_stands before h who asked o a s e = elim (back_acts h who asked o a e) as (λ mover x outcome act acts. StandsThen before act) [
+  | BackMap gref mode frame is ↦ map_stands before h _ gref mode frame s
+  | BackUnmap m ↦ unmap_stands before h _ m s
+  | acts ↦ stands_still before _ h.grants refl (λ n. refl) refl s
+]
 
 -- with the lines after it
 pub turn_stands : (before ys : List Line) (h : Hypervisor) (who : BackMover) (asked : BackAsk) (o : Outcome) (a : BackAct) → AreQuiet ys → AreOther ys → Stands before h.grants → back_act h who asked o ≡ Some a → Stands (before ++ lines.Move a.shown ∷ ys) a.under.grants

@@ -1,29 +1,23 @@
 -- Lines of others than the back: they leave what the back wrote, between the words of a reply too.
-use Rattle.std.proofs.Common.{◌≡◌, ℕ, Bool, true, false, if◌then◌else◌, List, [], ◌∷◌, ◌++◌, refl}
-use Rattle.std.specs.Prelude.{Option, Some, None, Result, Ok, Err}
-use Rattle.blk_base.specs.declared.config.Job.{Job}
-use Rattle.blk_base.specs.declared.ask.FrontAsk.{FrontAsk}
+use Rattle.std.proofs.Common.{◌≡◌, ℕ, Bool, false, List, ◌∷◌, ◌++◌, refl}
+use Rattle.std.specs.Prelude.{Option, Some, None}
 use Rattle.blk_base.specs.declared.ask.BackAsk.{BackAsk}
 use Rattle.blk_base.specs.declared.ask.BackAnswer.{BackAnswer}
 use Rattle.blk_base.specs.declared.ask.BackAnswer.TheVariants as answers
 use Rattle.blk_base.specs.declared.moves.BackMover.TheVariants as back
 use Rattle.hypervisor.specs.Hypervisor.{Hypervisor}
-use Rattle.hypervisor.specs.Act.{FrontAct, BackAct, Outcome, front_act, back_act}
+use Rattle.hypervisor.specs.Act.{BackAct, Outcome, back_act}
 use Rattle.schedule_text.specs.declared.line.Line.{Line}
 use Rattle.schedule_text.specs.declared.line.Line.TheVariants as lines
 use Rattle.report_rules.specs.Reply.{is_reply}
 use Rattle.back_jobs.specs.declared.effect.Effect.{Effect}
 use Rattle.back_jobs.specs.declared.effect.Effect.TheVariants as effect
-use Rattle.blk_front.specs.declared.told.Told.{Told}
-use Rattle.blk_front.specs.declared.told.Told.TheVariants as front_told
-use Rattle.blk_front.specs.declared.told.Refusal.{Refusal}
 use Rattle.blk_back.specs.declared.stage.Stage.{Stage}
 use Rattle.blk_back.specs.declared.told.BackTold.TheVariants as back_told
 use Rattle.blk_back.specs.Step.{told_effect}
-use Rattle.split_model.specs.Happening.{submit_line}
-use Rattle.split_model.specs.Shown.{front_lines, back_lines, effect_line}
-use Rattle.split_model.proofs.SafeAnswers.{IsJobs, AsksNoKey}
-use Rattle.ring_laws.proofs.Free.{IsFree, front_free, job_free, free_front, free_told, free_submit, free_look, free_settle}
+use Rattle.split_model.specs.Shown.{back_lines, effect_line}
+use Rattle.split_model.proofs.SafeAnswers.{IsJobs}
+use Rattle.ring_laws.proofs.Free.{IsFree, job_free, free_told}
 use Rattle.ring_laws.proofs.Due.{Answered, Writes}
 use Rattle.ring_laws.proofs.Written.{Passes, AllPass, passes_other, writes_all}
 
@@ -41,16 +35,6 @@ other_writes before ys s answered all w = writes_all false before ys s answered 
 pub free_else : (over : Bool) (line : Line) → IsFree over line → is_reply line ≡ false → IsElse line
 free_else over line f untold = passes_other false line f.other untold (λ own. f.foreign)
 
-told_else : (t : Option Told) → AreElse (front_lines t)
-told_else None = tt
-told_else (Some (front_told.Answer id status)) = (free_else false (lines.Answer id status) (free_front false (Some (front_told.Answer id status))).0 refl, tt)
-told_else (Some (front_told.Sector id index words)) = (free_else false (lines.Data id index words) (free_front false (Some (front_told.Sector id index words))).0 refl, tt)
-told_else (Some (front_told.Broken word)) = (free_else false (lines.Broken word) (free_front false (Some (front_told.Broken word))).0 refl, tt)
-
--- what the front does and tells
-pub front_else : (h : Hypervisor) (ask : FrontAsk) (a : FrontAct) (t : Option Told) → AsksNoKey ask → front_act h ask ≡ Some a → AreElse (lines.Move a.shown ∷ front_lines t)
-front_else h ask a t own e = (free_else false (lines.Move a.shown) (front_free false h ask a own e) refl, told_else t)
-
 effect_else : (id index : ℕ) (a : BackAnswer) → IsFree false (effect_line id index a) → IsElse (effect_line id index a)
 effect_else id index (answers.Sector words) f = free_else false (lines.EffectRead id index words) f refl
 effect_else id index a f = free_else false (lines.Effect id index) f refl
@@ -65,15 +49,3 @@ effects_else (Some (effect.Failed id index)) a = (free_else false (lines.Fault i
 -- what a job does and tells
 pub job_else : (h : Hypervisor) (k : ℕ) (ask : BackAsk) (o : Outcome) (a : BackAct) (e : Option Effect) → IsJobs ask → back_act h (back.Job k) ask o ≡ Some a → AreElse (lines.Move a.shown ∷ back_lines (told_effect e) a.answer)
 job_else h k ask o a effected own e = (free_else false (lines.Move a.shown) (job_free false h k ask o a refl own e) refl, effects_else effected a.answer)
-
-pub submit_else : (job : Job) (r : Result ℕ Refusal) → AreElse (submit_line job r ∷ [])
-submit_else job (Ok number) = (free_else false (submit_line job (Ok number)) (free_submit false job (Ok number)) refl, tt)
-submit_else job (Err r) = (free_else false (submit_line job (Err r)) (free_submit false job (Err r)) refl, tt)
-
-pub look_else : (quiet : Bool) → AreElse ((if quiet then lines.Quiet else lines.Busy) ∷ [])
-look_else true = (free_else false lines.Quiet (free_look false true) refl, tt)
-look_else false = (free_else false lines.Busy (free_look false false) refl, tt)
-
-pub settle_else : (quiet : Bool) → AreElse ((if quiet then lines.Quiet else lines.Unsettled) ∷ [])
-settle_else true = (free_else false lines.Quiet (free_settle false true) refl, tt)
-settle_else false = (free_else false lines.Unsettled (free_settle false false) refl, tt)
