@@ -1,5 +1,5 @@
 -- Every report of the ring's machine answers each submission by the first rule that applies, whatever happens.
-use Rattle.std.proofs.Common.{◌≡◌, ℕ, ◌+◌, ◌≤◌, Bool, true, false, true≢false, cond, List, [], ◌∷◌, ◌++◌, length, refl, ap, sym, ◌∙◌, subst, append_assoc, append-nil, arith}
+use Rattle.std.proofs.Common.{◌≡◌, ℕ, ◌+◌, ◌≤◌, Bool, false, true≢false, cond, List, [], ◌∷◌, ◌++◌, length, refl, ap, sym, ◌∙◌, subst, append_assoc, append-nil, arith}
 use Rattle.std.specs.Prelude.{Option, Some, None, Result, Ok, Err, fold, slice_get, IsSomeAnd}
 use Rattle.std.specs.List.{AllByRecursion}
 use Rattle.std.proofs.lemmas.List.Sums.{fold-append, sum_by-append, sum_by-cons}
@@ -18,27 +18,23 @@ use Rattle.hypervisor.specs.Act.{FrontAct, BackAct, Took}
 use Rattle.blk_front.specs.declared.state.FrontState.{FrontState}
 use Rattle.blk_front.specs.declared.state.FrontState.TheVariants as state
 use Rattle.blk_front.specs.declared.told.Refusal.{Refusal}
-use Rattle.blk_front.specs.declared.told.Told.{Told}
-use Rattle.blk_front.specs.declared.told.Told.TheVariants as told
 use Rattle.blk_front.specs.View.{View}
 use Rattle.blk_front.specs.Step.{step_of}
 use Rattle.blk_front.specs.Submit.{submit_of}
 use Rattle.split_model.specs.World.{World, start_of}
 use Rattle.split_model.specs.Safe.{IsSafe}
 use Rattle.split_model.specs.Shown.{front_lines}
-use Rattle.split_model.specs.Happening.{Happening, FrontMoves, BackMoves, JobMoves, FrontEnters, BackAttaches, BackHalts, Submits, Suspends, happens, lines_at, lines_of, front_after, front_shows, back_after, back_shows, job_after, job_shows, front_turn, back_turn, job_turn, submit_line, enter_lines}
-use Rattle.split_model.proofs.Outside.{front_stays, OfOutside, outside_lines}
+use Rattle.split_model.specs.Happening.{Happening, FrontMoves, BackMoves, JobMoves, FrontEnters, Submits, Suspends, happens, lines_at, lines_of, front_after, front_shows, back_after, job_after, front_turn, back_turn, job_turn, submit_line, enter_lines}
+use Rattle.split_model.proofs.Showing.{MayShow, lines_are, front_are}
 use Rattle.split_model.specs.Report.{report_of}
 use Rattle.split_model.proofs.Safe.{safe_start, safe_happens}
-use Rattle.split_model.proofs.States.{enters_cases, enter_lines_are, state_lines_are}
-use Rattle.split_model.proofs.Suspending.{suspend_cases, suspend_lines_are}
-use Rattle.split_model.proofs.Attaching.{attach_lines_are}
+use Rattle.split_model.proofs.States.{enters_cases}
+use Rattle.split_model.proofs.Suspending.{suspend_cases}
 use Rattle.machine_pipeline.specs.Allowed.{IsPossible, ArePossible}
 use Rattle.machine_pipeline.specs.Submissions.{submitted_of}
 use Rattle.machine_pipeline.proofs.Refusing.{answer_of}
 use Rattle.machine_pipeline.proofs.StartingHolds.{empty_pooled}
 use Rattle.machine_pipeline.proofs.Growing.{longer}
-use Rattle.split_model.proofs.Lines.{OfBack, halt_lines_all, back_all, job_all}
 use Rattle.refusal_laws.specs.Ruled.{asked_step, asked_by, ruled_of, IsRuledAt, AreRuled}
 use Rattle.refusal_laws.proofs.Stands.{Keeps}
 use Rattle.refusal_laws.proofs.Steps.{step_goes}
@@ -73,76 +69,41 @@ count_more : (before ls : List Line) → answer_count (before ++ ls) ≡ answer_
 count_more before ls = sum_by-append (λ (l : Line). cond (answers_submission l) 1 0) before ls
 
 -- one that says nothing of the front, and of no request either
-abbrev is_aside : Line → Bool
-is_aside (lines.Begin config detail) = false
-is_aside lines.Ready = false
-is_aside lines.Closing = false
-is_aside (lines.Broken word) = false
-is_aside (lines.Submit id job) = false
-is_aside (lines.Refuse refusal) = false
-is_aside (lines.Answer id status) = false
-is_aside (lines.Data id index words) = false
-is_aside lines.Epoch = false
-is_aside line = true
+record IsAsideLine (line : Line) : Type 0 where
+  seen_same : (s : Sight) → seen s line ≡ s
+  asked_same : (asked : List Asked) → asked_step asked line ≡ asked
+  unanswered : answers_submission line ≡ false
 
 abbrev AreAside : List Line → Type 0
-AreAside ls = AllByRecursion (λ (line : Line). is_aside line ≡ true) ls
-
-one_seen : (s : Sight) (line : Line) → is_aside line ≡ true → seen s line ≡ s
-one_seen s (lines.Begin config detail) aside = absurd (true≢false (sym aside))
-one_seen s lines.Ready aside = absurd (true≢false (sym aside))
-one_seen s lines.Closing aside = absurd (true≢false (sym aside))
-one_seen s (lines.Broken word) aside = absurd (true≢false (sym aside))
-one_seen s lines.Epoch aside = absurd (true≢false (sym aside))
-one_seen s line aside = refl
-
-one_asked : (asked : List Asked) (line : Line) → is_aside line ≡ true → asked_step asked line ≡ asked
-one_asked asked (lines.Submit id job) aside = absurd (true≢false (sym aside))
-one_asked asked (lines.Answer id status) aside = absurd (true≢false (sym aside))
-one_asked asked (lines.Data id index words) aside = absurd (true≢false (sym aside))
-one_asked asked line aside = refl
-
-one_unanswered : (line : Line) → is_aside line ≡ true → answers_submission line ≡ false
-one_unanswered (lines.Submit id job) aside = absurd (true≢false (sym aside))
-one_unanswered (lines.Refuse refusal) aside = absurd (true≢false (sym aside))
-one_unanswered line aside = refl
+AreAside ls = AllByRecursion IsAsideLine ls
 
 aside_seen : (ls : List Line) (s : Sight) → AreAside ls → fold seen s ls ≡ s
 aside_seen [] s all = refl
-aside_seen (line ∷ ls) s all = aside_seen ls (seen s line) all.1 ∙ one_seen s line all.0
+aside_seen (line ∷ ls) s all = aside_seen ls (seen s line) all.1 ∙ all.0.seen_same s
 
 aside_asked : (ls : List Line) (asked : List Asked) → AreAside ls → fold asked_step asked ls ≡ asked
 aside_asked [] asked all = refl
-aside_asked (line ∷ ls) asked all = aside_asked ls (asked_step asked line) all.1 ∙ one_asked asked line all.0
+aside_asked (line ∷ ls) asked all = aside_asked ls (asked_step asked line) all.1 ∙ all.0.asked_same asked
 
 aside_free : (ls : List Line) → AreAside ls → AreFree ls
 aside_free [] all = tt
-aside_free (line ∷ ls) all = (one_unanswered line all.0, aside_free ls all.1)
+aside_free (line ∷ ls) all = (all.0.unanswered, aside_free ls all.1)
 
--- what happens aside of the front: a move of the back or of a job, what an end does with the keys, an event, a hostile hand, a look
-record Leaves (w w' : World) (ls : List Line) : Type 0 where
-  front : w'.front ≡ w.front
-  lines : AreAside ls
+-- only the line of a submission answers one
+abbrev IsNoSubmission : Happening → Type 0
+IsNoSubmission (Submits job) = ⊥
+IsNoSubmission h = Unit {0}
 
-back_aside : OfBack (λ (line : Line). is_aside line ≡ true)
-back_aside = record { move = λ m. refl; effect = λ id index. refl; effect_read = λ id index words. refl; flushed = λ id. refl; trimmed = λ id. refl; fault = λ id index. refl; reply = λ id status. refl; halt = λ why. refl }
+unanswered : (h : Happening) (line : Line) → IsNoSubmission h → MayShow h line → answers_submission line ≡ false
+unanswered (Submits job) line other shows = absurd other
+unanswered h (lines.Submit id job) other shows = absurd shows
+unanswered h (lines.Refuse refusal) other shows = absurd shows
+unanswered h line other shows = refl
 
-back_leaves : (w : World) (act : Option BackAct) → Leaves w (back_after w act) (back_shows w act)
-back_leaves w None = record { front = refl; lines = tt }
-back_leaves w (Some a) = record { front = refl; lines = back_all _ back_aside w (Some a) }
+free_at : (w : World) (h : Happening) → IsNoSubmission h → AreFree (lines_at w h)
+free_at w h other = lines_are (λ (line : Line). answers_submission line ≡ false) w h (λ line shows. unanswered h line other shows)
 
-job_leaves : (w : World) (number : ℕ) (act : Option BackAct) → Leaves w (job_after w number act) (job_shows w number act)
-job_leaves w number None = record { front = refl; lines = tt }
-job_leaves w number (Some a) = record { front = refl; lines = job_all _ back_aside w number (Some a) }
-
-aside_outside : OfOutside (λ (line : Line). is_aside line ≡ true)
-aside_outside = record {
-  under = record { got = λ who path text. refl; set = λ who path text. refl; watch = λ who path. refl; watched = λ who path. refl; poke = λ frame word value. refl; key = λ name text. refl; word = λ frame word value. refl };
-  quiet = refl;
-  busy = refl;
-  unsettled = refl;
-}
-
+-- what happens aside of the front: neither a move of it, a state that it enters, a submission, nor a suspend
 abbrev IsAside : Happening → Type 0
 IsAside FrontMoves = ⊥
 IsAside (FrontEnters s) = ⊥
@@ -150,26 +111,39 @@ IsAside (Submits job) = ⊥
 IsAside Suspends = ⊥
 IsAside h = Unit {0}
 
-leaves : (w : World) (h : Happening) → IsAside h → Leaves w (happens w h) (lines_at w h)
-leaves w BackMoves aside = back_leaves w (back_turn w Took)
-leaves w (JobMoves number outcome) aside = job_leaves w number (job_turn w number outcome)
-leaves w (BackAttaches shape grefs port) aside = record { front = refl; lines = attach_lines_are (λ (line : Line). is_aside line ≡ true) w shape grefs refl }
-leaves w (BackHalts why) aside = record { front = refl; lines = halt_lines_all _ back_aside w.back.halted _ }
-leaves w FrontMoves aside = absurd aside
-leaves w (FrontEnters s) aside = absurd aside
-leaves w (Submits job) aside = absurd aside
-leaves w Suspends aside = absurd aside
-leaves w h aside = record { front = front_stays w h tt; lines = outside_lines (λ (line : Line). is_aside line ≡ true) aside_outside w h tt }
+one_aside : (h : Happening) (line : Line) → IsAside h → MayShow h line → IsAsideLine line
+one_aside FrontMoves line aside shows = absurd aside
+one_aside h (lines.Begin config detail) aside shows = absurd (assumption)
+one_aside h lines.Ready aside shows = absurd (assumption)
+one_aside h lines.Closing aside shows = absurd (assumption)
+one_aside h (lines.Broken word) aside shows = absurd (assumption)
+one_aside h (lines.Submit id job) aside shows = absurd (assumption)
+one_aside h (lines.Refuse refusal) aside shows = absurd (assumption)
+one_aside h (lines.Answer id status) aside shows = absurd (assumption)
+one_aside h (lines.Data id index words) aside shows = absurd (assumption)
+one_aside h lines.Epoch aside shows = absurd (assumption)
+one_aside h line aside shows = record { seen_same = λ s. refl; asked_same = λ asked. refl; unanswered = refl }
 
--- the lines of the front's own moves and states, and of a suspend
-front_free : (t : Option Told) → AreFree (front_lines t)
-front_free None = tt
-front_free (Some (told.Answer id status)) = (refl, tt)
-front_free (Some (told.Sector id index words)) = (refl, tt)
-front_free (Some (told.Broken word)) = (refl, tt)
+aside_lines : (w : World) (h : Happening) → IsAside h → AreAside (lines_at w h)
+aside_lines w h aside = lines_are IsAsideLine w h (λ line shows. one_aside h line aside shows)
 
-states_free : (s : FrontState) (v : View) → AreFree (enter_lines s v)
-states_free s v = enter_lines_are (λ (line : Line). answers_submission line ≡ false) s v (λ may. state_lines_are (λ (line : Line). answers_submission line ≡ false) s refl refl refl (λ word. refl))
+back_front : (w : World) (act : Option BackAct) → (let x : World = back_after w act in x.front) ≡ w.front
+back_front w None = refl
+back_front w (Some a) = refl
+
+job_front : (w : World) (number : ℕ) (act : Option BackAct) → (let x : World = job_after w number act in x.front) ≡ w.front
+job_front w number None = refl
+job_front w number (Some a) = refl
+
+-- the front stays
+aside_front : (w : World) (h : Happening) → IsAside h → (let x : World = happens w h in x.front) ≡ w.front
+aside_front w FrontMoves aside = absurd aside
+aside_front w (FrontEnters s) aside = absurd aside
+aside_front w (Submits job) aside = absurd aside
+aside_front w Suspends aside = absurd aside
+aside_front w BackMoves aside = back_front w (back_turn w Took)
+aside_front w (JobMoves number outcome) aside = job_front w number (job_turn w number outcome)
+aside_front w h aside = refl
 
 -- a state that the front enters is one that may come
 meant : (config : Options) (w : World) (s : FrontState) → IsPossible w (FrontEnters s) → IsServing config (FrontEnters s) → IsMeant config w.front s
@@ -206,24 +180,25 @@ module _ (config : Options) (narrow : config.indirect ≤ 960) (jobs : List Job)
   front_goes before done w (Some a) safe h =
       let was : IsSafe w = h.safe in
       let x : View = step_of w.front a.answer in
-      goes_on before (lines.Move a.shown ∷ front_lines x.told) done w (front_after w (Some a)) (refl, front_free x.told) safe
+      goes_on before (lines.Move a.shown ∷ front_lines x.told) done w (front_after w (Some a))
+      (front_are (λ (line : Line). answers_submission line ≡ false) (λ line shows. unanswered FrontMoves line tt shows) w (Some a)) safe
       (step_goes config (fold seen nothing_seen before) (asked_by before) w.front was.front_told h.keeps a.answer) h
 
   aside_goes : (before : List Line) (done : List Job) (w : World) (g : Happening) → IsAside g → IsSoFar before done w → IsSoFar (before ++ lines_at w g) done (happens w g)
   aside_goes before done w g aside h =
-      let is : Leaves w (happens w g) (lines_at w g) = leaves w g aside in
-      goes_on before (lines_at w g) done w (happens w g) (aside_free (lines_at w g) is.lines) (safe_happens w g h.safe)
-      (rw (is.front, aside_seen (lines_at w g) (fold seen nothing_seen before) is.lines, aside_asked (lines_at w g) (asked_by before) is.lines) h.keeps) h
+      let all : AreAside (lines_at w g) = aside_lines w g aside in
+      goes_on before (lines_at w g) done w (happens w g) (aside_free (lines_at w g) all) (safe_happens w g h.safe)
+      (rw (aside_front w g aside, aside_seen (lines_at w g) (fold seen nothing_seen before) all, aside_asked (lines_at w g) (asked_by before) all) h.keeps) h
 
   enters : (before : List Line) (done : List Job) (w : World) (s : FrontState) → IsPossible w (FrontEnters s) → IsServing config (FrontEnters s) → IsSoFar before done w → IsSoFar (before ++ lines_at w (FrontEnters s)) done (happens w (FrontEnters s))
   enters before done w s may serves h =
-      goes_on before (enter_lines s w.front) done w (happens w (FrontEnters s)) (states_free s w.front) (safe_happens w (FrontEnters s) h.safe)
+      goes_on before (enter_lines s w.front) done w (happens w (FrontEnters s)) (free_at w (FrontEnters s) tt) (safe_happens w (FrontEnters s) h.safe)
       (enters_cases (λ (x : View) (shown : List Line). Keeps config x (fold seen (fold seen nothing_seen before) shown) (fold asked_step (asked_by before) shown)) s w.front
       (λ enter. enters_goes config (fold seen nothing_seen before) (asked_by before) w.front s (meant config w s may serves) enter h.keeps) h.keeps) h
 
   suspends : (before : List Line) (done : List Job) (w : World) → IsSoFar before done w → IsSoFar (before ++ lines_at w Suspends) done (happens w Suspends)
   suspends before done w h =
-      goes_on before (lines_at w Suspends) done w (happens w Suspends) (suspend_lines_are (λ (line : Line). answers_submission line ≡ false) w refl) (safe_happens w Suspends h.safe)
+      goes_on before (lines_at w Suspends) done w (happens w Suspends) (free_at w Suspends tt) (safe_happens w Suspends h.safe)
       (suspend_cases (λ (x : World) (shown : List Line). Keeps config x.front (fold seen (fold seen nothing_seen before) shown) (fold asked_step (asked_by before) shown)) w
       (λ may. suspends_goes config (fold seen nothing_seen before) (asked_by before) w.front h.keeps) h.keeps) h
 

@@ -158,13 +158,9 @@ made_few (events.Back n) w hs r carried k = subst (λ (l : List Happening). othe
 made_few (events.Job number n) w hs r carried k = let few = second_number number n carried in let all : length hs ≡ n = k.1 in let some = others_few hs in omega arith
 made_few (events.Turn n) w hs r carried k = let few = number_few n carried in let rounds = rounds_few never n w hs k in omega arith
 made_few events.Settle w hs r carried k = settling_few w hs r k
-made_few events.Look w hs r carried k = only_few hs _ k
-made_few (events.Notify at) w hs r carried k = only_few hs _ k
-made_few (events.Close at) w hs r carried k = only_few hs _ k
 made_few (events.Poke frame word value) w hs r carried k = only_few hs _ k.0
-made_few (events.Key name text) w hs r carried k = only_few hs _ k
 made_few events.Suspend w hs r carried k = only_few hs _ k.0
-made_few events.Dump w hs r carried k = only_few hs _ k
+made_few e w hs r carried k = only_few hs _ k
 
 made_so_far_few : (e : Event) (w : World) (hs : List Happening) → IsReached w → is_carried e ≡ true → MakesSoFar e w hs → others_of hs ≤ most_others
 made_so_far_few (events.Front n) w hs r carried k = beginning_few hs (replicate n FrontMoves) most_others k (moves_few n FrontMoves (number_few n carried))

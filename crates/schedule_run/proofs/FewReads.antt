@@ -66,7 +66,11 @@ use Rattle.event_channel.specs.declared.channels.PortState.{PortState}
 use Rattle.event_channel.specs.declared.channels.PortState.TheVariants as port
 use Rattle.split_model.specs.Report as ring_report
 use Rattle.split_model.proofs.Running as ring_running
-use Rattle.split_model.proofs.SafeActs.{of_back}
+use Rattle.split_model.proofs.Acting.{BackRead, back_acts}
+use Rattle.split_model.proofs.Showing.{MayShow, lines_are}
+use Rattle.blk_base.specs.declared.moves.Move.TheVariants as moves
+use Rattle.blk_base.specs.declared.moves.BackMover.{BackMover}
+use Rattle.std.specs.List.{AllByRecursion}
 use Rattle.xenbus_state.specs.BackView.{BackView}
 use Rattle.xenbus_state.specs.FrontView.{ring_order}
 use Rattle.vbd_model.specs.Mappings.{mappings_in}
@@ -109,64 +113,23 @@ back_shows_few w (Some a) =
     let both = length-append (back_lines b.told a.answer) (halt_lines w.back.halted b.halted) in
     omega arith
 
-one_few : (there : Bool) (line : Line) → length (if there then line ∷ [] else []) ≤ 3
-one_few true line = omega arith
-one_few false line = omega arith
-
-key_few : (stage : BackStage) (at : End) (move : KeyMove) (d : Directory) → length (negotiated_lines stage at move d) ≤ 3
-key_few stage at move d =
-    negotiated_cases (λ (after : Directory) (shown : List Line). length shown ≤ 3) stage at move d
-    (λ may. key_cases (λ (after : Directory) (shown : List Line). length shown ≤ 3) at move d
-    (λ path same. omega arith) (λ path text same may_set. omega arith) (λ path same. omega arith) (λ path first. omega arith) (omega arith)) (omega arith)
-
-state_few : (s : FrontState) → length (state_lines s) ≤ 3
-state_few (state.Agreed order) = omega arith
-state_few (state.Connected offers) = omega arith
-state_few state.Closing = omega arith
-state_few state.Leaving = omega arith
-state_few state.Closed = omega arith
-state_few (state.Broken word) = omega arith
-
-enters_few : (s : FrontState) (v : front.View) → length (enter_lines s v) ≤ 3
-enters_few s v = enters_cases (λ (after : front.View) (shown : List Line). length shown ≤ 3) s v (λ may. state_few s) (omega arith)
-
 abbrev IsNoRead : BackAct → Type 0
 IsNoRead a = reads_at (Move a.shown) ≡ 0
 
-map_reads : (h : Hypervisor) (k gref : ℕ) (mode : Mode) (v : Result ℕ MapRefusal) → IsNoRead (map_act h (back_mover.Job k) gref mode v)
-map_reads h k gref mode (Ok frame) = refl
-map_reads h k gref mode (Err refusal) = refl
+abbrev IsOfJob : BackMover → Type 0
+IsOfJob back_mover.Back = ⊥
+IsOfJob (back_mover.Job k) = Unit {0}
 
-bind_reads : (h : Hypervisor) (p : ℕ) (state : PortState) → IsNoRead (bind_act h p state)
-bind_reads h p port.Unbound = refl
-bind_reads h p port.Closed = refl
-bind_reads h p port.Bound = refl
-
-disk_reads : (h : Hypervisor) (shown : Shown) (o : Outcome) (a : BackAct) → reads_at (Move shown) ≡ 0 → disk_act h shown o ≡ Some a → IsNoRead a
-disk_reads h shown Took a none e = of_back IsNoRead _ a none e
-disk_reads h shown Failed a none e = of_back IsNoRead _ a none e
-disk_reads h shown (Gave words) a none e = absurd (none-some a e)
+job_reads_none : (who : BackMover) (mapping frame word value : ℕ) → IsOfJob who → reads_at (Move (moves.Read who mapping frame word value)) ≡ 0
+job_reads_none back_mover.Back mapping frame word value job = absurd job
+job_reads_none (back_mover.Job k) mapping frame word value job = refl
 
 -- a job shows no word that the back itself reads
-job_act_reads : (h : Hypervisor) (k : ℕ) (ask : BackAsk) (o : Outcome) (a : BackAct) → back_act h (back_mover.Job k) ask o ≡ Some a → reads_at (Move a.shown) ≡ 0
-job_act_reads h k back_ask.Wait o a e = absurd (none-some a e)
-job_act_reads h k back_ask.Fence o a e = of_back IsNoRead _ a refl e
-job_act_reads h k (back_ask.Read m word) o a e = of_back IsNoRead _ a refl e
-job_act_reads h k (back_ask.Write m word value) o a e = of_back IsNoRead _ a refl e
-job_act_reads h k (back_ask.Map gref mode) o a e = of_back IsNoRead _ a (map_reads h k gref mode (verdict_at h.pages gref mode)) e
-job_act_reads h k (back_ask.Unmap m) o a e = of_back IsNoRead _ a refl e
-job_act_reads h k (back_ask.Bind p) o a e = of_back IsNoRead _ a (bind_reads h p (state_of h.channels p)) e
-job_act_reads h k back_ask.Send o a e = of_back IsNoRead _ a refl e
-job_act_reads h k back_ask.ClosePort o a e = of_back IsNoRead _ a refl e
-job_act_reads h k (back_ask.GetKey path) o a e = absurd (none-some a e)
-job_act_reads h k (back_ask.SetKey path text) o a e = absurd (none-some a e)
-job_act_reads h k (back_ask.Watch path) o a e = absurd (none-some a e)
-job_act_reads h k (back_ask.DiskRead sector) (Gave words) a e = of_back IsNoRead _ a refl e
-job_act_reads h k (back_ask.DiskRead sector) Failed a e = of_back IsNoRead _ a refl e
-job_act_reads h k (back_ask.DiskRead sector) Took a e = absurd (none-some a e)
-job_act_reads h k (back_ask.DiskWrite sector words) o a e = disk_reads h _ o a refl e
-job_act_reads h k back_ask.Flush o a e = disk_reads h _ o a refl e
-job_act_reads h k (back_ask.Trim sector count) o a e = disk_reads h _ o a refl e
+job_act_reads : (h : Hypervisor) (k : ℕ) (ask : BackAsk) (o : Outcome) (a : BackAct) → back_act h (back_mover.Job k) ask o ≡ Some a → IsNoRead a
+job_act_reads h k ask o a e = (elim (back_acts h (back_mover.Job k) ask o a e) as (λ who asked outcome x acts. IsOfJob who → IsNoRead x) [
+  | BackRead m word ↦ λ job. job_reads_none _ _ _ _ _ job
+  | acts ↦ λ job. refl
+]) tt
 
 told_reads : (told : Option BackTold) (answer : BackAnswer) → reads_of (back_lines told answer) ≡ 0
 told_reads None answer = refl
@@ -186,15 +149,6 @@ job_reads w number o (Some a) e =
     let both = sum_by-cons reads_at (Move a.shown) (back_lines b.told a.answer) in
     omega arith
 
--- nor does a dump
-words_reads : (pages : List ℕ) (place count : ℕ) → reads_of (ring_lines pages place count) ≡ 0
-words_reads pages place zero = refl
-words_reads pages place (suc count) = more (word_of pages (2 + place / 1024) (place % 1024)) (words_reads pages (place + 1) count)
-  where
-    more : (value : ℕ) → reads_of (ring_lines pages (place + 1) count) ≡ 0 → reads_of (word_lines place value ++ ring_lines pages (place + 1) count) ≡ 0
-    more zero rest = rest
-    more (suc value) rest = let both = sum_by-append reads_at (word_lines place (suc value)) (ring_lines pages (place + 1) count) in omega arith
-
 short_reads : (ls : List Line) → length ls ≤ 3 → reads_of ls ≤ 3
 short_reads ls few = let short = reads_short ls in omega arith
 
@@ -206,19 +160,29 @@ tally_at h = 3
 abbrev tally_of : List ring.Happening → ℕ
 tally_of hs = sum_by tally_at hs
 
+-- nor does anything but the moves of the ends
+abbrev IsNoMove : ring.Happening → Type 0
+IsNoMove ring.FrontMoves = ⊥
+IsNoMove ring.BackMoves = ⊥
+IsNoMove (ring.JobMoves number outcome) = ⊥
+IsNoMove h = Unit {0}
+
+unread : (h : ring.Happening) (line : Line) → IsNoMove h → MayShow h line → reads_at line ≡ 0
+unread ring.FrontMoves line other shows = absurd other
+unread ring.BackMoves line other shows = absurd other
+unread (ring.JobMoves number outcome) line other shows = absurd other
+unread h (Move (moves.Read who mapping frame word value)) other shows = absurd shows
+unread h line other shows = refl
+
+none_read : (ls : List Line) → AllByRecursion (λ (line : Line). reads_at line ≡ 0) ls → reads_of ls ≡ 0
+none_read [] none = refl
+none_read (line ∷ ls) none = let rest = none_read ls none.1 in let both = sum_by-cons reads_at line ls in omega (arith, none.0)
+
 ring_few : (w : rings.World) (h : ring.Happening) → reads_of (ring.lines_at w h) ≤ tally_at h
 ring_few w ring.FrontMoves = short_reads (ring.lines_at w ring.FrontMoves) (front_shows_few w (front_turn w))
 ring_few w ring.BackMoves = short_reads (ring.lines_at w ring.BackMoves) (back_shows_few w (back_turn w Took))
 ring_few w (ring.JobMoves number outcome) = let none = job_reads w number outcome (job_turn w number outcome) refl in omega arith
-ring_few w (ring.Negotiates at move) = short_reads (ring.lines_at w (ring.Negotiates at move)) (key_few w.back.stage at move w.under.keys)
-ring_few w (ring.FrontEnters s) = short_reads (ring.lines_at w (ring.FrontEnters s)) (enters_few s w.front)
-ring_few w (ring.BackAttaches shape grefs port) = short_reads (ring.lines_at w (ring.BackAttaches shape grefs port)) (one_few (ring.attaches_at w shape grefs) (Move (ring.layout_read w)))
-ring_few w (ring.BackHalts why) = let few = halt_few w.back.halted (let b : back.View = back_step.halts why w.back in b.halted) in short_reads (ring.lines_at w (ring.BackHalts why)) (omega arith)
-ring_few w (ring.Pokes frame word value) = short_reads (ring.lines_at w (ring.Pokes frame word value)) (one_few (is_guest_word frame word) (Poke frame word value))
-ring_few w (ring.OverwritesKey name text) = short_reads (ring.lines_at w (ring.OverwritesKey name text)) (one_few (is_guest_key name text) (Key name text))
-ring_few w ring.Suspends = short_reads (ring.lines_at w ring.Suspends) (one_few (rings.may_suspend w) Epoch)
-ring_few w ring.Dumps = let none = words_reads w.under.pages 0 (1024 * 2 ^ w.front.shape.order) in omega arith
-ring_few w h = short_reads (ring.lines_at w h) (omega arith)
+ring_few w h = let none = none_read (ring.lines_at w h) (lines_are (λ (line : Line). reads_at line ≡ 0) w h (λ line shows. unread h line tt shows)) in omega arith
 
 ring_by : (hs : List ring.Happening) (w : rings.World) → reads_of (ring.lines_of hs w) ≤ tally_of hs
 ring_by [] w = omega arith

@@ -1,34 +1,23 @@
 -- Whatever happens, each halt and each word that breaks the front stands after its cause.
-use Rattle.std.proofs.Common.{◌≡◌, ℕ, ◌≤◌, ◌*◌, ◌^◌, Bool, true, false, if◌then◌else◌, List, [], ◌∷◌, ◌++◌, refl, sym, ap, ◌∙◌, subst, append_assoc, append-nil}
-use Rattle.std.specs.Prelude.{◌+◌, ◌&&◌, ◌==◌, not, nat_lt, nat_le, Option, Some, None, Result, Ok, Err}
+use Rattle.std.proofs.Common.{◌≡◌, ℕ, ◌≤◌, Bool, true, false, if◌then◌else◌, List, [], ◌∷◌, ◌++◌, refl, sym, ap, ◌∙◌, subst, append_assoc, append-nil}
+use Rattle.std.specs.Prelude.{◌+◌, ◌&&◌, ◌==◌, not, nat_lt, nat_le, Option, Some, None, Result}
 use Rattle.std.specs.List.{AllByRecursion}
-use Rattle.std.proofs.lemmas.Option.{none-some}
 use Rattle.blk_base.specs.Options.{Options}
 use Rattle.blk_base.specs.declared.config.Job.{Job}
 use Rattle.blk_base.specs.declared.parts.End.TheVariants as end
 use Rattle.blk_base.specs.declared.ask.BackAsk.{BackAsk}
-use Rattle.blk_base.specs.declared.ask.BackAsk.TheVariants as back_ask
 use Rattle.blk_base.specs.declared.ask.BackAnswer.{BackAnswer}
-use Rattle.blk_base.specs.declared.ask.BackAnswer.TheVariants as answer
 use Rattle.blk_base.specs.declared.moves.BackMover.{BackMover}
 use Rattle.blk_base.specs.declared.moves.BackMover.TheVariants as back_mover
 use Rattle.blk_base.specs.declared.moves.Move.{Move}
-use Rattle.blk_base.specs.declared.moves.Move.TheVariants as moves
-use Rattle.blk_base.specs.declared.moves.Mover.TheVariants as mover
-use Rattle.blk_base.specs.declared.parts.Mode.{Mode}
 use Rattle.ring_words.specs.Shape.{entries_of}
-use Rattle.grant_table.specs.declared.entry.MapRefusal.{MapRefusal}
-use Rattle.grant_table.specs.Table.{verdict_at}
-use Rattle.event_channel.specs.declared.channels.PortState.{PortState}
-use Rattle.event_channel.specs.declared.channels.PortState.TheVariants as port
-use Rattle.event_channel.specs.Channels.{state_of}
 use Rattle.schedule_text.specs.declared.line.Detail.{Detail}
 use Rattle.schedule_text.specs.declared.line.Detail.TheVariants.{Moves}
 use Rattle.schedule_text.specs.declared.line.Line.{Line}
 use Rattle.schedule_text.specs.declared.line.Line.TheVariants as lines
 use Rattle.schedule_text.specs.Recorder.{kept_of}
 use Rattle.hypervisor.specs.Hypervisor.{Hypervisor}
-use Rattle.hypervisor.specs.Act.{FrontAct, BackAct, Outcome, Gave, Took, Failed, back_act, map_act, bind_act, read_act, disk_act}
+use Rattle.hypervisor.specs.Act.{FrontAct, BackAct, Outcome, Took, back_act}
 use Rattle.blk_front.specs.declared.state.FrontState.TheVariants as enter
 use Rattle.blk_front.specs.declared.told.Told.{Told}
 use Rattle.blk_front.specs.declared.told.Told.TheVariants as front_told
@@ -41,7 +30,6 @@ use Rattle.blk_front.specs.Pool.{taking}
 use Rattle.blk_front.specs.Request.{is_write, named_of, frames_for}
 use Rattle.blk_front.specs.Submit.{is_ready, unfinished, wish_of, most_segments, frames_taken, submit_with, submit_one, submit_of}
 use Rattle.blk_back.specs.declared.told.BackTold.{BackTold}
-use Rattle.blk_back.specs.declared.told.BackTold.TheVariants as back_told
 use Rattle.blk_back.specs.declared.told.Halt.{Halt}
 use Rattle.blk_back.specs.Step as back_step
 use Rattle.report_rules.proofs.Obeys.{obeys_none, obeys_more}
@@ -52,11 +40,12 @@ use Rattle.xenbus_state.specs.declared.front.FrontNews.{FrontNews}
 use Rattle.xenbus_state.specs.declared.front.FrontNews.TheVariants as news
 use Rattle.split_model.specs.World as rings
 use Rattle.split_model.specs.Happening as ring
-use Rattle.split_model.specs.Shown.{front_lines, back_lines, effect_line, halt_lines}
-use Rattle.split_model.proofs.SafeActs.{of_back, back_wait, back_keys, AsksBackKey, IsKeyMove}
+use Rattle.split_model.specs.Shown.{front_lines, back_lines, halt_lines}
+use Rattle.split_model.proofs.Acting.{back_acts, BackEvent}
 use Rattle.split_model.proofs.SafeFront.{submit_kept}
 use Rattle.split_model.proofs.Narrow.{submit_shape}
-use Rattle.split_model.proofs.Overwriting.{poke_lines_are, overwritten_lines_are, dump_lines_are}
+use Rattle.split_model.proofs.Outside.{IsOutside}
+use Rattle.split_model.proofs.Showing.{IsTold, IsOfBack, MayShow, back_told_is, lines_are}
 use Rattle.split_model.specs.Report as ring_report
 use Rattle.vbd_front.specs.View as front_view
 use Rattle.vbd_front.specs.Ask as asked
@@ -65,7 +54,7 @@ use Rattle.vbd_back.specs.View as back_view
 use Rattle.vbd_back.specs.Ask as back
 use Rattle.vbd_back.specs.Step as vbd_back_step
 use Rattle.vbd_model.specs.World.{World, start_of, frontend_of, backend_of}
-use Rattle.vbd_model.specs.Happening.{Happening, FrontMoves, BackMoves, JobMoves, Closes, Submits, Notifies, Pokes, OverwritesKey, Suspends, Dumps, Looks, Settles, all_does, happens, lines_at, lines_of, front_turn, back_turn, renewed_bus}
+use Rattle.vbd_model.specs.Happening.{Happening, FrontMoves, BackMoves, JobMoves, Closes, Submits, Suspends, all_does, happens, lines_at, lines_of, front_turn, back_turn, renewed_bus, does, front_bus, back_bus}
 use Rattle.vbd_model.specs.News.{news_lines}
 use Rattle.vbd_model.specs.Fit.{IsFit}
 use Rattle.vbd_model.specs.Report.{report_of, ended_report_of}
@@ -145,67 +134,19 @@ none_goes before w h world none has = record {
 }
 
 -- the back and a job read no word as the front
-key_plain : (m : Move) → IsKeyMove mover.Back m → is_plain (lines.Move m) ≡ true
-key_plain (moves.Watch who path) is = refl
-key_plain (moves.Watched who path) is = refl
-key_plain (moves.GetKey who path text) is = refl
-key_plain (moves.SetKey who path text) is = refl
-key_plain m is = absurd is
-
-abbrev IsPlainAct : BackAct → Type 0
-IsPlainAct a = is_plain (lines.Move a.shown) ≡ true
-
-keys_plain : (h : Hypervisor) (who : BackMover) (ask : BackAsk) (o : Outcome) (a : BackAct) → AsksBackKey ask → back_act h who ask o ≡ Some a → IsPlainAct a
-keys_plain h who ask o a asks e = back_keys IsPlainAct h who ask o a asks (λ x is. key_plain x.shown is.shown) e
-
-map_plain : (h : Hypervisor) (who : BackMover) (gref : ℕ) (mode : Mode) (r : Result ℕ MapRefusal) → IsPlainAct (map_act h who gref mode r)
-map_plain h who gref mode (Ok frame) = refl
-map_plain h who gref mode (Err refusal) = refl
-
-bind_plain : (h : Hypervisor) (p : ℕ) (s : PortState) → IsPlainAct (bind_act h p s)
-bind_plain h p port.Unbound = refl
-bind_plain h p s = refl
-
-read_plain : (h : Hypervisor) (shown : Move) (o : Outcome) (a : BackAct) → is_plain (lines.Move shown) ≡ true → read_act h shown o ≡ Some a → IsPlainAct a
-read_plain h shown (Gave words) a is e = of_back IsPlainAct _ a is e
-read_plain h shown Failed a is e = of_back IsPlainAct _ a is e
-read_plain h shown Took a is e = absurd (none-some a e)
-
-disk_plain : (h : Hypervisor) (shown : Move) (o : Outcome) (a : BackAct) → is_plain (lines.Move shown) ≡ true → disk_act h shown o ≡ Some a → IsPlainAct a
-disk_plain h shown Took a is e = of_back IsPlainAct _ a is e
-disk_plain h shown Failed a is e = of_back IsPlainAct _ a is e
-disk_plain h shown (Gave words) a is e = absurd (none-some a e)
-
-back_plain : (h : Hypervisor) (who : BackMover) (ask : BackAsk) (o : Outcome) (a : BackAct) → back_act h who ask o ≡ Some a → IsPlainAct a
-back_plain h who back_ask.Wait o a e = back_wait IsPlainAct h who a refl (λ path. refl) e
-back_plain h who back_ask.Fence o a e = of_back IsPlainAct _ a refl e
-back_plain h who (back_ask.Read m word) o a e = of_back IsPlainAct _ a refl e
-back_plain h who (back_ask.Write m word value) o a e = of_back IsPlainAct _ a refl e
-back_plain h who (back_ask.Map gref mode) o a e = of_back IsPlainAct _ a (map_plain h who gref mode (verdict_at h.pages gref mode)) e
-back_plain h who (back_ask.Unmap m) o a e = of_back IsPlainAct _ a refl e
-back_plain h who (back_ask.Bind p) o a e = of_back IsPlainAct _ a (bind_plain h p (state_of h.channels p)) e
-back_plain h who back_ask.Send o a e = of_back IsPlainAct _ a refl e
-back_plain h who back_ask.ClosePort o a e = of_back IsPlainAct _ a refl e
-back_plain h who (back_ask.GetKey path) o a e = keys_plain h who (back_ask.GetKey path) o a tt e
-back_plain h who (back_ask.SetKey path text) o a e = keys_plain h who (back_ask.SetKey path text) o a tt e
-back_plain h who (back_ask.Watch path) o a e = keys_plain h who (back_ask.Watch path) o a tt e
-back_plain h who (back_ask.DiskRead sector) o a e = read_plain h _ o a refl e
-back_plain h who (back_ask.DiskWrite sector words) o a e = disk_plain h _ o a refl e
-back_plain h who back_ask.Flush o a e = disk_plain h _ o a refl e
-back_plain h who (back_ask.Trim sector count) o a e = disk_plain h _ o a refl e
+back_plain : (h : Hypervisor) (who : BackMover) (ask : BackAsk) (o : Outcome) (a : BackAct) → back_act h who ask o ≡ Some a → is_plain (lines.Move a.shown) ≡ true
+back_plain h who ask o a e = elim (back_acts h who ask o a e) as (λ by asked outcome x acts. is_plain (lines.Move x.shown) ≡ true) [ BackEvent ↦ refl | acts ↦ refl ]
 
 -- the lines that follow a move
-effect_plain : (id index : ℕ) (x : BackAnswer) → is_plain (effect_line id index x) ≡ true
-effect_plain id index (answer.Sector words) = refl
-effect_plain id index x = refl
-
-told_plain : (t : Option BackTold) (x : BackAnswer) → ArePlain (back_lines t x)
-told_plain None x = tt
-told_plain (Some (back_told.Effect id index)) x = (effect_plain id index x, tt)
-told_plain (Some (back_told.Flushed id)) x = (refl, tt)
-told_plain (Some (back_told.Trimmed id)) x = (refl, tt)
-told_plain (Some (back_told.Fault id index)) x = (refl, tt)
-told_plain (Some (back_told.Reply id status)) x = (refl, tt)
+told_idle : (t : Option BackTold) (x : BackAnswer) → AreIdle (back_lines t x)
+told_idle t x = back_told_is (λ (line : Line). is_idle line ≡ true) idle t x
+  where
+    idle : (line : Line) → IsTold line → IsOfBack line → is_idle line ≡ true
+    idle (lines.Move shown) told shows = absurd told
+    idle (lines.Halt why) told shows = absurd told
+    idle (lines.Broken word) told shows = absurd shows
+    idle lines.Epoch told shows = absurd shows
+    idle line told shows = refl
 
 halt_words : (old new : Option Halt) → words_read (halt_lines old new) ≡ []
 halt_words None None = refl
@@ -228,22 +169,6 @@ news_words (Some (news.Broken word)) = refl
 both_silent : (a b : List Line) → AreSilent a → AreSilent b → AreSilent (a ++ b)
 both_silent [] b p q = q
 both_silent (line ∷ a) b p q = (p.0, both_silent a b p.1 q)
-
-effect_silent : (id index : ℕ) (x : BackAnswer) → is_silent (effect_line id index x) ≡ true
-effect_silent id index (answer.Sector words) = refl
-effect_silent id index x = refl
-
-told_silent : (t : Option BackTold) (x : BackAnswer) → AreSilent (back_lines t x)
-told_silent None x = tt
-told_silent (Some (back_told.Effect id index)) x = (effect_silent id index x, tt)
-told_silent (Some (back_told.Flushed id)) x = (refl, tt)
-told_silent (Some (back_told.Trimmed id)) x = (refl, tt)
-told_silent (Some (back_told.Fault id index)) x = (refl, tt)
-told_silent (Some (back_told.Reply id status)) x = (refl, tt)
-
-both_are : (ls : List Line) → ArePlain ls → AreSilent ls → AreIdle ls
-both_are [] plain silent = tt
-both_are (line ∷ ls) plain silent = (both_idle line plain.0 silent.0, both_are ls plain.1 silent.1)
 
 halt_silent : (old new : Option Halt) → AreSilent (halt_lines old new)
 halt_silent None None = tt
@@ -298,7 +223,7 @@ back_one w before (Some a) fit has e =
     let halts : List Line = halt_lines w.rings.back.halted v.ring.halted in
     let none : words_read (lines.Move a.shown ∷ (told ++ halts)) ≡ [] =
     both_none (lines.Move a.shown ∷ []) (told ++ halts) (plain_words (lines.Move a.shown ∷ []) (back_plain w.rings.under back_mover.Back (back.ask_of (backend_of w)) Took a e, tt))
-    (both_none told halts (plain_words told (told_plain v.ring.told a.answer)) (halt_words w.rings.back.halted v.ring.halted)) in
+    (both_none told halts (plain_words told (idle_plain told (told_idle v.ring.told a.answer))) (halt_words w.rings.back.halted v.ring.halted)) in
     let reads : HasRead w.rings.front.stage w.rings.front.shape w.rings.front.ring.indices.cons (words_read (before ++ lines.Move a.shown ∷ (told ++ halts))) =
     subst (λ (l : List Move). HasRead w.rings.front.stage w.rings.front.shape w.rings.front.ring.indices.cons l) (sym (words_same before (lines.Move a.shown ∷ (told ++ halts)) none)) has.reads in
     record {
@@ -306,7 +231,7 @@ back_one w before (Some a) fit has e =
       knows = subst (λ (ls : List Line). Knows (before ++ ls) (happens w BackMoves)) (sym is.lines) (subst (λ (x : World). Knows (before ++ lines.Move a.shown ∷ (told ++ halts)) x) (sym is.world) (record {
         reads = reads;
         placed = has.placed;
-        order = order_move before (told ++ halts) (lines.Move a.shown) (both_silent told halts (told_silent v.ring.told a.answer) (halt_silent w.rings.back.halted v.ring.halted))
+        order = order_move before (told ++ halts) (lines.Move a.shown) (both_silent told halts (idle_silent told (told_idle v.ring.told a.answer)) (halt_silent w.rings.back.halted v.ring.halted))
             ∙ (ap (λ (n : ℕ). order_after n (lines.Move a.shown)) has.order ∙ sym (back_order w a e));
       }));
     }
@@ -316,7 +241,7 @@ job_plain : (w : rings.World) (k : ℕ) (o : Outcome) (act : Option BackAct) →
 job_plain w k o None e = tt
 job_plain w k o (Some a) e = (
   both_idle (lines.Move a.shown) (back_plain w.under (back_mover.Job k) (back_step.job_ask_of w.back k) o a e) (job_silent w.under k (back_step.job_ask_of w.back k) o a e),
-  both_are (back_lines _ a.answer) (told_plain _ a.answer) (told_silent _ a.answer),
+  told_idle _ a.answer,
 )
 
 job_front : (w : rings.World) (k : ℕ) (act : Option BackAct) → IsSame w.front (let x : rings.World = ring.job_after w k act in x.front)
@@ -344,13 +269,30 @@ cons_submit : (v : front.View) (job : Job) → (submit_of v job).1.ring.indices.
 cons_submit v job =
     either_cons (v.last == 4294967295) v.ring.indices.cons _ _ refl (either_cons v.closing v.ring.indices.cons _ _ refl (either_cons (not (is_ready v.stage)) v.ring.indices.cons _ _ refl (cons_one v (wish_of v.offers job))))
 
-submit_plain : (job : Job) (r : Result ℕ Refusal) → AreIdle (ring.submit_line job r ∷ [])
-submit_plain job (Ok number) = (refl, tt)
-submit_plain job (Err r) = (refl, tt)
+-- no move of an end or of a job or on the keys, no state that the front enters, no halt and no suspend
+abbrev IsStill : ring.Happening → Type 0
+IsStill (ring.Submits job) = Unit {0}
+IsStill (ring.Negotiates at move) = ⊥
+IsStill x = IsOutside x
 
-look_plain : (quiet : Bool) (other : Line) → is_idle other ≡ true → AreIdle ((if quiet then lines.Quiet else other) ∷ [])
-look_plain true other e = (refl, tt)
-look_plain false other e = (e, tt)
+still_idle : (x : ring.Happening) (line : Line) → IsStill x → MayShow x line → is_idle line ≡ true
+still_idle ring.FrontMoves line still shows = absurd still
+still_idle ring.BackMoves line still shows = absurd still
+still_idle (ring.JobMoves number outcome) line still shows = absurd still
+still_idle (ring.Negotiates at move) line still shows = absurd still
+still_idle (ring.FrontEnters state) line still shows = absurd still
+still_idle (ring.BackAttaches shape grefs port) line still shows = absurd still
+still_idle (ring.BackHalts why) line still shows = absurd still
+still_idle ring.Suspends line still shows = absurd still
+still_idle x (lines.Move shown) still shows = absurd shows
+still_idle x (lines.Halt why) still shows = absurd shows
+still_idle x (lines.Broken word) still shows = absurd shows
+still_idle x lines.Epoch still shows = absurd shows
+still_idle x line still shows = refl
+
+still_goes : (before : List Line) (w : World) (h : Happening) (x : ring.Happening) → does w h ≡ x ∷ [] → IsStill x → front_bus w h ≡ w.front → back_bus w h ≡ w.back → IsSame w.rings.front (let r : rings.World = ring.happens w.rings x in r.front) → Knows before w → Goes before w h
+still_goes before w h x one still front back same has =
+    plain_goes before w h (rw one (idle_nil (ring.lines_at w.rings x) (lines_are (λ (line : Line). is_idle line ≡ true) w.rings x (λ line shows. still_idle x line still shows)))) (rw one same) (record { front = front; order = rw back refl }) has
 
 -- the front is asked to close
 closing_lines : (b : Bool) → ArePlain (news_lines (if b then Some news.Closing else None))
@@ -434,20 +376,9 @@ one w (JobMoves k o) before fit has =
     plain_goes before w (JobMoves k o) (idle_nil (ring.job_shows w.rings k (ring.job_turn w.rings k o)) (job_plain w.rings k o (ring.job_turn w.rings k o) refl)) (job_front w.rings k (ring.job_turn w.rings k o)) (record { front = refl; order = refl }) has
 one w (Closes end.Front) before fit has = front_closes w before fit has
 one w (Closes end.Back) before fit has = plain_goes before w (Closes end.Back) tt (as_it_was w.rings.front) (record { front = refl; order = unplugged_order w.back }) has
-one w (Submits job) before fit has =
-    plain_goes before w (Submits job) (idle_nil (ring.submit_line job (submit_of w.rings.front job).0 ∷ []) (submit_plain job (submit_of w.rings.front job).0))
-    (record { stage = (submit_kept w.rings.front job).stage; shape = submit_shape w.rings.front job; cons = cons_submit w.rings.front job }) (record { front = refl; order = refl }) has
-one w (Notifies at) before fit has = plain_goes before w (Notifies at) tt (as_it_was w.rings.front) (record { front = refl; order = refl }) has
-one w (Pokes frame word value) before fit has =
-    plain_goes before w (Pokes frame word value) (idle_nil (ring.poke_lines frame word value) (poke_lines_are (λ (line : Line). is_idle line ≡ true) frame word value refl)) (as_it_was w.rings.front) (record { front = refl; order = refl }) has
-one w (OverwritesKey name text) before fit has =
-    plain_goes before w (OverwritesKey name text) (idle_nil (ring.overwritten_lines name text) (overwritten_lines_are (λ (line : Line). is_idle line ≡ true) name text refl)) (as_it_was w.rings.front) (record { front = refl; order = refl }) has
+one w (Submits job) before fit has = still_goes before w (Submits job) (ring.Submits job) refl tt refl refl (record { stage = (submit_kept w.rings.front job).stage; shape = submit_shape w.rings.front job; cons = cons_submit w.rings.front job }) has
 one w Suspends before fit has = suspends_goes w before has
-one w Dumps before fit has =
-    plain_goes before w Dumps (idle_nil (ring.ring_lines w.rings.under.pages 0 (1024 * 2 ^ w.rings.front.shape.order))
-    (dump_lines_are (λ (line : Line). is_idle line ≡ true) w.rings.under.pages 0 (1024 * 2 ^ w.rings.front.shape.order) (λ frame word value. refl))) (as_it_was w.rings.front) (record { front = refl; order = refl }) has
-one w (Looks quiet) before fit has = plain_goes before w (Looks quiet) (idle_nil ((if quiet then lines.Quiet else lines.Busy) ∷ []) (look_plain quiet lines.Busy refl)) (as_it_was w.rings.front) (record { front = refl; order = refl }) has
-one w (Settles quiet) before fit has = plain_goes before w (Settles quiet) (idle_nil ((if quiet then lines.Quiet else lines.Unsettled) ∷ []) (look_plain quiet lines.Unsettled refl)) (as_it_was w.rings.front) (record { front = refl; order = refl }) has
+one w h before fit has = still_goes before w h _ refl tt refl refl (as_it_was w.rings.front) has
 
 run : (history : List Happening) (w : World) (before : List Line) → IsFit w → Knows before w → AreCaused before → AreCaused (before ++ lines_of history w)
 run [] w before fit has are = subst (λ (ls : List Line). AreCaused ls) (sym (append-nil before)) are

@@ -1,32 +1,23 @@
 -- The order of the ring is the one that the back read last, whatever happens.
-use Rattle.std.proofs.Common.{◌≡◌, ℕ, Bool, true, false, true≢false, if◌then◌else◌, List, [], ◌∷◌, ◌++◌, refl, sym, ap, ◌∙◌, decimal}
-use Rattle.std.specs.Prelude.{Option, Some, None, Result, Ok, Err, ◌==◌, unwrap_or}
+use Rattle.std.proofs.Common.{◌≡◌, ℕ, Bool, true, false, true≢false, if◌then◌else◌, List, [], ◌∷◌, ◌++◌, refl, sym, ap, ◌∙◌, decimal, ◌⊎◌, inl, inr}
+use Rattle.std.specs.Prelude.{Option, Some, None, ◌==◌, unwrap_or}
 use Rattle.std.specs.Option.{option_map}
 use Rattle.std.specs.List.{AllByRecursion}
-use Rattle.std.proofs.lemmas.Option.{none-some}
 use Rattle.blk_base.specs.declared.parts.End.TheVariants as end
 use Rattle.blk_base.specs.declared.parts.Mapping.{Mapping}
-use Rattle.blk_base.specs.declared.parts.Mode.{Mode}
 use Rattle.blk_base.specs.declared.ask.FrontAsk.{FrontAsk}
-use Rattle.blk_base.specs.declared.ask.FrontAsk.TheVariants as front_ask
 use Rattle.blk_base.specs.declared.ask.BackAsk.{BackAsk}
 use Rattle.blk_base.specs.declared.ask.BackAsk.TheVariants as back_ask
 use Rattle.blk_base.specs.declared.ask.BackAnswer.{BackAnswer}
 use Rattle.blk_base.specs.declared.ask.BackAnswer.TheVariants as answer
 use Rattle.blk_base.specs.declared.moves.BackMover.{BackMover}
 use Rattle.blk_base.specs.declared.moves.BackMover.TheVariants as back_mover
-use Rattle.blk_base.specs.declared.moves.Move.{Move}
 use Rattle.blk_base.specs.declared.moves.Move.TheVariants as moves
 use Rattle.blk_base.specs.declared.moves.Mover.TheVariants as mover
-use Rattle.grant_table.specs.declared.entry.MapRefusal.{MapRefusal}
-use Rattle.grant_table.specs.Table.{verdict_at}
-use Rattle.event_channel.specs.declared.channels.PortState.{PortState}
-use Rattle.event_channel.specs.declared.channels.PortState.TheVariants as port
-use Rattle.event_channel.specs.Channels.{state_of}
 use Rattle.schedule_text.specs.declared.line.Line.{Line}
 use Rattle.schedule_text.specs.declared.line.Line.TheVariants as lines
 use Rattle.hypervisor.specs.Hypervisor.{Hypervisor}
-use Rattle.hypervisor.specs.Act.{FrontAct, BackAct, Outcome, Gave, Took, Failed, front_act, back_act, map_act, bind_act, read_act, disk_act, key_at, key_set, is_own_path}
+use Rattle.hypervisor.specs.Act.{FrontAct, BackAct, Outcome, Took, front_act, back_act, key_at, key_set, is_own_path}
 use Rattle.blk_back.specs.declared.stage.Stage.{Stage as BackRing}
 use Rattle.blk_back.specs.declared.stage.Stage.TheVariants as back_ring
 use Rattle.blk_back.specs.declared.told.Halt.{Halt}
@@ -53,7 +44,9 @@ use Rattle.xenbus_state.specs.BackReading.{order_of, layout_read, key_read}
 use Rattle.xenbus_state.specs.BackAsk as bus_asks
 use Rattle.xenbus_state.specs.BackStep as bus
 use Rattle.split_model.specs.Happening as ring_happens
-use Rattle.split_model.proofs.SafeActs.{of_front, front_wait, front_test, of_back, back_wait, back_test, AsksBackKey}
+use Rattle.split_model.proofs.Acting.{front_acts, BackGet, back_acts, FrontEvent}
+use Rattle.split_model.proofs.SafeActs.{AsksBackKey, of_back, back_test, back_wait}
+use Rattle.vbd_laws.proofs.FitChannels.{IsOfJob}
 use Rattle.split_model.proofs.SafeAnswers.{IsBacks, backs_of}
 use Rattle.vbd_back.specs.View as back_view
 use Rattle.vbd_back.specs.Ask as back
@@ -100,65 +93,20 @@ abbrev IsSilentFront : FrontAct → Type 0
 IsSilentFront a = is_silent (lines.Move a.shown) ≡ true
 
 pub front_silent : (h : Hypervisor) (wish : FrontAsk) (a : FrontAct) → front_act h wish ≡ Some a → IsSilentFront a
-front_silent h front_ask.Wait a e = front_wait IsSilentFront h a refl (λ path. refl) e
-front_silent h front_ask.Fence a e = of_front IsSilentFront _ a refl e
-front_silent h (front_ask.Read frame word) a e = of_front IsSilentFront _ a refl e
-front_silent h (front_ask.Write frame word value) a e = of_front IsSilentFront _ a refl e
-front_silent h (front_ask.Cas frame word old new) a e = of_front IsSilentFront _ a refl e
-front_silent h front_ask.NewPort a e = of_front IsSilentFront _ a refl e
-front_silent h front_ask.Send a e = of_front IsSilentFront _ a refl e
-front_silent h front_ask.ClosePort a e = of_front IsSilentFront _ a refl e
-front_silent h (front_ask.GetKey path) a e = of_front IsSilentFront _ a refl e
-front_silent h (front_ask.SetKey path text) a e = front_test IsSilentFront (is_own_path end.Front path) _ a refl e
-front_silent h (front_ask.Watch path) a e = of_front IsSilentFront _ a refl e
+front_silent h wish a e = elim (front_acts h wish a e) as (λ asked x acts. IsSilentFront x) [ FrontEvent ↦ refl | acts ↦ refl ]
 
 abbrev IsSilentBack : BackAct → Type 0
 IsSilentBack a = is_silent (lines.Move a.shown) ≡ true
 
-map_silent : (h : Hypervisor) (who : BackMover) (gref : ℕ) (mode : Mode) (r : Result ℕ MapRefusal) → IsSilentBack (map_act h who gref mode r)
-map_silent h who gref mode (Ok frame) = refl
-map_silent h who gref mode (Err refusal) = refl
-
-bind_silent : (h : Hypervisor) (p : ℕ) (s : PortState) → IsSilentBack (bind_act h p s)
-bind_silent h p port.Unbound = refl
-bind_silent h p s = refl
-
-read_silent : (h : Hypervisor) (shown : Move) (o : Outcome) (a : BackAct) → is_silent (lines.Move shown) ≡ true → read_act h shown o ≡ Some a → IsSilentBack a
-read_silent h shown (Gave words) a is e = of_back IsSilentBack _ a is e
-read_silent h shown Failed a is e = of_back IsSilentBack _ a is e
-read_silent h shown Took a is e = absurd (none-some a e)
-
-disk_silent : (h : Hypervisor) (shown : Move) (o : Outcome) (a : BackAct) → is_silent (lines.Move shown) ≡ true → disk_act h shown o ≡ Some a → IsSilentBack a
-disk_silent h shown Took a is e = of_back IsSilentBack _ a is e
-disk_silent h shown Failed a is e = of_back IsSilentBack _ a is e
-disk_silent h shown (Gave words) a is e = absurd (none-some a e)
-
-act_silent : (h : Hypervisor) (who : BackMover) (wish : BackAsk) (o : Outcome) (a : BackAct) → (AsksBackKey wish → IsSilentBack a) → back_act h who wish o ≡ Some a → IsSilentBack a
-act_silent h who back_ask.Wait o a keys e = back_wait IsSilentBack h who a refl (λ path. refl) e
-act_silent h who back_ask.Fence o a keys e = of_back IsSilentBack _ a refl e
-act_silent h who (back_ask.Read m word) o a keys e = of_back IsSilentBack _ a refl e
-act_silent h who (back_ask.Write m word value) o a keys e = of_back IsSilentBack _ a refl e
-act_silent h who (back_ask.Map gref mode) o a keys e = of_back IsSilentBack _ a (map_silent h who gref mode (verdict_at h.pages gref mode)) e
-act_silent h who (back_ask.Unmap m) o a keys e = of_back IsSilentBack _ a refl e
-act_silent h who (back_ask.Bind p) o a keys e = of_back IsSilentBack _ a (bind_silent h p (state_of h.channels p)) e
-act_silent h who back_ask.Send o a keys e = of_back IsSilentBack _ a refl e
-act_silent h who back_ask.ClosePort o a keys e = of_back IsSilentBack _ a refl e
-act_silent h who (back_ask.GetKey path) o a keys e = keys tt
-act_silent h who (back_ask.SetKey path text) o a keys e = keys tt
-act_silent h who (back_ask.Watch path) o a keys e = keys tt
-act_silent h who (back_ask.DiskRead sector) o a keys e = read_silent h _ o a refl e
-act_silent h who (back_ask.DiskWrite sector words) o a keys e = disk_silent h _ o a refl e
-act_silent h who back_ask.Flush o a keys e = disk_silent h _ o a refl e
-act_silent h who (back_ask.Trim sector count) o a keys e = disk_silent h _ o a refl e
-
-job_asks_none : (h : Hypervisor) (k : ℕ) (wish : BackAsk) (o : Outcome) (a : BackAct) → AsksBackKey wish → back_act h (back_mover.Job k) wish o ≡ Some a → IsSilentBack a
-job_asks_none h k (back_ask.GetKey path) o a asks e = absurd (none-some a e)
-job_asks_none h k (back_ask.SetKey path text) o a asks e = absurd (none-some a e)
-job_asks_none h k (back_ask.Watch path) o a asks e = absurd (none-some a e)
-job_asks_none h k wish o a asks e = absurd asks
+-- the back reads a key alone where it asks for one
+act_silent : (h : Hypervisor) (who : BackMover) (wish : BackAsk) (o : Outcome) (a : BackAct) → (AsksBackKey wish → ⊥) ⊎ IsOfJob who → back_act h who wish o ≡ Some a → IsSilentBack a
+act_silent h who wish o a none e = (elim (back_acts h who wish o a e) as (λ by asked outcome x acts. (AsksBackKey asked → ⊥) ⊎ IsOfJob by → IsSilentBack x) [
+  | BackGet path ↦ λ none. elim none [ inl unasked ↦ absurd (unasked tt) | inr job ↦ absurd job ]
+  | acts ↦ λ none. refl
+]) none
 
 pub job_silent : (h : Hypervisor) (k : ℕ) (wish : BackAsk) (o : Outcome) (a : BackAct) → back_act h (back_mover.Job k) wish o ≡ Some a → IsSilentBack a
-job_silent h k wish o a e = act_silent h (back_mover.Job k) wish o a (λ asks. job_asks_none h k wish o a asks e) e
+job_silent h k wish o a e = act_silent h (back_mover.Job k) wish o a (inr tt) e
 
 ring_asks_none : (wish : BackAsk) → IsBacks wish → AsksBackKey wish → ⊥
 ring_asks_none (back_ask.GetKey path) is asks = is
@@ -314,7 +262,7 @@ moved w a e =
     let r : ring.View = ring_step.step_of w.rings.back a.answer in
     let u : BackView = back_step.followed (back_asks w) w.back a.answer in
     let x : BackView = back_step.bus_halted r.halted u in
-    let silent = act_silent w.rings.under back_mover.Back (back_asked.ask_of w.rings.back) Took a (λ asks. absurd (ring_asks_none (back_asked.ask_of w.rings.back) (backs_of w.rings.back) asks)) e in
+    let silent = act_silent w.rings.under back_mover.Back (back_asked.ask_of w.rings.back) Took a (inl (ring_asks_none (back_asked.ask_of w.rings.back) (backs_of w.rings.back))) e in
     settled_order x.stage r.stage x ∙ (halted_order r.halted u ∙ (followed_order (back_asks w) w.back a.answer refl ∙ sym (silent_order (lines.Move a.shown) w.back.terms.order silent)))
 
 waits : (w : World) (a : BackAct) → back_act w.rings.under back_mover.Back back_ask.Wait Took ≡ Some a

@@ -1,5 +1,4 @@
 -- The machine is fit at the start and stays so.
-use Rattle.split_model.specs.Keys.{front_path}
 use Rattle.vbd_laws.proofs.FitSaid.{LeavesBack, same_back, written_leaves, announced_kept, said_kept}
 use Rattle.vbd_laws.proofs.FitFrontReads.{reads_kept}
 use Rattle.vbd_laws.proofs.FitSuspended.{one_announced, fit_suspends}
@@ -8,14 +7,9 @@ use Rattle.std.specs.Prelude.{Option, Some, None, IsSome, Result, Err, nat_lt, n
 use Rattle.std.proofs.lemmas.Bool.Decides.{nat_tests}
 use Rattle.blk_base.specs.Options.{Options}
 use Rattle.blk_base.specs.declared.config.Job.{Job}
-use Rattle.blk_base.specs.declared.parts.End.{End}
 use Rattle.blk_base.specs.declared.parts.End.TheVariants as end
-use Rattle.schedule_text.specs.declared.line.Line.{Line}
 use Rattle.segment_list.specs.declared.verdict.DiskInfo.{DiskInfo}
-use Rattle.key_directory.specs.Directory.{written}
-use Rattle.hypervisor.specs.Hypervisor.{Hypervisor}
-use Rattle.xen_pages.specs.Pages.{with_word}
-use Rattle.hypervisor.specs.Act.{BackAct, Outcome, with_pages, with_keys}
+use Rattle.hypervisor.specs.Act.{BackAct, Outcome}
 use Rattle.ring_words.specs.Shape.{Shape, entries_of}
 use Rattle.blk_front.specs.declared.request.Wish.{Wish}
 use Rattle.blk_front.specs.declared.told.Refusal.{Refusal}
@@ -40,10 +34,12 @@ use Rattle.xenbus_state.specs.Offer.{facts_of}
 use Rattle.xenbus_state.proofs.BackTurns.{back_starts}
 use Rattle.vbd_back.specs.View.{offer}
 use Rattle.split_model.proofs.Overwriting.{poke_cases, overwriting_cases}
+use Rattle.split_model.proofs.Outside.{IsOutside, LeavesEnds, leaves_ends}
+use Rattle.blk_back.specs.View as back
 use Rattle.vbd_model.specs.World.{World, start_of}
-use Rattle.vbd_model.specs.Happening.{Happening, FrontMoves, BackMoves, JobMoves, Closes, Submits, Notifies, Pokes, OverwritesKey, Suspends, happens, after}
+use Rattle.vbd_model.specs.Happening.{Happening, FrontMoves, BackMoves, JobMoves, Closes, Submits, Pokes, OverwritesKey, Suspends, does, front_bus, back_bus, happens, after}
 use Rattle.vbd_model.specs.Fit.{FrontRests, FrontGoesWith, IsAgreed, FrontOrdered, IsUnbound, has_terms, IsOffered, SaysKey, IsFit}
-use Rattle.vbd_laws.proofs.FitChannels.{IsUnported, job_leaves, notified}
+use Rattle.vbd_laws.proofs.FitChannels.{IsUnported, job_leaves, sent_fits}
 use Rattle.vbd_laws.proofs.FitFront.{fit_front_moves, fit_front_closes}
 use Rattle.vbd_laws.proofs.FitBackShares.{Terms, terms_in}
 use Rattle.vbd_laws.proofs.FitBack.{fit_back_moves, fit_back_closes}
@@ -251,25 +247,44 @@ fit_submit w job fit =
     fit_rings w (ring.happens w.rings (ring.Submits job)) fit (safe_happens w.rings (ring.Submits job) fit.safe)
     (record { front = (submit_kept w.rings.front job).stage; shape = submit_shape w.rings.front job; closing = closing_submit w.rings.front job; through = through_submit w.rings.front job; back = refl; halted = refl; terms = refl; info = refl; keys = same_back w.back.features w.back.disk w.rings.under.keys; room = room }) fit.unported fit.unbound
 
-fit_notify : (w : World) (at : End) → IsFit w → IsFit (happens w (Notifies at))
-fit_notify w at fit =
-    let channels = notified at w.rings.back.stage w.rings.under.channels fit.unported fit.unbound in
-    fit_rings w (ring.happens w.rings (ring.Notifies at)) fit (safe_happens w.rings (ring.Notifies at) fit.safe) (record { front = refl; shape = refl; closing = refl; through = λ is. is; back = refl; halted = refl; terms = refl; info = refl; keys = same_back w.back.features w.back.disk w.rings.under.keys; room = fit.room }) channels.0 channels.1
-
--- the rings over this
-abbrev with_under : rings.World → Hypervisor → rings.World
-with_under r under = record { front = r.front; back = r.back; under = under }
-
-fit_poke : (w : World) (frame word value : ℕ) → IsFit w → IsFit (happens w (Pokes frame word value))
-fit_poke w frame word value fit =
-    poke_cases (λ (under : Hypervisor) (shown : List Line). IsSafe (with_under w.rings under) → IsFit (with_rings w (with_under w.rings under))) w.rings.under frame word value
-    (λ framed worded safe. fit_rings w (with_under w.rings (with_pages w.rings.under (with_word w.rings.under.pages frame word value))) fit safe (record { front = refl; shape = refl; closing = refl; through = λ is. is; back = refl; halted = refl; terms = refl; info = refl; keys = same_back w.back.features w.back.disk w.rings.under.keys; room = fit.room }) fit.unported fit.unbound) (λ safe. fit) (safe_happens w.rings (ring.Pokes frame word value) fit.safe)
+-- what happens outside the ends, and leaves the back's keys
+fit_outside : (w : World) (h : ring.Happening) → IsOutside h → (let r : rings.World = ring.happens w.rings h in LeavesBack w.back.features w.back.disk w.rings.under.keys r.under.keys) → IsFit w → IsFit (with_rings w (ring.happens w.rings h))
+fit_outside w h outside keys fit =
+    let r : rings.World = ring.happens w.rings h in
+    let left : LeavesEnds w.rings r = leaves_ends w.rings h outside in
+    let channels = sent_fits w.rings.back.stage w.rings.under.channels r.under.channels left.channels fit.unported fit.unbound in
+    let as_front : (P : View → Type 0) → P w.rings.front → P r.front = λ P is. subst P (sym left.front) is in
+    fit_rings w r fit (safe_happens w.rings h fit.safe)
+    (record {
+      front = ap (λ (f : View). f.stage) left.front;
+      shape = ap (λ (f : View). f.shape) left.front;
+      closing = ap (λ (f : View). f.closing) left.front;
+      through = as_front (λ f. is_through w.rings.front ≡ true → is_through f ≡ true) (λ is. is);
+      back = ap (λ (b : back.View). b.stage) left.back;
+      halted = ap (λ (b : back.View). b.halted) left.back;
+      terms = ap terms_in left.back;
+      info = ap (λ (b : back.View). b.jobs.info) left.back;
+      keys = keys;
+      room = as_front (λ f. unfinished f ≤ entries_of (min w.front.order 4)) fit.room;
+    })
+    channels.0 channels.1
 
 -- a key of the front's is none of the back's
+fit_poke : (w : World) (frame word value : ℕ) → IsFit w → IsFit (happens w (Pokes frame word value))
+fit_poke w frame word value fit =
+    let same = same_back w.back.features w.back.disk w.rings.under.keys in
+    fit_outside w (ring.Pokes frame word value) tt (poke_cases (λ under shown. LeavesBack w.back.features w.back.disk w.rings.under.keys under.keys) w.rings.under frame word value (λ framed worded. same) same) fit
+
 fit_key : (w : World) (name text : List ℕ) → IsFit w → IsFit (happens w (OverwritesKey name text))
 fit_key w name text fit =
-    overwriting_cases (λ (under : Hypervisor) (shown : List Line). IsSafe (with_under w.rings under) → IsFit (with_rings w (with_under w.rings under))) w.rings.under name text
-    (λ allowed safe. fit_rings w (with_under w.rings (with_keys w.rings.under (written w.rings.under.keys (front_path name) text))) fit safe (record { front = refl; shape = refl; closing = refl; through = λ is. is; back = refl; halted = refl; terms = refl; info = refl; keys = written_leaves w.back.features w.back.disk w.rings.under.keys name text; room = fit.room }) fit.unported fit.unbound) (λ safe. fit) (safe_happens w.rings (ring.OverwritesKey name text) fit.safe)
+    fit_outside w (ring.OverwritesKey name text) tt
+    (overwriting_cases (λ under shown. LeavesBack w.back.features w.back.disk w.rings.under.keys under.keys) w.rings.under name text
+    (λ allowed. written_leaves w.back.features w.back.disk w.rings.under.keys name text) (same_back w.back.features w.back.disk w.rings.under.keys)) fit
+
+-- another one, which leaves all keys
+fit_beside : (w : World) (h : Happening) (x : ring.Happening) → does w h ≡ x ∷ [] → front_bus w h ≡ w.front → back_bus w h ≡ w.back → IsOutside x
+    → (let r : rings.World = ring.happens w.rings x in r.under.keys) ≡ w.rings.under.keys → IsFit w → IsFit (happens w h)
+fit_beside w h x one front back outside keys fit = rw (one, front, back) (fit_outside w x outside (rw keys (same_back w.back.features w.back.disk w.rings.under.keys)) fit)
 
 -- whatever happens
 pub fit_happens : (w : World) (h : Happening) → IsFit w → IsFit (happens w h)
@@ -280,11 +295,10 @@ fit_happens w (JobMoves number outcome) fit =
 fit_happens w (Closes end.Front) fit = fit_front_closes w fit
 fit_happens w (Closes end.Back) fit = fit_back_closes w fit
 fit_happens w (Submits job) fit = fit_submit w job fit
-fit_happens w (Notifies at) fit = fit_notify w at fit
 fit_happens w (Pokes frame word value) fit = fit_poke w frame word value fit
 fit_happens w (OverwritesKey name text) fit = fit_key w name text fit
 fit_happens w Suspends fit = fit_suspends w fit
-fit_happens w h fit = fit
+fit_happens w h fit = fit_beside w h _ refl refl refl tt refl fit
 
 -- whatever has happened
 pub fit_after : (hs : List Happening) (w : World) → IsFit w → IsFit (after hs w)

@@ -183,13 +183,6 @@ past_told v x past = by_test (says_closing v)
     by_test true = past
     by_test false = past_at v.stage v x refl past
 
-past_stopped : (v : BackView) → IsPast v → IsPast (stopped v)
-past_stopped v past = by_test (is_halting v.stage)
-  where
-    by_test : (c : Bool) → IsPast (if c then v else halted v)
-    by_test true = past
-    by_test false = refl
-
 -- this was said, once it has published all, or it has halted
 abbrev pub HasSaid : Type 0 → BackView → Type 0
 HasSaid said v = IsPast v × (said ⊎ (v.stage ≡ stage.Halted))

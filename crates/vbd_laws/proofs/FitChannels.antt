@@ -1,18 +1,13 @@
 -- No event is pending where no port is made, nor at the back before it binds one.
-use Rattle.std.proofs.Common.{◌≡◌, ℕ, ◌+◌, Bool, true, false, true≢false, ◌||◌, if◌then◌else◌, List, [], ◌∷◌, ◌++◌, length, map, refl, sym, ap, ◌∙◌, subst, arith, length-append}
+use Rattle.std.proofs.Common.{◌≡◌, ℕ, ◌+◌, Bool, true, false, true≢false, ◌||◌, if◌then◌else◌, List, [], ◌∷◌, ◌++◌, length, map, inl, inr, refl, sym, ap, ◌∙◌, subst, arith, length-append}
 use Rattle.std.specs.Prelude.{Some, Result, Ok, Err, nat_lt, slice_set}
 use Rattle.std.specs.List.{list_any}
 use Rattle.std.proofs.lemmas.List.{length-set}
 use Rattle.std.proofs.lemmas.List.Folds.{list_any-append}
-use Rattle.std.proofs.lemmas.Option.{none-some}
-use Rattle.blk_base.specs.declared.parts.Mode.{Mode}
 use Rattle.blk_base.specs.declared.parts.Mode.TheVariants.{ReadWrite}
-use Rattle.blk_base.specs.declared.parts.End.{End}
 use Rattle.blk_base.specs.declared.parts.End.TheVariants as end
 use Rattle.blk_base.specs.declared.ask.FrontAsk.{FrontAsk}
-use Rattle.blk_base.specs.declared.ask.FrontAsk.TheVariants as front_ask
 use Rattle.blk_base.specs.declared.ask.BackAsk.{BackAsk}
-use Rattle.blk_base.specs.declared.ask.BackAsk.TheVariants as back_ask
 use Rattle.blk_base.specs.declared.moves.BackMover.{BackMover}
 use Rattle.blk_base.specs.declared.moves.BackMover.TheVariants as back_mover
 use Rattle.grant_table.specs.declared.entry.MapRefusal.{MapRefusal}
@@ -27,8 +22,9 @@ use Rattle.blk_back.specs.declared.stage.Stage.TheVariants as stage
 use Rattle.blk_back.specs.View.{View}
 use Rattle.blk_back.specs.Ask.{next_gref, ask_at, ask_of}
 use Rattle.blk_back.specs.Step.{unbound, step_at, step_of}
-use Rattle.split_model.specs.Happening.{other_end}
-use Rattle.split_model.proofs.SafeActs.{of_front, of_back, of_read, of_disk, front_wait, back_wait}
+use Rattle.split_model.proofs.Outside.{AreSent}
+use Rattle.split_model.proofs.Acting.{FrontEvent, FrontPort, FrontSend, FrontClose, front_acts, BackEvent, BackWatched, BackSet, BackWatch, BackBind, BackSend, BackClose, back_acts}
+use Rattle.split_model.proofs.SafeActs.{of_back, back_wait}
 use Rattle.split_model.proofs.SafeAnswers.{IsFronts, IsBacks, IsJobs}
 use Rattle.vbd_model.specs.Fit.{IsUnbound}
 use Rattle.vbd_laws.proofs.FitBackRing.{is_past, unbound_past, past_step}
@@ -38,25 +34,21 @@ abbrev pub IsUnported : ChannelState → Type 0
 IsUnported c = c.ports ≡ [] → c.front_pending ≡ false
 
 -- what becomes of the channels at a move of the front's end of the ring
-front_channels : (P : ChannelState → Type 0) (h : Hypervisor) (c : ChannelState) (ask : FrontAsk) (a : FrontAct) → IsFronts c ask
+front_channels : (P : ChannelState → Type 0) (h : Hypervisor) (ask : FrontAsk) (a : FrontAct)
     → P h.channels → P (taken h.channels end.Front) → P (with_port h.channels) → P (sent h.channels end.Front) → P (closed h.channels end.Front) → front_act h ask ≡ Some a → P a.under.channels
-front_channels P h c front_ask.Wait a own same takes ports sends closes e = front_wait (λ (x : FrontAct). P x.under.channels) h a takes (λ path. same) e
-front_channels P h c front_ask.Fence a own same takes ports sends closes e = of_front (λ (x : FrontAct). P x.under.channels) _ a same e
-front_channels P h c (front_ask.Read frame word) a own same takes ports sends closes e = of_front (λ (x : FrontAct). P x.under.channels) _ a same e
-front_channels P h c (front_ask.Write frame word value) a own same takes ports sends closes e = of_front (λ (x : FrontAct). P x.under.channels) _ a same e
-front_channels P h c (front_ask.Cas frame word old new) a own same takes ports sends closes e = of_front (λ (x : FrontAct). P x.under.channels) _ a same e
-front_channels P h c front_ask.NewPort a own same takes ports sends closes e = of_front (λ (x : FrontAct). P x.under.channels) _ a ports e
-front_channels P h c front_ask.Send a own same takes ports sends closes e = of_front (λ (x : FrontAct). P x.under.channels) _ a sends e
-front_channels P h c front_ask.ClosePort a own same takes ports sends closes e = of_front (λ (x : FrontAct). P x.under.channels) _ a closes e
-front_channels P h c (front_ask.GetKey path) a own same takes ports sends closes e = absurd own
-front_channels P h c (front_ask.SetKey path text) a own same takes ports sends closes e = absurd own
-front_channels P h c (front_ask.Watch path) a own same takes ports sends closes e = absurd own
+front_channels P h ask a same takes ports sends closes e = elim (front_acts h ask a e) as (λ asked x acts. P x.under.channels) [
+  | FrontEvent ↦ takes
+  | FrontPort ↦ ports
+  | FrontSend ↦ sends
+  | FrontClose ↦ closes
+  | acts ↦ same
+]
 
 one_more : (ports : List PortState) → ports ++ port.Unbound ∷ [] ≡ [] → ⊥
 one_more ports e = let more = length-append ports (port.Unbound ∷ []) in let none = ap (λ (l : List PortState). length l) e in omega arith
 
 pub unported_front : (h : Hypervisor) (c : ChannelState) (ask : FrontAsk) (a : FrontAct) → IsFronts c ask → IsUnported h.channels → front_act h ask ≡ Some a → IsUnported a.under.channels
-unported_front h c ask a own was e = front_channels IsUnported h c ask a own was (λ none. refl) (λ none. absurd (one_more h.channels.ports none)) was (λ none. refl) e
+unported_front h c ask a own was e = front_channels IsUnported h ask a was (λ none. refl) (λ none. absurd (one_more h.channels.ports none)) was (λ none. refl) e
 
 -- no port is bound, and no event is pending at the back
 abbrev IsQuiet : ChannelState → Type 0
@@ -88,41 +80,20 @@ unbound_as s c d into was = tt
 pub unbound_front : (s : Stage) (h : Hypervisor) (c : ChannelState) (ask : FrontAsk) (a : FrontAct) → IsFronts c ask → IsUnbound s h.channels → front_act h ask ≡ Some a
     → IsUnbound s a.under.channels
 unbound_front s h c ask a own was e =
-    front_channels (λ (d : ChannelState). IsUnbound s d) h c ask a own was (unbound_as s h.channels (taken h.channels end.Front) (λ q. q) was)
+    front_channels (λ (d : ChannelState). IsUnbound s d) h ask a was (unbound_as s h.channels (taken h.channels end.Front) (λ q. q) was)
     (unbound_as s h.channels (with_port h.channels) (quiet_port h.channels) was) (unbound_as s h.channels (sent h.channels end.Front) (quiet_sent h.channels) was) (unbound_as s h.channels (closed h.channels end.Front) (quiet_closed h.channels) was) e
 
 -- what becomes of the channels at a move of the back's end of the ring
-bind_channels : (P : ChannelState → Type 0) (h : Hypervisor) (p : ℕ) (state : PortState) → P h.channels → P (bound h.channels p) → P (bind_act h p state).under.channels
-bind_channels P h p port.Unbound same binds = binds
-bind_channels P h p port.Closed same binds = same
-bind_channels P h p port.Bound same binds = same
-
-map_channels : (P : ChannelState → Type 0) (h : Hypervisor) (who : BackMover) (gref : ℕ) (mode : Mode) (verdict : Result ℕ MapRefusal) → P h.channels
-    → P (map_act h who gref mode verdict).under.channels
-map_channels P h who gref mode (Ok frame) same = same
-map_channels P h who gref mode (Err refusal) same = same
-
-back_channels : (P : ChannelState → Type 0) (h : Hypervisor) (ask : BackAsk) (o : Outcome) (a : BackAct) → IsBacks ask
+back_channels : (P : ChannelState → Type 0) (h : Hypervisor) (ask : BackAsk) (o : Outcome) (a : BackAct)
     → P h.channels → P (taken h.channels end.Back) → ((p : ℕ) → P (bound h.channels p)) → P (sent h.channels end.Back) → P (closed h.channels end.Back)
     → back_act h back_mover.Back ask o ≡ Some a → P a.under.channels
-back_channels P h back_ask.Wait o a own same takes binds sends closes e = back_wait (λ (x : BackAct). P x.under.channels) h back_mover.Back a takes (λ path. same) e
-back_channels P h back_ask.Fence o a own same takes binds sends closes e = of_back (λ (x : BackAct). P x.under.channels) _ a same e
-back_channels P h (back_ask.Read m word) o a own same takes binds sends closes e = of_back (λ (x : BackAct). P x.under.channels) _ a same e
-back_channels P h (back_ask.Write m word value) o a own same takes binds sends closes e = of_back (λ (x : BackAct). P x.under.channels) _ a same e
-back_channels P h (back_ask.Map gref mode) o a own same takes binds sends closes e =
-    of_back (λ (x : BackAct). P x.under.channels) _ a (map_channels P h back_mover.Back gref mode (verdict_at h.pages gref mode) same) e
-back_channels P h (back_ask.Unmap m) o a own same takes binds sends closes e = of_back (λ (x : BackAct). P x.under.channels) _ a same e
-back_channels P h (back_ask.Bind p) o a own same takes binds sends closes e =
-    of_back (λ (x : BackAct). P x.under.channels) _ a (bind_channels P h p (state_of h.channels p) same (binds p)) e
-back_channels P h back_ask.Send o a own same takes binds sends closes e = of_back (λ (x : BackAct). P x.under.channels) _ a sends e
-back_channels P h back_ask.ClosePort o a own same takes binds sends closes e = of_back (λ (x : BackAct). P x.under.channels) _ a closes e
-back_channels P h (back_ask.GetKey path) o a own same takes binds sends closes e = absurd own
-back_channels P h (back_ask.SetKey path text) o a own same takes binds sends closes e = absurd own
-back_channels P h (back_ask.Watch path) o a own same takes binds sends closes e = absurd own
-back_channels P h (back_ask.DiskRead sector) o a own same takes binds sends closes e = absurd own
-back_channels P h (back_ask.DiskWrite sector words) o a own same takes binds sends closes e = absurd own
-back_channels P h back_ask.Flush o a own same takes binds sends closes e = absurd own
-back_channels P h (back_ask.Trim sector count) o a own same takes binds sends closes e = absurd own
+back_channels P h ask o a same takes binds sends closes e = elim (back_acts h back_mover.Back ask o a e) as (λ who asked outcome x acts. P x.under.channels) [
+  | BackEvent ↦ takes
+  | BackBind p is ↦ binds p
+  | BackSend ↦ sends
+  | BackClose ↦ closes
+  | acts ↦ same
+]
 
 set_empty : (ports : List PortState) (i : ℕ) (p : PortState) → slice_set ports i p ≡ [] → ports ≡ []
 set_empty [] i p e = refl
@@ -142,7 +113,7 @@ sent_unported c was none = by_test (is_bound c) (ap (list_any is_bound_port) non
 
 pub unported_back : (h : Hypervisor) (ask : BackAsk) (o : Outcome) (a : BackAct) → IsBacks ask → IsUnported h.channels → back_act h back_mover.Back ask o ≡ Some a → IsUnported a.under.channels
 unported_back h ask o a own was e =
-    back_channels IsUnported h ask o a own was was (λ p none. was (set_empty h.channels.ports (place_of h.channels p) port.Bound none)) (sent_unported h.channels was)
+    back_channels IsUnported h ask o a was was (λ p none. was (set_empty h.channels.ports (place_of h.channels p) port.Bound none)) (sent_unported h.channels was)
     (λ none. was (map_empty unbound_port h.channels.ports none)) e
 
 -- past its port's bind nothing is said of the back's channels
@@ -185,26 +156,24 @@ unbound_back v h o a was e = unbound_at v.stage v h o a refl was e
 abbrev pub Leaves : Hypervisor → BackAct → Type 0
 Leaves h a = (a.under.channels ≡ h.channels) × (a.under.keys ≡ h.keys)
 
-map_leaves : (h : Hypervisor) (k gref : ℕ) (mode : Mode) (verdict : Result ℕ MapRefusal) → Leaves h (map_act h (back_mover.Job k) gref mode verdict)
-map_leaves h k gref mode (Ok frame) = (refl, refl)
-map_leaves h k gref mode (Err refusal) = (refl, refl)
-
-under_leaves : (h : Hypervisor) (x : BackAct) → x.under ≡ h → Leaves h x
-under_leaves h x is = (ap (λ (u : Hypervisor). u.channels) is, ap (λ (u : Hypervisor). u.keys) is)
+abbrev pub IsOfJob : BackMover → Type 0
+IsOfJob back_mover.Back = ⊥
+IsOfJob (back_mover.Job k) = Unit {0}
 
 pub job_leaves : (h : Hypervisor) (k : ℕ) (ask : BackAsk) (o : Outcome) (a : BackAct) → IsJobs ask → back_act h (back_mover.Job k) ask o ≡ Some a → Leaves h a
-job_leaves h k back_ask.Wait o a own e = absurd (none-some a e)
-job_leaves h k (back_ask.Read m word) o a own e = of_back (Leaves h) _ a (refl, refl) e
-job_leaves h k (back_ask.Write m word value) o a own e = of_back (Leaves h) _ a (refl, refl) e
-job_leaves h k (back_ask.Map gref mode) o a own e = of_back (Leaves h) _ a (map_leaves h k gref mode (verdict_at h.pages gref mode)) e
-job_leaves h k (back_ask.Unmap m) o a own e = of_back (Leaves h) _ a (refl, refl) e
-job_leaves h k (back_ask.DiskRead sector) o a own e = of_read (Leaves h) h _ o a (under_leaves h) e
-job_leaves h k (back_ask.DiskWrite sector words) o a own e = of_disk (Leaves h) h _ o a (under_leaves h) e
-job_leaves h k back_ask.Flush o a own e = of_disk (Leaves h) h _ o a (under_leaves h) e
-job_leaves h k (back_ask.Trim sector count) o a own e = of_disk (Leaves h) h _ o a (under_leaves h) e
-job_leaves h k ask o a own e = absurd own
+job_leaves h k ask o a own e = (elim (back_acts h (back_mover.Job k) ask o a e) as (λ who asked outcome x acts. IsOfJob who → IsJobs asked → Leaves h x) [
+  | BackEvent ↦ λ job own. absurd job
+  | BackWatched path first ↦ λ job own. absurd job
+  | BackSet path text is ↦ λ job own. absurd job
+  | BackWatch path ↦ λ job own. absurd job
+  | BackBind p is ↦ λ job own. absurd own
+  | BackSend ↦ λ job own. absurd own
+  | BackClose ↦ λ job own. absurd own
+  | acts ↦ λ job own. (refl, refl)
+]) tt own
 
--- a spurious event comes at a bound port alone
-pub notified : (at : End) (s : Stage) (c : ChannelState) → IsUnported c → IsUnbound s c → IsUnported (sent c (other_end at)) × IsUnbound s (sent c (other_end at))
-notified end.Front s c unported unbound = (sent_unported c unported, unbound_as s c (sent c end.Back) (λ q. q) unbound)
-notified end.Back s c unported unbound = (unported, unbound_as s c (sent c end.Front) (quiet_sent c) unbound)
+-- an event comes at a bound port alone
+pub sent_fits : (s : Stage) (c now : ChannelState) → AreSent c now → IsUnported c → IsUnbound s c → IsUnported now × IsUnbound s now
+sent_fits s c now (inl same) unported unbound = (rw same unported, rw same unbound)
+sent_fits s c now (inr (end.Front, same)) unported unbound = rw same (unported, unbound_as s c (sent c end.Front) (quiet_sent c) unbound)
+sent_fits s c now (inr (end.Back, same)) unported unbound = rw same (sent_unported c unported, unbound_as s c (sent c end.Back) (λ q. q) unbound)

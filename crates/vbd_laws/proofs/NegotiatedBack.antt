@@ -3,7 +3,6 @@ use Rattle.std.proofs.Common.{◌⊎◌, inl, inr, ◌≡◌, ◌∙◌, ap, sym
 use Rattle.std.specs.Prelude.{Option, Some, None, is_some, Result, Ok, Err}
 use Rattle.blk_base.specs.declared.parts.End.TheVariants as end
 use Rattle.blk_base.specs.declared.parts.Mapping.{Mapping}
-use Rattle.blk_base.specs.declared.parts.Mode.{Mode}
 use Rattle.blk_base.specs.declared.parts.Mode.TheVariants.{ReadWrite}
 use Rattle.blk_base.specs.declared.ask.BackAsk.{BackAsk}
 use Rattle.blk_base.specs.declared.ask.BackAsk.TheVariants as ask
@@ -34,7 +33,8 @@ use Rattle.xenbus_state.specs.declared.back.BackBusAsk.TheVariants as bus_ask
 use Rattle.xenbus_state.specs.BackView.{BackView, is_halting, halted}
 use Rattle.xenbus_state.specs.BackAsk.{ask_of, ask_at, says_closing, unmap_ask}
 use Rattle.xenbus_state.specs.BackStep.{step_of, step_at, after_state, last_state, unmapping_next, other_pages}
-use Rattle.split_model.proofs.SafeActs.{of_back, back_takes}
+use Rattle.split_model.proofs.SafeActs.{of_back}
+use Rattle.split_model.proofs.Acting.{BackWatched, BackSet, BackWatch, back_acts}
 use Rattle.split_model.proofs.SafeAnswers.{IsBacks, backs_of}
 use Rattle.negotiation_laws.specs.Negotiation.{Negotiation, back_woken, back_answered, back_done, back_moved}
 use Rattle.negotiation_laws.specs.Happening.{BackMoves}
@@ -120,26 +120,13 @@ record Takes (h : Hypervisor) (a : BackAct) : Type 0 where
   answer : a.answer ≡ answer.Watched path
   keys : a.under.keys ≡ with_watches h.keys end.Back (taken (watches_of h.keys end.Back))
 
-map_leaves : (h : Hypervisor) (gref : ℕ) (mode : Mode) (verdict : Result ℕ MapRefusal) → Leaves h (map_act h back_mover.Back gref mode verdict)
-map_leaves h gref mode (Ok frame) = record { unwatched = tt; keys = refl }
-map_leaves h gref mode (Err refusal) = record { unwatched = tt; keys = refl }
-
-bind_leaves : (h : Hypervisor) (p : ℕ) (s : PortState) → Leaves h (bind_act h p s)
-bind_leaves h p port.Unbound = record { unwatched = tt; keys = refl }
-bind_leaves h p port.Closed = record { unwatched = tt; keys = refl }
-bind_leaves h p port.Bound = record { unwatched = tt; keys = refl }
-
 quiet_act : (h : Hypervisor) (asked : BackAsk) (a : BackAct) → IsBacks asked → back_act h back_mover.Back asked Took ≡ Some a → Leaves h a ⊎ Takes h a
-quiet_act h ask.Wait a own e = back_takes (λ (x : BackAct). Leaves h x ⊎ Takes h x) h back_mover.Back a (inl (record { unwatched = tt; keys = refl })) (λ path first. inr (record { path = path; first = first; answer = refl; keys = refl })) e
-quiet_act h ask.Fence a own e = of_back (λ (x : BackAct). Leaves h x ⊎ Takes h x) _ a (inl (record { unwatched = tt; keys = refl })) e
-quiet_act h (ask.Read m word) a own e = of_back (λ (x : BackAct). Leaves h x ⊎ Takes h x) _ a (inl (record { unwatched = tt; keys = refl })) e
-quiet_act h (ask.Write m word value) a own e = of_back (λ (x : BackAct). Leaves h x ⊎ Takes h x) _ a (inl (record { unwatched = tt; keys = refl })) e
-quiet_act h (ask.Map gref mode) a own e = of_back (λ (x : BackAct). Leaves h x ⊎ Takes h x) _ a (inl (map_leaves h gref mode (verdict_at h.pages gref mode))) e
-quiet_act h (ask.Unmap m) a own e = of_back (λ (x : BackAct). Leaves h x ⊎ Takes h x) _ a (inl (record { unwatched = tt; keys = refl })) e
-quiet_act h (ask.Bind p) a own e = of_back (λ (x : BackAct). Leaves h x ⊎ Takes h x) _ a (inl (bind_leaves h p (state_of h.channels p))) e
-quiet_act h ask.Send a own e = of_back (λ (x : BackAct). Leaves h x ⊎ Takes h x) _ a (inl (record { unwatched = tt; keys = refl })) e
-quiet_act h ask.ClosePort a own e = of_back (λ (x : BackAct). Leaves h x ⊎ Takes h x) _ a (inl (record { unwatched = tt; keys = refl })) e
-quiet_act h asked a own e = absurd own
+quiet_act h asked a own e = (elim (back_acts h back_mover.Back asked Took a e) as (λ who wish outcome x acts. IsBacks wish → Leaves h x ⊎ Takes h x) [
+  | BackWatched path first ↦ λ own. inr (record { path = path; first = first; answer = refl; keys = refl })
+  | BackSet path text is ↦ λ own. absurd own
+  | BackWatch path ↦ λ own. absurd own
+  | acts ↦ λ own. inl (record { unwatched = tt; keys = refl })
+]) own
 
 unwoken : (v : BackView) (x : BackAnswer) → IsUnwatched x → woken v x ≡ v
 unwoken v (answer.Watched path) un = absurd un

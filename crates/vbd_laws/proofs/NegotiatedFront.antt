@@ -48,7 +48,8 @@ use Rattle.split_model.specs.Safe.{IsPorted}
 use Rattle.negotiation_laws.specs.Happening.{FrontMoves}
 use Rattle.vbd_laws.proofs.NegotiatedRun.{negotiation_of, Reached, Joined, reached_one, reached_as}
 use Rattle.vbd_model.specs.Fit.{IsEndingPage, FrontRests, IsGranting, FrontGoesWith, IsFit}
-use Rattle.split_model.proofs.SafeActs.{of_front, front_takes}
+use Rattle.split_model.proofs.SafeActs.{of_front}
+use Rattle.split_model.proofs.Acting.{FrontWatched, FrontSet, FrontWatch, front_acts}
 use Rattle.split_model.proofs.SafeAnswers.{AsksNoKey, fronts_no_key}
 use Rattle.negotiation_laws.specs.Negotiation.{Negotiation, front_woken, front_answered, front_done, front_moved}
 use Rattle.vbd_front.specs.View.{View, is_broken, is_still, is_unoccupied}
@@ -118,18 +119,12 @@ record Takes (h : Hypervisor) (asked : FrontAsk) (a : FrontAct) : Type 0 where
   keys : a.under.keys ≡ with_watches h.keys end.Front (taken (watches_of h.keys end.Front))
 
 quiet_act : (h : Hypervisor) (asked : FrontAsk) (a : FrontAct) → AsksNoKey asked → front_act h asked ≡ Some a → Leaves h a ⊎ Takes h asked a
-quiet_act h ask.Wait a own e =
-    front_takes (λ (x : FrontAct). Leaves h x ⊎ Takes h ask.Wait x) h a (inl (record { unwatched = tt; keys = refl })) (λ path first. inr (record { path = path; waits = refl; first = first; answer = refl; keys = refl })) e
-quiet_act h ask.Fence a own e = of_front (λ (x : FrontAct). Leaves h x ⊎ Takes h ask.Fence x) _ a (inl (record { unwatched = tt; keys = refl })) e
-quiet_act h (ask.Read frame word) a own e = of_front (λ (x : FrontAct). Leaves h x ⊎ Takes h (ask.Read frame word) x) _ a (inl (record { unwatched = tt; keys = refl })) e
-quiet_act h (ask.Write frame word value) a own e = of_front (λ (x : FrontAct). Leaves h x ⊎ Takes h (ask.Write frame word value) x) _ a (inl (record { unwatched = tt; keys = refl })) e
-quiet_act h (ask.Cas frame word old new) a own e = of_front (λ (x : FrontAct). Leaves h x ⊎ Takes h (ask.Cas frame word old new) x) _ a (inl (record { unwatched = tt; keys = refl })) e
-quiet_act h ask.NewPort a own e = of_front (λ (x : FrontAct). Leaves h x ⊎ Takes h ask.NewPort x) _ a (inl (record { unwatched = tt; keys = refl })) e
-quiet_act h ask.Send a own e = of_front (λ (x : FrontAct). Leaves h x ⊎ Takes h ask.Send x) _ a (inl (record { unwatched = tt; keys = refl })) e
-quiet_act h ask.ClosePort a own e = of_front (λ (x : FrontAct). Leaves h x ⊎ Takes h ask.ClosePort x) _ a (inl (record { unwatched = tt; keys = refl })) e
-quiet_act h (ask.GetKey path) a own e = absurd own
-quiet_act h (ask.SetKey path text) a own e = absurd own
-quiet_act h (ask.Watch path) a own e = absurd own
+quiet_act h asked a own e = (elim (front_acts h asked a e) as (λ wish x acts. AsksNoKey wish → Leaves h x ⊎ Takes h wish x) [
+  | FrontWatched path first ↦ λ own. inr (record { path = path; waits = refl; first = first; answer = refl; keys = refl })
+  | FrontSet path text is ↦ λ own. absurd own
+  | FrontWatch path ↦ λ own. absurd own
+  | acts ↦ λ own. inl (record { unwatched = tt; keys = refl })
+]) own
 
 -- a front that takes a watch in its ring breaks nothing
 either_whole : (b : Bool) (s t : Stage) → is_broken s ≡ false → is_broken t ≡ false → is_broken (if b then s else t) ≡ false
@@ -308,11 +303,6 @@ closing_quiet own v r fits = says_quiet (ask_at (closing_stage own v) v) r refl
 due_quiet : (c : Bool) (v : FrontView) (r : Stage) → (c ≡ true → FrontRests v.state v.gone v.port r) → Quiet (ask_at (if c then closing_stage v.state v else stage.Rest) v) r
 due_quiet true v r fits = closing_quiet v.state v r (fits refl)
 due_quiet false v r fits = wait_quiet r
-
-idle_now : (closing idle : Bool) → (closing && idle) ≡ true → idle ≡ true
-idle_now true true e = refl
-idle_now true false e = e
-idle_now false idle e = absurd (true≢false (sym e))
 
 rests_whole : (v : FrontView) (r : Stage) → FrontRests v.state v.gone v.port r ⊎ (is_broken r ≡ true) → is_broken r ≡ false → FrontRests v.state v.gone v.port r
 rests_whole v r (inl fits) whole = fits

@@ -1,5 +1,5 @@
 -- A front that was closed as the domain was suspended: the new back has halted, the directory says that both are closed, and nothing follows.
-use Rattle.std.proofs.Common.{◌⊎◌, inl, inr, ◌≡◌, ◌∙◌, ap, sym, subst, refl, ℕ, ◌&&◌, ◌||◌, Bool, true, false, true≢false, if◌then◌else◌, List, [], arith}
+use Rattle.std.proofs.Common.{◌⊎◌, inl, inr, ◌≡◌, ◌∙◌, ap, sym, subst, refl, ℕ, ◌&&◌, ◌||◌, Bool, true, false, true≢false, if◌then◌else◌, List, [], arith, ◌∷◌}
 use Rattle.std.specs.Prelude.{Option, Some, None, is_some, codes}
 use Rattle.std.proofs.lemmas.Fmt.{decimal_digit}
 use Rattle.blk_base.specs.declared.parts.End.{End}
@@ -42,6 +42,8 @@ use Rattle.xenbus_state.specs.BackAsk as back_buses
 use Rattle.split_model.specs.World as rings
 use Rattle.split_model.specs.Happening as ring_happening
 use Rattle.split_model.proofs.Suspending.{begun_back}
+use Rattle.split_model.proofs.Outside.{IsOutside, AreSent, LeavesEnds, leaves_ends}
+use Rattle.blk_back.specs.View.{View as RingView}
 use Rattle.split_model.proofs.SafeActs.{front_event, back_event}
 use Rattle.machine_pipeline.specs.Allowed as ring_allowed
 use Rattle.negotiation_laws.specs.Negotiation.{front_state, back_state, state_text}
@@ -49,7 +51,7 @@ use Rattle.vbd_front.specs.View as front_view
 use Rattle.vbd_front.specs.Ask as front
 use Rattle.vbd_back.specs.Ask as back
 use Rattle.vbd_model.specs.World.{World, frontend_of, backend_of}
-use Rattle.vbd_model.specs.Happening.{Happening, FrontMoves, BackMoves, JobMoves, Closes, Submits, Notifies, Pokes, OverwritesKey, Suspends, front_turn, back_turn, front_does, back_does, renewed_bus, does, happens}
+use Rattle.vbd_model.specs.Happening.{Happening, FrontMoves, BackMoves, JobMoves, Closes, Submits, Pokes, OverwritesKey, Suspends, front_turn, back_turn, front_does, back_does, renewed_bus, does, front_bus, back_bus, happens}
 use Rattle.vbd_model.specs.Possible.{IsPossible}
 use Rattle.vbd_model.specs.Fit.{IsEndingPage, FrontRests, IsGranting, IsUnbegun, FrontGoesWith, BackGoesWith, IsFit}
 use Rattle.vbd_laws.specs.Moves.{IsNoMove}
@@ -220,12 +222,26 @@ module _ (w : World) (fit : IsFit w) (gone : IsGone w) where
   job_still number o = ap (λ (b : Bool). back_act w.rings.under (back_mover.Job number) (if b then back_ask.Wait else ask_job w.rings.back.jobs number) o) halted
 
   -- an event that is sent comes at no port
-  sent_still : (at : End) → sent w.rings.under.channels at ≡ reset (sent w.rings.under.channels at)
-  sent_still at = subst (λ (c : ChannelState). sent c at ≡ reset (sent c at)) (sym gone.channels) (by_end at)
+  sent_still : (now : ChannelState) → AreSent w.rings.under.channels now → now ≡ reset now
+  sent_still now (inl same) = rw same gone.channels
+  sent_still now (inr (from, same)) = rw same (subst (λ (c : ChannelState). sent c from ≡ reset (sent c from)) (sym gone.channels) (by_end from))
     where
       by_end : (e : End) → (let c : ChannelState = reset w.rings.under.channels in sent c e ≡ reset (sent c e))
       by_end end.Front = refl
       by_end end.Back = refl
+
+  -- so is it with what happens outside the ends
+  gone_beside : (h : Happening) (x : ring_happening.Happening) → does w h ≡ x ∷ [] → front_bus w h ≡ w.front → back_bus w h ≡ w.back → IsOutside x
+      → (let r : rings.World = ring_happening.happens w.rings x in r.under.keys) ≡ w.rings.under.keys → IsGone (happens w h)
+  gone_beside h x one front back outside keys =
+      let left : LeavesEnds w.rings (ring_happening.happens w.rings x) = leaves_ends w.rings x outside in
+      record {
+        front = rw front gone.front;
+        back = rw back gone.back;
+        no_job = rw one (ap (λ (b : RingView). b.jobs.works) left.back ∙ gone.no_job);
+        keys = rw one (keys ∙ gone.keys);
+        channels = rw one (sent_still _ left.channels);
+      }
 
   closed_still : (closed w.front).stage ≡ bus.Closed
   closed_still = by_test (w.front.closing || is_broken w.front.stage)
@@ -265,11 +281,10 @@ module _ (w : World) (fit : IsFit w) (gone : IsGone w) where
   gone_on (Closes end.Front) untouched = record { front = closed_still; back = gone.back; no_job = gone.no_job; keys = gone.keys; channels = gone.channels }
   gone_on (Closes end.Back) untouched = record { front = gone.front; back = unplugged_still; no_job = gone.no_job; keys = gone.keys; channels = gone.channels }
   gone_on (Submits job) untouched = record { front = gone.front; back = gone.back; no_job = gone.no_job; keys = gone.keys; channels = gone.channels }
-  gone_on (Notifies at) untouched = record { front = gone.front; back = gone.back; no_job = gone.no_job; keys = gone.keys; channels = sent_still (ring_happening.other_end at) }
   gone_on (Pokes frame word value) untouched = absurd untouched
   gone_on (OverwritesKey name text) untouched = absurd untouched
   gone_on Suspends untouched = suspends
-  gone_on h untouched = gone
+  gone_on h untouched = gone_beside h _ refl refl refl tt refl
 
   -- all is quiet
   pub gone_quiet : rings.is_quiet w.rings ≡ true

@@ -1,34 +1,30 @@
 -- The front's port is the first that is made in its epoch: as many ports were made before it as were before the epoch.
 use Rattle.std.proofs.Common.{◌≡◌, ◌∙◌, ap, sym, subst, refl, ℕ, ◌+◌, ◌-◌, ◌&&◌, Bool, true, false, if◌then◌else◌, List, [], ◌∷◌, ◌++◌, map, length, length-append, length-set, arith}
-use Rattle.std.specs.Prelude.{Option, Some, None, Result, Ok, Err, slice_set}
+use Rattle.std.specs.Prelude.{Option, Some, None, slice_set}
 use Rattle.std.proofs.Math.ListN.{length-map}
 use Rattle.blk_base.specs.declared.parts.End.TheVariants as end
-use Rattle.blk_base.specs.declared.parts.Mode.{Mode}
 use Rattle.blk_base.specs.declared.ask.FrontAsk.{FrontAsk}
 use Rattle.blk_base.specs.declared.ask.FrontAsk.TheVariants as front_ask
 use Rattle.blk_base.specs.declared.ask.BackAsk.{BackAsk}
-use Rattle.blk_base.specs.declared.ask.BackAsk.TheVariants as back_ask
 use Rattle.blk_base.specs.declared.moves.BackMover.{BackMover}
 use Rattle.blk_base.specs.declared.moves.BackMover.TheVariants as back_mover
-use Rattle.grant_table.specs.declared.entry.MapRefusal.{MapRefusal}
-use Rattle.grant_table.specs.Table.{verdict_at}
 use Rattle.event_channel.specs.declared.channels.PortState.{PortState}
 use Rattle.event_channel.specs.declared.channels.PortState.TheVariants as port_state
-use Rattle.event_channel.specs.Channels.{ChannelState, made_before, place_of, state_of, with_port, closed_port, unbound_port}
+use Rattle.event_channel.specs.Channels.{ChannelState, made_before, place_of, with_port, closed_port, unbound_port}
 use Rattle.hypervisor.specs.Hypervisor.{Hypervisor}
-use Rattle.hypervisor.specs.Act.{FrontAct, BackAct, Outcome, Took, front_act, back_act, map_act, bind_act}
+use Rattle.hypervisor.specs.Act.{FrontAct, BackAct, Outcome, Took, front_act, back_act}
 use Rattle.blk_front.specs.State.{is_open}
 use Rattle.blk_back.specs.Step.{job_ask_of}
 use Rattle.xenbus_state.specs.FrontView.{FrontView, suspended}
 use Rattle.split_model.specs.World as rings
 use Rattle.split_model.specs.Happening as ring
-use Rattle.split_model.proofs.Overwriting.{poke_cases, overwriting_cases}
-use Rattle.split_model.proofs.SafeActs.{IsFrontKeyAct, front_keys, back_keys, back_key_channels, of_front, of_back, of_read, of_disk, front_wait, back_wait}
+use Rattle.split_model.proofs.Outside.{IsOutside, LeavesEnds, leaves_ends, KeepsPorts, sent_keeps}
+use Rattle.split_model.proofs.Acting.{FrontPort, FrontClose, front_acts, BackBind, BackClose, back_acts}
 use Rattle.split_model.proofs.SafeAnswers.{IsFronts}
 use Rattle.vbd_front.specs.Ask as front
 use Rattle.vbd_back.specs.Ask as back
 use Rattle.vbd_model.specs.World.{World, frontend_of, backend_of}
-use Rattle.vbd_model.specs.Happening.{Happening, FrontMoves, BackMoves, JobMoves, Closes, Notifies, Pokes, OverwritesKey, Suspends, front_turn, back_turn, renewed_bus, happens}
+use Rattle.vbd_model.specs.Happening.{Happening, FrontMoves, BackMoves, JobMoves, Closes, Submits, Suspends, front_turn, back_turn, renewed_bus, does, happens}
 use Rattle.vbd_model.specs.Fit.{IsFit}
 use Rattle.vbd_laws.specs.Moves.{IsNoMove, IsFrontMove, IsBackMove}
 use Rattle.vbd_laws.proofs.FitSuspended.{anew_at}
@@ -64,51 +60,23 @@ one_more c = let more : length (c.ports ++ port_state.Unbound ∷ []) ≡ length
 as_many : (c : ChannelState) (ports : List PortState) → length ports ≡ length c.ports → c.made - length ports ≡ made_before c
 as_many c ports same = ap (λ (n : ℕ). c.made - n) same
 
-key_keeps : (h : Hypervisor) (x : FrontAct) → IsFrontKeyAct h x → FrontKeeps h x
-key_keeps h x is = ap (λ (u : Hypervisor). made_before u.channels) is.under
-
 front_keeps : (h : Hypervisor) (a : FrontAsk) (x : FrontAct) → front_act h a ≡ Some x → FrontKeeps h x
-front_keeps h front_ask.Wait x e = front_wait (FrontKeeps h) h x refl (λ path. refl) e
-front_keeps h front_ask.Fence x e = of_front (FrontKeeps h) _ x refl e
-front_keeps h (front_ask.Read frame word) x e = of_front (FrontKeeps h) _ x refl e
-front_keeps h (front_ask.Write frame word value) x e = of_front (FrontKeeps h) _ x refl e
-front_keeps h (front_ask.Cas frame word old new) x e = of_front (FrontKeeps h) _ x refl e
-front_keeps h front_ask.NewPort x e = of_front (FrontKeeps h) _ x (one_more h.channels) e
-front_keeps h front_ask.Send x e = of_front (FrontKeeps h) _ x refl e
-front_keeps h front_ask.ClosePort x e = of_front (FrontKeeps h) _ x (let c : ChannelState = h.channels in as_many c (map closed_port c.ports) (length-map c.ports closed_port)) e
-front_keeps h (front_ask.GetKey path) x e = front_keys (FrontKeeps h) h (front_ask.GetKey path) x tt (key_keeps h) e
-front_keeps h (front_ask.SetKey path text) x e = front_keys (FrontKeeps h) h (front_ask.SetKey path text) x tt (key_keeps h) e
-front_keeps h (front_ask.Watch path) x e = front_keys (FrontKeeps h) h (front_ask.Watch path) x tt (key_keeps h) e
-
-map_keeps : (h : Hypervisor) (who : BackMover) (gref : ℕ) (mode : Mode) (verdict : Result ℕ MapRefusal) → BackKeeps h (map_act h who gref mode verdict)
-map_keeps h who gref mode (Ok frame) = refl
-map_keeps h who gref mode (Err refusal) = refl
-
-bind_keeps : (h : Hypervisor) (p : ℕ) (s : PortState) → BackKeeps h (bind_act h p s)
-bind_keeps h p port_state.Unbound = let c : ChannelState = h.channels in as_many c (slice_set c.ports (place_of c p) port_state.Bound) (length-set c.ports (place_of c p) port_state.Bound)
-bind_keeps h p port_state.Closed = refl
-bind_keeps h p port_state.Bound = refl
-
-same_keeps : (h : Hypervisor) (x : BackAct) → x.under ≡ h → BackKeeps h x
-same_keeps h x same = ap (λ (u : Hypervisor). made_before u.channels) same
+front_keeps h a x e =
+    let c : ChannelState = h.channels in
+    elim (front_acts h a x e) as (λ asked y acts. FrontKeeps h y) [
+      | FrontPort ↦ one_more c
+      | FrontClose ↦ as_many c (map closed_port c.ports) (length-map c.ports closed_port)
+      | acts ↦ refl
+    ]
 
 back_keeps : (h : Hypervisor) (who : BackMover) (a : BackAsk) (o : Outcome) (x : BackAct) → back_act h who a o ≡ Some x → BackKeeps h x
-back_keeps h who back_ask.Wait o x e = back_wait (BackKeeps h) h who x refl (λ path. refl) e
-back_keeps h who back_ask.Fence o x e = of_back (BackKeeps h) _ x refl e
-back_keeps h who (back_ask.Read m word) o x e = of_back (BackKeeps h) _ x refl e
-back_keeps h who (back_ask.Write m word value) o x e = of_back (BackKeeps h) _ x refl e
-back_keeps h who (back_ask.Map gref mode) o x e = of_back (BackKeeps h) _ x (map_keeps h who gref mode (verdict_at h.pages gref mode)) e
-back_keeps h who (back_ask.Unmap m) o x e = of_back (BackKeeps h) _ x refl e
-back_keeps h who (back_ask.Bind p) o x e = of_back (BackKeeps h) _ x (bind_keeps h p (state_of h.channels p)) e
-back_keeps h who back_ask.Send o x e = of_back (BackKeeps h) _ x refl e
-back_keeps h who back_ask.ClosePort o x e = of_back (BackKeeps h) _ x (let c : ChannelState = h.channels in as_many c (map unbound_port c.ports) (length-map c.ports unbound_port)) e
-back_keeps h who (back_ask.GetKey path) o x e = back_keys (BackKeeps h) h who (back_ask.GetKey path) o x tt (λ y is. ap made_before (back_key_channels h y is)) e
-back_keeps h who (back_ask.SetKey path text) o x e = back_keys (BackKeeps h) h who (back_ask.SetKey path text) o x tt (λ y is. ap made_before (back_key_channels h y is)) e
-back_keeps h who (back_ask.Watch path) o x e = back_keys (BackKeeps h) h who (back_ask.Watch path) o x tt (λ y is. ap made_before (back_key_channels h y is)) e
-back_keeps h who (back_ask.DiskRead sector) o x e = of_read (BackKeeps h) h _ o x (same_keeps h) e
-back_keeps h who (back_ask.DiskWrite sector words) o x e = of_disk (BackKeeps h) h _ o x (same_keeps h) e
-back_keeps h who back_ask.Flush o x e = of_disk (BackKeeps h) h _ o x (same_keeps h) e
-back_keeps h who (back_ask.Trim sector count) o x e = of_disk (BackKeeps h) h _ o x (same_keeps h) e
+back_keeps h who a o x e =
+    let c : ChannelState = h.channels in
+    elim (back_acts h who a o x e) as (λ by asked outcome y acts. BackKeeps h y) [
+      | BackBind p is ↦ as_many c (slice_set c.ports (place_of c p) port_state.Bound) (length-set c.ports (place_of c p) port_state.Bound)
+      | BackClose ↦ as_many c (map unbound_port c.ports) (length-map c.ports unbound_port)
+      | acts ↦ refl
+    ]
 
 -- and so over whatever happens in an epoch
 front_earlier : (w : World) → IsFit w → earlier (happens w FrontMoves) ≡ earlier w
@@ -129,18 +97,24 @@ job_earlier : (w : rings.World) (number : ℕ) (o : Outcome) (act : Option BackA
 job_earlier w number o None e = refl
 job_earlier w number o (Some a) e = back_keeps w.under (back_mover.Job number) (job_ask_of w.back number) o a e
 
+outside_earlier : (w : rings.World) (x : ring.Happening) → IsOutside x → Keeps w.under (let v : rings.World = ring.happens w x in v.under)
+outside_earlier w x outside =
+    let left : LeavesEnds w (ring.happens w x) = leaves_ends w x outside in
+    let kept : KeepsPorts w.under.channels (let v : rings.World = ring.happens w x in v.under.channels) = sent_keeps _ _ left.channels in
+    rw (kept.made, kept.ports) refl
+
+beside_earlier : (w : World) (h : Happening) (x : ring.Happening) → does w h ≡ x ∷ [] → IsOutside x → earlier (happens w h) ≡ earlier w
+beside_earlier w h x one outside = rw one (outside_earlier w.rings x outside)
+
 earlier_stays : (w : World) (h : Happening) → StaysInEpoch h → IsFit w → earlier (happens w h) ≡ earlier w
 earlier_stays w FrontMoves stays fit = front_earlier w fit
 earlier_stays w BackMoves stays fit = back_earlier w fit
 earlier_stays w (JobMoves number outcome) stays fit = job_earlier w.rings number outcome (ring.job_turn w.rings number outcome) refl
 earlier_stays w (Closes end.Front) stays fit = refl
 earlier_stays w (Closes end.Back) stays fit = refl
-earlier_stays w (Notifies end.Front) stays fit = refl
-earlier_stays w (Notifies end.Back) stays fit = refl
-earlier_stays w (Pokes frame word value) stays fit = poke_cases (λ under shown. Keeps w.rings.under under) w.rings.under frame word value (λ framed worded. refl) refl
-earlier_stays w (OverwritesKey name text) stays fit = overwriting_cases (λ under shown. Keeps w.rings.under under) w.rings.under name text (λ allowed. refl) refl
+earlier_stays w (Submits job) stays fit = refl
 earlier_stays w Suspends stays fit = absurd stays
-earlier_stays w h stays fit = refl
+earlier_stays w h stays fit = beside_earlier w h _ refl tt
 
 -- the front asks for a port where none is made yet
 fronts_next : (c : ChannelState) (a : FrontAsk) → IsFronts c a → AsksFor (IsNext (made_before c)) c.made a

@@ -186,10 +186,6 @@ key_asks (bus_ask.SetState s) says = refl
 key_asks (bus_ask.SetKey key value) says = refl
 key_asks b says = absurd (true≢false (sym says))
 
-unmap_asks : (pages : List Mapping) → 0 < length pages → is_wait (back_ring.unmap_ask pages) ≡ false
-unmap_asks [] some = absurd (omega (arith, some))
-unmap_asks (page ∷ pages) some = refl
-
 -- between two steps and asleep, one that serves is in its loop
 loops : (s : Stage) (c : Check) (asleep : Bool) → serves_ring s ≡ true → back.is_between s ≡ true → c ≡ Asleep → Sees s c asleep → s ≡ ring_stage.Loop
 loops ring_stage.Loop c asleep serves between found is = refl

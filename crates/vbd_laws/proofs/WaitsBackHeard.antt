@@ -67,16 +67,6 @@ HearsAt s own h = Unit {0}
 abbrev pub Hears : BackView → Heard → Type 0
 Hears v h = HearsAt v.stage v.state h
 
--- one that halts hears nothing more
-halting_hears : (s : BackStage) (own : BusState) (h : Heard) → is_halting s ≡ true → HearsAt s own h
-halting_hears (stage.WriteState state.Closing) own h is = tt
-halting_hears (stage.WriteState state.Closed) own h is = tt
-halting_hears stage.UnmapOthers own h is = tt
-halting_hears stage.UnmapPage own h is = tt
-halting_hears stage.ClosePort own h is = tt
-halting_hears stage.Halted own h is = tt
-halting_hears s own h is = absurd (true≢false (sym is))
-
 giving_hears : (pages : List Mapping) (bound : Bool) (own now : BusState) (h : Heard) → HearsAt (unmapping_next pages bound own) now h
 giving_hears (page ∷ pages) bound own now h = tt
 giving_hears [] true own now h = tt

@@ -17,21 +17,23 @@ use Rattle.xenbus_state.specs.BackView.{BackView}
 use Rattle.vbd_front.specs.Ask as front
 use Rattle.vbd_back.specs.Ask as back
 use Rattle.vbd_model.specs.World.{World, is_quiet, frontend_of, backend_of}
-use Rattle.vbd_model.specs.Happening.{Happening, FrontMoves, BackMoves, JobMoves, Closes, Submits, Notifies, Pokes, OverwritesKey, Suspends, Dumps, Settles, front_key, entered_at, halted_at, front_enters, back_halts, back_negotiates, back_bus_after, attaches, front_turn, back_turn, is_fronts_ring, is_backs_ring, does, happens, after, lines_of, all_does}
+use Rattle.vbd_model.specs.Happening.{Happening, FrontMoves, BackMoves, Closes, Submits, Pokes, OverwritesKey, Suspends, Dumps, Looks, Settles, front_key, entered_at, halted_at, front_enters, back_halts, back_negotiates, back_bus_after, attaches, front_turn, back_turn, is_fronts_ring, is_backs_ring, does, happens, after, lines_of, all_does}
 use Rattle.vbd_model.specs.Kind.{is_carried, Makes, AreOf, AreOfAll, AreJobMoves, AreEachJobs, round_start, IsRound, AreRounds, never}
 use Rattle.split_model.specs.World as rings
 use Rattle.split_model.proofs.Narrow.{after_narrow}
 use Rattle.vbd_model.proofs.Running.{lines_of-append, lines_lift, after_rings}
 pub use Rattle.split_model.proofs.Echo.{echo_of, kept_echo}
 
--- a move of an end or of a job, a close, or a spurious event
+-- no submission, no word or key that is overwritten, no suspend, and no look
 abbrev pub is_move : Happening → Bool
-is_move FrontMoves = true
-is_move BackMoves = true
-is_move (JobMoves number outcome) = true
-is_move (Closes at) = true
-is_move (Notifies at) = true
-is_move h = false
+is_move (Submits job) = false
+is_move (Pokes frame word value) = false
+is_move (OverwritesKey name text) = false
+is_move Suspends = false
+is_move Dumps = false
+is_move (Looks quiet) = false
+is_move (Settles quiet) = false
+is_move h = true
 
 -- what a move is to the ring's machine are moves too
 abbrev AreRingMoves : List ring.Happening → Type 0
@@ -65,11 +67,9 @@ back_does_moves false false w b = (refl, halting_moves (back.bus_moves (back.bus
 does_moves : (w : World) (h : Happening) → is_move h ≡ true → AreRingMoves (does w h)
 does_moves w FrontMoves m = front_does_moves (is_fronts_ring w) (front.speaks (front.bus_ask_of (frontend_of w))) w
 does_moves w BackMoves m = let b : BackView = back_bus_after w (back_turn w) in back_does_moves (is_backs_ring w) (attaches w b) w b
-does_moves w (JobMoves number outcome) m = (refl, tt)
 does_moves w (Closes end.Front) m = (refl, tt)
 does_moves w (Closes end.Back) m = tt
-does_moves w (Notifies at) m = (refl, tt)
-does_moves w h m = absurd (cc)
+does_moves w h m = (m, tt)
 
 pub all_do_moves : (hs : List Happening) (w : World) → AllByRecursion (λ (h : Happening). is_move h ≡ true) hs → AllByRecursion (λ (x : ring.Happening). is_ring_move x ≡ true) (all_does hs w)
 all_do_moves [] w m = tt
@@ -148,13 +148,13 @@ made_echo order events.Settle w hs narrow c k =
 made_echo order events.Look w hs narrow c k =
     let a = look_answers (is_quiet w) in
     (a.0, ap (λ (l : List Happening). echo_of (lines_of l w)) k ∙ a.1, a.2)
-made_echo order (events.Notify at) w hs narrow c k = ap (λ (l : List Happening). echo_of (lines_of l w)) k
 made_echo order events.Suspend w hs narrow c k = ap echo_of (shows_same w Suspends ring.Suspends hs refl k.0) ∙ suspend_echo w.rings k.1
 made_echo order (events.Close at) w hs narrow c k = ap (λ (l : List Happening). echo_of (lines_of l w)) k ∙ moves_silent (Closes at ∷ []) w (refl, tt)
 made_echo order (events.Poke frame word value) w hs narrow c k = ap echo_of (shows_same w (Pokes frame word value) (ring.Pokes frame word value) hs refl k.0) ∙ poke_echo w.rings frame word value c
 made_echo order (events.Key name text) w hs narrow c k = ap echo_of (shows_same w (OverwritesKey name text) (ring.OverwritesKey name text) hs refl k) ∙ overwritten_echo w.rings name text c
 made_echo order events.Dump w hs narrow c k =
     subst (AreRingWords 0 (1024 * 2 ^ order)) (sym (ap echo_of (shows_same w Dumps ring.Dumps hs refl k))) (dump_answers order w.rings narrow)
+made_echo order e w hs narrow c k = ap (λ (l : List Happening). echo_of (lines_of l w)) k
 
 pub event_echo : (order : ℕ) (e : Event) (w : World) (hs : List Happening) → (let v : rings.World = w.rings in v.front.shape.order) ≤ order → AreOf e w hs → Answers order e (echo_of (lines_of hs w))
 event_echo order e w hs narrow k = made_echo order e w hs narrow k.0 k.1

@@ -316,7 +316,7 @@ loop_few v None (answer.Word word) =
 loop_few v None answer.Event = omega arith
 loop_few v None x = omega arith
 
-long_entry : (abi : Abi) → 27 ≤ entry_words_of abi
+long_entry : (abi : Abi) → entry_words_of X32 ≤ entry_words_of abi
 long_entry X64 = omega arith
 long_entry X32 = omega arith
 

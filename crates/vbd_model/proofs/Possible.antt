@@ -8,7 +8,7 @@ use Rattle.schedule_text.specs.declared.event.Event.TheVariants as events
 use Rattle.schedule_text.specs.Range.{JobHasWidths}
 use Rattle.machine_pipeline.specs.Allowed.{IsServable}
 use Rattle.vbd_model.specs.World.{World, is_quiet}
-use Rattle.vbd_model.specs.Happening.{Happening, FrontMoves, BackMoves, Closes, Submits, Notifies, Pokes, OverwritesKey, Suspends, Dumps, Looks, Settles, happens, after}
+use Rattle.vbd_model.specs.Happening.{Happening, FrontMoves, BackMoves, Submits, Pokes, OverwritesKey, Suspends, Looks, Settles, happens, after}
 use Rattle.vbd_model.specs.Kind.{is_carried, Makes, MakesSoFar, AreJobMoves, AreEachJobs, round_start, IsBeginning, IsRoundSoFar, AreRounds, never, settle_bound, AreRoundsSoFar, IsSettling, IsSettlingSoFar, AreOf, AreOfSoFar, AreOfAll}
 use Rattle.vbd_model.specs.Possible.{IsPossible, ArePossible}
 
@@ -102,12 +102,10 @@ made_possible (events.Job number n) w hs carried k = jobs_possible number hs w k
 made_possible (events.Turn n) w hs carried k = rounds_possible never n w hs k
 made_possible events.Settle w hs carried k = settling_possible w hs k
 made_possible events.Look w hs carried k = only (Looks (is_quiet w)) w hs (λ t. t) k
-made_possible (events.Notify at) w hs carried k = only (Notifies at) w hs tt k
-made_possible (events.Close at) w hs carried k = only (Closes at) w hs tt k
 made_possible events.Suspend w hs carried k = only Suspends w hs k.1 k.0
-made_possible events.Dump w hs carried k = only Dumps w hs tt k
 made_possible (events.Poke frame word value) w hs carried k = as_possible hs (Pokes frame word value ∷ []) w k.0 ((carried, k.1), tt)
 made_possible (events.Key name text) w hs carried k = only (OverwritesKey name text) w hs carried k
+made_possible e w hs carried k = only _ w hs tt k
 
 made_so_far_possible : (e : Event) (w : World) (hs : List Happening) → is_carried e ≡ true → MakesSoFar e w hs → ArePossible hs w
 made_so_far_possible (events.Front n) w hs carried k = beginning_possible hs (replicate n FrontMoves) w k (fronts_possible n w)

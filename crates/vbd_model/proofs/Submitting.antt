@@ -10,7 +10,7 @@ use Rattle.split_model.specs.Happening as ring
 use Rattle.split_model.proofs.Echo.{is_move as is_ring_move}
 use Rattle.machine_pipeline.specs.Submissions.{job_submitted, jobs_of, submitted_at, submitted_of}
 use Rattle.vbd_model.specs.World.{World, is_quiet}
-use Rattle.vbd_model.specs.Happening.{Happening, FrontMoves, BackMoves, Closes, Submits, Notifies, Pokes, OverwritesKey, Suspends, Dumps, Looks, Settles, after, all_does}
+use Rattle.vbd_model.specs.Happening.{Happening, FrontMoves, BackMoves, Closes, Submits, Pokes, Suspends, Looks, Settles, after, all_does}
 use Rattle.vbd_model.specs.Kind.{Makes, MakesSoFar, AreOf, AreOfSoFar, AreOfAll, round_start, IsBeginning, IsRoundSoFar, AreRoundsSoFar, IsSettlingSoFar, never, settle_bound}
 use Rattle.vbd_model.proofs.Running.{all_does-append}
 use Rattle.vbd_model.proofs.Echo.{is_move, all_do_moves, front_are_moves, back_are_moves, job_are_moves, each_are_moves, start_are_moves, rounds_are_moves}
@@ -54,13 +54,10 @@ made_submits (events.Turn n) w hs is = moves_submit hs w (rounds_are_moves never
 made_submits events.Settle w hs is =
     joined hs is.rounds (Settles (is_quiet (after is.rounds w)) ∷ []) w [] is.all
     (moves_submit is.rounds w (rounds_are_moves is_quiet is.are_rounds.count w is.rounds is.are_rounds.are_rounds)) refl
-made_submits events.Look w hs is = same_submit hs (Looks (is_quiet w) ∷ []) w is
-made_submits (events.Notify at) w hs is = same_submit hs (Notifies at ∷ []) w is
 made_submits events.Suspend w hs is = same_submit hs (Suspends ∷ []) w is.0
 made_submits (events.Close at) w hs is = same_submit hs (Closes at ∷ []) w is ∙ moves_submit (Closes at ∷ []) w (refl, tt)
 made_submits (events.Poke frame word value) w hs is = same_submit hs (Pokes frame word value ∷ []) w is.0
-made_submits (events.Key name text) w hs is = same_submit hs (OverwritesKey name text ∷ []) w is
-made_submits events.Dump w hs is = same_submit hs (Dumps ∷ []) w is
+made_submits e w hs is = same_submit hs _ w is
 
 round_so_far_submits : (w : World) (hs : List Happening) → IsRoundSoFar w hs → submitted_of (all_does hs w) ≡ []
 round_so_far_submits w hs (inl is) = begun_submits hs round_start w is start_are_moves
