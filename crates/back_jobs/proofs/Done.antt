@@ -7,9 +7,9 @@ use Rattle.std.proofs.lemmas.Bool.{false≢true}
 use Rattle.std.proofs.lemmas.Option.{slice_get_within, slice_get_read, get_or_from_slice_get, none-some, same_Some}
 use Rattle.std.proofs.lemmas.List.Folds.{position_or_len_push}
 use Rattle.blk_base.specs.declared.ask.BackAnswer.{BackAnswer}
-use Rattle.back_jobs.specs.declared.stage.Stage.{Stage}
-use Rattle.back_jobs.specs.declared.stage.Stage.TheVariants as stage
-use Rattle.back_jobs.specs.Task.{Work, ask_of, ask_at, IsAnswer}
+use Rattle.back_jobs.specs.declared.stage.JobStage.{JobStage}
+use Rattle.back_jobs.specs.declared.stage.JobStage.TheVariants as stage
+use Rattle.back_jobs.specs.Work.{Work, ask_of, ask_at, IsAnswer}
 use Rattle.back_jobs.specs.Jobs.{work_at, is_done, is_done_at}
 use Rattle.back_jobs.specs.Sound.{done_place}
 use Rattle.back_jobs.specs.Order.{done_with}
@@ -51,7 +51,7 @@ one_told [] i y d within h = absurd (omega arith)
 one_told (t ∷ works) zero y d within h = first_told (is_done y) (is_done t) (done_place works) h
 one_told (t ∷ works) (suc i) y d within h = later_told (is_done y) (is_done t) (done_place works) (done_place (slice_set works i y)) i (one_told works i y d (omega arith) h)
 
-undone_at : (s : Stage) (t : Work) (a : BackAnswer) → IsAnswer (ask_at s t) a → is_done_at s ≡ false
+undone_at : (s : JobStage) (t : Work) (a : BackAnswer) → IsAnswer (ask_at s t) a → is_done_at s ≡ false
 undone_at (stage.Done status) t a h = absurd h
 undone_at s t a h = refl
 

@@ -9,8 +9,8 @@ use Rattle.std.proofs.lemmas.Option.{none-some, same_Some}
 use Rattle.std.proofs.lemmas.List.Folds.{find_at}
 use Rattle.std.proofs.lemmas.List.Sums.{position_or_len_is}
 use Rattle.blk_base.specs.declared.operation.Status.TheVariants.{Error}
-use Rattle.back_jobs.specs.declared.stage.Stage.TheVariants as stage
-use Rattle.back_jobs.specs.Task.{Work}
+use Rattle.back_jobs.specs.declared.stage.JobStage.TheVariants as stage
+use Rattle.back_jobs.specs.Work.{Work}
 use Rattle.back_jobs.specs.Jobs.{place_of, next_in}
 use Rattle.back_jobs.specs.Sound.{AreAscending}
 use Rattle.back_jobs.specs.Order.{IsFirstFrom, IsNumberAt, number_at, is_above}

@@ -7,7 +7,7 @@ use Rattle.std.proofs.lemmas.Bool.Decides.{nat_tests}
 use Rattle.std.proofs.lemmas.List.Folds.{position_or_len_push}
 use Rattle.std.proofs.lemmas.Option.{slice_get_within, get_or_from_slice_get}
 use Rattle.blk_base.specs.declared.ask.BackAnswer.{BackAnswer}
-use Rattle.back_jobs.specs.Task.{Work, step_of}
+use Rattle.back_jobs.specs.Work.{Work, step_of}
 use Rattle.back_jobs.specs.Jobs.{is_done, is_ordered, is_barrier, holds_barriers, holds_all}
 use Rattle.back_jobs.specs.Sound.{AreFirst, ordered_place, barrier_place}
 use Rattle.back_jobs.specs.Order.{done_with, without}

@@ -20,10 +20,10 @@ use Rattle.blk_layout.specs.declared.request.RawRequest.TheVariants.{Direct, Dis
 use Rattle.segment_list.specs.declared.verdict.Verdict.{Verdict}
 use Rattle.segment_list.specs.declared.verdict.Verdict.TheVariants as verdict
 use Rattle.segment_list.specs.Verdict.{verdict_of}
-use Rattle.back_jobs.specs.declared.stage.Stage.{Stage}
-use Rattle.back_jobs.specs.declared.stage.Stage.TheVariants as stage
-use Rattle.back_jobs.specs.Task.{Work, ask_of, ask_at, map_ask, page_ask, is_copied_out, passes, judged, page_done, paging, step_of, step_at, sector_stage, next_sector, next_segment, counted, first_of, rest_of, last_of, begun, served, moving, ended, frameless, IsAnswer}
-use Rattle.back_jobs.specs.Jobs.{Held, mapping_at, asked, work_at, told_at, removed_at, is_done, is_done_at, first_mapping, after_mapping, start_job, without_done}
+use Rattle.back_jobs.specs.declared.stage.JobStage.{JobStage}
+use Rattle.back_jobs.specs.declared.stage.JobStage.TheVariants as stage
+use Rattle.back_jobs.specs.Work.{Work, ask_of, ask_at, map_ask, page_ask, is_copied_out, passes, judged, page_done, paging, step_of, step_at, sector_stage, next_sector, next_segment, counted, first_of, rest_of, last_of, begun, served, moving, ended, frameless, IsAnswer}
+use Rattle.back_jobs.specs.Jobs.{HeldJobs, mapping_at, asked, work_at, told_at, removed_at, is_done, is_done_at, first_mapping, after_mapping, start_job, without_done}
 use Rattle.back_jobs.specs.Hands.{hand_of, hands_in, Names, HasOneMore, HandsAfter}
 
 -- what is held beside these mappings stays
@@ -55,7 +55,7 @@ alone : (m : Mapping) → HasOneMore m [] (m ∷ [])
 alone m = record { front = []; rest = []; without = refl; with_it = refl }
 
 -- the hand at a stage
-abbrev pub hand_at : Stage → List Mapping
+abbrev pub hand_at : JobStage → List Mapping
 hand_at s = option_to_list (mapping_at s)
 
 hand_sector : (writes : Bool) (m : Mapping) → hand_at (sector_stage writes m) ≡ m ∷ []
@@ -68,7 +68,7 @@ map_hands (s ∷ rest) t (answer.Mapped m) h = rw (hand_sector t.writes m) (alon
 map_hands (s ∷ rest) t (answer.MapRefused status) h = refl
 map_hands (s ∷ rest) t given h = absurd h
 
-either_hand : (b : Bool) (x y : Stage) (l : List Mapping) → hand_at x ≡ l → hand_at y ≡ l → hand_at (if b then x else y) ≡ l
+either_hand : (b : Bool) (x y : JobStage) (l : List Mapping) → hand_at x ≡ l → hand_at y ≡ l → hand_at (if b then x else y) ≡ l
 either_hand true x y l p q = p
 either_hand false x y l p q = q
 
@@ -98,7 +98,7 @@ hand_judged t = either_hand_of (passes t) (record t { within = first_of t.rest; 
 hand_of_page : (t : Work) → hand_of (page_done t) ≡ []
 hand_of_page t = either_hand_of (length t.rest == t.named) (judged t) (record t { pages = drop 1 t.pages; stage = stage.MapPage }) [] (hand_judged t) refl
 
-hand_step_at : (s : Stage) (t : Work) (given : BackAnswer) → IsAnswer (ask_at s t) given → HandsAfter (ask_at s t) given (hand_at s) (hand_of (step_at s t given))
+hand_step_at : (s : JobStage) (t : Work) (given : BackAnswer) → IsAnswer (ask_at s t) given → HandsAfter (ask_at s t) given (hand_at s) (hand_of (step_at s t given))
 hand_step_at stage.MapPage t given h = page_hands t.pages t given h
 hand_step_at (stage.PageReference m) t (answer.Word word) h = refl
 hand_step_at (stage.PageSectors m gref) t (answer.Word word) h = either_hand (is_copied_out t (t.rest ++ segment_of gref word ∷ [])) (stage.UnmapPage m) (stage.PageReference m) (m ∷ []) refl refl
@@ -161,7 +161,7 @@ told_hands works (Some place) false (Some t) given found h =
     told_between r.front r.rest works (slice_set works place (step_of t given)) t given r.is (r.set (step_of t given)) h
 
 -- a job that is done has nothing in its hand
-done_at : (s : Stage) → is_done_at s ≡ true → hand_at s ≡ []
+done_at : (s : JobStage) → is_done_at s ≡ true → hand_at s ≡ []
 done_at (stage.Done status) h = refl
 done_at s h = absurd (false≢true h)
 
@@ -183,7 +183,7 @@ removed_done (w ∷ works) (Some place) h =
     removed_place (w ∷ works) place (get_or (w ∷ works) place w) (slice_get-get_or (w ∷ works) place w p.0) (done_at (get_or (w ∷ works) place w).stage p.1)
 
 -- a reply to a job that is done leaves all hands as they are
-pub done_hands : (h : Held) → hands_in (without_done h).works ≡ hands_in h.works
+pub done_hands : (h : HeldJobs) → hands_in (without_done h).works ≡ hands_in h.works
 done_hands h = removed_done h.works (position (λ (t : Work). is_done t) h.works) refl
 
 served_hand : (number : ℕ) (request : RawRequest) (size : ℕ) → hand_of (served number request size) ≡ []
@@ -202,7 +202,7 @@ begun_hand number request size (verdict.Error why) = refl
 begun_hand number request size verdict.Unsupported = refl
 
 -- a job that begins has nothing in its hand
-pub started_hands : (h : Held) (number : ℕ) (request : RawRequest) → hands_in (start_job h number request).works ≡ hands_in h.works
+pub started_hands : (h : HeldJobs) (number : ℕ) (request : RawRequest) → hands_in (start_job h number request).works ≡ hands_in h.works
 started_hands h number request =
     flat_map-append hand_of h.works (begun number request h.info.sectors (verdict_of request h.info) ∷ [])
     ∙ ap (λ (l : List Mapping). hands_in h.works ++ (l ++ [])) (begun_hand number request h.info.sectors (verdict_of request h.info))

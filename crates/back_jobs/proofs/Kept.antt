@@ -6,9 +6,9 @@ use Rattle.blk_base.specs.declared.operation.Status.TheVariants.{Error}
 use Rattle.blk_base.specs.declared.ask.BackAnswer.{BackAnswer}
 use Rattle.blk_base.specs.declared.ask.BackAnswer.TheVariants as answer
 use Rattle.blk_layout.specs.declared.segment.Segment.{Segment}
-use Rattle.back_jobs.specs.declared.stage.Stage.{Stage}
-use Rattle.back_jobs.specs.declared.stage.Stage.TheVariants as stage
-use Rattle.back_jobs.specs.Task.{Work, passes, judged, page_done, step_of, step_at, sector_stage, next_sector, next_segment, counted, first_of, rest_of, last_of}
+use Rattle.back_jobs.specs.declared.stage.JobStage.{JobStage}
+use Rattle.back_jobs.specs.declared.stage.JobStage.TheVariants as stage
+use Rattle.back_jobs.specs.Work.{Work, passes, judged, page_done, step_of, step_at, sector_stage, next_sector, next_segment, counted, first_of, rest_of, last_of}
 
 -- its number, its operation, how many segments its entry names, and the disk's size
 abbrev Facts : Type 0
@@ -34,7 +34,7 @@ judged_kept t = either_kept (passes t) (record t { within = first_of t.rest; sta
 page_done_kept : (t : Work) → facts_of (page_done t) ≡ facts_of t
 page_done_kept t = either_kept (length t.rest == t.named) (judged t) (record t { pages = drop 1 t.pages; stage = stage.MapPage }) (facts_of t) (judged_kept t) refl
 
-step_kept_at : (s : Stage) (t : Work) (given : BackAnswer) → facts_of (step_at s t given) ≡ facts_of t
+step_kept_at : (s : JobStage) (t : Work) (given : BackAnswer) → facts_of (step_at s t given) ≡ facts_of t
 step_kept_at stage.MapPage t (answer.Mapped m) = refl
 step_kept_at stage.MapPage t (answer.MapRefused status) = refl
 step_kept_at (stage.PageReference m) t (answer.Word word) = refl

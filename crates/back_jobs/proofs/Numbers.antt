@@ -4,7 +4,7 @@ use Rattle.std.specs.Prelude.{◌&&◌, slice_index_or, slice_get, slice_set, re
 use Rattle.std.specs.List.{AllByRecursion}
 use Rattle.std.proofs.lemmas.Bool.Decides.{nat_tests}
 use Rattle.std.proofs.lemmas.Bool.{false≢true}
-use Rattle.back_jobs.specs.Task.{Work}
+use Rattle.back_jobs.specs.Work.{Work}
 use Rattle.back_jobs.specs.Jobs.{mapping_at, after_mapping}
 use Rattle.back_jobs.specs.Sound.{AreAscending}
 use Rattle.back_jobs.specs.Order.{is_above, is_above_last}

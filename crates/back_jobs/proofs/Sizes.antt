@@ -11,9 +11,9 @@ use Rattle.blk_layout.specs.declared.request.RawRequest.{RawRequest}
 use Rattle.blk_layout.specs.declared.request.RawRequest.TheVariants.{Direct, Discard, Indirect}
 use Rattle.segment_list.specs.declared.verdict.Verdict.{Verdict}
 use Rattle.segment_list.specs.declared.verdict.Verdict.TheVariants as verdict
-use Rattle.back_jobs.specs.declared.stage.Stage.{Stage}
-use Rattle.back_jobs.specs.declared.stage.Stage.TheVariants as stage
-use Rattle.back_jobs.specs.Task.{Work, ask_at, map_ask, page_ask, paging, mode_of, step_of, begun, served, moving, ended, frameless}
+use Rattle.back_jobs.specs.declared.stage.JobStage.{JobStage}
+use Rattle.back_jobs.specs.declared.stage.JobStage.TheVariants as stage
+use Rattle.back_jobs.specs.Work.{Work, ask_at, map_ask, page_ask, paging, mode_of, step_of, begun, served, moving, ended, frameless}
 use Rattle.back_jobs.specs.Jobs.{mapping_at, work_at, told_at, after_mapping}
 use Rattle.back_jobs.specs.Sound.{AreSized, IsPlaced, StaysInPageAndDisk}
 use Rattle.back_jobs.specs.Hands.{Names}
@@ -95,7 +95,7 @@ names_page : (size : ℕ) (pages : List ℕ) → Names [] (page_ask pages)
 names_page size [] = tt
 names_page size (gref ∷ pages) = tt
 
-names_at : (size : ℕ) (s : Stage) (t : Work) → IsPlaced s t → StaysInPageAndDisk size (ask_at s t) → Names (hand_at s) (ask_at s t)
+names_at : (size : ℕ) (s : JobStage) (t : Work) → IsPlaced s t → StaysInPageAndDisk size (ask_at s t) → Names (hand_at s) (ask_at s t)
 names_at size stage.MapPage t placed within = names_page size t.pages
 names_at size (stage.PageReference m) t placed within = (only m, within)
 names_at size (stage.PageSectors m gref) t placed within = (only m, within)

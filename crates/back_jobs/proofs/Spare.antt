@@ -6,7 +6,7 @@ use Rattle.std.proofs.lemmas.Bool.Decides.{nat_tests}
 use Rattle.std.proofs.lemmas.Option.{slice_get_within, get_or_from_slice_get}
 use Rattle.std.proofs.lemmas.List.Sums.{sum_by_push, sum_by-set, sum_by-remove, count_by-le-length}
 use Rattle.blk_base.specs.declared.ask.BackAnswer.{BackAnswer}
-use Rattle.back_jobs.specs.Task.{Work, step_of}
+use Rattle.back_jobs.specs.Work.{Work, step_of}
 use Rattle.back_jobs.specs.Segments.{is_paged, AreShared}
 use Rattle.back_jobs.proofs.Kept.{step_named}
 

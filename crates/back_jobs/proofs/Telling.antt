@@ -4,7 +4,7 @@ use Rattle.std.specs.Prelude.{Option, Some, slice_get, slice_set, slice_index_or
 use Rattle.std.proofs.lemmas.Option.{get_or_from_slice_get, slice_get_within}
 use Rattle.std.proofs.Math.ListN.{length-set}
 use Rattle.blk_base.specs.declared.ask.BackAnswer.{BackAnswer}
-use Rattle.back_jobs.specs.Task.{Work, ask_of, step_of, IsAnswer}
+use Rattle.back_jobs.specs.Work.{Work, ask_of, step_of, IsAnswer}
 use Rattle.back_jobs.specs.Jobs.{place_of, work_at, work_of, asked, told_at, is_done}
 use Rattle.back_jobs.specs.Sound.{AreSized, IsKept, done_numbers}
 use Rattle.back_jobs.proofs.Done.{done_after, told_done, undone}

@@ -1,6 +1,6 @@
 -- How the fields of a job stand for what contracts see of it.
-use Rattle.back_jobs.specs.declared.task.Task.TheInside.{Inside}
-use Rattle.back_jobs.specs.Task.{Work}
+use Rattle.back_jobs.specs.declared.held_job.HeldJob.TheInside.{Inside}
+use Rattle.back_jobs.specs.Work.{Work}
 
 abbrev pub view_of : Inside → Work
 view_of t = record {

@@ -13,17 +13,17 @@ use Rattle.back_jobs.specs.declared.effect.Effect.TheVariants as effect
 use Rattle.blk_layout.specs.declared.request.RawRequest.{RawRequest}
 use Rattle.segment_list.specs.declared.verdict.DiskInfo.{DiskInfo}
 use Rattle.segment_list.specs.Verdict.{verdict_of}
-use Rattle.back_jobs.specs.declared.stage.Stage.{Stage}
-use Rattle.back_jobs.specs.declared.stage.Stage.TheVariants as stage
-use Rattle.back_jobs.specs.Task.{Work, ask_of, step_of, begun}
+use Rattle.back_jobs.specs.declared.stage.JobStage.{JobStage}
+use Rattle.back_jobs.specs.declared.stage.JobStage.TheVariants as stage
+use Rattle.back_jobs.specs.Work.{Work, ask_of, step_of, begun}
 
 -- the jobs held, the lowest number first; how many there is room for; and the disk as the back knows it
-pub record Held : Type 0 where
+pub record HeldJobs : Type 0 where
   pub works : List Work
   pub room : ℕ
   pub info : DiskInfo
 
-abbrev pub none_held : ℕ → DiskInfo → Held
+abbrev pub none_held : ℕ → DiskInfo → HeldJobs
 none_held room info = record { works = []; room = room; info = info }
 
 -- where the job of a number stands
@@ -39,7 +39,7 @@ abbrev pub work_of : List Work → ℕ → Option Work
 work_of works number = work_at works (place_of works number)
 
 -- a job that is done
-abbrev pub is_done_at : Stage → Bool
+abbrev pub is_done_at : JobStage → Bool
 is_done_at (stage.Done status) = true
 is_done_at s = false
 
@@ -61,7 +61,7 @@ abbrev pub holds_all : Work → Bool
 holds_all t = is_barrier t && not (is_done t)
 
 -- a job waits at its beginning: before its first map, that of a page or of a segment, or before its trim
-abbrev pub is_fresh_at : Stage → ℕ → Bool
+abbrev pub is_fresh_at : JobStage → ℕ → Bool
 is_fresh_at stage.MapPage moved = true
 is_fresh_at stage.Map moved = moved == 0
 is_fresh_at (stage.Trim count) moved = true
@@ -89,7 +89,7 @@ asked held None = Wait
 asked true (Some t) = Wait
 asked false (Some t) = ask_of t
 
-abbrev pub ask_job : Held → ℕ → BackAsk
+abbrev pub ask_job : HeldJobs → ℕ → BackAsk
 ask_job h number = asked (waits h.works number) (work_of h.works number)
 
 -- the job of a number is told an answer
@@ -98,15 +98,15 @@ told_at works None t a = works
 told_at works (Some place) None a = works
 told_at works (Some place) (Some t) a = slice_set works place (step_of t a)
 
-abbrev pub complete_job : Held → ℕ → BackAnswer → Held
+abbrev pub complete_job : HeldJobs → ℕ → BackAnswer → HeldJobs
 complete_job h number a = record h { works = told_at h.works (place_of h.works number) (work_of h.works number) a }
 
 -- a request is begun under a number above all that are held
-abbrev pub start_job : Held → ℕ → RawRequest → Held
+abbrev pub start_job : HeldJobs → ℕ → RawRequest → HeldJobs
 start_job h number request = record h { works = h.works ++ begun number request h.info.sectors (verdict_of request h.info) ∷ [] }
 
 -- number, id, operation and status of a job that is done
-abbrev pub response_at : Stage → Work → Option (ℕ × ℕ × ℕ × Status)
+abbrev pub response_at : JobStage → Work → Option (ℕ × ℕ × ℕ × Status)
 response_at (stage.Done status) t = Some (t.number, t.id, t.op, status)
 response_at s t = None
 
@@ -114,7 +114,7 @@ abbrev pub response_of : Work → Option (ℕ × ℕ × ℕ × Status)
 response_of t = response_at t.stage t
 
 -- the lowest job that is done
-abbrev pub done_of : Held → Option Work
+abbrev pub done_of : HeldJobs → Option Work
 done_of h = work_at h.works (position (λ (t : Work). is_done t) h.works)
 
 -- the jobs without the lowest one that is done
@@ -122,18 +122,18 @@ abbrev pub removed_at : List Work → Option ℕ → List Work
 removed_at works None = works
 removed_at works (Some place) = remove works place
 
-abbrev pub without_done : Held → Held
+abbrev pub without_done : HeldJobs → HeldJobs
 without_done h = record h { works = removed_at h.works (position (λ (t : Work). is_done t) h.works) }
 
 -- the lowest number above this one
 abbrev pub next_in : List Work → ℕ → Option ℕ
 next_in works number = option_map (λ (t : Work). t.number) (find (λ (t : Work). nat_lt number t.number) works)
 
-abbrev pub next_after : Held → ℕ → Option ℕ
+abbrev pub next_after : HeldJobs → ℕ → Option ℕ
 next_after h number = next_in h.works number
 
 -- the mapping in a job's hand
-abbrev pub mapping_at : Stage → Option Mapping
+abbrev pub mapping_at : JobStage → Option Mapping
 mapping_at (stage.PageReference m) = Some m
 mapping_at (stage.PageSectors m gref) = Some m
 mapping_at (stage.UnmapPage m) = Some m
@@ -156,7 +156,7 @@ first_mapping [] = None
 first_mapping (t ∷ works) = cond (is_some (mapping_at t.stage)) (mapping_at t.stage) (first_mapping works)
 
 -- what a job's move does to its request, by the id and the sector's place in it (`io/blkif.h`)
-abbrev pub effect_at : Stage → Work → BackAnswer → Option Effect
+abbrev pub effect_at : JobStage → Work → BackAnswer → Option Effect
 effect_at (stage.DiskWrite m) t answer.Done = Some (effect.Moved t.id t.moved)
 effect_at (stage.DiskWrite m) t answer.DiskFailed = Some (effect.Failed t.id t.moved)
 effect_at (stage.DiskRead m) t (answer.Sector words) = Some (effect.Moved t.id t.moved)

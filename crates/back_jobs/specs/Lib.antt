@@ -1,4 +1,4 @@
-pub mod Task
+pub mod Work
 pub mod Segments
 pub mod Inside
 pub mod Sound

@@ -2,7 +2,7 @@
 use Rattle.std.specs.Prelude.{◌≡◌, ℕ, ◌+◌, ◌-◌, ◌<◌, ◌≤◌, Bool, true, false, List, [], ◌∷◌, length, Option, Some, None, slice_get, slice_index_or, nat_lt, ◌==◌, if◌then◌else◌}
 use Rattle.std.specs.List.{AllWithin}
 use Rattle.std.specs.Option.{option_map}
-use Rattle.back_jobs.specs.Task.{Work}
+use Rattle.back_jobs.specs.Work.{Work}
 use Rattle.back_jobs.specs.Jobs.{holds_barriers, holds_all}
 
 -- the place of the first job whose number isn't below this one; how many there are where there is none

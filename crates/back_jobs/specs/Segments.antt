@@ -2,9 +2,9 @@
 use Rattle.std.specs.Prelude.{◌≡◌, ℕ, ◌+◌, ◌≤◌, Bool, List, nat_lt, ◌==◌, if◌then◌else◌}
 use Rattle.std.specs.List.{count_by}
 use Rattle.blk_layout.specs.declared.segment.Segment.{Segment}
-use Rattle.back_jobs.specs.declared.stage.Stage.{Stage}
-use Rattle.back_jobs.specs.declared.stage.Stage.TheVariants as stage
-use Rattle.back_jobs.specs.Task.{Work}
+use Rattle.back_jobs.specs.declared.stage.JobStage.{JobStage}
+use Rattle.back_jobs.specs.declared.stage.JobStage.TheVariants as stage
+use Rattle.back_jobs.specs.Work.{Work}
 
 -- segments, and whether they lie in a vector of their own
 pub record Listed : Type 0 where
@@ -25,6 +25,6 @@ pub record AreShared (spare capacity jobs indirect : ℕ) (works : List Work) : 
   pub shared : spare + count_by is_paged works ≡ vecs_for indirect jobs
 
 -- an indirect page is unmapped now
-abbrev pub IsUnmapPage : Stage → Type 0
+abbrev pub IsUnmapPage : JobStage → Type 0
 IsUnmapPage (stage.UnmapPage m) = Unit {0}
 IsUnmapPage s = ⊥

@@ -7,9 +7,9 @@ use Rattle.blk_base.specs.declared.ask.BackAsk.{BackAsk}
 use Rattle.blk_base.specs.declared.ask.BackAsk.TheVariants as ask
 use Rattle.blk_layout.specs.declared.segment.Segment.{Segment}
 use Rattle.segment_list.specs.Segments.{IsSound, sectors_of}
-use Rattle.back_jobs.specs.declared.stage.Stage.{Stage}
-use Rattle.back_jobs.specs.declared.stage.Stage.TheVariants as stage
-use Rattle.back_jobs.specs.Task.{Work, mode_of}
+use Rattle.back_jobs.specs.declared.stage.JobStage.{JobStage}
+use Rattle.back_jobs.specs.declared.stage.JobStage.TheVariants as stage
+use Rattle.back_jobs.specs.Work.{Work, mode_of}
 use Rattle.back_jobs.specs.Jobs.{is_done, holds_barriers, holds_all}
 
 -- the present segment has come as far as `within`; after `ahead` more sectors of it, those of the others lie on the disk
@@ -31,7 +31,7 @@ abbrev pub IsCopying : Work → Type 0
 IsCopying t = (length t.rest < t.named) × (t.named ≤ 960)
 
 -- words go from the frame to the disk in a job that writes, and from the disk to the frame in one that reads
-abbrev pub IsPlaced : Stage → Work → Type 0
+abbrev pub IsPlaced : JobStage → Work → Type 0
 IsPlaced stage.MapPage t = IsCopying t
 IsPlaced (stage.PageReference m) t = IsCopying t × (m.mode ≡ ReadOnly)
 IsPlaced (stage.PageSectors m gref) t = IsCopying t × (m.mode ≡ ReadOnly)
@@ -48,7 +48,7 @@ IsPlaced (stage.Trim count) t = t.disk + count ≤ t.size
 IsPlaced (stage.Done status) t = Unit {0}
 
 -- a job without a mapping: it flushes the disk, trims sectors that lie on it, or is done
-abbrev pub IsFrameless : Stage → (sector size : ℕ) → Type 0
+abbrev pub IsFrameless : JobStage → (sector size : ℕ) → Type 0
 IsFrameless stage.Flush sector size = Unit {0}
 IsFrameless (stage.Trim count) sector size = sector + count ≤ size
 IsFrameless (stage.Done status) sector size = Unit {0}

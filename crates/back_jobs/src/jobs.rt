@@ -2,7 +2,7 @@
 ghost use Rattle.std.specs.Prelude.{◌≡◌, ◌<◌, ◌≤◌, ◌+◌, ◌↔◌, Some, IfOk, IfSome, IsSome, IsTrue, length, take, slice_get, vec_capacity, option_and_then};
 ghost use Rattle.std.specs.List.{count_by};
 ghost use Rattle.std.specs.Option.{option_map};
-ghost use Rattle.back_jobs.specs.Task.{IsAnswer, Work};
+ghost use Rattle.back_jobs.specs.Work.{IsAnswer, Work};
 ghost use Rattle.back_jobs.specs.Sound.{StaysInPageAndDisk};
 ghost use Rattle.back_jobs.specs.Hands.{hands_in, Names};
 ghost use Rattle.back_jobs.specs.Segments.{is_paged};
@@ -15,8 +15,8 @@ mod order;
 mod spare;
 
 use crate::effect::Effect;
+use crate::held_job::HeldJob;
 use crate::segments::SegmentVec;
-use crate::task::Task;
 use blk_base::{BackAnswer, BackAsk, Mapping, OutOfMemory, Status};
 use blk_layout::RawRequest;
 use finding::{
@@ -34,7 +34,7 @@ use std::marker::Model;
 /// After `reserve` no call takes memory.
 #[derive(Drop)]
 pub struct Jobs {
-    tasks: Vec<Task>,
+    held: Vec<HeldJob>,
     room: u32,
     info: DiskInfo,
     // Whether the numbers ascend, as they do where each was above those that were held. Jobs are then
@@ -55,17 +55,17 @@ pub struct Jobs {
 
 impl Model for Jobs {
     ghost use Rattle.std.specs.Prelude.{length, vec_capacity};
-    ghost use Rattle.back_jobs.specs.Jobs.{Held};
+    ghost use Rattle.back_jobs.specs.Jobs.{HeldJobs};
     ghost use Rattle.back_jobs.specs.Segments.{AreShared};
     ghost use Rattle.back_jobs.specs.Sound.{IsKept, AreFirst};
 
-    ghost Value = { Held };
+    ghost Value = { HeldJobs };
 
-    ghost view = { λ j. record { works = j.tasks.items; room = j.room; info = j.info } };
+    ghost view = { λ j. record { works = j.held.items; room = j.room; info = j.info } };
 
-    ghost invariant = { λ j. IsKept j.ascending j.finished.items j.done_place j.room (vec_capacity j.tasks) (vec_capacity j.finished) j.info.sectors j.tasks.items
-        × AreFirst j.ordered j.barrier j.tasks.items
-        × AreShared (length j.spare.items) (vec_capacity j.spare) j.room j.info.max_indirect j.tasks.items };
+    ghost invariant = { λ j. IsKept j.ascending j.finished.items j.done_place j.room (vec_capacity j.held) (vec_capacity j.finished) j.info.sectors j.held.items
+        × AreFirst j.ordered j.barrier j.held.items
+        × AreShared (length j.spare.items) (vec_capacity j.spare) j.room j.info.max_indirect j.held.items };
 }
 
 impl Jobs {
@@ -76,10 +76,10 @@ impl Jobs {
     {
         let room = shape.entries();
         let spare = reserve_spare(alloc, vecs_for(info.max_indirect, room))?;
-        let tasks = Vec::with_capacity(alloc, room as usize)?;
+        let held = Vec::with_capacity(alloc, room as usize)?;
         let finished = Vec::with_capacity(alloc, room as usize)?;
         Ok(Jobs {
-            tasks,
+            held,
             room,
             info,
             ascending: true,
@@ -104,19 +104,19 @@ impl Jobs {
         ensures place { result ≡ place_of self.now.works number }
         ensures within { IfSome result (λ place. place < length self.now.works) }
     {
-        let tasks = self.tasks.as_slice();
+        let held = self.held.as_slice();
         // Mostly few jobs are held, and the first one needs no search.
-        if is_first(tasks, number) {
+        if is_first(held, number) {
             return Some(0);
         }
         if !self.ascending {
-            return place_in(tasks, number);
+            return place_in(held, number);
         }
-        if let Some(place) = guess(tasks, number) {
+        if let Some(place) = guess(held, number) {
             return Some(place);
         }
-        let place = by_halves(tasks, number);
-        match number_at(tasks, place) {
+        let place = by_halves(held, number);
+        match number_at(held, place) {
             Some(found) if found == number => Some(place),
             _ => None,
         }
@@ -128,14 +128,14 @@ impl Jobs {
         requires { length self.old.works < self.old.room }
         ensures { self.new ≡ start_job self.old number request.now }
     {
-        let task = Task::begin(number, request, &self.info, &mut self.spare);
-        let is_done = task.is_done();
-        let count = self.tasks.len();
+        let job = HeldJob::begin(number, request, &self.info, &mut self.spare);
+        let is_done = job.is_done();
+        let count = self.held.len();
         self.done_place = done_with(self.done_place, count, is_done);
-        self.ordered = done_with(self.ordered, count, task.holds(false));
-        self.barrier = done_with(self.barrier, count, task.holds(true));
-        self.ascending = goes_on_ascending(self.ascending, self.tasks.as_slice(), number);
-        let _ = self.tasks.push(task);
+        self.ordered = done_with(self.ordered, count, job.holds(false));
+        self.barrier = done_with(self.barrier, count, job.holds(true));
+        self.ascending = goes_on_ascending(self.ascending, self.held.as_slice(), number);
+        let _ = self.held.push(job);
         if is_done {
             note(&mut self.finished, number, self.ascending);
         }
@@ -153,7 +153,7 @@ impl Jobs {
         match self.place(number) {
             None => BackAsk::Wait,
             Some(place) if self.waits(place) => BackAsk::Wait,
-            Some(place) => self.tasks[place].ask(),
+            Some(place) => self.held[place].ask(),
         }
     }
 
@@ -163,18 +163,18 @@ impl Jobs {
         requires { place < length self.now.works }
         ensures { result ≡ waits_at self.now.works (Some place) (slice_get self.now.works place) }
     {
-        let task = &self.tasks[place];
-        task.is_fresh() && self.is_held_by(place, task)
+        let job = &self.held[place];
+        job.is_fresh() && self.is_held_by(place, job)
     }
 
     // Whether jobs before this place hold up this one, at its beginning.
     #[inline(never)]
-    fn is_held_by(&self, place: usize, task: &Task) -> bool
+    fn is_held_by(&self, place: usize, job: &HeldJob) -> bool
         requires { place ≤ length self.now.works }
-        ensures { result ≡ is_held_by (take place self.now.works) task.now }
+        ensures { result ≡ is_held_by (take place self.now.works) job.now }
     {
         let (ordered, barrier) = (self.ordered < place, self.barrier < place);
-        is_held(task, ordered, barrier)
+        is_held(job, ordered, barrier)
     }
 
     /// Completes what the job of a number asks by this answer, and gives what that does to its request;
@@ -186,14 +186,14 @@ impl Jobs {
         ensures effect { result ≡ effect_of (work_of self.old.works number) answer.now }
     {
         let place = self.place(number)?;
-        let task = &mut self.tasks[place];
-        let effect = task.effect(answer);
-        task.complete(answer);
-        if task.is_done() {
+        let job = &mut self.held[place];
+        let effect = job.effect(answer);
+        job.complete(answer);
+        if job.is_done() {
             self.done_place = self.done_place.min(place);
-            note(&mut self.finished, task.number(), self.ascending);
-            self.ordered = holding_after(self.tasks.as_slice(), false, self.ordered, place);
-            self.barrier = holding_after(self.tasks.as_slice(), true, self.barrier, place);
+            note(&mut self.finished, job.number(), self.ascending);
+            self.ordered = holding_after(self.held.as_slice(), false, self.ordered, place);
+            self.barrier = holding_after(self.held.as_slice(), true, self.barrier, place);
         }
         effect
     }
@@ -205,7 +205,7 @@ impl Jobs {
     {
         match self.place(number) {
             None => None,
-            Some(place) => Some((self.tasks[place].id(), self.tasks[place].moved())),
+            Some(place) => Some((self.held[place].id(), self.held[place].moved())),
         }
     }
 
@@ -214,20 +214,20 @@ impl Jobs {
     pub fn next_after(&self, number: u64) -> Option<u64>
         ensures { result ≡ next_after self.now number }
     {
-        let tasks = self.tasks.as_slice();
+        let held = self.held.as_slice();
         if !self.ascending {
-            return next_in(tasks, number);
+            return next_in(held, number);
         }
-        number_at(tasks, first_above(tasks, number))
+        number_at(held, first_above(held, number))
     }
 
     /// Number, id, operation and status of the lowest job that is done; `None` exactly where none is.
     pub fn done(&self) -> Option<(u64, u64, u8, Status)>
         ensures { result ≡ option_and_then response_of (done_of self.now) }
     {
-        match self.tasks.get(self.done_place) {
+        match self.held.get(self.done_place) {
             None => None,
-            Some(task) => task.response(),
+            Some(job) => job.response(),
         }
     }
 
@@ -238,20 +238,20 @@ impl Jobs {
         ensures rest { self.new ≡ without_done self.old }
         ensures one_less { IsSome result → length self.new.works + 1 ≡ length self.old.works }
     {
-        if self.done_place >= self.tasks.len() {
+        if self.done_place >= self.held.len() {
             return None;
         }
-        let task = self.tasks.remove(self.done_place);
+        let job = self.held.remove(self.done_place);
         self.ordered = without(self.ordered, self.done_place);
         self.barrier = without(self.barrier, self.done_place);
         drop_first(&mut self.finished);
         self.done_place = lowest_done(
-            self.tasks.as_slice(),
+            self.held.as_slice(),
             self.ascending,
             self.finished.as_slice(),
         );
-        let response = task.response();
-        give_back(&mut self.spare, task);
+        let response = job.response();
+        give_back(&mut self.spare, job);
         response
     }
 
@@ -259,14 +259,14 @@ impl Jobs {
     pub fn has_room(&self) -> bool
         ensures { IsTrue result ↔ (length self.now.works < self.now.room) }
     {
-        self.tasks.len() < self.room as usize
+        self.held.len() < self.room as usize
     }
 
     /// How many jobs are held.
     pub fn count(&self) -> usize
         ensures { result ≡ length self.now.works }
     {
-        self.tasks.len()
+        self.held.len()
     }
 
     /// Aborts the jobs up to the lowest that has a mapping in its hand, and gives that mapping;
@@ -276,39 +276,39 @@ impl Jobs {
         ensures rest { self.new ≡ record self.old { works = after_mapping self.old.works } }
         ensures no_more { length self.new.works ≤ length self.old.works }
     {
-        let mapping = abort_first(&mut self.tasks, &mut self.spare);
-        let tasks = self.tasks.as_slice();
+        let mapping = abort_first(&mut self.held, &mut self.spare);
+        let held = self.held.as_slice();
         // Those that are left no more go on, and are found by a walk.
-        self.ascending = tasks.is_empty();
-        self.done_place = first_done(tasks);
-        self.ordered = first_holding(tasks, false);
-        self.barrier = first_holding(tasks, true);
+        self.ascending = held.is_empty();
+        self.done_place = first_done(held);
+        self.ordered = first_holding(held, false);
+        self.barrier = first_holding(held, true);
         self.finished.clear();
         mapping
     }
 }
 
 // Whether a job waits where one that a barrier waits for stands before it, or a barrier does.
-fn is_held(task: &Task, ordered: bool, barrier: bool) -> bool
-    ensures { result ≡ is_held task.now ordered barrier }
+fn is_held(job: &HeldJob, ordered: bool, barrier: bool) -> bool
+    ensures { result ≡ is_held job.now ordered barrier }
 {
-    (task.is_barrier() && ordered) || (task.is_ordered() && barrier)
+    (job.is_barrier() && ordered) || (job.is_ordered() && barrier)
 }
 
 // Drops the jobs up to the lowest that has a mapping in its hand, and gives that mapping; their vectors
 // are spare again.
-fn abort_first(tasks: &mut Vec<Task>, spare: &mut Vec<SegmentVec>) -> Option<Mapping>
-    requires { length spare.old.items + count_by is_paged tasks.old.items ≤ vec_capacity spare.old }
-    ensures mapping { result ≡ first_mapping tasks.old.items }
-    ensures rest { tasks.new.items ≡ after_mapping tasks.old.items }
-    ensures capacity { vec_capacity tasks.new ≡ vec_capacity tasks.old }
-    ensures spare { length spare.new.items + count_by is_paged tasks.new.items ≡ length spare.old.items + count_by is_paged tasks.old.items }
+fn abort_first(held: &mut Vec<HeldJob>, spare: &mut Vec<SegmentVec>) -> Option<Mapping>
+    requires { length spare.old.items + count_by is_paged held.old.items ≤ vec_capacity spare.old }
+    ensures mapping { result ≡ first_mapping held.old.items }
+    ensures rest { held.new.items ≡ after_mapping held.old.items }
+    ensures capacity { vec_capacity held.new ≡ vec_capacity held.old }
+    ensures spare { length spare.new.items + count_by is_paged held.new.items ≡ length spare.old.items + count_by is_paged held.old.items }
     ensures kept { vec_capacity spare.new ≡ vec_capacity spare.old }
 {
-    while !tasks.is_empty() {
-        let task = tasks.remove(0);
-        let mapping = task.mapping();
-        give_back(spare, task);
+    while !held.is_empty() {
+        let job = held.remove(0);
+        let mapping = job.mapping();
+        give_back(spare, job);
         if mapping.is_some() {
             return mapping;
         }

@@ -1,12 +1,12 @@
 // The segments of a job.
 ghost use Rattle.std.specs.Prelude.{◌≡◌, ◌<◌, ◌≤◌, ◌++◌, [], ◌∷◌, true, false, is_some, length};
-ghost use Rattle.back_jobs.specs.Task.{rest_of};
+ghost use Rattle.back_jobs.specs.Work.{rest_of};
 
 use arrayvec::ArrayVec;
 use blk_layout::Segment;
 use std::marker::Model;
 
-/// The segments that an indirect request's pages name, of which a request may have as many as this holds.
+/// Room for the segments that are copied for an indirect request: as many as one may have.
 pub(crate) type SegmentVec = Box<ArrayVec<Segment, 960>>;
 
 /// The segments that a job isn't done with, in order: those of an entry, or those that are copied into

@@ -3,7 +3,7 @@ use blk_base::{Mapping, Status};
 
 /// What a job is doing. Each has exactly one thing to ask next.
 #[derive(Clone, Copy, Debug, PartialEq, Eq)]
-pub enum Stage {
+pub enum JobStage {
     /// Maps the indirect page that it comes to next.
     MapPage,
     /// Copies a segment of the page: reads its first word, the reference, and then its second one.

@@ -5,7 +5,7 @@ use Rattle.std.specs.List.{filter_map}
 use Rattle.schedule_text.specs.declared.line.Line.{Line}
 use Rattle.schedule_text.specs.declared.line.Line.TheVariants as lines
 use Rattle.schedule_text.specs.declared.recorder.Tally.{Tally}
-use Rattle.schedule_text.specs.declared.recorder.Verdict.{Verdict}
+use Rattle.schedule_text.specs.declared.recorder.RoundsEnd.{RoundsEnd}
 use Rattle.schedule_text.specs.Recorder.{one_more, counted}
 use Rattle.bench_load.specs.Counts.{is_submitted, is_refused, is_effect, is_answered, how_many, word_of, last_of, counts_of, CountsThemAll}
 
@@ -53,7 +53,7 @@ last_on t (lines.Quiet ∷ ls) = last_on (counted t lines.Quiet) ls
 last_on t (lines.Unsettled ∷ ls) = last_on (counted t lines.Unsettled) ls
 last_on t (l ∷ ls) = last_on (counted t l) ls
 
-tally : ℕ → ℕ → ℕ → ℕ → Option Verdict → Tally
+tally : ℕ → ℕ → ℕ → ℕ → Option RoundsEnd → Tally
 tally a b c d e = record { submitted = a; refused = b; effects = c; answered = d; last = e }
 
 same_tally : (t u : Tally) → t.submitted ≡ u.submitted → t.refused ≡ u.refused → t.effects ≡ u.effects → t.answered ≡ u.answered → t.last ≡ u.last → t ≡ u
@@ -63,7 +63,7 @@ same_tally t u a b c d e =
     ∙ ap (λ (x : ℕ). tally u.submitted x t.effects t.answered t.last) b
     ∙ ap (λ (x : ℕ). tally u.submitted u.refused x t.answered t.last) c
     ∙ ap (λ (x : ℕ). tally u.submitted u.refused u.effects x t.last) d
-    ∙ ap (λ (x : Option Verdict). tally u.submitted u.refused u.effects u.answered x) e
+    ∙ ap (λ (x : Option RoundsEnd). tally u.submitted u.refused u.effects u.answered x) e
 
 pub counts_them_all : CountsThemAll
 counts_them_all ls =

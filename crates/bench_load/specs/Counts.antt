@@ -4,8 +4,8 @@ use Rattle.std.specs.List.{filter_map}
 use Rattle.schedule_text.specs.declared.line.Line.{Line}
 use Rattle.schedule_text.specs.declared.line.Line.TheVariants.{Submit, Refuse, Effect, EffectRead, Answer, Quiet, Unsettled}
 use Rattle.schedule_text.specs.declared.recorder.Tally.{Tally}
-use Rattle.schedule_text.specs.declared.recorder.Verdict.{Verdict}
-use Rattle.schedule_text.specs.declared.recorder.Verdict.TheVariants as verdict
+use Rattle.schedule_text.specs.declared.recorder.RoundsEnd.{RoundsEnd}
+use Rattle.schedule_text.specs.declared.recorder.RoundsEnd.TheVariants as verdict
 use Rattle.schedule_text.specs.Recorder.{counted}
 
 abbrev pub is_submitted : Line → Bool
@@ -31,12 +31,12 @@ abbrev pub how_many : (Line → Bool) → List Line → ℕ
 how_many kind lines = min (length (filter kind lines)) (2 ^ 64 - 1)
 
 -- the word of a line, if it is one of the two
-abbrev pub word_of : Line → Option Verdict
+abbrev pub word_of : Line → Option RoundsEnd
 word_of Quiet = Some verdict.Quiet
 word_of Unsettled = Some verdict.Unsettled
 word_of line = None
 
-abbrev pub last_of : Option Verdict → List Verdict → Option Verdict
+abbrev pub last_of : Option RoundsEnd → List RoundsEnd → Option RoundsEnd
 last_of last [] = last
 last_of last (word ∷ words) = last_of (Some word) words
 

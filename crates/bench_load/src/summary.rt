@@ -4,7 +4,7 @@ ghost use Rattle.arrayvec.specs.ArrayString.{array_string_len};
 ghost use Rattle.bench_load.specs.Summary.{summary_of, count_line, word_line};
 
 use line_text::{LineText, put_number};
-use schedule_text::{Tally, Verdict};
+use schedule_text::{RoundsEnd, Tally};
 
 /// Writes the summary of a tally: `submitted`, `refused`, `effects` and `answered` with their counts,
 /// and the last word of `quiet` and `unsettled`, each on a line of its own.
@@ -31,13 +31,13 @@ fn add_count(text: &mut LineText, name: &str, count: u64)
 }
 
 // The line of the last word.
-fn word_line(last: Option<Verdict>) -> &'static str
+fn word_line(last: Option<RoundsEnd>) -> &'static str
     ensures line { result.now ≡ word_line last }
     ensures short { length result.now ≤ 10 }
 {
     match last {
         None => "",
-        Some(Verdict::Quiet) => "quiet\n",
-        Some(Verdict::Unsettled) => "unsettled\n",
+        Some(RoundsEnd::Quiet) => "quiet\n",
+        Some(RoundsEnd::Unsettled) => "unsettled\n",
     }
 }

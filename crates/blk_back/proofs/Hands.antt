@@ -14,7 +14,7 @@ use Rattle.blk_base.specs.declared.ask.BackAnswer.TheVariants as answer
 use Rattle.blk_layout.specs.Entry.{request_of}
 use Rattle.ring_words.specs.Shape.{Shape, entry_words_of, slot_word_of}
 use Rattle.ring_words.specs.Ring.{requests_of, overruns, notifies}
-use Rattle.back_jobs.specs.Task.{IsAnswer as IsJobAnswer}
+use Rattle.back_jobs.specs.Work.{IsAnswer as IsJobAnswer}
 use Rattle.back_jobs.specs.Jobs.{place_of, work_of, waits, ask_job, first_mapping, after_mapping, next_after}
 use Rattle.back_jobs.specs.Hands.{hands_in, Names, HasOneMore, HandsAfter}
 use Rattle.back_jobs.proofs.Hands.{framed, named_among, told_hands, done_hands, started_hands, after_hands, few_in_hands}
@@ -23,8 +23,8 @@ use Rattle.segment_list.specs.declared.verdict.DiskInfo.{DiskInfo}
 use Rattle.blk_back.specs.declared.told.Halt.{Halt}
 use Rattle.blk_back.specs.declared.told.Halt.TheVariants as halt
 use Rattle.blk_back.specs.declared.stage.Reply.{Reply}
-use Rattle.blk_back.specs.declared.stage.Stage.{Stage}
-use Rattle.blk_back.specs.declared.stage.Stage.TheVariants as stage
+use Rattle.blk_back.specs.declared.stage.BackStage.{BackStage}
+use Rattle.blk_back.specs.declared.stage.BackStage.TheVariants as stage
 use Rattle.blk_back.specs.View.{View, no_page, page_of, slot_page}
 use Rattle.blk_back.specs.Ask.{ask_at, ask_of, loop_ask, reply_ask, entry_ask, index_ask, unmap_ask, next_reply, IsAnswer, StaysInPage}
 use Rattle.blk_back.specs.Step.{unmapping_next, abort, unbound, bound, other_pages, mapped, attaches, may_attach, attached, halts_at, may_halt, halts, overrun, looked, loop_word, loop_step, fetched, fetch_step, next_number, step_at, step_of, job_ask_of, job_step, next_job_of}
@@ -40,7 +40,7 @@ either : (b : Bool) (x y : View) (l : List Mapping) → hands_of x ≡ l → han
 either true x y l p q = p
 either false x y l p q = q
 
-either_stage : (b : Bool) (x y : Stage) (v : View) (l : List Mapping) → hands_at x v ≡ l → hands_at y v ≡ l → hands_at (if b then x else y) v ≡ l
+either_stage : (b : Bool) (x y : BackStage) (v : View) (l : List Mapping) → hands_at x v ≡ l → hands_at y v ≡ l → hands_at (if b then x else y) v ≡ l
 either_stage true x y v l p q = p
 either_stage false x y v l p q = q
 
@@ -78,7 +78,7 @@ loop_word_hands v word =
 loop_hands : (v : View) (r : Option Reply) (given : BackAnswer) → v.stage ≡ stage.Loop → hands_of (loop_step v r given) ≡ connected v
 loop_hands v (Some r) given here = ap (λ (l : List Mapping). l ++ v.pages) (done_hands v.jobs)
 loop_hands v None (answer.Word word) here = loop_word_hands v word
-loop_hands v None given here = ap (λ (s : Stage). hands_at s v) here
+loop_hands v None given here = ap (λ (s : BackStage). hands_at s v) here
 
 either_after : (b : Bool) (x y : BackAsk) (given : BackAnswer) (before after : List Mapping) → HandsAfter x given before after → HandsAfter y given before after → HandsAfter (if b then x else y) given before after
 either_after true x y given before after p q = p
@@ -114,8 +114,8 @@ mapped_hands m v = either_stage (nat_lt (length v.pages + 1) (length v.grefs)) s
 came : (m : Mapping) (before after more : List Mapping) → after ≡ more → HasOneMore m before more → HasOneMore m before after
 came m before after more same h = rw same h
 
-hands_after_at : (s : Stage) (v : View) (given : BackAnswer) → v.stage ≡ s → IsAnswer (ask_at s v) given → HandsAfter (ask_at s v) given (hands_at s v) (hands_of (step_at s v given))
-hands_after_at stage.InitWait v given here h = ap (λ (s : Stage). hands_at s v) here
+hands_after_at : (s : BackStage) (v : View) (given : BackAnswer) → v.stage ≡ s → IsAnswer (ask_at s v) given → HandsAfter (ask_at s v) given (hands_at s v) (hands_of (step_at s v given))
+hands_after_at stage.InitWait v given here h = ap (λ (s : BackStage). hands_at s v) here
 hands_after_at stage.MapRing v (answer.Mapped m) here h = came m (connected v) (hands_of (mapped m v)) _ (mapped_hands m v) (page_more m (hands_in v.jobs.works) v.pages)
 hands_after_at stage.MapRing v (answer.MapRefused status) here h = ap (λ (l : List Mapping). l ++ connected v) (none_given v.pages)
 hands_after_at stage.Bind v answer.Done here h = refl
@@ -135,7 +135,7 @@ hands_after_at (stage.Abort m) v answer.Done here h = record { front = []; rest 
 hands_after_at stage.UnmapRing v given here h = unmapped_after given (hands_in v.jobs.works) v.pages (aborted (bound (other_pages v.pages))) (none_given_bound (other_pages v.pages)) h
 hands_after_at stage.ClosePort v given here h = refl
 hands_after_at stage.UnmapUnbound v given here h = unmapped_after given (hands_in v.jobs.works) v.pages (aborted (unbound (other_pages v.pages))) (none_given (other_pages v.pages)) h
-hands_after_at stage.Halted v given here h = ap (λ (s : Stage). hands_at s v) here
+hands_after_at stage.Halted v given here h = ap (λ (s : BackStage). hands_at s v) here
 hands_after_at s v given here h = absurd h
 
 -- what an answer to the back makes of what is held
@@ -146,10 +146,10 @@ hands_after v given h = hands_after_at v.stage v given refl h
 pub halted_hands : (why : Halt) (v : View) → hands_of (halts why v) ≡ hands_of v
 halted_hands why v = either (may_halt why) (halts_at v.stage why v) v (hands_of v) (by_stage v.stage refl) refl
   where
-    by_stage : (s : Stage) → v.stage ≡ s → hands_of (halts_at s why v) ≡ hands_of v
-    by_stage stage.InitWait here = ap (λ (l : List Mapping). l ++ connected v) (none_given v.pages) ∙ ap (λ (s : Stage). hands_at s v) (sym here)
-    by_stage stage.MapRing here = ap (λ (l : List Mapping). l ++ connected v) (none_given v.pages) ∙ ap (λ (s : Stage). hands_at s v) (sym here)
-    by_stage stage.Loop here = abort_hands (record v { halted = Some why }) ∙ ap (λ (s : Stage). hands_at s v) (sym here)
+    by_stage : (s : BackStage) → v.stage ≡ s → hands_of (halts_at s why v) ≡ hands_of v
+    by_stage stage.InitWait here = ap (λ (l : List Mapping). l ++ connected v) (none_given v.pages) ∙ ap (λ (s : BackStage). hands_at s v) (sym here)
+    by_stage stage.MapRing here = ap (λ (l : List Mapping). l ++ connected v) (none_given v.pages) ∙ ap (λ (s : BackStage). hands_at s v) (sym here)
+    by_stage stage.Loop here = abort_hands (record v { halted = Some why }) ∙ ap (λ (s : BackStage). hands_at s v) (sym here)
     by_stage s here = refl
 
 -- to take the terms of the front maps nothing
@@ -157,10 +157,10 @@ pub attached_hands : (shape : Shape) (grefs : List ℕ) (port : ℕ) (v : View) 
 attached_hands shape grefs port v = by_stage v.stage refl
   where
     at_once : (b : Bool) → v.stage ≡ stage.InitWait → hands_of (if b then attached shape grefs port v else v) ≡ hands_of v
-    at_once true here = ap (λ (s : Stage). hands_at s v) (sym here)
+    at_once true here = ap (λ (s : BackStage). hands_at s v) (sym here)
     at_once false here = refl
 
-    by_stage : (s : Stage) → v.stage ≡ s → hands_of (attaches shape grefs port v) ≡ hands_of v
+    by_stage : (s : BackStage) → v.stage ≡ s → hands_of (attaches shape grefs port v) ≡ hands_of v
     by_stage stage.InitWait here = at_once (may_attach shape grefs v) here
     by_stage s here = rw here refl
 
@@ -182,7 +182,7 @@ page_in : (v : View) (works : List Mapping) (page : ℕ) → page < length v.pag
 page_in v works page within = Contains-append_right works v.pages (page_of v page) (Contains-get_or v.pages page no_page within)
 
 -- an entry has the word that is read next
-abbrev IsFetched : Stage → Shape → Type 0
+abbrev IsFetched : BackStage → Shape → Type 0
 IsFetched (stage.Fetch k) s = k < entry_words_of s.abi
 IsFetched other s = Unit {0}
 
@@ -225,7 +225,7 @@ first_in : (works pages : List Mapping) → Names (works ++ pages) (unmap_ask pa
 first_in works [] = tt
 first_in works (page ∷ pages) = Contains-append_right works (page ∷ pages) page (0, omega arith, refl)
 
-names_at : (s : Stage) (v : View) → IsMapped s v.shape.order v.grefs v.pages → AreWritable v.pages → IsFetched s v.shape → StaysInPage (ask_at s v) → Names (hands_at s v) (ask_at s v)
+names_at : (s : BackStage) (v : View) → IsMapped s v.shape.order v.grefs v.pages → AreWritable v.pages → IsFetched s v.shape → StaysInPage (ask_at s v) → Names (hands_at s v) (ask_at s v)
 names_at stage.Loop v kept writable fetched within = loop_names v (next_reply v) (record { pages = kept; writable = writable }) within
 names_at (stage.Fetch k) v kept writable fetched within = entry_names v k (record { pages = kept; writable = writable }) fetched within
 names_at (stage.ReplyHigh r) v kept writable fetched within = reply_names v r 1 (record { pages = kept; writable = writable }) (omega arith) within
@@ -239,7 +239,7 @@ names_at stage.UnmapRing v kept writable fetched within = first_in (hands_in v.j
 names_at stage.UnmapUnbound v kept writable fetched within = first_in (hands_in v.jobs.works) v.pages
 names_at s v kept writable fetched within = tt
 
-fetched_of : (s : Stage) (shape : Shape) (words waiting : ℕ) → IsPlaced s shape words waiting → IsFetched s shape
+fetched_of : (s : BackStage) (shape : Shape) (words waiting : ℕ) → IsPlaced s shape words waiting → IsFetched s shape
 fetched_of (stage.Fetch k) shape words waiting placed = placed.0
 fetched_of s shape words waiting placed = tt
 
@@ -251,7 +251,7 @@ names_of v sound within = names_at v.stage v sound.mapped sound.writable (fetche
 pub job_names : (v : View) (a : BackAsk) → Names (hands_in v.jobs.works) a → Names (hands_of v) a
 job_names v a names = named_among a (aborted v.stage) v.pages (hands_in v.jobs.works) names
 
-few_aborted : (s : Stage) → length (aborted s) ≤ 1
+few_aborted : (s : BackStage) → length (aborted s) ≤ 1
 few_aborted (stage.Abort m) = omega arith
 few_aborted s = omega arith
 
@@ -278,7 +278,7 @@ loop_info v None (answer.Word word) =
     refl
 loop_info v None given = refl
 
-step_info_at : (s : Stage) (v : View) (given : BackAnswer) → (step_at s v given).jobs.info ≡ v.jobs.info
+step_info_at : (s : BackStage) (v : View) (given : BackAnswer) → (step_at s v given).jobs.info ≡ v.jobs.info
 step_info_at stage.InitWait v given = refl
 step_info_at stage.MapRing v (answer.Mapped m) = refl
 step_info_at stage.MapRing v (answer.MapRefused status) = refl

@@ -11,8 +11,8 @@ use Rattle.ring_words.specs.Ring.{next_of, requests_of}
 use Rattle.blk_layout.specs.Response.{response_words_of}
 use Rattle.back_jobs.specs.Jobs.{done_of, response_of}
 use Rattle.blk_back.specs.declared.stage.Reply.{Reply}
-use Rattle.blk_back.specs.declared.stage.Stage.{Stage}
-use Rattle.blk_back.specs.declared.stage.Stage.TheVariants as stage
+use Rattle.blk_back.specs.declared.stage.BackStage.{BackStage}
+use Rattle.blk_back.specs.declared.stage.BackStage.TheVariants as stage
 use Rattle.blk_back.specs.View.{View, page_of, slot_page, slot_word}
 
 -- the response to the lowest job that is done
@@ -54,7 +54,7 @@ abbrev pub unmap_ask : List Mapping → BackAsk
 unmap_ask [] = Wait
 unmap_ask (page ∷ pages) = Unmap page
 
-abbrev pub ask_at : Stage → View → BackAsk
+abbrev pub ask_at : BackStage → View → BackAsk
 ask_at stage.InitWait v = Wait
 ask_at stage.MapRing v = Map (next_gref v) ReadWrite
 ask_at stage.Bind v = Bind v.ring.port
@@ -110,7 +110,7 @@ abbrev pub is_waiting : View → Bool
 is_waiting v = is_wait (ask_of v)
 
 -- it waits for its negotiation
-abbrev pub is_led : Stage → Bool
+abbrev pub is_led : BackStage → Bool
 is_led stage.InitWait = true
 is_led s = false
 

@@ -2,16 +2,16 @@
 use Rattle.std.specs.Prelude.{List, [], ◌∷◌, ◌++◌}
 use Rattle.blk_base.specs.declared.parts.Mapping.{Mapping}
 use Rattle.back_jobs.specs.Hands.{hands_in}
-use Rattle.blk_back.specs.declared.stage.Stage.{Stage}
-use Rattle.blk_back.specs.declared.stage.Stage.TheVariants as stage
+use Rattle.blk_back.specs.declared.stage.BackStage.{BackStage}
+use Rattle.blk_back.specs.declared.stage.BackStage.TheVariants as stage
 use Rattle.blk_back.specs.View.{View}
 
 -- after a halt: the mapping that is being unmapped
-abbrev pub aborted : Stage → List Mapping
+abbrev pub aborted : BackStage → List Mapping
 aborted (stage.Abort m) = m ∷ []
 aborted s = []
 
-abbrev pub hands_at : Stage → View → List Mapping
+abbrev pub hands_at : BackStage → View → List Mapping
 hands_at s v = aborted s ++ (hands_in v.jobs.works ++ v.pages)
 
 -- the one being unmapped, then those in the jobs' hands, then the ring's pages

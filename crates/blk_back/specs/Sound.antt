@@ -4,17 +4,17 @@ use Rattle.blk_base.specs.Distance.{distance_of}
 use Rattle.blk_base.specs.declared.parts.Mapping.{Mapping}
 use Rattle.blk_base.specs.declared.parts.Mode.TheVariants.{ReadWrite}
 use Rattle.ring_words.specs.Shape.{Shape, entries_of, entry_words_of}
-use Rattle.blk_back.specs.declared.stage.Stage.{Stage}
-use Rattle.blk_back.specs.declared.stage.Stage.TheVariants as stage
+use Rattle.blk_back.specs.declared.stage.BackStage.{BackStage}
+use Rattle.blk_back.specs.declared.stage.BackStage.TheVariants as stage
 use Rattle.blk_back.specs.View.{View}
 
 -- a fetch has read as many words as it says, fewer than an entry has, and there is room for its job
-abbrev pub IsPlaced : Stage → Shape → ℕ → ℕ → Type 0
+abbrev pub IsPlaced : BackStage → Shape → ℕ → ℕ → Type 0
 IsPlaced (stage.Fetch k) s words waiting = (k < entry_words_of s.abi) × (words ≡ k) × (waiting < entries_of s.order)
 IsPlaced stage s words waiting = Unit {0}
 
 -- each request that was fetched and not replied to is a job's, or is being replied to
-abbrev pub IsCounted : Stage → ℕ → ℕ → Type 0
+abbrev pub IsCounted : BackStage → ℕ → ℕ → Type 0
 IsCounted stage.InitWait works waiting = works ≡ 0
 IsCounted (stage.ReplyHigh r) works waiting = works + 1 ≡ waiting
 IsCounted (stage.ReplyLast r) works waiting = works + 1 ≡ waiting
@@ -27,7 +27,7 @@ IsCounted stage.Halted works waiting = Unit {0}
 IsCounted s works waiting = works ≡ waiting
 
 -- the pages that are mapped: none before the terms are known and after all were unmapped, all while the port is bound
-abbrev pub IsMapped : Stage → ℕ → List ℕ → List Mapping → Type 0
+abbrev pub IsMapped : BackStage → ℕ → List ℕ → List Mapping → Type 0
 IsMapped stage.InitWait order grefs pages = length pages ≡ 0
 IsMapped stage.MapRing order grefs pages = (length grefs ≡ 2 ^ order) × (length pages < 2 ^ order)
 IsMapped stage.UnmapRing order grefs pages = 0 < length pages

@@ -12,8 +12,8 @@ use Rattle.back_jobs.specs.declared.effect.Effect.{Effect}
 use Rattle.back_jobs.specs.declared.effect.Effect.TheVariants as effect
 use Rattle.back_jobs.specs.Jobs.{start_job, complete_job, without_done, first_mapping, after_mapping, work_of, effect_of, ask_job, next_after}
 use Rattle.blk_back.specs.declared.stage.Reply.{Reply}
-use Rattle.blk_back.specs.declared.stage.Stage.{Stage}
-use Rattle.blk_back.specs.declared.stage.Stage.TheVariants as stage
+use Rattle.blk_back.specs.declared.stage.BackStage.{BackStage}
+use Rattle.blk_back.specs.declared.stage.BackStage.TheVariants as stage
 use Rattle.blk_back.specs.declared.told.BackTold.{BackTold}
 use Rattle.blk_back.specs.declared.told.BackTold.TheVariants as told
 use Rattle.blk_back.specs.declared.told.Halt.{Halt}
@@ -21,11 +21,11 @@ use Rattle.blk_back.specs.declared.told.Halt.TheVariants as halt
 use Rattle.blk_back.specs.View.{View}
 use Rattle.blk_back.specs.Ask.{is_led, next_reply, next_gref}
 
-abbrev pub at : Stage → View → View
+abbrev pub at : BackStage → View → View
 at s v = record v { stage = s }
 
 -- after a mapping of the jobs, or none: what is unmapped next
-abbrev pub unmapping_next : Option Mapping → Stage
+abbrev pub unmapping_next : Option Mapping → BackStage
 unmapping_next None = stage.UnmapRing
 unmapping_next (Some m) = stage.Abort m
 
@@ -34,12 +34,12 @@ abbrev pub abort : View → View
 abort v = record v { stage = unmapping_next (first_mapping v.jobs.works); jobs = record v.jobs { works = after_mapping v.jobs.works } }
 
 -- a back whose port isn't bound unmaps the pages that it has mapped
-abbrev pub unbound : List Mapping → Stage
+abbrev pub unbound : List Mapping → BackStage
 unbound [] = stage.Halted
 unbound (page ∷ pages) = stage.UnmapUnbound
 
 -- where no step is begun the negotiation may have the back halt
-abbrev pub halts_at : Stage → Halt → View → View
+abbrev pub halts_at : BackStage → Halt → View → View
 halts_at stage.InitWait why v = record v { halted = Some why; stage = unbound v.pages }
 halts_at stage.MapRing why v = record v { halted = Some why; stage = unbound v.pages }
 halts_at stage.Loop why v = abort (record v { halted = Some why })
@@ -126,7 +126,7 @@ abbrev pub other_pages : List Mapping → List Mapping
 other_pages [] = []
 other_pages (page ∷ pages) = pages
 
-abbrev pub bound : List Mapping → Stage
+abbrev pub bound : List Mapping → BackStage
 bound [] = stage.ClosePort
 bound (page ∷ pages) = stage.UnmapRing
 
@@ -136,7 +136,7 @@ unmapped_bound v = record v { pages = other_pages v.pages; stage = bound (other_
 abbrev pub unmapped_unbound : View → View
 unmapped_unbound v = record v { pages = other_pages v.pages; stage = unbound (other_pages v.pages) }
 
-abbrev pub step_at : Stage → View → BackAnswer → View
+abbrev pub step_at : BackStage → View → BackAnswer → View
 step_at stage.MapRing v (Mapped m) = mapped m v
 step_at stage.MapRing v (MapRefused status) = record v { halted = Some (halt.MapRefused (next_gref v) status); stage = unbound v.pages }
 step_at stage.Bind v Done = at stage.Loop v

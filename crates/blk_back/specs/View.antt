@@ -7,9 +7,9 @@ use Rattle.blk_base.specs.declared.parts.Mode.TheVariants.{ReadOnly}
 use Rattle.ring_words.specs.Ring.{Ring}
 use Rattle.ring_words.specs.Shape.{Shape, entries_of, slot_word_of}
 use Rattle.segment_list.specs.declared.verdict.DiskInfo.{DiskInfo}
-use Rattle.back_jobs.specs.Jobs.{Held, none_held}
-use Rattle.blk_back.specs.declared.stage.Stage.{Stage}
-use Rattle.blk_back.specs.declared.stage.Stage.TheVariants as stage
+use Rattle.back_jobs.specs.Jobs.{HeldJobs, none_held}
+use Rattle.blk_back.specs.declared.stage.BackStage.{BackStage}
+use Rattle.blk_back.specs.declared.stage.BackStage.TheVariants as stage
 use Rattle.blk_back.specs.declared.told.BackTold.{BackTold}
 use Rattle.blk_back.specs.declared.told.Halt.{Halt}
 
@@ -24,12 +24,12 @@ pub record RingInfo : Type 0 where
 -- The back: its ring and what it does; the shape of its ring and the references of the ring's pages, as its negotiation read them; the pages that it has mapped; how many requests it fetched in this epoch; its jobs; what is to be told; and why it halted.
 pub record View : Type 0 where
   pub ring : RingInfo
-  pub stage : Stage
+  pub stage : BackStage
   pub shape : Shape
   pub grefs : List ℕ
   pub pages : List Mapping
   pub fetched : ℕ
-  pub jobs : Held
+  pub jobs : HeldJobs
   pub told : Option BackTold
   pub halted : Option Halt
 

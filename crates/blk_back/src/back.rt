@@ -8,12 +8,12 @@ ghost use Rattle.blk_back.specs.Hands.{hands_of};
 ghost use Rattle.blk_base.specs.declared.parts.Mode.TheVariants.{ReadWrite};
 ghost use Rattle.back_jobs.specs.Hands.{Names, HandsAfter};
 ghost use Rattle.back_jobs.specs.Jobs.{ask_job, next_after};
-ghost use Rattle.back_jobs.specs.Task.{IsAnswer as IsJobAnswer};
+ghost use Rattle.back_jobs.specs.Work.{IsAnswer as IsJobAnswer};
 
 mod jobs;
 mod steps;
 
-use crate::stage::{Reply, Stage};
+use crate::stage::{BackStage, Reply};
 use crate::told::{BackTold, Halt};
 use arrayvec::ArrayVec;
 use back_jobs::Jobs;
@@ -41,7 +41,7 @@ struct RingInfo {
 #[derive(Drop)]
 pub struct Back {
     ring: RingInfo,
-    stage: Stage,
+    stage: BackStage,
     abi: Abi,
     order: u32,
     grefs: ArrayVec<u32, 16>,
@@ -104,7 +104,7 @@ impl Back {
                 port: 0,
                 entry: ArrayVec::new(),
             },
-            stage: Stage::InitWait,
+            stage: BackStage::InitWait,
             abi: Abi::X64,
             order: 0,
             grefs: ArrayVec::new(),
@@ -297,31 +297,31 @@ impl Back {
         ensures within { StaysInPage result }
     {
         match self.stage {
-            Stage::InitWait => BackAsk::Wait,
-            Stage::MapRing => self.map_ring(),
-            Stage::Bind => BackAsk::Bind(self.ring.port),
-            Stage::Loop => self.ask_in_loop(),
-            Stage::Fetch(word) => self.read_entry(word),
-            Stage::ReplyHigh(r) => self.write_reply(&r, 1),
-            Stage::ReplyLast(r) => self.write_reply(&r, 2),
-            Stage::Producer(_) => self.write_index(
+            BackStage::InitWait => BackAsk::Wait,
+            BackStage::MapRing => self.map_ring(),
+            BackStage::Bind => BackAsk::Bind(self.ring.port),
+            BackStage::Loop => self.ask_in_loop(),
+            BackStage::Fetch(word) => self.read_entry(word),
+            BackStage::ReplyHigh(r) => self.write_reply(&r, 1),
+            BackStage::ReplyLast(r) => self.write_reply(&r, 2),
+            BackStage::Producer(_) => self.write_index(
                 RSP_PROD,
                 self.ring.indices.prod().wrapping_add(1),
             ),
-            Stage::ProducerFence(_) => BackAsk::Fence,
-            Stage::ResponseEvent(_) => self.read_index(RSP_EVENT),
-            Stage::Send => BackAsk::Send,
-            Stage::StoreEvent => self.write_index(
+            BackStage::ProducerFence(_) => BackAsk::Fence,
+            BackStage::ResponseEvent(_) => self.read_index(RSP_EVENT),
+            BackStage::Send => BackAsk::Send,
+            BackStage::StoreEvent => self.write_index(
                 REQ_EVENT,
                 self.ring.indices.cons().wrapping_add(1),
             ),
-            Stage::EventFence => BackAsk::Fence,
-            Stage::LookAgain => self.read_index(REQ_PROD),
-            Stage::Abort(mapping) => BackAsk::Unmap(mapping),
-            Stage::UnmapRing => self.unmap_ring(),
-            Stage::ClosePort => BackAsk::ClosePort,
-            Stage::UnmapUnbound => self.unmap_ring(),
-            Stage::Halted => BackAsk::Wait,
+            BackStage::EventFence => BackAsk::Fence,
+            BackStage::LookAgain => self.read_index(REQ_PROD),
+            BackStage::Abort(mapping) => BackAsk::Unmap(mapping),
+            BackStage::UnmapRing => self.unmap_ring(),
+            BackStage::ClosePort => BackAsk::ClosePort,
+            BackStage::UnmapUnbound => self.unmap_ring(),
+            BackStage::Halted => BackAsk::Wait,
         }
     }
 
@@ -331,25 +331,25 @@ impl Back {
         ensures { self.new ≡ step_of self.old answer.now }
     {
         match (self.stage, answer) {
-            (Stage::MapRing, BackAnswer::Mapped(mapping)) => self.mapped(*mapping),
-            (Stage::MapRing, BackAnswer::MapRefused(status)) => self.refused(*status),
-            (Stage::Bind, BackAnswer::Done) => self.stage = Stage::Loop,
-            (Stage::Bind, BackAnswer::BindRefused) => self.unbound(),
-            (Stage::Loop, answer) => self.begin(answer),
-            (Stage::Fetch(k), BackAnswer::Word(word)) => self.fetch(k, *word),
-            (Stage::ReplyHigh(r), _) => self.stage = Stage::ReplyLast(r),
-            (Stage::ReplyLast(r), _) => self.stage = Stage::Producer(r),
-            (Stage::Producer(r), _) => self.replied(r),
-            (Stage::ProducerFence(old), _) => self.stage = Stage::ResponseEvent(old),
-            (Stage::ResponseEvent(old), BackAnswer::Word(event)) => self.notify(old, *event),
-            (Stage::Send, _) => self.stage = Stage::Loop,
-            (Stage::StoreEvent, _) => self.stage = Stage::EventFence,
-            (Stage::EventFence, _) => self.stage = Stage::LookAgain,
-            (Stage::LookAgain, BackAnswer::Word(word)) => self.look_again(*word),
-            (Stage::Abort(_), _) => self.abort(),
-            (Stage::UnmapRing, _) => self.unmapped(),
-            (Stage::ClosePort, _) => self.stage = Stage::Halted,
-            (Stage::UnmapUnbound, _) => self.unmapped_unbound(),
+            (BackStage::MapRing, BackAnswer::Mapped(mapping)) => self.mapped(*mapping),
+            (BackStage::MapRing, BackAnswer::MapRefused(status)) => self.refused(*status),
+            (BackStage::Bind, BackAnswer::Done) => self.stage = BackStage::Loop,
+            (BackStage::Bind, BackAnswer::BindRefused) => self.unbound(),
+            (BackStage::Loop, answer) => self.begin(answer),
+            (BackStage::Fetch(k), BackAnswer::Word(word)) => self.fetch(k, *word),
+            (BackStage::ReplyHigh(r), _) => self.stage = BackStage::ReplyLast(r),
+            (BackStage::ReplyLast(r), _) => self.stage = BackStage::Producer(r),
+            (BackStage::Producer(r), _) => self.replied(r),
+            (BackStage::ProducerFence(old), _) => self.stage = BackStage::ResponseEvent(old),
+            (BackStage::ResponseEvent(old), BackAnswer::Word(event)) => self.notify(old, *event),
+            (BackStage::Send, _) => self.stage = BackStage::Loop,
+            (BackStage::StoreEvent, _) => self.stage = BackStage::EventFence,
+            (BackStage::EventFence, _) => self.stage = BackStage::LookAgain,
+            (BackStage::LookAgain, BackAnswer::Word(word)) => self.look_again(*word),
+            (BackStage::Abort(_), _) => self.abort(),
+            (BackStage::UnmapRing, _) => self.unmapped(),
+            (BackStage::ClosePort, _) => self.stage = BackStage::Halted,
+            (BackStage::UnmapUnbound, _) => self.unmapped_unbound(),
             _ => {}
         }
     }

@@ -9,5 +9,5 @@ mod stage;
 mod told;
 
 pub use back::Back;
-pub use stage::{Reply, Stage};
+pub use stage::{BackStage, Reply};
 pub use told::{BackTold, Halt};

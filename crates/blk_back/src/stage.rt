@@ -12,7 +12,7 @@ pub struct Reply {
 
 /// What the back is doing. Each has exactly one thing to ask next.
 #[derive(Clone, Copy, Debug, PartialEq, Eq)]
-pub enum Stage {
+pub enum BackStage {
     /// Waits for the terms of its front (XenbusStateInitWait of `io/xenbus.h`).
     InitWait,
     /// Maps the ring's next page.

@@ -4,8 +4,8 @@ use Rattle.std.specs.Prelude.{All, remove}
 use Rattle.std.proofs.lemmas.List.Edits.{length-remove, get_or-remove_below, get_or-remove_above}
 use Rattle.std.proofs.lemmas.List.Elements.{All-append, All-drop, All-push, All-take}
 use Rattle.blk_front.specs.declared.request.Request.{Request}
-use Rattle.blk_front.specs.declared.stage.Stage.{Stage}
-use Rattle.blk_front.specs.declared.stage.Stage.TheVariants as stage
+use Rattle.blk_front.specs.declared.stage.FrontStage.{FrontStage}
+use Rattle.blk_front.specs.declared.stage.FrontStage.TheVariants as stage
 use Rattle.blk_front.specs.Sound.{IsReading}
 use Rattle.blk_front.specs.Step.{IsTaking}
 
@@ -26,6 +26,6 @@ pub remove_all : (P : Request → Type 0) (l : List Request) (place : ℕ) → A
 remove_all P l place all = All-append P _ _ (All-take P place l all) (All-drop P (suc place) l all)
 
 -- a response is taken once its last word was read, so more responses were seen
-pub reads_some : (s : Stage) (ahead : ℕ) → IsTaking s → IsReading s ahead → 0 < ahead
+pub reads_some : (s : FrontStage) (ahead : ℕ) → IsTaking s → IsReading s ahead → 0 < ahead
 reads_some (stage.ResponseLast low high) ahead taking more = more
 reads_some s ahead taking more = absurd taking

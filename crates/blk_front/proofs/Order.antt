@@ -10,8 +10,8 @@ use Rattle.blk_front.proofs.Numbers.{remove_all}
 use Rattle.blk_front.specs.declared.request.Request.{Request}
 use Rattle.blk_front.specs.declared.stage.Ending.{Ending}
 use Rattle.blk_front.specs.Sound.{AreAscending, IsApart, IsPlaced, IsUnissued, IsIssuing, IsReading, IsHeld, IsSound}
-use Rattle.blk_front.specs.declared.stage.Stage.{Stage}
-use Rattle.blk_front.specs.declared.stage.Stage.TheVariants as stage
+use Rattle.blk_front.specs.declared.stage.FrontStage.{FrontStage}
+use Rattle.blk_front.specs.declared.stage.FrontStage.TheVariants as stage
 use Rattle.blk_front.specs.Inside.{held}
 use Rattle.blk_front.specs.Request.{IsShaped}
 use Rattle.blk_front.specs.Submit.{ending_of}
@@ -61,7 +61,7 @@ with_ending_counted : (ending : Option Ending) (l : List Request) → length (wi
 with_ending_counted None l = refl
 with_ending_counted (Some e) l = omega (arith, one_more number e.request l)
 
-pub after_counted : (s : Stage) (ending : Option Ending) (l : List Request) → length (requests_after s ending l) + held (ending_after s ending) ≡ length l + held ending
+pub after_counted : (s : FrontStage) (ending : Option Ending) (l : List Request) → length (requests_after s ending l) + held (ending_after s ending) ≡ length l + held ending
 after_counted (stage.GrantRead place) ending l = with_ending_counted ending l
 after_counted (stage.GrantEnd place before) ending l = with_ending_counted ending l
 after_counted s ending l = refl
@@ -70,27 +70,27 @@ with_ending_fits : (ending : Option Ending) (l : List Request) (n : ℕ) → len
 with_ending_fits None l n fits = omega arith
 with_ending_fits (Some e) l n fits = omega (arith, one_more number e.request l)
 
-pub after_fits : (s : Stage) (ending : Option Ending) (l : List Request) (n : ℕ) → length l + ending_of s ≤ n → length (requests_after s ending l) + ending_of (stage_after s) ≤ n
+pub after_fits : (s : FrontStage) (ending : Option Ending) (l : List Request) (n : ℕ) → length l + ending_of s ≤ n → length (requests_after s ending l) + ending_of (stage_after s) ≤ n
 after_fits (stage.GrantRead place) ending l n fits = with_ending_fits ending l n fits
 after_fits (stage.GrantEnd place before) ending l n fits = with_ending_fits ending l n fits
 after_fits s ending l n fits = fits
 
-after_placed : (s : Stage) (shape : Shape) → IsPlaced s shape → IsPlaced (stage_after s) shape
+after_placed : (s : FrontStage) (shape : Shape) → IsPlaced s shape → IsPlaced (stage_after s) shape
 after_placed (stage.ReadData n) shape h = h
 after_placed (stage.LeftData n) shape h = h
 after_placed s shape h = omega arith
 
-after_issuing : (s : Stage) (n : ℕ) → IsIssuing (stage_after s) n
+after_issuing : (s : FrontStage) (n : ℕ) → IsIssuing (stage_after s) n
 after_issuing (stage.ReadData n) m = tt
 after_issuing (stage.LeftData n) m = tt
 after_issuing s m = tt
 
-after_unissued : (s : Stage) (n : ℕ) → IsUnissued (stage_after s) n n
+after_unissued : (s : FrontStage) (n : ℕ) → IsUnissued (stage_after s) n n
 after_unissued (stage.ReadData n) m = refl
 after_unissued (stage.LeftData n) m = refl
 after_unissued s m = refl
 
-after_reading : (s : Stage) (n : ℕ) → IsReading (stage_after s) n
+after_reading : (s : FrontStage) (n : ℕ) → IsReading (stage_after s) n
 after_reading (stage.ReadData n) m = tt
 after_reading (stage.LeftData n) m = tt
 after_reading s m = tt
@@ -99,7 +99,7 @@ with_ending_ascends : (ending : Option Ending) (l : List Request) (last : ℕ) �
 with_ending_ascends None l last up apart = up
 with_ending_ascends (Some e) l last up apart = ascending_by_number number e.request l up apart.other
 
-pub after_ascending : (s : Stage) (ending : Option Ending) (l : List Request) (last : ℕ) → AreAscending l → IfSome ending (IsApart l last) → AreAscending (requests_after s ending l)
+pub after_ascending : (s : FrontStage) (ending : Option Ending) (l : List Request) (last : ℕ) → AreAscending l → IfSome ending (IsApart l last) → AreAscending (requests_after s ending l)
 after_ascending (stage.GrantRead place) ending l last up apart = with_ending_ascends ending l last up apart
 after_ascending (stage.GrantEnd place before) ending l last up apart = with_ending_ascends ending l last up apart
 after_ascending s ending l last up apart = up
@@ -108,22 +108,22 @@ with_ending_all : (P : Request → Type 0) (ending : Option Ending) (l : List Re
 with_ending_all P None l h all = all
 with_ending_all P (Some e) l h all = all_by_number number P e.request l h all
 
-pub after_all : (P : Request → Type 0) (s : Stage) (ending : Option Ending) (l : List Request) → IfSome ending (λ (e : Ending). P e.request) → All P l → All P (requests_after s ending l)
+pub after_all : (P : Request → Type 0) (s : FrontStage) (ending : Option Ending) (l : List Request) → IfSome ending (λ (e : Ending). P e.request) → All P l → All P (requests_after s ending l)
 after_all P (stage.GrantRead place) ending l h all = with_ending_all P ending l h all
 after_all P (stage.GrantEnd place before) ending l h all = with_ending_all P ending l h all
 after_all P s ending l h all = all
 
-pub after_ending : (Q : Ending → Type 0) (s : Stage) (ending : Option Ending) → IfSome ending Q → IfSome (ending_after s ending) Q
+pub after_ending : (Q : Ending → Type 0) (s : FrontStage) (ending : Option Ending) → IfSome ending Q → IfSome (ending_after s ending) Q
 after_ending Q (stage.GrantRead place) ending h = tt
 after_ending Q (stage.GrantEnd place before) ending h = tt
 after_ending Q s ending h = h
 
-after_held : (s : Stage) (ending : Option Ending) → IsHeld s ending → IsHeld (stage_after s) (ending_after s ending)
+after_held : (s : FrontStage) (ending : Option Ending) → IsHeld s ending → IsHeld (stage_after s) (ending_after s ending)
 after_held (stage.ReadData n) ending h = h
 after_held (stage.LeftData n) ending h = h
 after_held s ending h = tt
 
-after_apart : (s : Stage) (ending : Option Ending) (l : List Request) (last : ℕ) → IfSome ending (IsApart l last) → IfSome (ending_after s ending) (IsApart (requests_after s ending l) last)
+after_apart : (s : FrontStage) (ending : Option Ending) (l : List Request) (last : ℕ) → IfSome ending (IsApart l last) → IfSome (ending_after s ending) (IsApart (requests_after s ending l) last)
 after_apart (stage.GrantRead place) ending l last h = tt
 after_apart (stage.GrantEnd place before) ending l last h = tt
 after_apart s ending l last h = h
@@ -166,12 +166,12 @@ agreed_sound v order at word within room sound = record {
   entries = refl;
   cons = word;
   counted = omega (arith, same_distance v.start word, waiting);
-  room = subst (λ (s : Stage). length v.requests + ending_of s ≤ entries_of order) (sym at) (omega arith);
+  room = subst (λ (s : FrontStage). length v.requests + ending_of s ≤ entries_of order) (sym at) (omega arith);
   seen = omega arith;
-  placed = subst (λ (s : Stage). IsPlaced s (record v.shape { order = order })) (sym at) (omega arith);
+  placed = subst (λ (s : FrontStage). IsPlaced s (record v.shape { order = order })) (sym at) (omega arith);
   unissued = sound.unissued;
   issuing = sound.issuing;
-  reading = subst (λ (s : Stage). IsReading s (distance_of v.start v.start)) (sym at) tt;
+  reading = subst (λ (s : FrontStage). IsReading s (distance_of v.start v.start)) (sym at) tt;
   ascending = sound.ascending;
   given = sound.given;
   shaped = sound.shaped;
@@ -181,4 +181,4 @@ agreed_sound v order at word within room sound = record {
 }
   where
     waiting : length v.requests ≡ v.waiting
-    waiting = subst (λ (s : Stage). IsUnissued s (length v.requests) v.waiting) at sound.unissued
+    waiting = subst (λ (s : FrontStage). IsUnissued s (length v.requests) v.waiting) at sound.unissued

@@ -5,8 +5,8 @@ use Rattle.blk_base.specs.declared.ask.FrontAsk.TheVariants.{Wait, Fence, Read, 
 use Rattle.blk_base.specs.declared.ask.FrontAnswer.{FrontAnswer}
 use Rattle.blk_base.specs.declared.ask.FrontAnswer.TheVariants as answer
 use Rattle.ring_words.specs.Ring.{next_of, responses_of}
-use Rattle.blk_front.specs.declared.stage.Stage.{Stage}
-use Rattle.blk_front.specs.declared.stage.Stage.TheVariants as stage
+use Rattle.blk_front.specs.declared.stage.FrontStage.{FrontStage}
+use Rattle.blk_front.specs.declared.stage.FrontStage.TheVariants as stage
 use Rattle.blk_front.specs.declared.stage.Ending.{Ending}
 use Rattle.blk_front.specs.declared.request.Request.{Request}
 use Rattle.blk_front.specs.declared.request.Transfer.{Transfer}
@@ -72,7 +72,7 @@ loop_ask v None =
     if v.ring.asleep || is_through v then Wait
     else (if responses_of v.ring.indices v.ring.seen == 0 then Read ring_frame 2 else response_ask v 0)
 
-abbrev pub ask_at : Stage → View → FrontAsk
+abbrev pub ask_at : FrontStage → View → FrontAsk
 ask_at (stage.RingWord k) v = Write ring_frame k (fresh_word v.start k)
 ask_at (stage.RingFrame page) v = Write (entry_frame (ring_page_frame page)) (entry_word (ring_page_frame page) + 1) (ring_page_frame page)
 ask_at (stage.RingFence page) v = Fence
@@ -110,7 +110,7 @@ abbrev pub ask_of : View → FrontAsk
 ask_of v = ask_at v.stage v
 
 -- what is asked where it is a word of a request's data, as most moves are
-abbrev pub data_asked_at : Stage → View → Option FrontAsk
+abbrev pub data_asked_at : FrontStage → View → Option FrontAsk
 data_asked_at (stage.Data n) v = Some (data_ask (next_request v) n)
 data_asked_at (stage.ReadData n) v = Some (read_ask v.ending n)
 data_asked_at s v = None

@@ -4,15 +4,15 @@ use Rattle.blk_base.specs.Distance.{distance_of}
 use Rattle.ring_words.specs.Shape.{Shape, entries_of, entry_words_of}
 use Rattle.blk_front.specs.declared.request.Request.{Request}
 use Rattle.blk_front.specs.declared.stage.Ending.{Ending}
-use Rattle.blk_front.specs.declared.stage.Stage.{Stage}
-use Rattle.blk_front.specs.declared.stage.Stage.TheVariants as stage
+use Rattle.blk_front.specs.declared.stage.FrontStage.{FrontStage}
+use Rattle.blk_front.specs.declared.stage.FrontStage.TheVariants as stage
 use Rattle.blk_front.specs.Request.{IsShaped}
 use Rattle.blk_front.specs.Submit.{ending_of}
 use Rattle.blk_front.specs.View.{View}
 use Rattle.resume_shadow.specs.Unfinished.{IsAscending}
 
 -- the word, the page or the frame that a stage is at is one of those that it goes through
-abbrev pub IsPlaced : Stage → Shape → Type 0
+abbrev pub IsPlaced : FrontStage → Shape → Type 0
 IsPlaced (stage.RingWord k) shape = k < 16
 IsPlaced (stage.RingFrame page) shape = page < 2 ^ shape.order
 IsPlaced (stage.RingFence page) shape = page < 2 ^ shape.order
@@ -32,19 +32,19 @@ IsPlaced (stage.RingEnd page seen) shape = page < 2 ^ shape.order
 IsPlaced s shape = Unit {0}
 
 -- before the ring is made none is issued
-abbrev pub IsUnissued : Stage → (count waiting : ℕ) → Type 0
+abbrev pub IsUnissued : FrontStage → (count waiting : ℕ) → Type 0
 IsUnissued (stage.RingWord k) count waiting = count ≡ waiting
 IsUnissued (stage.LeftData n) count waiting = count ≡ waiting
 IsUnissued s count waiting = Unit {0}
 
 -- while data are told, the request is there
-abbrev pub IsHeld : Stage → Option Ending → Type 0
+abbrev pub IsHeld : FrontStage → Option Ending → Type 0
 IsHeld (stage.ReadData n) ending = IsSome ending
 IsHeld (stage.LeftData n) ending = IsSome ending
 IsHeld s ending = Unit {0}
 
 -- while a request is issued, one waits
-abbrev pub IsIssuing : Stage → ℕ → Type 0
+abbrev pub IsIssuing : FrontStage → ℕ → Type 0
 IsIssuing (stage.Data n) waiting = 0 < waiting
 IsIssuing (stage.Pages n) waiting = 0 < waiting
 IsIssuing (stage.GrantFrame place) waiting = 0 < waiting
@@ -55,7 +55,7 @@ IsIssuing stage.Producer waiting = 0 < waiting
 IsIssuing s waiting = Unit {0}
 
 -- while a response is read, one is there
-abbrev pub IsReading : Stage → ℕ → Type 0
+abbrev pub IsReading : FrontStage → ℕ → Type 0
 IsReading (stage.ResponseHigh low) ahead = 0 < ahead
 IsReading (stage.ResponseLast low high) ahead = 0 < ahead
 IsReading s ahead = Unit {0}

@@ -1,8 +1,8 @@
 -- When the front may enter a state that its negotiation has it enter, and what that makes of it (`io/xenbus.h`).
 use Rattle.std.specs.Prelude.{Bool, true, false, not, ◌&&◌, if◌then◌else◌, ◌==◌, nat_le, length}
 use Rattle.ring_words.specs.Shape.{entries_of}
-use Rattle.blk_front.specs.declared.stage.Stage.{Stage}
-use Rattle.blk_front.specs.declared.stage.Stage.TheVariants as stage
+use Rattle.blk_front.specs.declared.stage.FrontStage.{FrontStage}
+use Rattle.blk_front.specs.declared.stage.FrontStage.TheVariants as stage
 use Rattle.blk_front.specs.declared.state.FrontState.{FrontState}
 use Rattle.blk_front.specs.declared.state.FrontState.TheVariants as state
 use Rattle.blk_front.specs.Submit.{is_initialised}
@@ -10,25 +10,25 @@ use Rattle.blk_front.specs.View.{View}
 use Rattle.blk_front.specs.Ask.{is_through}
 
 -- neither closed nor broken
-abbrev pub is_open : Stage → Bool
+abbrev pub is_open : FrontStage → Bool
 is_open stage.Closed = false
 is_open (stage.Broken word) = false
 is_open s = true
 
 -- it has made its ring and its port, and is at nothing in particular
-abbrev pub is_made : Stage → Bool
+abbrev pub is_made : FrontStage → Bool
 is_made stage.Initialised = true
 is_made stage.Loop = true
 is_made s = false
 
 -- it has ended the ring's grants and closed its port, or made none
-abbrev pub is_bare : Stage → Bool
+abbrev pub is_bare : FrontStage → Bool
 is_bare (stage.RingWord k) = true
 is_bare stage.Left = true
 is_bare s = false
 
 -- it hasn't begun its ring
-abbrev pub is_unmade : Stage → Bool
+abbrev pub is_unmade : FrontStage → Bool
 is_unmade (stage.RingWord k) = k == 0
 is_unmade s = false
 

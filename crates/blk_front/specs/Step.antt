@@ -9,8 +9,8 @@ use Rattle.ring_words.specs.Ring.{next_of, responses_of, notifies}
 use Rattle.ring_words.specs.Shape.{entry_words_of}
 use Rattle.blk_layout.specs.declared.response.Response.{Response}
 use Rattle.blk_layout.specs.Response.{response_of}
-use Rattle.blk_front.specs.declared.stage.Stage.{Stage}
-use Rattle.blk_front.specs.declared.stage.Stage.TheVariants as stage
+use Rattle.blk_front.specs.declared.stage.FrontStage.{FrontStage}
+use Rattle.blk_front.specs.declared.stage.FrontStage.TheVariants as stage
 use Rattle.blk_front.specs.declared.stage.Ending.{Ending}
 use Rattle.blk_front.specs.declared.request.Request.{Request}
 use Rattle.blk_front.specs.declared.request.Transfer.{Transfer}
@@ -21,7 +21,7 @@ use Rattle.blk_front.specs.declared.told.Told.TheVariants as told
 use Rattle.blk_front.specs.Pool.{with_all_free}
 use Rattle.blk_front.specs.View.{View, next_request}
 
-abbrev pub at : Stage → View → View
+abbrev pub at : FrontStage → View → View
 at s v = record v { stage = s }
 
 -- a word that no honest back leaves was found
@@ -41,7 +41,7 @@ loop_word v word =
     else at (stage.ResponseHigh word) v
 
 -- a request was begun: of a write or a barrier a word of its data was written, of a read a word of its indirect pages or of its first grant, of one without frames a word of its entry
-abbrev pub entered : View → Request → Stage → View
+abbrev pub entered : View → Request → FrontStage → View
 entered v r s = record v { stage = s; ring = record v.ring { entry = entry_of v.shape.abi r } }
 
 abbrev pub begun : View → Request → Transfer → View
@@ -52,15 +52,15 @@ begun v r transfer.Flush = entered v r (stage.Slot 1)
 begun v r (transfer.Discard sectors) = entered v r (stage.Slot 1)
 
 -- its data are written: its indirect pages are, or its frames are granted
-abbrev pub after_data : Request → Stage
+abbrev pub after_data : Request → FrontStage
 after_data r = if is_indirect r.count then stage.Pages 0 else stage.GrantFrame 0
 
 -- a word of its data was written, or of its indirect pages: the next one is, or that was the last
-abbrev pub data_stage : Option Request → ℕ → Stage
+abbrev pub data_stage : Option Request → ℕ → FrontStage
 data_stage None n = stage.Data n
 data_stage (Some r) n = if nat_lt (n + 1) (words_in r) then stage.Data (n + 1) else after_data r
 
-abbrev pub page_stage : Option Request → ℕ → Stage
+abbrev pub page_stage : Option Request → ℕ → FrontStage
 page_stage None n = stage.Pages n
 page_stage (Some r) n = if nat_lt (n + 1) (naming_words r) then stage.Pages (n + 1) else stage.GrantFrame 0
 
@@ -153,7 +153,7 @@ abbrev pub exchanged : View → (place before word : ℕ) → View
 exchanged v place before word = if word == before then revoked v.ending place v else broken word v
 
 -- a page of the ring was granted: the next one is, or the port of its events is made
-abbrev pub ring_granted : View → ℕ → Stage
+abbrev pub ring_granted : View → ℕ → FrontStage
 ring_granted v page = if nat_lt (page + 1) (2 ^ v.shape.order) then stage.RingFrame (page + 1) else stage.NewPort
 
 -- the entry of a page's grant was read: the grant may be ended where the back has no mapping of it
@@ -161,7 +161,7 @@ abbrev pub ring_read : View → (page word : ℕ) → View
 ring_read v page word = if is_mapped word then broken word v else at (stage.RingEnd page word) v
 
 -- it was ended: the next page's is looked at, or the port is closed
-abbrev pub ring_left : View → ℕ → Stage
+abbrev pub ring_left : View → ℕ → FrontStage
 ring_left v page = if nat_lt (page + 1) (2 ^ v.shape.order) then stage.RingRead (page + 1) else stage.ClosePort
 
 abbrev pub ring_ended : View → (page before word : ℕ) → View
@@ -175,7 +175,7 @@ pushed v = record v {
   stage = stage.ProducerFence v.ring.indices.prod;
 }
 
-abbrev pub step_at : Stage → View → FrontAnswer → View
+abbrev pub step_at : FrontStage → View → FrontAnswer → View
 step_at (stage.RingWord k) v answer = at (if k == 15 then stage.RingFrame 0 else stage.RingWord (k + 1)) v
 step_at (stage.RingFrame page) v answer = at (stage.RingFence page) v
 step_at (stage.RingFence page) v answer = at (stage.RingFlags page) v
@@ -210,17 +210,17 @@ abbrev pub step_of : View → FrontAnswer → View
 step_of v answer = step_at v.stage v answer
 
 -- a response's last word is read now
-abbrev pub IsTaking : Stage → Type 0
+abbrev pub IsTaking : FrontStage → Type 0
 IsTaking (stage.ResponseLast low high) = Unit {0}
 IsTaking s = ⊥
 
 -- a grant is ended now
-abbrev pub IsRevoking : Stage → Type 0
+abbrev pub IsRevoking : FrontStage → Type 0
 IsRevoking (stage.GrantEnd place before) = Unit {0}
 IsRevoking s = ⊥
 
 -- and a word of data may be read
-abbrev pub IsEndingStage : Stage → Type 0
+abbrev pub IsEndingStage : FrontStage → Type 0
 IsEndingStage (stage.GrantEnd place before) = Unit {0}
 IsEndingStage (stage.ReadData n) = Unit {0}
 IsEndingStage (stage.LeftData n) = Unit {0}

@@ -9,8 +9,8 @@ use Rattle.blk_front.specs.declared.request.Wish.{Wish}
 use Rattle.blk_front.specs.declared.request.Transfer.{Transfer}
 use Rattle.blk_front.specs.declared.request.Transfer.TheVariants as transfer
 use Rattle.blk_front.specs.declared.stage.Ending.{Ending}
-use Rattle.blk_front.specs.declared.stage.Stage.{Stage}
-use Rattle.blk_front.specs.declared.stage.Stage.TheVariants as stage
+use Rattle.blk_front.specs.declared.stage.FrontStage.{FrontStage}
+use Rattle.blk_front.specs.declared.stage.FrontStage.TheVariants as stage
 use Rattle.blk_front.specs.declared.told.Refusal.{Refusal}
 use Rattle.blk_front.specs.declared.told.Refusal.TheVariants as refusal
 use Rattle.blk_front.specs.Pool.{taking}
@@ -21,7 +21,7 @@ use Rattle.blk_front.specs.View.{View}
 use Rattle.blk_front.specs.Ask.{ask_of}
 
 -- connected (XenbusStateConnected of `io/xenbus.h`), not leaving or closed, and not broken
-abbrev pub is_ready : Stage → Bool
+abbrev pub is_ready : FrontStage → Bool
 is_ready (stage.RingWord k) = false
 is_ready (stage.RingFrame page) = false
 is_ready (stage.RingFence page) = false
@@ -38,7 +38,7 @@ is_ready (stage.Broken word) = false
 is_ready s = true
 
 -- the ring and the port of its events are made, or the front is past that
-abbrev pub is_connected : Stage → Bool
+abbrev pub is_connected : FrontStage → Bool
 is_connected (stage.RingWord k) = false
 is_connected (stage.RingFrame page) = false
 is_connected (stage.RingFence page) = false
@@ -48,7 +48,7 @@ is_connected (stage.LeftData n) = false
 is_connected s = true
 
 -- a request whose grants are being ended, or whose data are told, is unfinished still
-abbrev pub ending_of : Stage → ℕ
+abbrev pub ending_of : FrontStage → ℕ
 ending_of (stage.GrantRead place) = 1
 ending_of (stage.GrantEnd place before) = 1
 ending_of (stage.ReadData n) = 1
@@ -78,12 +78,12 @@ wish_of offers jobs.Flush = wished offers.flush (record { sector = 0; count = 0;
 wish_of offers (jobs.Discard sector count) = wished offers.discard (record { sector = sector; count = 0; transfer = transfer.Discard count })
 
 -- it waits until it is connected
-abbrev pub is_initialised : Stage → Bool
+abbrev pub is_initialised : FrontStage → Bool
 is_initialised stage.Initialised = true
 is_initialised s = false
 
 -- it waits for its negotiation: to be connected, or to be closed
-abbrev pub is_led : Stage → Bool
+abbrev pub is_led : FrontStage → Bool
 is_led stage.Initialised = true
 is_led stage.Left = true
 is_led s = false

@@ -4,8 +4,8 @@ use Rattle.resume_shadow.specs.Unfinished.{by_number as by_number_of}
 use Rattle.ring_words.specs.Shape.{entries_of}
 use Rattle.blk_front.specs.declared.request.Request.{Request}
 use Rattle.blk_front.specs.declared.stage.Ending.{Ending}
-use Rattle.blk_front.specs.declared.stage.Stage.{Stage}
-use Rattle.blk_front.specs.declared.stage.Stage.TheVariants as stage
+use Rattle.blk_front.specs.declared.stage.FrontStage.{FrontStage}
+use Rattle.blk_front.specs.declared.stage.FrontStage.TheVariants as stage
 use Rattle.blk_front.specs.State.{is_open}
 use Rattle.blk_front.specs.View.{View, no_offers}
 
@@ -18,18 +18,18 @@ abbrev pub with_ending : Option Ending → List Request → List Request
 with_ending None requests = requests
 with_ending (Some e) requests = by_number e.request requests
 
-abbrev pub requests_after : Stage → Option Ending → List Request → List Request
+abbrev pub requests_after : FrontStage → Option Ending → List Request → List Request
 requests_after (stage.GrantRead place) ending requests = with_ending ending requests
 requests_after (stage.GrantEnd place before) ending requests = with_ending ending requests
 requests_after s ending requests = requests
 
 -- the data of a read whose answer was told stay in hand
-abbrev pub ending_after : Stage → Option Ending → Option Ending
+abbrev pub ending_after : FrontStage → Option Ending → Option Ending
 ending_after (stage.GrantRead place) ending = None
 ending_after (stage.GrantEnd place before) ending = None
 ending_after s ending = ending
 
-abbrev pub stage_after : Stage → Stage
+abbrev pub stage_after : FrontStage → FrontStage
 stage_after (stage.ReadData n) = stage.LeftData n
 stage_after (stage.LeftData n) = stage.LeftData n
 stage_after s = stage.RingWord 0
@@ -50,6 +50,6 @@ abbrev pub suspended : View → View
 suspended v = if is_open v.stage then resumed v else v
 
 -- the data in hand are told before anything else
-abbrev pub is_left : Stage → Bool
+abbrev pub is_left : FrontStage → Bool
 is_left (stage.LeftData n) = true
 is_left s = false

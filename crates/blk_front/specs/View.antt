@@ -3,8 +3,8 @@ use Rattle.std.specs.Prelude.{ℕ, replicate, ◌+◌, ◌-◌, ◌*◌, ◌/◌
 use Rattle.ring_words.specs.Ring.{Ring, next_of}
 use Rattle.ring_words.specs.Shape.{Shape, entries_of, slot_word_of}
 use Rattle.blk_base.specs.Options.{Options}
-use Rattle.blk_front.specs.declared.stage.Stage.{Stage}
-use Rattle.blk_front.specs.declared.stage.Stage.TheVariants as stage
+use Rattle.blk_front.specs.declared.stage.FrontStage.{FrontStage}
+use Rattle.blk_front.specs.declared.stage.FrontStage.TheVariants as stage
 use Rattle.blk_front.specs.Pool.{empty_pool}
 use Rattle.blk_front.specs.declared.request.Request.{Request}
 use Rattle.blk_front.specs.declared.stage.Ending.{Ending}
@@ -26,7 +26,7 @@ pub record View : Type 0 where
   pub offers : Offers
   pub shape : Shape
   pub ring : RingInfo
-  pub stage : Stage
+  pub stage : FrontStage
   pub closing : Bool
   pub last : ℕ
   pub waiting : ℕ

@@ -3,7 +3,7 @@ ghost use Rattle.std.specs.Prelude.{◌≡◌, ◌<◌, ◌≤◌, ◌+◌, ◌^
 ghost use Rattle.blk_base.specs.declared.ask.FrontAsk.TheVariants.{Wait};
 ghost use Rattle.std.specs.Option.{option_copied};
 ghost use Rattle.ring_words.specs.Shape.{entry_words_of};
-ghost use Rattle.blk_front.specs.View.{start_of, next_request, ring_page_frame, slot_frame, slot_word, entry_frame, entry_word};
+ghost use Rattle.blk_front.specs.View.{start_of, next_request, ring_frame, ring_page_frame, slot_frame, slot_word, entry_frame, entry_word};
 ghost use Rattle.blk_front.specs.Ask.{ask_of, data_asked, is_through, loop_ask, issue_ask, response_ask, entry_ask, data_ask, page_ask, name_ask, grant_ask, revoke_ask, end_ask, read_ask, IsAnswer, IsPlace, StaysInMemory, Asks};
 ghost use Rattle.blk_front.specs.Step.{step_of, step_at, ring_read, ring_ended};
 ghost use Rattle.blk_front.specs.Entry.{entry_of};
@@ -19,7 +19,7 @@ use crate::frames::SpareLists;
 use crate::place;
 use crate::pool::{Pool, PoolFrame};
 use crate::request::{Request, Transfer, is_indirect};
-use crate::stage::{Ending, Stage};
+use crate::stage::{Ending, FrontStage};
 use crate::state::Offers;
 use crate::told::{Refusal, Told};
 use arrayvec::ArrayVec;
@@ -54,7 +54,7 @@ pub struct Front {
     abi: Abi,
     order: u32,
     ring: RingInfo,
-    stage: Stage,
+    stage: FrontStage,
     closing: bool,
     last: u32,
     waiting: u32,
@@ -101,7 +101,7 @@ impl Front {
                 seen: config.start,
                 entry: ArrayVec::new(),
             },
-            stage: Stage::RingWord(0),
+            stage: FrontStage::RingWord(0),
             closing: false,
             last: 0,
             waiting: 0,
@@ -140,8 +140,8 @@ impl Front {
         ensures asked { IfSome result (λ ask. Asks ask (ask_of self.now)) }
     {
         match self.stage {
-            Stage::Data(n) => Some(self.issue_data(n)),
-            Stage::ReadData(n) => Some(self.read_word(n)),
+            FrontStage::Data(n) => Some(self.issue_data(n)),
+            FrontStage::ReadData(n) => Some(self.read_word(n)),
             _ => None,
         }
     }
@@ -341,6 +341,14 @@ fn write<'a>(frame: u32, word: u32, value: u32) -> FrontAsk<'a>
     FrontAsk::Write { frame, word, value }
 }
 
+// A word of the ring's first frame is written.
+fn write_ring<'a>(word: u32, value: u32) -> FrontAsk<'a>
+    requires { word < 1024 }
+    ensures { Asks result (FrontAsk.Write ring_frame word value) }
+{
+    write(place::RING_FRAME, word, value)
+}
+
 // The first word of a frame's grant entry is written.
 fn write_flags<'a>(frame: &PoolFrame, flags: u32) -> FrontAsk<'a>
     ensures { Asks result (FrontAsk.Write (entry_frame frame.now) (entry_word frame.now) flags) }
@@ -438,43 +446,37 @@ impl<'a> Endpoint<'a> for Front {
         ensures within { StaysInMemory result }
     {
         match self.stage {
-            Stage::RingWord(word) => write(place::RING_FRAME, word, place::fresh(self.start, word)),
-            Stage::RingFrame(page) => name_page(page),
-            Stage::RingFence(_) => FrontAsk::Fence,
-            Stage::RingFlags(page) => grant_page(page),
-            Stage::NewPort => FrontAsk::NewPort,
-            Stage::Initialised => FrontAsk::Wait,
-            Stage::Loop => self.ask_in_loop(),
-            Stage::Data(n) => self.issue_data(n),
-            Stage::Pages(n) => self.issue_page(n),
-            Stage::GrantFrame(place) => self.name_frame(place),
-            Stage::GrantFence(_) => FrontAsk::Fence,
-            Stage::GrantFlags(place) => self.grant_frame(place),
-            Stage::Slot(word) => self.write_slot(word),
-            Stage::Producer => write(
-                place::RING_FRAME,
-                REQ_PROD,
-                self.ring.indices.prod().wrapping_add(1),
-            ),
-            Stage::ProducerFence(_) => FrontAsk::Fence,
-            Stage::RequestEvent(_) => read(place::RING_FRAME, REQ_EVENT),
-            Stage::Send => FrontAsk::Send,
-            Stage::ResponseHigh(_) => self.read_response(1),
-            Stage::ResponseLast(_, _) => self.read_response(2),
-            Stage::GrantRead(place) => self.read_grant(place),
-            Stage::GrantEnd(place, seen) => self.end_grant_of(place, seen),
-            Stage::ReadData(n) | Stage::LeftData(n) => self.read_word(n),
-            Stage::StoreEvent => write(
-                place::RING_FRAME,
-                RSP_EVENT,
-                self.ring.indices.cons().wrapping_add(1),
-            ),
-            Stage::EventFence => FrontAsk::Fence,
-            Stage::LookAgain => read(place::RING_FRAME, RSP_PROD),
-            Stage::RingRead(page) => read_page_grant(page),
-            Stage::RingEnd(page, seen) => end_page_grant(page, seen),
-            Stage::ClosePort => FrontAsk::ClosePort,
-            Stage::Left | Stage::Closed | Stage::Broken(_) => FrontAsk::Wait,
+            FrontStage::RingWord(word) => write_ring(word, place::fresh(self.start, word)),
+            FrontStage::RingFrame(page) => name_page(page),
+            FrontStage::RingFence(_) => FrontAsk::Fence,
+            FrontStage::RingFlags(page) => grant_page(page),
+            FrontStage::NewPort => FrontAsk::NewPort,
+            FrontStage::Initialised => FrontAsk::Wait,
+            FrontStage::Loop => self.ask_in_loop(),
+            FrontStage::Data(n) => self.issue_data(n),
+            FrontStage::Pages(n) => self.issue_page(n),
+            FrontStage::GrantFrame(place) => self.name_frame(place),
+            FrontStage::GrantFence(_) => FrontAsk::Fence,
+            FrontStage::GrantFlags(place) => self.grant_frame(place),
+            FrontStage::Slot(word) => self.write_slot(word),
+            FrontStage::Producer => write_ring(REQ_PROD, self.ring.indices.prod().wrapping_add(1)),
+            FrontStage::ProducerFence(_) => FrontAsk::Fence,
+            FrontStage::RequestEvent(_) => read(place::RING_FRAME, REQ_EVENT),
+            FrontStage::Send => FrontAsk::Send,
+            FrontStage::ResponseHigh(_) => self.read_response(1),
+            FrontStage::ResponseLast(_, _) => self.read_response(2),
+            FrontStage::GrantRead(place) => self.read_grant(place),
+            FrontStage::GrantEnd(place, seen) => self.end_grant_of(place, seen),
+            FrontStage::ReadData(n) | FrontStage::LeftData(n) => self.read_word(n),
+            FrontStage::StoreEvent => {
+                write_ring(RSP_EVENT, self.ring.indices.cons().wrapping_add(1))
+            }
+            FrontStage::EventFence => FrontAsk::Fence,
+            FrontStage::LookAgain => read(place::RING_FRAME, RSP_PROD),
+            FrontStage::RingRead(page) => read_page_grant(page),
+            FrontStage::RingEnd(page, seen) => end_page_grant(page, seen),
+            FrontStage::ClosePort => FrontAsk::ClosePort,
+            FrontStage::Left | FrontStage::Closed | FrontStage::Broken(_) => FrontAsk::Wait,
         }
     }
 
@@ -486,42 +488,44 @@ impl<'a> Endpoint<'a> for Front {
         ensures unchanged { OnErr result (self.new ≡ self.old) }
     {
         match (self.stage, answer) {
-            (Stage::RingWord(word), _) => self.wrote_ring_word(word),
-            (Stage::RingFrame(page), _) => self.stage = Stage::RingFence(page),
-            (Stage::RingFence(page), _) => self.stage = Stage::RingFlags(page),
-            (Stage::RingFlags(page), _) => self.granted_page(page),
-            (Stage::NewPort, _) => self.stage = Stage::Initialised,
-            (Stage::Loop, answer) => self.begin(answer),
-            (Stage::Data(n), _) => self.wrote_data(n),
-            (Stage::Pages(n), _) => self.wrote_page(n),
-            (Stage::GrantFrame(place), _) => self.stage = Stage::GrantFence(place),
-            (Stage::GrantFence(place), _) => self.stage = Stage::GrantFlags(place),
-            (Stage::GrantFlags(place), _) => self.granted(place),
-            (Stage::Slot(word), _) => self.wrote_slot(word),
-            (Stage::Producer, _) => self.pushed(),
-            (Stage::ProducerFence(old), _) => self.stage = Stage::RequestEvent(old),
-            (Stage::RequestEvent(old), FrontAnswer::Word(event)) => self.notify(old, *event),
-            (Stage::Send, _) => self.stage = Stage::Loop,
-            (Stage::ResponseHigh(low), FrontAnswer::Word(high)) => {
-                self.stage = Stage::ResponseLast(low, *high);
+            (FrontStage::RingWord(word), _) => self.wrote_ring_word(word),
+            (FrontStage::RingFrame(page), _) => self.stage = FrontStage::RingFence(page),
+            (FrontStage::RingFence(page), _) => self.stage = FrontStage::RingFlags(page),
+            (FrontStage::RingFlags(page), _) => self.granted_page(page),
+            (FrontStage::NewPort, _) => self.stage = FrontStage::Initialised,
+            (FrontStage::Loop, answer) => self.begin(answer),
+            (FrontStage::Data(n), _) => self.wrote_data(n),
+            (FrontStage::Pages(n), _) => self.wrote_page(n),
+            (FrontStage::GrantFrame(place), _) => self.stage = FrontStage::GrantFence(place),
+            (FrontStage::GrantFence(place), _) => self.stage = FrontStage::GrantFlags(place),
+            (FrontStage::GrantFlags(place), _) => self.granted(place),
+            (FrontStage::Slot(word), _) => self.wrote_slot(word),
+            (FrontStage::Producer, _) => self.pushed(),
+            (FrontStage::ProducerFence(old), _) => self.stage = FrontStage::RequestEvent(old),
+            (FrontStage::RequestEvent(old), FrontAnswer::Word(event)) => self.notify(old, *event),
+            (FrontStage::Send, _) => self.stage = FrontStage::Loop,
+            (FrontStage::ResponseHigh(low), FrontAnswer::Word(high)) => {
+                self.stage = FrontStage::ResponseLast(low, *high);
             }
-            (Stage::ResponseLast(low, high), FrontAnswer::Word(last)) => {
+            (FrontStage::ResponseLast(low, high), FrontAnswer::Word(last)) => {
                 self.take_response(low, high, *last);
             }
-            (Stage::GrantRead(place), FrontAnswer::Word(word)) => self.end_grant(place, *word),
-            (Stage::GrantEnd(place, before), FrontAnswer::Word(word)) => {
+            (FrontStage::GrantRead(place), FrontAnswer::Word(word)) => self.end_grant(place, *word),
+            (FrontStage::GrantEnd(place, before), FrontAnswer::Word(word)) => {
                 self.ended_grant(place, before, *word);
             }
-            (Stage::ReadData(n), FrontAnswer::Word(word)) => self.read_data(n, *word),
-            (Stage::LeftData(n), FrontAnswer::Word(word)) => self.read_left(n, *word),
-            (Stage::StoreEvent, _) => self.stage = Stage::EventFence,
-            (Stage::EventFence, _) => self.stage = Stage::LookAgain,
-            (Stage::LookAgain, FrontAnswer::Word(word)) => self.look_again(*word),
-            (Stage::RingRead(page), FrontAnswer::Word(word)) => self.read_ring_grant(page, *word),
-            (Stage::RingEnd(page, seen), FrontAnswer::Word(word)) => {
+            (FrontStage::ReadData(n), FrontAnswer::Word(word)) => self.read_data(n, *word),
+            (FrontStage::LeftData(n), FrontAnswer::Word(word)) => self.read_left(n, *word),
+            (FrontStage::StoreEvent, _) => self.stage = FrontStage::EventFence,
+            (FrontStage::EventFence, _) => self.stage = FrontStage::LookAgain,
+            (FrontStage::LookAgain, FrontAnswer::Word(word)) => self.look_again(*word),
+            (FrontStage::RingRead(page), FrontAnswer::Word(word)) => self.read_ring_grant(
+                page, *word,
+            ),
+            (FrontStage::RingEnd(page, seen), FrontAnswer::Word(word)) => {
                 self.ended_ring_grant(page, seen, *word);
             }
-            (Stage::ClosePort, _) => self.stage = Stage::Left,
+            (FrontStage::ClosePort, _) => self.stage = FrontStage::Left,
             _ => {}
         }
         Ok(())

@@ -16,6 +16,6 @@ pub use frames::FrameList;
 pub use front::Front;
 pub use pool::PoolFrame;
 pub use request::{Request, Transfer};
-pub use stage::{Ending, Stage};
+pub use stage::{Ending, FrontStage};
 pub use state::{FrontState, Offers};
 pub use told::{Refusal, Told};

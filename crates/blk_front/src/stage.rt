@@ -12,7 +12,7 @@ pub struct Ending {
 /// What the front is doing. Each has exactly one thing to ask next. The request that is being issued is
 /// the first that waits; the one that is ending has a place of its own.
 #[derive(Clone, Copy, Debug, PartialEq, Eq)]
-pub enum Stage {
+pub enum FrontStage {
     /// Makes the ring: its word of this number is written next, 0 to 15.
     RingWord(u32),
     /// Grants the frame of the ring's page of this number, 0 to 15: its entry's second word, a fence,

@@ -6,8 +6,8 @@ use Rattle.blk_layout.specs.declared.request.DirectOp.{DirectOp}
 use Rattle.blk_layout.specs.declared.request.DirectOp.TheVariants.{Read, Write, Barrier, Flush}
 use Rattle.blk_layout.specs.declared.request.IndirectOp.{IndirectOp}
 use Rattle.blk_layout.specs.declared.request.IndirectOp.TheVariants.{Read as InnerRead, Write as InnerWrite}
-use Rattle.blk_layout.specs.declared.request.Request.{Request}
-use Rattle.blk_layout.specs.declared.request.Request.TheVariants.{Direct as DirectRequest, Discard as DiscardRequest, Indirect as IndirectRequest}
+use Rattle.blk_layout.specs.declared.request.WrittenRequest.{WrittenRequest}
+use Rattle.blk_layout.specs.declared.request.WrittenRequest.TheVariants.{Direct as DirectRequest, Discard as DiscardRequest, Indirect as IndirectRequest}
 use Rattle.blk_layout.specs.declared.request.RawRequest.{RawRequest}
 use Rattle.blk_layout.specs.declared.request.RawRequest.TheVariants.{Direct, Discard, Indirect}
 use Rattle.blk_layout.specs.Field.{Field, bits, two_words, written_from}
@@ -26,7 +26,7 @@ indirect_code InnerRead = 0
 indirect_code InnerWrite = 1
 
 -- the fields of a request
-abbrev pub raw_of : Request → RawRequest
+abbrev pub raw_of : WrittenRequest → RawRequest
 raw_of (DirectRequest op count device id sector segments) = Direct (direct_code op) count device id sector segments
 raw_of (DiscardRequest flag device id sector count) = Discard flag device id sector count
 raw_of (IndirectRequest op count device id sector pages) = Indirect (indirect_code op) count device id sector pages

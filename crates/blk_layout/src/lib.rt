@@ -13,7 +13,7 @@ mod writer;
 
 pub use laws::reading_gives_back_what_was_written;
 pub use reader::read_request;
-pub use request::{DirectOp, IndirectOp, RawRequest, Request};
+pub use request::{DirectOp, IndirectOp, RawRequest, WrittenRequest};
 pub use response::{Response, read_response, response_words};
 pub use segment::{Segment, read_segment, segment_words};
 pub use writer::{MOST_ENTRY_WORDS, request_words};

@@ -22,7 +22,7 @@ pub enum IndirectOp {
 /// A request as a front writes it (`io/blkif.h`), one variant for each form of an entry. `device`
 /// is the header's `handle`, `sector` the first sector on the disk, `id` the front's own number.
 #[derive(Clone, Copy, Debug, PartialEq, Eq)]
-pub enum Request {
+pub enum WrittenRequest {
     /// `struct blkif_request`: the first `count` of the segments are meant; all are written.
     Direct {
         op: DirectOp,

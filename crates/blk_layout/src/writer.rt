@@ -6,7 +6,7 @@ ghost use Rattle.blk_layout.specs.Entry.{direct_code, indirect_code, raw_of, wor
 ghost use Rattle.blk_layout.specs.Written.{head_of, double_of, segments_words, begun_of};
 
 use crate::places::Places;
-use crate::request::{DirectOp, IndirectOp, Request};
+use crate::request::{DirectOp, IndirectOp, WrittenRequest};
 use crate::segment::{Segment, segment_words};
 use arrayvec::ArrayVec;
 use blk_base::Abi;
@@ -18,12 +18,12 @@ pub const MOST_ENTRY_WORDS: usize = 28;
 type Words = ArrayVec<u32, MOST_ENTRY_WORDS>;
 
 /// The words of a request's entry, 28 or 27: each field at its bits, and 0 in all others.
-pub fn request_words(abi: Abi, request: &Request) -> ArrayVec<u32, MOST_ENTRY_WORDS>
+pub fn request_words(abi: Abi, request: &WrittenRequest) -> ArrayVec<u32, MOST_ENTRY_WORDS>
     ensures words { result.items ≡ words_of abi (raw_of request.now) }
     ensures long { length result.items ≡ (places_of abi).end }
 {
     match *request {
-        Request::Direct {
+        WrittenRequest::Direct {
             op,
             count,
             device,
@@ -35,7 +35,7 @@ pub fn request_words(abi: Abi, request: &Request) -> ArrayVec<u32, MOST_ENTRY_WO
             put_segments(&mut words, &segments);
             words
         }
-        Request::Discard {
+        WrittenRequest::Discard {
             flag,
             device,
             id,
@@ -46,7 +46,7 @@ pub fn request_words(abi: Abi, request: &Request) -> ArrayVec<u32, MOST_ENTRY_WO
             put_double(&mut words, count);
             padded(abi, words)
         }
-        Request::Indirect {
+        WrittenRequest::Indirect {
             op,
             count,
             device,

@@ -2,7 +2,7 @@
 use crate::expected::holds;
 use blk_base::{Abi, Idx};
 use blk_io::{FailsAt, MemorySink, MemorySource};
-use blk_layout::{DirectOp, Request, Segment, request_words};
+use blk_layout::{DirectOp, Segment, WrittenRequest, request_words};
 use byteorder::{ByteOrder, LittleEndian};
 use ring_inspect::{InspectStop, inspect};
 use ring_words::{FrontRing, RingShape};
@@ -152,7 +152,7 @@ fn a_ring_is_shown_or_the_reason_is_told_why_not(rt: HostRuntime) {
 
 // Lays a flush of that number in the next entry, and moves on.
 fn push(rt: &impl Abort, bytes: &mut [u8], shape: RingShape, front: &mut FrontRing, id: u64) {
-    let flush = Request::Direct {
+    let flush = WrittenRequest::Direct {
         op: DirectOp::Flush,
         count: 0,
         device: 1,

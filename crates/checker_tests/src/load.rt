@@ -3,7 +3,7 @@ use crate::given::line_of;
 use bench_load::{BenchLoad, BenchSchedule, write_summary};
 use blk_io::Source;
 use line_text::LineText;
-use schedule_text::{LineTally, Recorder, Tally, Verdict, read_event, write_event};
+use schedule_text::{LineTally, Recorder, RoundsEnd, Tally, read_event, write_event};
 use std::alloc::Global;
 use std::process::Abort;
 
@@ -213,7 +213,7 @@ end",
             refused: 0,
             effects: 2,
             answered: 0,
-            last: Some(Verdict::Quiet),
+            last: Some(RoundsEnd::Quiet),
         },
     ),
 ];

@@ -11,7 +11,7 @@ use Rattle.schedule_text.specs.declared.line.Refusal.{Refusal}
 use Rattle.schedule_text.specs.declared.line.Line.{Line}
 use Rattle.schedule_text.specs.declared.line.Line.TheVariants as lines
 use Rattle.plain_disk.specs.declared.sight.Sight.{Sight}
-use Rattle.plain_disk.specs.declared.request.Request.{Request}
+use Rattle.plain_disk.specs.declared.request.DiskRequest.{DiskRequest}
 use Rattle.plain_disk.specs.Request.{is_finished}
 use Rattle.plain_disk.specs.Disk.{Disk, disk_of}
 use Rattle.plain_disk.specs.Step.{step, after}
@@ -55,7 +55,7 @@ all_finished before served =
     let here = run_before before (lines.Quiet ∷ []) (disk_of []) served.disk served.quiet in
     let last : option_and_then (after []) (step here.0 lines.Quiet) ≡ Some served.disk = sym (after_append before (lines.Quiet ∷ []) (disk_of []) here.0 here.1) ∙ served.quiet in
     option_and_then_some (after []) (step here.0 lines.Quiet) served.disk last (λ next taken further.
-    ap (λ (o : Option Disk). are_finished (requests_in o)) here.1 ∙ (cond_some (list_all (λ (r : Request). is_finished r.stage) here.0.requests) here.0 next taken).0)
+    ap (λ (o : Option Disk). are_finished (requests_in o)) here.1 ∙ (cond_some (list_all (λ (r : DiskRequest). is_finished r.stage) here.0.requests) here.0 next taken).0)
 
 farewell : (why : Halt) → is_farewell why ≡ true → is_gone why ≡ true
 farewell (halts.Gone state) is = refl

@@ -7,7 +7,7 @@ use Rattle.blk_base.specs.declared.config.Job.{Job}
 use Rattle.blk_base.specs.declared.operation.Status.{Status}
 use Rattle.schedule_text.specs.declared.line.Line.{Line}
 use Rattle.schedule_text.specs.declared.line.Line.TheVariants as lines
-use Rattle.plain_disk.specs.declared.request.Request.{Request}
+use Rattle.plain_disk.specs.declared.request.DiskRequest.{DiskRequest}
 use Rattle.plain_disk.specs.declared.request.Written.{Written}
 use Rattle.plain_disk.specs.Request.{is_read, is_write, is_flush, is_discard, is_ordered, is_open, is_finished, may_serve, sector_of}
 use Rattle.plain_disk.specs.Disk.{Disk, disk_of, covers, request_of, noted_at}
@@ -53,7 +53,7 @@ and_second : (a b c : Bool) → (a && b) ≡ true → (b ≡ true → c ≡ true
 and_second true b c both then_c = then_c both
 and_second false b c both then_c = both
 
-read_forgets : (d e : Disk) (id index : ℕ) (words : List ℕ) (o : Option Request) → read_of d id index words o ≡ Some e → read_of (forgetting d) id index words o ≡ Some (forgetting e)
+read_forgets : (d e : Disk) (id index : ℕ) (words : List ℕ) (o : Option DiskRequest) → read_of d id index words o ≡ Some e → read_of (forgetting d) id index words o ≡ Some (forgetting e)
 read_forgets d e id index words None is = absurd (none-some e is)
 read_forgets d e id index words (Some r) is =
     let both = cond_some (is_read r.job && may_serve d.done id r index && may_hold (place_words d.first d.written r.job index) words) _ e is in
@@ -61,31 +61,31 @@ read_forgets d e id index words (Some r) is =
     and_second (is_read r.job && may_serve d.done id r index) _ _ both.0 (λ may. may_hold_unknown d.first d.written r.job index words may) in
     rw may (ap (λ (x : Disk). Some (forgetting x)) both.1)
 
-effect_forgets : (d e : Disk) (id index : ℕ) (o : Option Request) → effect_of d id index o ≡ Some e → effect_of (forgetting d) id index o ≡ Some (forgetting e)
+effect_forgets : (d e : Disk) (id index : ℕ) (o : Option DiskRequest) → effect_of d id index o ≡ Some e → effect_of (forgetting d) id index o ≡ Some (forgetting e)
 effect_forgets d e id index None is = absurd (none-some e is)
 effect_forgets d e id index (Some r) is = forgets (is_write r.job && may_serve d.done id r index && is_in_order d id r) _ e is
 
-flush_forgets : (d e : Disk) (id : ℕ) (o : Option Request) → flushed_of d id o ≡ Some e → flushed_of (forgetting d) id o ≡ Some (forgetting e)
+flush_forgets : (d e : Disk) (id : ℕ) (o : Option DiskRequest) → flushed_of d id o ≡ Some e → flushed_of (forgetting d) id o ≡ Some (forgetting e)
 flush_forgets d e id None is = absurd (none-some e is)
 flush_forgets d e id (Some r) is = forgets (is_flush r.job && may_serve d.done id r 0) _ e is
 
-trim_forgets : (d e : Disk) (id : ℕ) (o : Option Request) → trimmed_of d id o ≡ Some e → trimmed_of (forgetting d) id o ≡ Some (forgetting e)
+trim_forgets : (d e : Disk) (id : ℕ) (o : Option DiskRequest) → trimmed_of d id o ≡ Some e → trimmed_of (forgetting d) id o ≡ Some (forgetting e)
 trim_forgets d e id None is = absurd (none-some e is)
 trim_forgets d e id (Some r) is = forgets (is_discard r.job && may_serve d.done id r 0 && is_in_order d id r) _ e is
 
-fault_forgets : (d e : Disk) (id index : ℕ) (o : Option Request) → fault_of d id index o ≡ Some e → fault_of (forgetting d) id index o ≡ Some (forgetting e)
+fault_forgets : (d e : Disk) (id index : ℕ) (o : Option DiskRequest) → fault_of d id index o ≡ Some e → fault_of (forgetting d) id index o ≡ Some (forgetting e)
 fault_forgets d e id index None is = absurd (none-some e is)
 fault_forgets d e id index (Some r) is = forgets (may_serve d.done id r index && (not (is_ordered r.job) || is_in_order d id r)) _ e is
 
-reply_forgets : (d e : Disk) (id : ℕ) (status : Status) (o : Option Request) → replied_of d id status o ≡ Some e → replied_of (forgetting d) id status o ≡ Some (forgetting e)
+reply_forgets : (d e : Disk) (id : ℕ) (status : Status) (o : Option DiskRequest) → replied_of d id status o ≡ Some e → replied_of (forgetting d) id status o ≡ Some (forgetting e)
 reply_forgets d e id status None is = absurd (none-some e is)
 reply_forgets d e id status (Some r) is = forgets (is_open r.stage && is_none r.reply && may_reply d id r status) _ e is
 
-answer_forgets : (d e : Disk) (id : ℕ) (status : Status) (o : Option Request) → answered_of d id status o ≡ Some e → answered_of (forgetting d) id status o ≡ Some (forgetting e)
+answer_forgets : (d e : Disk) (id : ℕ) (status : Status) (o : Option DiskRequest) → answered_of d id status o ≡ Some e → answered_of (forgetting d) id status o ≡ Some (forgetting e)
 answer_forgets d e id status None is = absurd (none-some e is)
 answer_forgets d e id status (Some r) is = forgets (is_open r.stage && is_status r.reply status) _ e is
 
-data_forgets : (d e : Disk) (id index : ℕ) (words : List ℕ) (o : Option Request) → data_of d id index words o ≡ Some e → data_of (forgetting d) id index words o ≡ Some (forgetting e)
+data_forgets : (d e : Disk) (id index : ℕ) (words : List ℕ) (o : Option DiskRequest) → data_of d id index words o ≡ Some e → data_of (forgetting d) id index words o ≡ Some (forgetting e)
 data_forgets d e id index words None is = absurd (none-some e is)
 data_forgets d e id index words (Some r) is = forgets (is_next r.stage index && are_noted (noted_at d.noted id index) words) _ e is
 
@@ -100,7 +100,7 @@ step_forgets d e (lines.Reply id status) is = reply_forgets d e id status (reque
 step_forgets d e (lines.Answer id status) is = answer_forgets d e id status (request_of d.requests id) is
 step_forgets d e (lines.Data id index words) is = data_forgets d e id index words (request_of d.requests id) is
 step_forgets d e lines.Epoch is = same_forgotten (epoch_of d) e is
-step_forgets d e lines.Quiet is = forgets (list_all (λ (r : Request). is_finished r.stage) d.requests) _ e is
+step_forgets d e lines.Quiet is = forgets (list_all (λ (r : DiskRequest). is_finished r.stage) d.requests) _ e is
 step_forgets d e line is = same_forgotten d e is
 
 after_forgets : (report : List Line) (d e : Disk) → after report d ≡ Some e → after report (forgetting d) ≡ Some (forgetting e)

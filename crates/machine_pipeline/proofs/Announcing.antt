@@ -10,9 +10,9 @@ use Rattle.xen_pages.specs.Pages.{word_of}
 use Rattle.event_channel.specs.declared.channels.PortState.{PortState}
 use Rattle.event_channel.specs.Channels.{is_bound_port}
 use Rattle.pipeline_laws.specs.Pipeline.{Pipeline}
-use Rattle.blk_front.specs.declared.stage.Stage.TheVariants as front
-use Rattle.blk_back.specs.declared.stage.Stage.{Stage as BackStage}
-use Rattle.blk_back.specs.declared.stage.Stage.TheVariants as back
+use Rattle.blk_front.specs.declared.stage.FrontStage.TheVariants as front
+use Rattle.blk_back.specs.declared.stage.BackStage.{BackStage}
+use Rattle.blk_back.specs.declared.stage.BackStage.TheVariants as back
 use Rattle.split_model.specs.World.{World}
 use Rattle.split_model.specs.Safe.{IsSafe}
 use Rattle.machine_pipeline.proofs.Flow.{Flow, wrapped, may_back_sleep, is_bound_back}

@@ -1,12 +1,12 @@
 -- Where all is quiet, whether the ends serve or have left: the ring is read, and nothing is left.
 use Rattle.std.proofs.Common.{◌≡◌, ◌≢◌, ℕ, ◌⊎◌, inl, inr, not, Bool, true, [], length, refl, ap, sym, true≢false}
 use Rattle.blk_base.specs.Options.{Options}
-use Rattle.blk_front.specs.declared.stage.Stage.{Stage as FrontStage}
-use Rattle.blk_front.specs.declared.stage.Stage.TheVariants as front
+use Rattle.blk_front.specs.declared.stage.FrontStage.{FrontStage}
+use Rattle.blk_front.specs.declared.stage.FrontStage.TheVariants as front
 use Rattle.blk_front.specs.View.{View}
 use Rattle.blk_front.specs.Ask.{ask_at}
 use Rattle.blk_front.specs.Submit.{is_led, is_wait, is_idle}
-use Rattle.blk_back.specs.declared.stage.Stage.{Stage as BackStage}
+use Rattle.blk_back.specs.declared.stage.BackStage.{BackStage}
 use Rattle.split_model.specs.World.{World, is_quiet}
 use Rattle.machine_pipeline.proofs.Flow.{has_ring}
 use Rattle.machine_pipeline.proofs.Over.{IsDrained, IsLeaving}

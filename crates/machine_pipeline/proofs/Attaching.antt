@@ -7,7 +7,7 @@ use Rattle.pipeline_laws.specs.Pipeline.{Pipeline}
 use Rattle.ring_words.specs.Shape.{Shape, entries_of}
 use Rattle.event_channel.specs.declared.channels.PortState.{PortState}
 use Rattle.blk_front.specs.Submit.{is_connected, ending_of}
-use Rattle.blk_back.specs.declared.stage.Stage.TheVariants as back
+use Rattle.blk_back.specs.declared.stage.BackStage.TheVariants as back
 use Rattle.blk_back.specs.Step.{attached}
 use Rattle.split_model.specs.World.{World}
 use Rattle.split_model.specs.Happening.{BackAttaches, layout_read, happens, lines_at}

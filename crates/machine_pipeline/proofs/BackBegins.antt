@@ -10,8 +10,8 @@ use Rattle.std.proofs.lemmas.List.Elements.{All-push}
 use Rattle.std.proofs.lemmas.List.Quantifiers.{all_pairs_push}
 use Rattle.blk_base.specs.Options.{Options}
 use Rattle.pipeline_laws.specs.Station.{Working}
-use Rattle.back_jobs.specs.declared.stage.Stage.TheVariants as job
-use Rattle.back_jobs.specs.Task.{Work}
+use Rattle.back_jobs.specs.declared.stage.JobStage.TheVariants as job
+use Rattle.back_jobs.specs.Work.{Work}
 use Rattle.std.proofs.lemmas.Option.{none-some}
 use Rattle.machine_pipeline.proofs.ReadBack.{IsReadBack, ReadAt}
 use Rattle.blk_front.specs.declared.request.Request.{Request}
@@ -35,7 +35,7 @@ use Rattle.blk_layout.specs.declared.request.RawRequest.{RawRequest}
 use Rattle.blk_layout.specs.declared.request.RawRequest.TheVariants.{Direct, Indirect}
 use Rattle.segment_list.specs.Verdict.{verdict_of}
 use Rattle.segment_list.specs.Segments.{sectors_of}
-use Rattle.back_jobs.specs.Task.{begun, frameless, moving, paging, first_of}
+use Rattle.back_jobs.specs.Work.{begun, frameless, moving, paging, first_of}
 
 -- an operation is a byte
 pub small_operation : (way : Transfer) → operation_of way < 2 ^ 8

@@ -11,13 +11,13 @@ use Rattle.pipeline_laws.specs.Pipeline.{Pipeline}
 use Rattle.ring_words.specs.Ring.{Ring, next_of}
 use Rattle.ring_words.specs.Shape.{Shape, entry_words_of}
 use Rattle.event_channel.specs.Channels.{taken}
-use Rattle.back_jobs.specs.Task.{Work}
+use Rattle.back_jobs.specs.Work.{Work}
 use Rattle.blk_front.specs.declared.request.Request.{Request}
-use Rattle.blk_front.specs.declared.stage.Stage.{Stage as FrontStage}
+use Rattle.blk_front.specs.declared.stage.FrontStage.{FrontStage}
 use Rattle.blk_front.specs.Entry.{entry_of}
 use Rattle.blk_front.specs.Submit.{is_ready}
 use Rattle.blk_back.specs.declared.stage.Reply.{Reply}
-use Rattle.blk_back.specs.declared.stage.Stage.TheVariants as stage
+use Rattle.blk_back.specs.declared.stage.BackStage.TheVariants as stage
 use Rattle.blk_back.specs.Step.{fetched}
 use Rattle.split_model.specs.World.{World}
 use Rattle.split_model.specs.Shown.{back_lines, halt_lines}
@@ -35,7 +35,7 @@ use Rattle.blk_base.specs.declared.operation.Abi.{Abi}
 use Rattle.blk_layout.specs.Entry.{request_of}
 use Rattle.segment_list.specs.declared.verdict.DiskInfo.{DiskInfo}
 use Rattle.segment_list.specs.Verdict.{verdict_of}
-use Rattle.back_jobs.specs.Task.{begun}
+use Rattle.back_jobs.specs.Work.{begun}
 use Rattle.back_jobs.proofs.Hands.{started_hands}
 use Rattle.blk_back.specs.Step.{next_number}
 use Rattle.machine_pipeline.proofs.Wrapped.{next_wrapped}

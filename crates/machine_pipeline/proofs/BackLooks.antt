@@ -13,11 +13,11 @@ use Rattle.ring_words.specs.Ring.{Ring, overruns}
 use Rattle.ring_words.specs.Shape.{entries_of}
 use Rattle.xen_pages.specs.Pages.{word_of}
 use Rattle.grant_table.specs.Table.{frame_of}
-use Rattle.blk_front.specs.declared.stage.Stage.{Stage as FrontStage}
-use Rattle.blk_front.specs.declared.stage.Stage.TheVariants as front
+use Rattle.blk_front.specs.declared.stage.FrontStage.{FrontStage}
+use Rattle.blk_front.specs.declared.stage.FrontStage.TheVariants as front
 use Rattle.blk_front.specs.Submit.{is_connected, ending_of}
-use Rattle.blk_back.specs.declared.stage.Stage.{Stage as BackStage}
-use Rattle.blk_back.specs.declared.stage.Stage.TheVariants as stage
+use Rattle.blk_back.specs.declared.stage.BackStage.{BackStage}
+use Rattle.blk_back.specs.declared.stage.BackStage.TheVariants as stage
 use Rattle.blk_back.specs.View.{View, page_of}
 use Rattle.blk_back.specs.declared.told.Halt.TheVariants as halt
 use Rattle.blk_back.specs.Step.{abort, looked}

@@ -20,8 +20,8 @@ use Rattle.event_channel.specs.Channels.{ChannelState, taken}
 use Rattle.hypervisor.specs.Hypervisor.{Hypervisor}
 use Rattle.hypervisor.specs.Act.{BackAct, Took, back_act, back_watched, watch_next, watch_taken}
 use Rattle.blk_back.specs.declared.stage.Reply.{Reply}
-use Rattle.blk_back.specs.declared.stage.Stage.{Stage as BackStage}
-use Rattle.blk_back.specs.declared.stage.Stage.TheVariants as stage
+use Rattle.blk_back.specs.declared.stage.BackStage.{BackStage}
+use Rattle.blk_back.specs.declared.stage.BackStage.TheVariants as stage
 use Rattle.blk_back.specs.View.{View, page_of, slot_page}
 use Rattle.blk_back.specs.Ask.{next_reply, loop_ask, index_ask, entry_ask}
 use Rattle.blk_back.specs.Step.{looked, loop_step}

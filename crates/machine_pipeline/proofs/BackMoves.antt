@@ -2,8 +2,8 @@
 use Rattle.std.proofs.Common.{◌≡◌, true, refl}
 use Rattle.blk_base.specs.Options.{Options}
 use Rattle.pipeline_laws.specs.Pipeline.{Pipeline}
-use Rattle.blk_back.specs.declared.stage.Stage.{Stage as BackStage}
-use Rattle.blk_back.specs.declared.stage.Stage.TheVariants as stage
+use Rattle.blk_back.specs.declared.stage.BackStage.{BackStage}
+use Rattle.blk_back.specs.declared.stage.BackStage.TheVariants as stage
 use Rattle.blk_front.specs.Submit.{is_connected}
 use Rattle.split_model.specs.World.{World}
 use Rattle.split_model.specs.Happening.{BackMoves, happens, lines_at}

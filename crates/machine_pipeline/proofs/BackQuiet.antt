@@ -12,11 +12,11 @@ use Rattle.ring_words.specs.Shape.{Shape}
 use Rattle.event_channel.specs.Channels.{ChannelState}
 use Rattle.back_jobs.specs.Hands.{hands_in}
 use Rattle.blk_front.specs.declared.request.Request.{Request}
-use Rattle.blk_front.specs.declared.stage.Stage.{Stage as FrontStage}
+use Rattle.blk_front.specs.declared.stage.FrontStage.{FrontStage}
 use Rattle.blk_front.specs.Submit.{is_connected, ending_of}
 use Rattle.blk_back.specs.declared.stage.Reply.{Reply}
-use Rattle.blk_back.specs.declared.stage.Stage.{Stage as BackStage}
-use Rattle.blk_back.specs.declared.stage.Stage.TheVariants as back
+use Rattle.blk_back.specs.declared.stage.BackStage.{BackStage}
+use Rattle.blk_back.specs.declared.stage.BackStage.TheVariants as back
 use Rattle.blk_back.specs.View.{View}
 use Rattle.blk_back.specs.Ask.{response_word}
 use Rattle.blk_back.specs.Hands.{hands_at}

@@ -9,13 +9,13 @@ use Rattle.xen_pages.specs.Pages.{with_word}
 use Rattle.grant_table.specs.Table.{frame_of}
 use Rattle.event_channel.specs.Channels.{taken}
 use Rattle.blk_front.specs.declared.request.Request.{Request}
-use Rattle.blk_front.specs.declared.stage.Stage.{Stage as FrontStage}
-use Rattle.blk_front.specs.declared.stage.Stage.TheVariants as front
+use Rattle.blk_front.specs.declared.stage.FrontStage.{FrontStage}
+use Rattle.blk_front.specs.declared.stage.FrontStage.TheVariants as front
 use Rattle.ring_words.specs.Shape.{Shape}
 use Rattle.blk_back.specs.View.{page_of}
 use Rattle.blk_front.specs.Submit.{is_ready, is_connected, ending_of}
 use Rattle.blk_back.specs.declared.stage.Reply.{Reply}
-use Rattle.blk_back.specs.declared.stage.Stage.TheVariants as stage
+use Rattle.blk_back.specs.declared.stage.BackStage.TheVariants as stage
 use Rattle.blk_back.specs.Ask.{response_word}
 use Rattle.blk_back.specs.Step.{fetched}
 use Rattle.split_model.specs.World.{World}

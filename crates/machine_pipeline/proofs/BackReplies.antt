@@ -12,15 +12,15 @@ use Rattle.xen_pages.specs.Pages.{with_word}
 use Rattle.grant_table.specs.Table.{frame_of}
 use Rattle.event_channel.specs.Channels.{taken}
 use Rattle.hypervisor.specs.Act.{with_pages}
-use Rattle.back_jobs.specs.Jobs.{Held as Jobs}
+use Rattle.back_jobs.specs.Jobs.{HeldJobs}
 use Rattle.blk_front.specs.declared.request.Request.{Request}
-use Rattle.blk_front.specs.declared.stage.Stage.{Stage as FrontStage}
+use Rattle.blk_front.specs.declared.stage.FrontStage.{FrontStage}
 use Rattle.ring_words.specs.Shape.{Shape, entries_of, entry_words_of, ring_word_of}
 use Rattle.blk_front.specs.View.{slot_frame, slot_word}
 use Rattle.blk_front.specs.Submit.{is_ready, is_connected, ending_of}
 use Rattle.blk_back.specs.declared.stage.Reply.{Reply}
-use Rattle.blk_back.specs.declared.stage.Stage.{Stage as BackStage}
-use Rattle.blk_back.specs.declared.stage.Stage.TheVariants as stage
+use Rattle.blk_back.specs.declared.stage.BackStage.{BackStage}
+use Rattle.blk_back.specs.declared.stage.BackStage.TheVariants as stage
 use Rattle.blk_back.specs.View.{View, slot_page}
 use Rattle.blk_back.specs.Ask.{response_word}
 use Rattle.blk_back.specs.Step.{fetched}
@@ -78,7 +78,7 @@ slots_written shape start fetched pushed taken replied last i rep series replies
         r.words (slot_frame shape (wrapped start n) j) (slot_word shape (wrapped start n) j) (λ same. apart (omega (arith, slot_at shape (wrapped start n) j)))
 
 -- the view with other jobs
-abbrev pub with_jobs : View → Jobs → View
+abbrev pub with_jobs : View → HeldJobs → View
 with_jobs v jobs = record v { jobs = jobs }
 
 -- a stage at which the next word of a response is written
@@ -91,7 +91,7 @@ pub record IsAnswering (b b' : BackStage) (rep : Reply) (i : ℕ) : Type 0 where
   pub unarmed : is_back_arming b' ≡ false
   pub sleeps : may_back_sleep b' ≡ true
 
-pub goes_word : (config : Options) (w : World) (g : Flow) (d : Pipeline) (steps : List Step) (b b' : BackStage) (rep : Reply) (i : ℕ) (jobs : Jobs) (frame : ℕ) (shown : Shown) (given : BackAnswer)
+pub goes_word : (config : Options) (w : World) (g : Flow) (d : Pipeline) (steps : List Step) (b b' : BackStage) (rep : Reply) (i : ℕ) (jobs : HeldJobs) (frame : ℕ) (shown : Shown) (given : BackAnswer)
     → Does None IsSame (Move shown ∷ back_lines w.back.told given ++ halt_lines w.back.halted w.back.halted) d steps
     → BackStands config w g d b
     → IsAnswering b b' rep i

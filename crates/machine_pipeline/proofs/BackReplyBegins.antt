@@ -12,12 +12,12 @@ use Rattle.schedule_text.specs.declared.line.Line.TheVariants.{Move}
 use Rattle.pipeline_laws.specs.Pipeline.{Pipeline}
 use Rattle.xen_pages.specs.Pages.{with_word}
 use Rattle.hypervisor.specs.Act.{with_pages}
-use Rattle.back_jobs.specs.Task.{Work}
-use Rattle.back_jobs.specs.Jobs.{Held as Jobs}
+use Rattle.back_jobs.specs.Work.{Work}
+use Rattle.back_jobs.specs.Jobs.{HeldJobs}
 use Rattle.blk_front.specs.declared.request.Request.{Request}
 use Rattle.blk_front.specs.View.{slot_frame, slot_word}
 use Rattle.blk_back.specs.declared.stage.Reply.{Reply}
-use Rattle.blk_back.specs.declared.stage.Stage.TheVariants as stage
+use Rattle.blk_back.specs.declared.stage.BackStage.TheVariants as stage
 use Rattle.blk_back.specs.Ask.{response_word, next_reply, reply_of}
 use Rattle.blk_back.specs.Step.{fetched}
 use Rattle.split_model.specs.World.{World}
@@ -30,8 +30,8 @@ use Rattle.machine_pipeline.proofs.Lists.{all_at, all_from}
 use Rattle.machine_pipeline.proofs.StationsBack.{begins_response, other_id}
 use Rattle.machine_pipeline.proofs.BackStill.{BackStands, StationsOf}
 use Rattle.std.proofs.lemmas.List.Edits.{length-remove}
-use Rattle.back_jobs.specs.declared.stage.Stage.{Stage as JobStage}
-use Rattle.back_jobs.specs.declared.stage.Stage.TheVariants as job
+use Rattle.back_jobs.specs.declared.stage.JobStage.{JobStage}
+use Rattle.back_jobs.specs.declared.stage.JobStage.TheVariants as job
 use Rattle.back_jobs.specs.Jobs.{is_done, work_at, response_of, response_at, removed_at, without_done}
 use Rattle.back_jobs.proofs.Hands.{done_hands}
 use Rattle.machine_pipeline.proofs.BackBegins.{small_operation}
@@ -124,7 +124,7 @@ goes_reply config w g d rep frame shown given p placed e =
     within : l.place < length works
     within = slice_get_within works l.place l.t l.at
 
-    gone : (let j : Jobs = without_done w.back.jobs in j.works) ≡ remove works l.place
+    gone : (let j : HeldJobs = without_done w.back.jobs in j.works) ≡ remove works l.place
     gone = ap (λ (place : Option ℕ). removed_at works place) l.found
 
     is : IsWork g.submitted g.series g.fetched l.t

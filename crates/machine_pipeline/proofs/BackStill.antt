@@ -7,11 +7,11 @@ use Rattle.pipeline_laws.specs.Pipeline.{Pipeline}
 use Rattle.event_channel.specs.Channels.{ChannelState}
 use Rattle.blk_front.specs.declared.request.Request.{Request}
 use Rattle.blk_front.specs.declared.stage.Ending.{Ending}
-use Rattle.blk_front.specs.declared.stage.Stage.{Stage as FrontStage}
-use Rattle.blk_front.specs.declared.stage.Stage.TheVariants as front
+use Rattle.blk_front.specs.declared.stage.FrontStage.{FrontStage}
+use Rattle.blk_front.specs.declared.stage.FrontStage.TheVariants as front
 use Rattle.blk_front.specs.Request.{frame_at}
 use Rattle.blk_front.specs.Submit.{is_ready, is_connected, ending_of}
-use Rattle.blk_back.specs.declared.stage.Stage.{Stage as BackStage}
+use Rattle.blk_back.specs.declared.stage.BackStage.{BackStage}
 use Rattle.blk_back.specs.View.{View}
 use Rattle.blk_back.specs.Hands.{hands_at}
 use Rattle.split_model.specs.World.{World}
@@ -26,7 +26,7 @@ use Rattle.machine_pipeline.proofs.Data.{SameData, pooled_at}
 use Rattle.machine_pipeline.proofs.Kept.{SameFrame, SameGrants, data_same, same_entry, frames_kept, data_kept, entries_kept}
 use Rattle.machine_pipeline.proofs.ReadsKept.{stations_elsewhere}
 use Rattle.blk_back.specs.declared.stage.Reply.{Reply}
-use Rattle.back_jobs.specs.Task.{Work}
+use Rattle.back_jobs.specs.Work.{Work}
 
 -- the premises of each move of the back at a stage
 pub record BackStands (config : Options) (w : World) (g : Flow) (d : Pipeline) (b : BackStage) : Type 0 where

@@ -12,13 +12,13 @@ use Rattle.grant_table.specs.Table.{frame_of}
 use Rattle.event_channel.specs.Channels.{ChannelState, sent, is_bound_port}
 use Rattle.event_channel.specs.declared.channels.PortState.{PortState}
 use Rattle.back_jobs.specs.Hands.{hands_in}
-use Rattle.blk_front.specs.declared.stage.Stage.{Stage as FrontStage}
-use Rattle.blk_front.specs.declared.stage.Stage.TheVariants as front
+use Rattle.blk_front.specs.declared.stage.FrontStage.{FrontStage}
+use Rattle.blk_front.specs.declared.stage.FrontStage.TheVariants as front
 use Rattle.blk_front.specs.declared.request.Request.{Request}
 use Rattle.blk_front.specs.View.{slot_frame}
 use Rattle.blk_front.specs.Submit.{is_connected}
-use Rattle.blk_back.specs.declared.stage.Stage.{Stage as BackStage}
-use Rattle.blk_back.specs.declared.stage.Stage.TheVariants as stage
+use Rattle.blk_back.specs.declared.stage.BackStage.{BackStage}
+use Rattle.blk_back.specs.declared.stage.BackStage.TheVariants as stage
 use Rattle.blk_back.specs.declared.stage.Reply.{Reply}
 use Rattle.blk_back.specs.View.{page_of, slot_page}
 use Rattle.blk_back.specs.Hands.{hands_at}

@@ -10,8 +10,8 @@ use Rattle.blk_front.specs.declared.request.Transfer.{Transfer}
 use Rattle.blk_front.specs.declared.request.Transfer.TheVariants as transfer
 use Rattle.blk_front.specs.Request.{is_write, is_moving, is_indirect, frames_for, frame_at, filling_at}
 use Rattle.blk_front.specs.Entry.{entry_of}
-use Rattle.blk_front.specs.declared.stage.Stage.{Stage as FrontStage}
-use Rattle.blk_front.specs.declared.stage.Stage.TheVariants as front
+use Rattle.blk_front.specs.declared.stage.FrontStage.{FrontStage}
+use Rattle.blk_front.specs.declared.stage.FrontStage.TheVariants as front
 use Rattle.blk_front.specs.declared.stage.Ending.{Ending}
 use Rattle.blk_front.specs.View.{next_request, slot_frame, slot_word}
 use Rattle.blk_front.specs.Ask.{loop_ask, page_ask, name_ask}

@@ -9,8 +9,8 @@ use Rattle.blk_base.specs.declared.parts.End.TheVariants as end
 use Rattle.schedule_text.specs.declared.line.Line.TheVariants as lines
 use Rattle.hypervisor.specs.Act.{FrontAct, front_watched, watch_next}
 use Rattle.pipeline_laws.specs.Pipeline.{Pipeline, next}
-use Rattle.blk_front.specs.declared.stage.Stage.{Stage as FrontStage}
-use Rattle.blk_front.specs.declared.stage.Stage.TheVariants as front
+use Rattle.blk_front.specs.declared.stage.FrontStage.{FrontStage}
+use Rattle.blk_front.specs.declared.stage.FrontStage.TheVariants as front
 use Rattle.blk_front.specs.View.{View}
 use Rattle.ring_words.specs.Shape.{Shape, entries_of}
 use Rattle.blk_front.specs.declared.state.FrontState.{FrontState}

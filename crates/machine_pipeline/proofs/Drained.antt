@@ -3,11 +3,11 @@ use Rattle.std.proofs.Common.{◌≡◌, ℕ, not, true, List, [], length, refl,
 use Rattle.std.specs.Prelude.{Some, count_by, slice_get}
 use Rattle.ring_words.specs.Ring.{Ring}
 use Rattle.blk_base.specs.Options.{Options}
-use Rattle.pipeline_laws.specs.Station.{Request as Asked, is_finished}
+use Rattle.pipeline_laws.specs.Station.{PipelineRequest, is_finished}
 use Rattle.pipeline_laws.specs.Pipeline.{Pipeline}
 use Rattle.pipeline_laws.specs.Allowed.{AreFinished}
-use Rattle.blk_front.specs.declared.stage.Stage.{Stage as FrontStage}
-use Rattle.blk_back.specs.declared.stage.Stage.{Stage as BackStage}
+use Rattle.blk_front.specs.declared.stage.FrontStage.{FrontStage}
+use Rattle.blk_back.specs.declared.stage.BackStage.{BackStage}
 use Rattle.split_model.specs.World.{World}
 use Rattle.machine_pipeline.proofs.Flow.{Flow, has_ring, ending_at, count_of}
 use Rattle.machine_pipeline.proofs.Holds.{AreIndices, Holds}
@@ -38,8 +38,8 @@ no_job_left config w g d s b h none =
     nil_from_length w.back.jobs.works (omega (arith, h.counted, rest.replied, rest.fetched))
 
 -- no request that isn't finished is left
-all_finished : (asked : List Asked) → count_by (λ (q : Asked). not (is_finished q.station)) asked ≡ 0 → (k : ℕ) (x : Asked) → slice_get asked k ≡ Some x → is_finished x.station ≡ true
-all_finished asked none k x at = true_from_ne_false (is_finished x.station) (λ left. omega (arith, none, count_one (λ (q : Asked). not (is_finished q.station)) asked k x at (rw left refl)))
+all_finished : (asked : List PipelineRequest) → count_by (λ (q : PipelineRequest). not (is_finished q.station)) asked ≡ 0 → (k : ℕ) (x : PipelineRequest) → slice_get asked k ≡ Some x → is_finished x.station ≡ true
+all_finished asked none k x at = true_from_ne_false (is_finished x.station) (λ left. omega (arith, none, count_one (λ (q : PipelineRequest). not (is_finished q.station)) asked k x at (rw left refl)))
 
 -- and the pipeline has finished all
 pub finished_at : (config : Options) (w : World) (g : Flow) (d : Pipeline) (s : FrontStage) (b : BackStage) → Holds config w g d s b → length w.front.requests ≡ 0 → count_of (ending_at s w.front.ending) ≡ 0 → AreFinished d

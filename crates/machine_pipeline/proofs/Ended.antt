@@ -22,8 +22,8 @@ use Rattle.blk_front.specs.Pool.{with_all_free}
 use Rattle.blk_front.specs.Submit.{is_ready, ending_of}
 use Rattle.blk_front.specs.declared.told.Told.TheVariants as told
 use Rattle.blk_front.specs.declared.stage.Ending.{Ending}
-use Rattle.blk_front.specs.declared.stage.Stage.{Stage as FrontStage}
-use Rattle.blk_front.specs.declared.stage.Stage.TheVariants as front
+use Rattle.blk_front.specs.declared.stage.FrontStage.{FrontStage}
+use Rattle.blk_front.specs.declared.stage.FrontStage.TheVariants as front
 use Rattle.blk_front.specs.View.{View, entry_frame, entry_word, next_request}
 use Rattle.blk_front.specs.Step.{at as at_stage, broken, is_mapped, end_step, finished, ended, revoked as revoked_by, exchanged}
 use Rattle.split_model.specs.World.{World}

@@ -8,8 +8,8 @@ use Rattle.xen_pages.specs.Pages.{with_word}
 use Rattle.pipeline_laws.specs.Pipeline.{Pipeline}
 use Rattle.blk_front.specs.declared.request.Request.{Request}
 use Rattle.blk_front.specs.Request.{is_indirect, frames_for, words_in, naming_words, naming_at, page_at, frame_at, IsShaped}
-use Rattle.blk_front.specs.declared.stage.Stage.{Stage as FrontStage}
-use Rattle.blk_front.specs.declared.stage.Stage.TheVariants as front
+use Rattle.blk_front.specs.declared.stage.FrontStage.{FrontStage}
+use Rattle.blk_front.specs.declared.stage.FrontStage.TheVariants as front
 use Rattle.blk_base.specs.declared.ask.FrontAsk.{FrontAsk}
 use Rattle.blk_front.specs.Ask.{data_ask, page_ask}
 use Rattle.blk_front.specs.Step.{at, data_stage, page_stage}

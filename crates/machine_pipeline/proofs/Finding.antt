@@ -13,7 +13,7 @@ use Rattle.pipeline_laws.specs.Pipeline.{Pipeline}
 use Rattle.pipeline_laws.specs.Station.{Replied, is_finished}
 use Rattle.blk_front.specs.declared.request.Request.{Request}
 use Rattle.blk_front.specs.declared.stage.Ending.{Ending}
-use Rattle.blk_front.specs.declared.stage.Stage.{Stage as FrontStage}
+use Rattle.blk_front.specs.declared.stage.FrontStage.{FrontStage}
 use Rattle.blk_front.specs.Step.{found_at, issued}
 use Rattle.blk_front.specs.View.{View}
 use Rattle.blk_back.specs.declared.stage.Reply.{Reply}

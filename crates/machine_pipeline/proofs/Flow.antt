@@ -9,15 +9,15 @@ use Rattle.blk_front.specs.declared.request.Request.{Request}
 use Rattle.blk_front.specs.declared.request.Transfer.{Transfer}
 use Rattle.blk_front.specs.declared.request.Transfer.TheVariants as transfer
 use Rattle.blk_front.specs.declared.stage.Ending.{Ending}
-use Rattle.blk_front.specs.declared.stage.Stage.{Stage as FrontStage}
-use Rattle.blk_front.specs.declared.stage.Stage.TheVariants as front
+use Rattle.blk_front.specs.declared.stage.FrontStage.{FrontStage}
+use Rattle.blk_front.specs.declared.stage.FrontStage.TheVariants as front
 use Rattle.blk_front.specs.Request.{is_write, frames_for, is_indirect, words_in, naming_words, frame_at, filling_at, naming_at, segment_at}
 use Rattle.xen_pages.specs.Pages.{word_of}
-use Rattle.back_jobs.specs.declared.stage.Stage.{Stage as JobStage}
-use Rattle.back_jobs.specs.declared.stage.Stage.TheVariants as job
+use Rattle.back_jobs.specs.declared.stage.JobStage.{JobStage}
+use Rattle.back_jobs.specs.declared.stage.JobStage.TheVariants as job
 use Rattle.blk_back.specs.declared.stage.Reply.{Reply}
-use Rattle.blk_back.specs.declared.stage.Stage.{Stage as BackStage}
-use Rattle.blk_back.specs.declared.stage.Stage.TheVariants as back
+use Rattle.blk_back.specs.declared.stage.BackStage.{BackStage}
+use Rattle.blk_back.specs.declared.stage.BackStage.TheVariants as back
 use Rattle.pipeline_laws.specs.Station.{Station, Working, Failed, Ended}
 use Rattle.blk_base.specs.declared.operation.Abi.TheVariants.{X64}
 

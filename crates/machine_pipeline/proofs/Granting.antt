@@ -1,5 +1,5 @@
 -- The front grants the frames of the request that it issues, one by one.
-use Rattle.blk_back.specs.declared.stage.Stage.{Stage as BackStage}
+use Rattle.blk_back.specs.declared.stage.BackStage.{BackStage}
 use Rattle.std.proofs.lemmas.Bool.{cases_eq}
 use Rattle.std.proofs.Common.{inl, inr, ◌≡◌, ◌≢◌, ℕ, ◌+◌, ◌-◌, ◌*◌, ◌/◌, ◌%◌, ◌<◌, ◌≤◌, Bool, true, false, List, length, get_or, refl, sym, ◌∙◌, subst, arith, length-set, get_or-set_other, ap}
 use Rattle.std.specs.Prelude.{All, Option, Some, nat_lt, if◌then◌else◌}
@@ -11,8 +11,8 @@ use Rattle.pipeline_laws.specs.Pipeline.{Pipeline}
 use Rattle.blk_front.specs.declared.request.Request.{Request}
 use Rattle.blk_front.specs.Request.{flags_at, frame_at}
 use Rattle.blk_front.specs.Ask.{name_ask, grant_ask}
-use Rattle.blk_front.specs.declared.stage.Stage.{Stage as FrontStage}
-use Rattle.blk_front.specs.declared.stage.Stage.TheVariants as front
+use Rattle.blk_front.specs.declared.stage.FrontStage.{FrontStage}
+use Rattle.blk_front.specs.declared.stage.FrontStage.TheVariants as front
 use Rattle.blk_front.specs.View.{next_request}
 use Rattle.blk_front.specs.Entry.{entry_of}
 use Rattle.blk_front.specs.Step.{at, granted}

@@ -13,7 +13,7 @@ use Rattle.std.proofs.lemmas.List.Sums.{sum_by_push}
 use Rattle.std.proofs.lemmas.List.Quantifiers.{all_pairs_push}
 use Rattle.std.proofs.lemmas.List.Folds.{list_any-append}
 use Rattle.blk_base.specs.Options.{Options}
-use Rattle.pipeline_laws.specs.Station.{Request as Asked, is_finished}
+use Rattle.pipeline_laws.specs.Station.{PipelineRequest, is_finished}
 use Rattle.blk_front.specs.declared.request.Request.{Request}
 use Rattle.blk_front.specs.Request.{is_write, is_moving, is_indirect, frames_for, named_of, IsShaped}
 use Rattle.blk_front.specs.declared.stage.Ending.{Ending}
@@ -169,7 +169,7 @@ pooled_more pool taken requests ending n x e h =
       omega arith,
     )
 
-pub known_more : (submitted : List Request) (asked : List Asked) (x : Request) (q : Asked) → q.job ≡ submitted_job x.transfer x.sector x.count → AreKnown submitted asked → AreKnown (submitted ++ x ∷ []) (asked ++ q ∷ [])
+pub known_more : (submitted : List Request) (asked : List PipelineRequest) (x : Request) (q : PipelineRequest) → q.job ≡ submitted_job x.transfer x.sector x.count → AreKnown submitted asked → AreKnown (submitted ++ x ∷ []) (asked ++ q ∷ [])
 known_more submitted asked x q job h = record {
   as_many = longer asked q ∙ (ap (λ (n : ℕ). n + 1) h.as_many ∙ sym (longer submitted x));
   each = λ k r p e f. elim (push_was submitted x k r e) [
@@ -178,12 +178,12 @@ known_more submitted asked x q job h = record {
   ];
 }
 
-pub opened_more : (asked : List Asked) (requests : List Request) (ending : Option Ending) (x : Request) (q : Asked) → is_finished q.station ≡ false → x.number ≡ length asked + 1 → AreOpen asked requests ending → AreOpen (asked ++ q ∷ []) (requests ++ x ∷ []) ending
+pub opened_more : (asked : List PipelineRequest) (requests : List Request) (ending : Option Ending) (x : Request) (q : PipelineRequest) → is_finished q.station ≡ false → x.number ≡ length asked + 1 → AreOpen asked requests ending → AreOpen (asked ++ q ∷ []) (requests ++ x ∷ []) ending
 opened_more asked requests ending x q unfinished_yet number h =
     let long = longer requests x in
     let unfinished = h.unfinished in
     record {
-      unfinished = sum_by_push (λ (p : Asked). cond (not (is_finished p.station)) 1 0) asked q ∙ rw unfinished_yet (omega arith);
+      unfinished = sum_by_push (λ (p : PipelineRequest). cond (not (is_finished p.station)) 1 0) asked q ∙ rw unfinished_yet (omega arith);
       held = λ k p e fin. elim (push_was asked q k p e) [
         | inl was ↦ (elim (h.held k p was fin) [
           | inl some ↦ inl (list_any-append (λ (r : Request). r.number == k + 1) requests (x ∷ []) ∙ rw some refl)

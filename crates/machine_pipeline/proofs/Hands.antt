@@ -5,16 +5,16 @@ use Rattle.std.specs.List.{list_any}
 use Rattle.std.proofs.lemmas.Option.{none-some, same_Some, slice_get-get_or, slice_get_within, get_or_from_slice_get}
 use Rattle.std.proofs.lemmas.List.Sums.{sum_by-cons}
 use Rattle.blk_base.specs.declared.parts.Mapping.{Mapping}
-use Rattle.pipeline_laws.specs.Station.{Station, Request as Asked, is_finished}
+use Rattle.pipeline_laws.specs.Station.{Station, PipelineRequest, is_finished}
 use Rattle.blk_front.specs.declared.request.Request.{Request}
 use Rattle.blk_front.specs.declared.stage.Ending.{Ending}
-use Rattle.back_jobs.specs.declared.stage.Stage.{Stage as JobStage}
-use Rattle.back_jobs.specs.declared.stage.Stage.TheVariants as job
-use Rattle.back_jobs.specs.Task.{Work}
+use Rattle.back_jobs.specs.declared.stage.JobStage.{JobStage}
+use Rattle.back_jobs.specs.declared.stage.JobStage.TheVariants as job
+use Rattle.back_jobs.specs.Work.{Work}
 use Rattle.back_jobs.specs.Jobs.{mapping_at}
 use Rattle.back_jobs.specs.Hands.{hands_in}
-use Rattle.blk_back.specs.declared.stage.Stage.{Stage as BackStage}
-use Rattle.blk_back.specs.declared.stage.Stage.TheVariants as back
+use Rattle.blk_back.specs.declared.stage.BackStage.{BackStage}
+use Rattle.blk_back.specs.declared.stage.BackStage.TheVariants as back
 use Rattle.ring_words.specs.Shape.{Shape}
 use Rattle.blk_back.specs.View.{no_page}
 use Rattle.blk_back.specs.Hands.{aborted}
@@ -38,7 +38,7 @@ same_request submitted requests pushed waiting k r queue known any =
     record { place = found.0; at = found.2 ∙ ap Some (same_Some found.1 r (sym place ∙ (ap (slice_get submitted) (omega (arith, found.3)) ∙ known))) }
 
 -- a request on its way, whose grant isn't being ended, is one of the front's
-pub queued : {series : List Request} (submitted requests : List Request) (pushed waiting k : ℕ) (r : Request) (asked : List Asked) (ending : Option Ending) (telling : Option ℕ) (station : Station)
+pub queued : {series : List Request} (submitted requests : List Request) (pushed waiting k : ℕ) (r : Request) (asked : List PipelineRequest) (ending : Option Ending) (telling : Option ℕ) (station : Station)
     → AreQueued submitted series pushed requests waiting
     → AreOpen asked requests ending
     → IsTaking ending telling asked

@@ -10,7 +10,7 @@ use Rattle.blk_base.specs.Options.{Options}
 use Rattle.blk_base.specs.declared.operation.Status.TheVariants.{Okay}
 use Rattle.plain_disk.specs.Request.{is_finished}
 use Rattle.plain_disk.specs.Refusal.{frames_of as job_frames, frames_held}
-use Rattle.pipeline_laws.specs.Station.{Station, Telling, Finished, Request as Carried, asked, stage_at, is_finished as is_ended}
+use Rattle.pipeline_laws.specs.Station.{Station, Telling, Finished, PipelineRequest, asked, stage_at, is_finished as is_ended}
 use Rattle.pipeline_laws.specs.Pipeline.{Pipeline}
 use Rattle.blk_front.specs.declared.request.Request.{Request}
 use Rattle.blk_front.specs.declared.request.Transfer.{Transfer}
@@ -32,80 +32,80 @@ same_stage (Telling next) = refl
 same_stage (Finished status) = refl
 same_stage s = refl
 
-abbrev pub is_open : Carried → Bool
+abbrev pub is_open : PipelineRequest → Bool
 is_open x = not (is_ended x.station)
 
-abbrev pub held : Carried → ℕ
+abbrev pub held : PipelineRequest → ℕ
 held x = frames_held (asked x)
 
-pub held_asked : (carried : List Carried) → sum_by frames_held (map asked carried) ≡ sum_by held carried
+pub held_asked : (carried : List PipelineRequest) → sum_by frames_held (map asked carried) ≡ sum_by held carried
 held_asked [] = refl
 held_asked (x ∷ carried) =
     omega (arith, held_asked carried, sum_by-cons held x carried, sum_by-cons frames_held (asked x) (map asked carried))
 
 -- the same request once it is finished
-abbrev ended : Carried → Carried
+abbrev ended : PipelineRequest → PipelineRequest
 ended x = record x { station = Finished Okay }
 
 -- each request that isn't finished is one of these
-abbrev AreAmong : List Request → List Carried → Type 0
-AreAmong requests carried = (k : ℕ) (x : Carried) → slice_get carried k ≡ Some x → is_ended x.station ≡ false → list_any (λ (r : Request). r.number == k + 1) requests ≡ true
+abbrev AreAmong : List Request → List PipelineRequest → Type 0
+AreAmong requests carried = (k : ℕ) (x : PipelineRequest) → slice_get carried k ≡ Some x → is_ended x.station ≡ false → list_any (λ (r : Request). r.number == k + 1) requests ≡ true
 
 -- and these have the frames that its job needs
-abbrev IsFitting : List Carried → Request → Type 0
-IsFitting carried r = (k : ℕ) (x : Carried) → r.number ≡ k + 1 → slice_get carried k ≡ Some x → job_frames x.job ≡ frames_of r
+abbrev IsFitting : List PipelineRequest → Request → Type 0
+IsFitting carried r = (k : ℕ) (x : PipelineRequest) → r.number ≡ k + 1 → slice_get carried k ≡ Some x → job_frames x.job ≡ frames_of r
 
 later : (a b : Bool) → a ≡ false → (a || b) ≡ true → b ≡ true
 later a b none t = rw none at t
 
 -- one of which no unfinished request is
-skips : (r : Request) (requests : List Request) (carried : List Carried) → ((k : ℕ) (x : Carried) → slice_get carried k ≡ Some x → is_ended x.station ≡ false → r.number ≢ k + 1) → AreAmong (r ∷ requests) carried → AreAmong requests carried
+skips : (r : Request) (requests : List Request) (carried : List PipelineRequest) → ((k : ℕ) (x : PipelineRequest) → slice_get carried k ≡ Some x → is_ended x.station ≡ false → r.number ≢ k + 1) → AreAmong (r ∷ requests) carried → AreAmong requests carried
 skips r requests carried none among k x here unended =
     later (r.number == k + 1) (list_any (λ (q : Request). q.number == k + 1) requests) (grind (arith, nat_tests, none k x here unended)) (among k x here unended)
 
 -- one that is finished
-ends : (r : Request) (requests : List Request) (carried : List Carried) (p : ℕ) (x : Carried) → r.number ≡ p + 1 → slice_get carried p ≡ Some x → AreAmong (r ∷ requests) carried → AreAmong requests (slice_set carried p (ended x))
+ends : (r : Request) (requests : List Request) (carried : List PipelineRequest) (p : ℕ) (x : PipelineRequest) → r.number ≡ p + 1 → slice_get carried p ≡ Some x → AreAmong (r ∷ requests) carried → AreAmong requests (slice_set carried p (ended x))
 ends r requests carried p x number here among k y at unended = elim (set_was carried p k x (ended x) y here at) [
-  | inl is ↦ absurd (true≢false (sym (ap (λ (z : Carried). is_ended z.station) is.1) ∙ unended))
+  | inl is ↦ absurd (true≢false (sym (ap (λ (z : PipelineRequest). is_ended z.station) is.1) ∙ unended))
   | inr was ↦ (
       let other : r.number ≢ k + 1 = λ same. was.0 (omega arith) in
       later (r.number == k + 1) (list_any (λ (q : Request). q.number == k + 1) requests) (grind (arith, nat_tests)) (among k y was.1 unended))
 ]
 
-fits_on : (carried : List Carried) (p : ℕ) (x : Carried) → slice_get carried p ≡ Some x → (r : Request) → IsFitting carried r → IsFitting (slice_set carried p (ended x)) r
+fits_on : (carried : List PipelineRequest) (p : ℕ) (x : PipelineRequest) → slice_get carried p ≡ Some x → (r : Request) → IsFitting carried r → IsFitting (slice_set carried p (ended x)) r
 fits_on carried p x here r fits k y number at = elim (set_was carried p k x (ended x) y here at) [
-  | inl is ↦ ap (λ (z : Carried). job_frames z.job) is.1 ∙ fits p x (number ∙ ap (λ (n : ℕ). n + 1) is.0) here
+  | inl is ↦ ap (λ (z : PipelineRequest). job_frames z.job) is.1 ∙ fits p x (number ∙ ap (λ (n : ℕ). n + 1) is.0) here
   | inr was ↦ fits k y number was.1
 ]
 
 -- the unfinished request of a number
-record IsOpenAt (carried : List Carried) (n : ℕ) : Type 0 where
+record IsOpenAt (carried : List PipelineRequest) (n : ℕ) : Type 0 where
   pub place : ℕ
-  pub x : Carried
+  pub x : PipelineRequest
   pub number : n ≡ place + 1
   pub here : slice_get carried place ≡ Some x
   pub unended : is_ended x.station ≡ false
 
-looked_up : (carried : List Carried) (n : ℕ) → IsOpenAt carried n ⊎ ((k : ℕ) (x : Carried) → slice_get carried k ≡ Some x → is_ended x.station ≡ false → n ≢ k + 1)
+looked_up : (carried : List PipelineRequest) (n : ℕ) → IsOpenAt carried n ⊎ ((k : ℕ) (x : PipelineRequest) → slice_get carried k ≡ Some x → is_ended x.station ≡ false → n ≢ k + 1)
 looked_up carried zero = inr (λ k x here unended. omega arith)
 looked_up carried (suc p) = elim (none_or_some (slice_get carried p)) [
   | inl none ↦ inr (λ k y at unended same.
       let place : p ≡ k = omega arith in
       none-some y (sym none ∙ (ap (slice_get carried) place ∙ at)))
-  | inr some ↦ elim (cases_Bool (is_ended (let x : Carried = some.0 in x.station))) [
+  | inr some ↦ elim (cases_Bool (is_ended (let x : PipelineRequest = some.0 in x.station))) [
     | inl e ↦ inr (λ k y at unended same.
         let place : p ≡ k = omega arith in
-        true≢false (sym e ∙ (ap (λ (z : Carried). is_ended z.station) (same_Some some.0 y (sym some.1 ∙ (ap (slice_get carried) place ∙ at))) ∙ unended)))
+        true≢false (sym e ∙ (ap (λ (z : PipelineRequest). is_ended z.station) (same_Some some.0 y (sym some.1 ∙ (ap (slice_get carried) place ∙ at))) ∙ unended)))
     | inr e ↦ inl (record { place = p; x = some.0; number = omega arith; here = some.1; unended = e })
   ]
 ]
 
 -- where none is among these each is finished
-all_ended : (carried : List Carried) → AreAmong [] carried → (k : ℕ) (x : Carried) → slice_get carried k ≡ Some x → is_ended x.station ≡ true
+all_ended : (carried : List PipelineRequest) → AreAmong [] carried → (k : ℕ) (x : PipelineRequest) → slice_get carried k ≡ Some x → is_ended x.station ≡ true
 all_ended carried among k x e = true_from_ne_false (is_ended x.station) (λ unended. true≢false (sym (among k x e unended)))
 
 -- no more are unfinished than these, and where as many are, they hold these frames
-held_alike : (requests : List Request) (carried : List Carried) → AreAmong requests carried → All (IsFitting carried) requests
+held_alike : (requests : List Request) (carried : List PipelineRequest) → AreAmong requests carried → All (IsFitting carried) requests
     → (count_by is_open carried ≤ length requests) × (count_by is_open carried ≡ length requests → sum_by held carried ≡ sum_by frames_of requests)
 held_alike [] carried among fits =
     let none = count_none is_open carried (λ i x e. ap not (all_ended carried among i x e)) in
@@ -129,7 +129,7 @@ abbrev ones : List Request → Option Ending → List Request
 ones requests None = requests
 ones requests (Some e) = e.request ∷ requests
 
-among_ones : (carried : List Carried) (requests : List Request) (ending : Option Ending) → AreOpen carried requests ending → AreAmong (ones requests ending) carried
+among_ones : (carried : List PipelineRequest) (requests : List Request) (ending : Option Ending) → AreOpen carried requests ending → AreAmong (ones requests ending) carried
 among_ones carried requests None opened k x here unended = elim (opened.held k x here unended) [
   | inl any ↦ any
   | inr other ↦ absurd (none-some other.0 other.1)
@@ -161,7 +161,7 @@ all_frames (transfer.Barrier tag) sector count counted =
     let short : nat_lt 11 ((count + 7) / 8) ≡ false = grind (arith, nat_tests) in
     rw short (omega arith)
 
-fitting : (submitted : List Request) (sectors last : ℕ) (carried : List Carried) (r : Request) → AreSubmitted submitted sectors last → AreKnown submitted carried → slice_get submitted (r.number - 1) ≡ Some r → IsFitting carried r
+fitting : (submitted : List Request) (sectors last : ℕ) (carried : List PipelineRequest) (r : Request) → AreSubmitted submitted sectors last → AreKnown submitted carried → slice_get submitted (r.number - 1) ≡ Some r → IsFitting carried r
 fitting submitted sectors last carried r all known stands k x number here =
     let place : r.number - 1 ≡ k = omega arith in
     let at : slice_get submitted k ≡ Some r = ap (slice_get submitted) (sym place) ∙ stands in

@@ -20,17 +20,17 @@ use Rattle.blk_front.specs.Entry.{entry_of}
 use Rattle.blk_front.specs.Request.{is_write, is_moving, is_indirect, named_of, tag_of, operation_of, flags_at, frames_for, pages_for, page_references, segment_at, naming_words, words_in, frame_at, IsShaped}
 use Rattle.blk_front.specs.declared.stage.Ending.{Ending}
 use Rattle.blk_front.specs.declared.state.Offers.{Offers}
-use Rattle.blk_front.specs.declared.stage.Stage.{Stage as FrontStage}
-use Rattle.blk_front.specs.declared.stage.Stage.TheVariants as front
+use Rattle.blk_front.specs.declared.stage.FrontStage.{FrontStage}
+use Rattle.blk_front.specs.declared.stage.FrontStage.TheVariants as front
 use Rattle.blk_front.specs.View.{fresh_word, slot_frame, slot_word, next_request}
 use Rattle.blk_front.specs.Submit.{is_ready, is_connected, ending_of}
-use Rattle.back_jobs.specs.declared.stage.Stage.{Stage as JobStage}
-use Rattle.back_jobs.specs.declared.stage.Stage.TheVariants as job
-use Rattle.back_jobs.specs.Task.{Work, mode_of}
+use Rattle.back_jobs.specs.declared.stage.JobStage.{JobStage}
+use Rattle.back_jobs.specs.declared.stage.JobStage.TheVariants as job
+use Rattle.back_jobs.specs.Work.{Work, mode_of}
 use Rattle.back_jobs.specs.Jobs.{is_done, is_fresh_at, is_held, holds_barriers, holds_all}
 use Rattle.blk_back.specs.declared.stage.Reply.{Reply}
-use Rattle.blk_back.specs.declared.stage.Stage.{Stage as BackStage}
-use Rattle.blk_back.specs.declared.stage.Stage.TheVariants as back
+use Rattle.blk_back.specs.declared.stage.BackStage.{BackStage}
+use Rattle.blk_back.specs.declared.stage.BackStage.TheVariants as back
 use Rattle.blk_back.specs.Ask.{response_word}
 use Rattle.segment_list.specs.declared.verdict.DiskInfo.{DiskInfo}
 use Rattle.blk_back.specs.declared.told.Halt.{Halt}

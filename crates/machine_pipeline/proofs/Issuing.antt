@@ -1,7 +1,7 @@
 -- A step of the front while it issues a request leaves all as it was but its stage, its entry and words of memory.
-use Rattle.back_jobs.specs.Task.{Work}
+use Rattle.back_jobs.specs.Work.{Work}
 use Rattle.ring_words.specs.Shape.{Shape}
-use Rattle.blk_back.specs.declared.stage.Stage.TheVariants as back
+use Rattle.blk_back.specs.declared.stage.BackStage.TheVariants as back
 use Rattle.blk_base.specs.declared.ask.FrontAsk.{FrontAsk}
 use Rattle.hypervisor.specs.Act.{FrontAct, front_act}
 use Rattle.schedule_text.specs.declared.line.Line.{Line}
@@ -18,13 +18,13 @@ use Rattle.hypervisor.specs.Hypervisor.{Hypervisor}
 use Rattle.pipeline_laws.specs.Pipeline.{Pipeline}
 use Rattle.blk_front.specs.declared.request.Request.{Request}
 use Rattle.blk_front.specs.declared.stage.Ending.{Ending}
-use Rattle.blk_front.specs.declared.stage.Stage.{Stage as FrontStage}
-use Rattle.blk_front.specs.declared.stage.Stage.TheVariants as front
+use Rattle.blk_front.specs.declared.stage.FrontStage.{FrontStage}
+use Rattle.blk_front.specs.declared.stage.FrontStage.TheVariants as front
 use Rattle.blk_front.specs.Request.{frames_for}
 use Rattle.blk_front.specs.View as front_view
 use Rattle.blk_front.specs.View.{next_request}
 use Rattle.blk_front.specs.Submit.{is_ready, ending_of}
-use Rattle.blk_back.specs.declared.stage.Stage.{Stage as BackStage}
+use Rattle.blk_back.specs.declared.stage.BackStage.{BackStage}
 use Rattle.split_model.specs.World.{World}
 use Rattle.machine_pipeline.proofs.Flow.{Flow, has_ring, named_pages, granted_pages, filled, named_frames, granted_frames, entered, ending_at, revoking_at, is_front_arming, may_front_sleep, telling_at, is_issuing, is_fetching, reply_at}
 use Rattle.machine_pipeline.proofs.Holds.{BackAt, FrontAt, RingBegun, AreRingWords, AreSlots, IsFilled, IsReadSoFar, AreEntries, AreRevoked, FrontSends, IsFrontSleep, IsBackSleep, Holds}

@@ -10,8 +10,8 @@ use Rattle.hypervisor.specs.Act.{Outcome, Gave, Took, Failed}
 use Rattle.blk_front.specs.declared.request.Request.{Request}
 use Rattle.blk_front.specs.Request.{is_write}
 use Rattle.pipeline_laws.specs.Station.{Working}
-use Rattle.back_jobs.specs.declared.stage.Stage.TheVariants as job
-use Rattle.back_jobs.specs.Task.{Work, ask_at, step_at, counted}
+use Rattle.back_jobs.specs.declared.stage.JobStage.TheVariants as job
+use Rattle.back_jobs.specs.Work.{Work, ask_at, step_at, counted}
 use Rattle.split_model.specs.World.{World}
 use Rattle.hypervisor.specs.Act.{IsGiven}
 use Rattle.pipeline_laws.specs.Pipeline.{Pipeline}

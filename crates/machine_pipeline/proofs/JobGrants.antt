@@ -10,9 +10,9 @@ use Rattle.blk_front.specs.declared.request.Request.{Request}
 use Rattle.blk_front.specs.declared.request.Transfer.{Transfer}
 use Rattle.blk_front.specs.declared.request.Transfer.TheVariants as transfer
 use Rattle.blk_front.specs.Request.{is_write, grant_flags, flags_at, frames_for, frame_at}
-use Rattle.back_jobs.specs.Task.{mode_of}
+use Rattle.back_jobs.specs.Work.{mode_of}
 use Rattle.blk_front.specs.declared.stage.Ending.{Ending}
-use Rattle.blk_front.specs.declared.stage.Stage.{Stage as FrontStage}
+use Rattle.blk_front.specs.declared.stage.FrontStage.{FrontStage}
 use Rattle.machine_pipeline.proofs.Flow.{frames_of, revoking_at}
 use Rattle.machine_pipeline.proofs.Series.{IsAmong}
 use Rattle.machine_pipeline.proofs.Holds.{IsGranted, AreEntries, is_only_read, mapped_at, flags_with}

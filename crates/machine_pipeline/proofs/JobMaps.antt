@@ -15,16 +15,16 @@ use Rattle.grant_table.specs.declared.entry.MapRefusal.{MapRefusal}
 use Rattle.blk_base.specs.declared.moves.Move.TheVariants as moves
 use Rattle.grant_table.specs.Entry.{verdict_of, mapped_entry, unmapped_entry, is_for_writing}
 use Rattle.grant_table.specs.Table.{GrantTable, entry_word0, entry_word1, with_entry_word0, mappings_of, writers_of, without, next_mapping, verdict_at, unmap_pages, unmap_table}
-use Rattle.pipeline_laws.specs.Station.{Request as Asked}
+use Rattle.pipeline_laws.specs.Station.{PipelineRequest}
 use Rattle.pipeline_laws.specs.Pipeline.{Pipeline, Step, after_steps}
 use Rattle.hypervisor.specs.Hypervisor.{Hypervisor}
 use Rattle.hypervisor.specs.Act.{BackAct, Outcome, back_act, map_act}
 use Rattle.blk_front.specs.declared.request.Request.{Request}
 use Rattle.blk_front.specs.Request.{is_write, flags_at, frames_for, reference_in, frame_at}
 use Rattle.blk_layout.specs.declared.segment.Segment.{Segment}
-use Rattle.back_jobs.specs.declared.stage.Stage.{Stage as JobStage}
-use Rattle.back_jobs.specs.declared.stage.Stage.TheVariants as job
-use Rattle.back_jobs.specs.Task.{Work, mode_of, map_ask, page_ask, sector_stage, ask_at, step_at, IsAnswer}
+use Rattle.back_jobs.specs.declared.stage.JobStage.{JobStage}
+use Rattle.back_jobs.specs.declared.stage.JobStage.TheVariants as job
+use Rattle.back_jobs.specs.Work.{Work, mode_of, map_ask, page_ask, sector_stage, ask_at, step_at, IsAnswer}
 use Rattle.back_jobs.specs.Jobs.{mapping_at, effect_at}
 use Rattle.back_jobs.specs.Hands.{HandsAfter, HasOneMore}
 use Rattle.blk_back.specs.Hands.{hands_of}
@@ -151,7 +151,7 @@ module _ {config : Options} {w : World} {g : Flow} {d : Pipeline} {p : ℕ} {t :
       → step_at j t (answer.Mapped made) ≡ later → effect_at j t (answer.Mapped made) ≡ None
       → later.number ≡ t.number → later.id ≡ t.id → later.op ≡ t.op
       → worked later.stage later.moved ≡ worked j t.moved
-      → ((q : Asked) → slice_get d.requests (t.id - 1) ≡ Some q → is_write r.transfer ≡ false → ReadAt w.under.pages r later.moved later.words q.words later.stage)
+      → ((q : PipelineRequest) → slice_get d.requests (t.id - 1) ≡ Some q → is_write r.transfer ≡ false → ReadAt w.under.pages r later.moved later.words q.words later.stage)
       → AtWork r later later.stage
       → JobGoesAt config w d number p t j o
   maps number o later none asked stepped silent numbered kept op same reads at =

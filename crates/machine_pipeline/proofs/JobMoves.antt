@@ -16,14 +16,14 @@ use Rattle.schedule_text.specs.declared.line.Line.{Line}
 use Rattle.schedule_text.specs.declared.line.Line.TheVariants.{Move}
 use Rattle.xen_pages.specs.Pages.{word_of}
 use Rattle.grant_table.specs.Table.{IsLive, frame_of}
-use Rattle.pipeline_laws.specs.Station.{Working, Request as Asked}
+use Rattle.pipeline_laws.specs.Station.{Working, PipelineRequest}
 use Rattle.pipeline_laws.specs.Pipeline.{Pipeline}
 use Rattle.hypervisor.specs.Act.{BackAct, Outcome, back_act}
 use Rattle.blk_front.specs.declared.request.Request.{Request}
 use Rattle.blk_front.specs.Request.{is_write, tag_of, operation_of, frames_for, words_in, frame_at, filling_at, IsShaped, pages_for, page_references}
-use Rattle.back_jobs.specs.declared.stage.Stage.{Stage as JobStage}
-use Rattle.back_jobs.specs.declared.stage.Stage.TheVariants as job
-use Rattle.back_jobs.specs.Task.{Work, ask_at, step_at, word_at, last_of, sector_stage, next_sector, IsAnswer}
+use Rattle.back_jobs.specs.declared.stage.JobStage.{JobStage}
+use Rattle.back_jobs.specs.declared.stage.JobStage.TheVariants as job
+use Rattle.back_jobs.specs.Work.{Work, ask_at, step_at, word_at, last_of, sector_stage, next_sector, IsAnswer}
 use Rattle.back_jobs.specs.Jobs.{effect_at, mapping_at}
 use Rattle.back_jobs.specs.Hands.{hand_of, hands_in, Names, HandsAfter}
 use Rattle.back_jobs.proofs.Hands.{named_in, told_hands, framed as between}
@@ -146,7 +146,7 @@ doing_at config w g d p t r j h held is e at =
     record { holds = h; held = held; is = is; stage = e; at = at; work = work; own = own_at config w g d p t r h is work }
 
 -- what a read's job has in hand, and its frames hold
-pub read_now : {config : Options} {w : World} {g : Flow} {d : Pipeline} {p : ℕ} {t : Work} {r : Request} {j : JobStage} → IsDoing config w g d p t r j → (q : Asked) → slice_get d.requests (t.id - 1) ≡ Some q → is_write r.transfer ≡ false → ReadAt w.under.pages r t.moved t.words q.words j
+pub read_now : {config : Options} {w : World} {g : Flow} {d : Pipeline} {p : ℕ} {t : Work} {r : Request} {j : JobStage} → IsDoing config w g d p t r j → (q : PipelineRequest) → slice_get d.requests (t.id - 1) ≡ Some q → is_write r.transfer ≡ false → ReadAt w.under.pages r t.moved t.words q.words j
 read_now {w = w} {p = p} {t = t} {r = r} doing q was reads = subst (ReadAt w.under.pages r t.moved t.words q.words) doing.stage (doing.holds.stations.reads.working p t r q doing.is.place doing.is.known was reads)
 
 -- the words of a write lie in its frames
@@ -224,7 +224,7 @@ StepsTo call config w g d p t said = Stepped None call d said (λ x. StationsWit
 module _ {config : Options} {w : World} {g : Flow} {d : Pipeline} {p : ℕ} {t : Work} {r : Request} {j : JobStage} (doing : IsDoing config w g d p t r j) where
   -- its station stays where it is of the same kind
   pub stays_at : (t' : Work) → t'.id ≡ t.id → worked t'.stage t'.moved ≡ worked j t.moved
-      → ((q : Asked) → slice_get d.requests (t.id - 1) ≡ Some q → is_write r.transfer ≡ false → ReadAt w.under.pages r t'.moved t'.words q.words t'.stage)
+      → ((q : PipelineRequest) → slice_get d.requests (t.id - 1) ≡ Some q → is_write r.transfer ≡ false → ReadAt w.under.pages r t'.moved t'.words q.words t'.stage)
       → StationsWith config w g d (slice_set w.back.jobs.works p t') w.under.pages
   stays_at t' number same reads =
       stations_stay config w g d p t t' r w.under.pages doing.holds.stations doing.is.place doing.is.known number (same ∙ sym (ap (λ (s : JobStage). worked s t.moved) doing.stage)) reads
@@ -239,7 +239,7 @@ module _ {config : Options} {w : World} {g : Flow} {d : Pipeline} {p : ℕ} {t :
 
   pub rests_on : {call : (before after : List (List ℕ)) → Type 0} (t' : Work) (shown : Shown) → ((a b : List (List ℕ)) → call a b → b ≡ a)
       → t'.number ≡ t.number → t'.id ≡ t.id → t'.op ≡ t.op → worked t'.stage t'.moved ≡ worked j t.moved
-      → ((q : Asked) → slice_get d.requests (t.id - 1) ≡ Some q → is_write r.transfer ≡ false → ReadAt w.under.pages r t'.moved t'.words q.words t'.stage)
+      → ((q : PipelineRequest) → slice_get d.requests (t.id - 1) ≡ Some q → is_write r.transfer ≡ false → ReadAt w.under.pages r t'.moved t'.words q.words t'.stage)
       → AtWork r t' t'.stage
       → hands_then w p t' ≡ hands_of w.back
       → GoesBy None call config (Move shown ∷ []) (with_job w p t' w.under) d

@@ -19,9 +19,9 @@ use Rattle.pipeline_laws.specs.Pipeline.{Pipeline}
 use Rattle.hypervisor.specs.Act.{Outcome}
 use Rattle.blk_front.specs.declared.request.Request.{Request}
 use Rattle.blk_front.specs.Request.{frames_for, pages_for, page_references, segment_at, naming_words, naming_at, frame_at}
-use Rattle.back_jobs.specs.declared.stage.Stage.{Stage as JobStage}
-use Rattle.back_jobs.specs.declared.stage.Stage.TheVariants as job
-use Rattle.back_jobs.specs.Task.{Work, ask_at, step_at, first_of, page_word, is_copied_out}
+use Rattle.back_jobs.specs.declared.stage.JobStage.{JobStage}
+use Rattle.back_jobs.specs.declared.stage.JobStage.TheVariants as job
+use Rattle.back_jobs.specs.Work.{Work, ask_at, step_at, first_of, page_word, is_copied_out}
 use Rattle.back_jobs.specs.Jobs.{mapping_at}
 use Rattle.machine_pipeline.proofs.ReadBack.{ReadAt}
 use Rattle.split_model.specs.World.{World}
@@ -35,7 +35,7 @@ use Rattle.machine_pipeline.proofs.Mapped.{frame_live}
 use Rattle.machine_pipeline.proofs.JobMoves.{JobGoesAt, live_hand, hands_step, IsDoing, read_now, copied_on, stays_at, rests_on}
 use Rattle.machine_pipeline.specs.Step.{CallOf}
 use Rattle.machine_pipeline.proofs.JobMaps.{unmaps}
-use Rattle.pipeline_laws.specs.Station.{Request as Asked, Working}
+use Rattle.pipeline_laws.specs.Station.{PipelineRequest, Working}
 
 -- a segment of two words that the front wrote is that segment
 segment_back : (gref last : ℕ) → last ≤ 7 → segment_of gref (0 + last * 2 ^ 8) ≡ record { gref = gref; first = 0; last = last }
@@ -218,7 +218,7 @@ unmap_page_goes {config = config} {w = w} {d = d} {p = p} {t = t} {r = r} {m = m
 
     -- either way the job has no mapping, and is of the same request at the same station
     goes : (t' : Work) → step_at (job.UnmapPage m) t answer.Done ≡ t' → mapping_at t'.stage ≡ None → t'.number ≡ t.number → t'.id ≡ t.id → t'.op ≡ t.op → worked t'.stage t'.moved ≡ Working t.moved
-        → ((q : Asked) → ReadAt w.under.pages r t.moved t.words q.words (job.UnmapPage m) → ReadAt w.under.pages r t'.moved t'.words q.words t'.stage)
+        → ((q : PipelineRequest) → ReadAt w.under.pages r t.moved t.words q.words (job.UnmapPage m) → ReadAt w.under.pages r t'.moved t'.words q.words t'.stage)
         → AtWork r t' t'.stage → JobGoesAt config w d number p t (job.UnmapPage m) o
     goes t' stepped none numbered same op station reads at =
         unmaps doing (frames_for r.count + doing.at.page) in_it m t' refl doing.at.hand stepped none numbered same op

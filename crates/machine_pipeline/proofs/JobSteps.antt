@@ -16,13 +16,13 @@ use Rattle.blk_front.specs.declared.request.Request.{Request}
 use Rattle.blk_front.specs.declared.request.Transfer.{Transfer}
 use Rattle.blk_front.specs.declared.request.Transfer.TheVariants as transfer
 use Rattle.blk_front.specs.Request.{is_write, is_moving, tag_of, operation_of}
-use Rattle.back_jobs.specs.declared.stage.Stage.{Stage as JobStage}
-use Rattle.back_jobs.specs.declared.stage.Stage.TheVariants as job
-use Rattle.back_jobs.specs.Task.{Work, ask_at, counted}
+use Rattle.back_jobs.specs.declared.stage.JobStage.{JobStage}
+use Rattle.back_jobs.specs.declared.stage.JobStage.TheVariants as job
+use Rattle.back_jobs.specs.Work.{Work, ask_at, counted}
 use Rattle.back_jobs.specs.Jobs.{is_done, is_done_at, is_ordered as orders, is_barrier as bars, is_held, holds_barriers, holds_all}
 use Rattle.blk_base.specs.declared.parts.Mapping.{Mapping}
 use Rattle.split_model.specs.World.{World}
-use Rattle.pipeline_laws.specs.Station.{Station, Working, Failed, Request as Asked}
+use Rattle.pipeline_laws.specs.Station.{Station, Working, Failed, PipelineRequest}
 use Rattle.pipeline_laws.specs.Move.{Move, Fills, Reads, Fails, Ends, station_before, station_after, words_after, move_lines}
 use Rattle.pipeline_laws.specs.Ring.{ring_after}
 use Rattle.pipeline_laws.specs.Pipeline.{Pipeline, Moves}
@@ -68,7 +68,7 @@ same_order op x transfer.Read sector count this that = rw (this, that) (refl, re
 same_order op x way sector count this that = rw (this, that) (refl, refl)
 
 -- a job that doesn't hold up an ordered one isn't in its way
-not_in_way : (t u : Work) (x : Job) (y : Asked) → (orders t ≡ is_ordered x) × (bars t ≡ is_barrier x) → (orders u ≡ is_ordered y.job) × (bars u ≡ is_barrier y.job)
+not_in_way : (t u : Work) (x : Job) (y : PipelineRequest) → (orders t ≡ is_ordered x) × (bars t ≡ is_barrier x) → (orders u ≡ is_ordered y.job) × (bars u ≡ is_barrier y.job)
     → is_done u ≡ false
     → is_ordered x ≡ true
     → is_held t (holds_barriers u) (holds_all u) ≡ false
@@ -96,7 +96,7 @@ working_undone x (job.Done status) moved t = absurd (false≢true t)
 working_undone x s moved t = refl
 
 -- a move of a job's request from one station to the next, with its call of the disk
-pub record IsJobMove (call : (before after : List (List ℕ)) → Type 0) (d : Pipeline) (k : ℕ) (q : Asked) (from to : Station) (move : Move) : Type 0 where
+pub record IsJobMove (call : (before after : List (List ℕ)) → Type 0) (d : Pipeline) (k : ℕ) (q : PipelineRequest) (from to : Station) (move : Move) : Type 0 where
   pub before : station_before q.job move ≡ from
   pub after : station_after q.job move ≡ to
   pub may : May d k q move
@@ -104,7 +104,7 @@ pub record IsJobMove (call : (before after : List (List ℕ)) → Type 0) (d : P
 
 -- what a read has once its job made the move
 abbrev pub HasRead : World → Pipeline → Work → Work → Request → Move → Type 0
-HasRead w d t t' r move = (q : Asked) → slice_get d.requests (t.id - 1) ≡ Some q → is_write r.transfer ≡ false → ReadAt w.under.pages r t'.moved t'.words (words_after move q.words) t'.stage × (has_data_at (worked t'.stage t'.moved) ≡ true → IsReadBack w.under.pages r r.count (words_after move q.words))
+HasRead w d t t' r move = (q : PipelineRequest) → slice_get d.requests (t.id - 1) ≡ Some q → is_write r.transfer ≡ false → ReadAt w.under.pages r t'.moved t'.words (words_after move q.words) t'.stage × (has_data_at (worked t'.stage t'.moved) ≡ true → IsReadBack w.under.pages r r.count (words_after move q.words))
 
 -- jobs that stand in order, one of them at this place
 pub record AreOrdered (g : Flow) (works : List Work) (p : ℕ) (t : Work) (r : Request) : Type 0 where
@@ -120,7 +120,7 @@ jobs_ordered config w g d p t r h is =
 module _ {call : (before after : List (List ℕ)) → Type 0} {config : Options} {g : Flow} {d : Pipeline} {t : Work} {r : Request} {said : List Line} (w : World) (t' : Work) (move : Move)
     (number : t'.id ≡ t.id)
     (still : ring_after d.ring (t.id - 1) move ≡ d.ring) (shows : move_lines (t.id - 1) move ≡ said) (now : HasRead w d t t' r move)
-    (makes : (q : Asked) → q.job ≡ submitted_job r.transfer r.sector r.count → IsJobMove call d (t.id - 1) q (worked t.stage t.moved) (worked t'.stage t'.moved) move) where
+    (makes : (q : PipelineRequest) → q.job ≡ submitted_job r.transfer r.sector r.count → IsJobMove call d (t.id - 1) q (worked t.stage t.moved) (worked t'.stage t'.moved) move) where
   -- the job at this place makes it
   pub job_moves : {works : List Work} {p : ℕ} → StationsWith config w g d works w.under.pages → AreOrdered g works p t r
       → Stepped None call d said (λ x. StationsWith config w g x (slice_set works p t') w.under.pages)
@@ -150,12 +150,12 @@ stands_before works p i t u up here at lower = elim (cases_lt i p) [
 ]
 
 -- no request that was fetched before this one is in its way
-clears : (config : Options) (w : World) (g : Flow) (d : Pipeline) (p : ℕ) (t : Work) (r : Request) (q : Asked)
+clears : (config : Options) (w : World) (g : Flow) (d : Pipeline) (p : ℕ) (t : Work) (r : Request) (q : PipelineRequest)
     → Holds config w g d w.front.stage w.back.stage
     → IsAt w g d p t r
     → q.job ≡ submitted_job r.transfer r.sector r.count
     → is_ordered q.job ≡ true
-    → (j : ℕ) (y : Asked) → j < t.id - 1 → slice_get d.requests j ≡ Some y → is_in_way (is_barrier q.job) y ≡ false
+    → (j : ℕ) (y : PipelineRequest) → j < t.id - 1 → slice_get d.requests j ≡ Some y → is_in_way (is_barrier q.job) y ≡ false
 clears config w g d p t r q h is asked ordered i y before here = elim (cases_Bool (is_working y.job y.station)) [
   | inl working ↦
       let its = h.stations.held i y here (working_kind y.job y.station working) in
@@ -166,7 +166,7 @@ clears config w g d p t r q h is asked ordered i y before here = elim (cases_Boo
       let one : x.q ≡ y = same_Some x.q y (sym x.at ∙ (ap (slice_get d.requests) place ∙ here)) in
       let known = h.stations.known.each i work.r y (ap (slice_get g.submitted) (sym place) ∙ work.known) here in
       not_in_way t u q.job y (same_order t.op q.job r.transfer r.sector r.count is.op asked) (same_order u.op y.job work.r.transfer work.r.sector work.r.count work.op known)
-      (working_undone y.job u.stage u.moved (ap (is_working y.job) (sym (ap (λ (z : Asked). z.station) (sym one) ∙ x.there)) ∙ working)) ordered
+      (working_undone y.job u.stage u.moved (ap (is_working y.job) (sym (ap (λ (z : PipelineRequest). z.station) (sym one) ∙ x.there)) ∙ working)) ordered
       (is.free.clear its.0 u (stands_before w.back.jobs.works p its.0 t u h.works.ascending is.place its.2 (omega (arith, its.3, before))) its.2)
   | inr none ↦ rw none (idle (is_ordered y.job) (is_barrier q.job || is_barrier y.job))
 ]
@@ -176,7 +176,7 @@ clears config w g d p t r q h is asked ordered i y before here = elim (cases_Boo
     idle true false = refl
     idle false c = refl
 
-pub clear : (config : Options) (w : World) (g : Flow) (d : Pipeline) (p : ℕ) (t : Work) (r : Request) (q : Asked)
+pub clear : (config : Options) (w : World) (g : Flow) (d : Pipeline) (p : ℕ) (t : Work) (r : Request) (q : PipelineRequest)
     → Holds config w g d w.front.stage w.back.stage
     → IsAt w g d p t r
     → q.job ≡ submitted_job r.transfer r.sector r.count
@@ -209,7 +209,7 @@ sector_left config w g d p t r h is moving =
     (omega (arith, left.0), left.2, moves_sectors r moving.place shaped moving.here)
 
 module _ {config : Options} {w : World} {g : Flow} {d : Pipeline} {p : ℕ} {t : Work} {r : Request} {m : Mapping} (doing : IsDoing config w g d p t r (job.DiskWrite m)) (t' : Work) where
-  filled_job : (q : Asked) → q.job ≡ submitted_job r.transfer r.sector r.count → IsFilling q.job r.sector r.count (tag_of r.transfer)
+  filled_job : (q : PipelineRequest) → q.job ≡ submitted_job r.transfer r.sector r.count → IsFilling q.job r.sector r.count (tag_of r.transfer)
   filled_job q asked = rw asked (filling_job r.transfer r.sector r.count doing.at.2)
 
   -- the disk takes the sector; a write reads nothing
@@ -241,7 +241,7 @@ module _ {config : Options} {w : World} {g : Flow} {d : Pipeline} {p : ℕ} {t :
   left : (t.moved < r.count) × (r.count ≤ 7680) × (is_moving r.transfer ≡ true)
   left = sector_left config w g d p t r doing.holds doing.is doing.at.0
 
-  read_so : (q : Asked) → q.job ≡ submitted_job r.transfer r.sector r.count → q.job ≡ Read r.sector r.count
+  read_so : (q : PipelineRequest) → q.job ≡ submitted_job r.transfer r.sector r.count → q.job ≡ Read r.sector r.count
   read_so q asked = asked ∙ read_job r.transfer r.sector r.count left.2 doing.at.2
 
   -- the disk gives the sector

@@ -15,9 +15,9 @@ use Rattle.pipeline_laws.specs.Pipeline.{Pipeline}
 use Rattle.hypervisor.specs.Act.{BackAct, Outcome, back_act}
 use Rattle.blk_front.specs.declared.request.Request.{Request}
 use Rattle.blk_front.specs.Request.{frames_for}
-use Rattle.back_jobs.specs.declared.stage.Stage.{Stage as JobStage}
-use Rattle.back_jobs.specs.declared.stage.Stage.TheVariants as job
-use Rattle.back_jobs.specs.Task.{Work, ask_at, step_at, rest_of, next_segment}
+use Rattle.back_jobs.specs.declared.stage.JobStage.{JobStage}
+use Rattle.back_jobs.specs.declared.stage.JobStage.TheVariants as job
+use Rattle.back_jobs.specs.Work.{Work, ask_at, step_at, rest_of, next_segment}
 use Rattle.back_jobs.specs.Jobs.{place_of, is_done, is_done_at, is_fresh_at, is_held_by, holds_barriers, holds_all}
 use Rattle.blk_back.specs.Hands.{hands_of}
 use Rattle.blk_back.specs.Step.{job_ask_of}

@@ -9,15 +9,15 @@ use Rattle.blk_base.specs.declared.parts.Mapping.{Mapping}
 use Rattle.blk_base.specs.declared.ask.BackAnswer.TheVariants as answer
 use Rattle.xen_pages.specs.Pages.{with_word}
 use Rattle.grant_table.specs.Table.{frame_of}
-use Rattle.pipeline_laws.specs.Station.{Request as Asked, is_finished, Finished, Working, Station}
+use Rattle.pipeline_laws.specs.Station.{PipelineRequest, is_finished, Finished, Working, Station}
 use Rattle.pipeline_laws.specs.Pipeline.{Pipeline}
 use Rattle.hypervisor.specs.Act.{Outcome}
 use Rattle.blk_front.specs.declared.request.Request.{Request}
 use Rattle.blk_front.specs.declared.stage.Ending.{Ending}
 use Rattle.blk_front.specs.Request.{is_write, words_in, frame_at}
-use Rattle.back_jobs.specs.declared.stage.Stage.{Stage as JobStage}
-use Rattle.back_jobs.specs.declared.stage.Stage.TheVariants as job
-use Rattle.back_jobs.specs.Task.{Work, ask_at, step_at, word_at, sector_stage, next_sector}
+use Rattle.back_jobs.specs.declared.stage.JobStage.{JobStage}
+use Rattle.back_jobs.specs.declared.stage.JobStage.TheVariants as job
+use Rattle.back_jobs.specs.Work.{Work, ask_at, step_at, word_at, sector_stage, next_sector}
 use Rattle.split_model.specs.World.{World}
 use Rattle.machine_pipeline.proofs.Flow.{Flow, frames_of, data_word, span, is_own, worked, ending_at}
 use Rattle.machine_pipeline.proofs.Segments.{word_place}
@@ -40,7 +40,7 @@ use Rattle.machine_pipeline.proofs.JobMoves.{JobGoesAt, work_of, live_hand, hand
 use Rattle.machine_pipeline.specs.Step.{CallOf}
 
 -- the frames of another unfinished request are others
-frame_apart : (config : Options) (w : World) (g : Flow) (d : Pipeline) (r x : Request) (k place : ℕ) (q : Asked)
+frame_apart : (config : Options) (w : World) (g : Flow) (d : Pipeline) (r x : Request) (k place : ℕ) (q : PipelineRequest)
     → Holds config w g d w.front.stage w.back.stage
     → slice_get w.front.requests place ≡ Some r
     → slice_get g.submitted k ≡ Some x
@@ -110,13 +110,13 @@ module _ {config : Options} {w : World} {g : Flow} {d : Pipeline} {p : ℕ} {t :
   back_written moved noted one_more b = back_on (λ n lt. let few = b.few in other_data n (omega arith) (omega arith)) b
 
   -- so is a request that isn't finished, but for that of the job
-  apart : (k : ℕ) (y : Request) (q : Asked) → slice_get g.submitted k ≡ Some y → slice_get d.requests k ≡ Some q → is_finished q.station ≡ false → k ≢ t.id - 1 → SameData w.under.pages new y
+  apart : (k : ℕ) (y : Request) (q : PipelineRequest) → slice_get g.submitted k ≡ Some y → slice_get d.requests k ≡ Some q → is_finished q.station ≡ false → k ≢ t.id - 1 → SameData w.under.pages new y
   apart k y q its was going other =
       data_apart w.under.pages (frame_at r (here_now / 1024)) (here_now % 1024) (slice_index t.words j) y (omega arith) (x.holds.submitted.each k y its).shaped
       (λ a lt. frame_apart config w g d r y k x.own.place q x.holds x.own.at its was going (omega (arith, x.own.number, x.is.positive)) a (here_now / 1024) lt place_now)
 
   -- what the job has at its next stage
-  then_read : (wrote last : Bool) → (j == 127) ≡ wrote → (q : Asked) → slice_get d.requests (t.id - 1) ≡ Some q → is_write r.transfer ≡ false
+  then_read : (wrote last : Bool) → (j == 127) ≡ wrote → (q : PipelineRequest) → slice_get d.requests (t.id - 1) ≡ Some q → is_write r.transfer ≡ false
       → ReadAt new r t.moved t.words q.words (stage_after wrote last)
   then_read wrote last tested q was reads = by_test wrote last tested
     where
@@ -163,7 +163,7 @@ module _ {config : Options} {w : World} {g : Flow} {d : Pipeline} {p : ℕ} {t :
           let work = all_at (IsWork g.submitted g.series g.fetched) w.back.jobs.works i u x.holds.works.each other.1 in
           let at = x.holds.stations.works i u other.1 in
           let one : at.q ≡ q = same_Some at.q q (sym at.at ∙ was) in
-          let unfinished : is_finished q.station ≡ false = ap (λ (z : Asked). is_finished z.station) (sym one) ∙ (ap is_finished at.there ∙ worked_open u.stage u.moved) in
+          let unfinished : is_finished q.station ≡ false = ap (λ (z : PipelineRequest). is_finished z.station) (sym one) ∙ (ap is_finished at.there ∙ worked_open u.stage u.moved) in
           read_at_kept w.under.pages new y u.moved u.words q.words u.stage (apart (u.id - 1) y q its was unfinished (omega (arith, work.positive, x.is.positive)))
           (x.holds.stations.reads.working i u y q other.1 its was reads)
     ];
@@ -171,7 +171,7 @@ module _ {config : Options} {w : World} {g : Flow} {d : Pipeline} {p : ℕ} {t :
       | inl same ↦
           let at = x.holds.stations.works p t x.is.place in
           let one : at.q ≡ q = same_Some at.q q (sym at.at ∙ (ap (slice_get d.requests) (sym same) ∙ was)) in
-          absurd (false≢true (sym (ap (λ (s : JobStage). has_data_at (worked s t.moved)) x.stage) ∙ (sym (ap has_data_at at.there) ∙ (ap (λ (z : Asked). has_data_at z.station) one ∙ there))))
+          absurd (false≢true (sym (ap (λ (s : JobStage). has_data_at (worked s t.moved)) x.stage) ∙ (sym (ap has_data_at at.there) ∙ (ap (λ (z : PipelineRequest). has_data_at z.station) one ∙ there))))
       | inr other ↦ back_kept (apart k y q its was (open_with_data q.station there) other) (x.holds.stations.reads.after k y q its was reads there)
     ];
   }

@@ -6,15 +6,15 @@ use Rattle.std.proofs.lemmas.Bool.{true≢false, or_parts}
 use Rattle.blk_base.specs.Options.{Options}
 use Rattle.ring_words.specs.Shape.{Shape}
 use Rattle.grant_table.specs.Table.{GrantTable}
-use Rattle.pipeline_laws.specs.Station.{Request as Asked}
+use Rattle.pipeline_laws.specs.Station.{PipelineRequest}
 use Rattle.pipeline_laws.specs.Pipeline.{Pipeline}
 use Rattle.blk_front.specs.Request.{is_write, operation_of}
 use Rattle.blk_front.specs.declared.request.Request.{Request}
-use Rattle.back_jobs.specs.Task.{Work}
+use Rattle.back_jobs.specs.Work.{Work}
 use Rattle.back_jobs.specs.Jobs.{is_done, is_ordered, is_barrier, is_held, holds_barriers, holds_all}
 use Rattle.blk_back.specs.declared.stage.Reply.{Reply}
-use Rattle.blk_back.specs.declared.stage.Stage.{Stage as BackStage}
-use Rattle.blk_back.specs.declared.stage.Stage.TheVariants as back
+use Rattle.blk_back.specs.declared.stage.BackStage.{BackStage}
+use Rattle.blk_back.specs.declared.stage.BackStage.TheVariants as back
 use Rattle.blk_back.specs.Hands.{hands_at, hands_of}
 use Rattle.split_model.specs.World.{World}
 use Rattle.blk_front.specs.Submit.{is_ready}
@@ -136,7 +136,7 @@ pub stations_stay : (config : Options) (w : World) (g : Flow) (d : Pipeline) (p 
     → slice_get g.submitted (t.id - 1) ≡ Some r
     → t'.id ≡ t.id
     → worked t'.stage t'.moved ≡ worked t.stage t.moved
-    → ((q : Asked) → slice_get d.requests (t.id - 1) ≡ Some q → is_write r.transfer ≡ false → ReadAt pages r t'.moved t'.words q.words t'.stage)
+    → ((q : PipelineRequest) → slice_get d.requests (t.id - 1) ≡ Some q → is_write r.transfer ≡ false → ReadAt pages r t'.moved t'.words q.words t'.stage)
     → StationsWith config w g d (slice_set w.back.jobs.works p t') pages
 stations_stay config w g d p t t' r pages h here known number same now =
     job_stays p t t' here number same (reads_set p t t' here (λ x q its at reads.

@@ -13,8 +13,8 @@ use Rattle.key_directory.specs.Directory.{Directory}
 use Rattle.hypervisor.specs.Act.{with_keys, watch_taken}
 use Rattle.pipeline_laws.specs.Allowed.{is_aside}
 use Rattle.pipeline_laws.specs.Pipeline.{Pipeline, after_steps}
-use Rattle.blk_front.specs.declared.stage.Stage.{Stage as FrontStage}
-use Rattle.blk_back.specs.declared.stage.Stage.{Stage as BackStage}
+use Rattle.blk_front.specs.declared.stage.FrontStage.{FrontStage}
+use Rattle.blk_back.specs.declared.stage.BackStage.{BackStage}
 use Rattle.blk_front.specs.View.{View}
 use Rattle.split_model.specs.World.{World}
 use Rattle.split_model.specs.Shown.{front_lines}

@@ -11,13 +11,13 @@ use Rattle.event_channel.specs.declared.channels.PortState.{PortState}
 use Rattle.pipeline_laws.specs.Pipeline.{Pipeline, Front, Leaves}
 use Rattle.blk_front.specs.declared.request.Request.{Request}
 use Rattle.blk_front.specs.declared.stage.Ending.{Ending}
-use Rattle.blk_front.specs.declared.stage.Stage.{Stage as FrontStage}
-use Rattle.blk_front.specs.declared.stage.Stage.TheVariants as front
+use Rattle.blk_front.specs.declared.stage.FrontStage.{FrontStage}
+use Rattle.blk_front.specs.declared.stage.FrontStage.TheVariants as front
 use Rattle.blk_front.specs.Step.{is_mapped}
 use Rattle.back_jobs.specs.Jobs.{first_mapping, after_mapping}
-use Rattle.back_jobs.specs.Task.{Work}
-use Rattle.blk_back.specs.declared.stage.Stage.{Stage as BackStage}
-use Rattle.blk_back.specs.declared.stage.Stage.TheVariants as back
+use Rattle.back_jobs.specs.Work.{Work}
+use Rattle.blk_back.specs.declared.stage.BackStage.{BackStage}
+use Rattle.blk_back.specs.declared.stage.BackStage.TheVariants as back
 use Rattle.blk_back.specs.declared.told.Halt.{Halt}
 use Rattle.blk_back.specs.View.{View, no_page}
 use Rattle.blk_back.specs.Hands.{aborted}

@@ -3,7 +3,7 @@ use Rattle.std.proofs.Common.{◌≡◌, ◌≢◌, ℕ, ◌+◌, ◌-◌, ◌<�
 use Rattle.std.specs.Prelude.{All, Option, Some, None, slice_get}
 use Rattle.std.proofs.lemmas.Bool.Decides.{nat_tests}
 use Rattle.std.proofs.lemmas.Option.{none-some, same_Some, slice_get-get_or}
-use Rattle.pipeline_laws.specs.Station.{Issuing, Request as Asked}
+use Rattle.pipeline_laws.specs.Station.{Issuing, PipelineRequest}
 use Rattle.blk_front.specs.declared.request.Request.{Request}
 use Rattle.blk_front.specs.declared.stage.Ending.{Ending}
 use Rattle.blk_front.specs.Request.{frame_at, IsShaped}
@@ -86,12 +86,12 @@ next_is {series} v submitted sectors last pushed ending r queue all pooled e = e
         zeroth n = omega arith
 
 -- a request that was fetched and isn't finished has other frames than the one that is being issued
-pub fetched_apart : {series : List Request} (submitted requests : List Request) (pushed waiting : ℕ) (asked : List Asked) (r : Request)
+pub fetched_apart : {series : List Request} (submitted requests : List Request) (pushed waiting : ℕ) (asked : List PipelineRequest) (r : Request)
     → IsNext submitted series requests pushed waiting r
     → AreQueued submitted series pushed requests waiting
     → AreOpen asked requests None
     → StandsAt asked (r.number - 1) Issuing
-    → (k : ℕ) (x : Request) (q : Asked) → slice_get submitted k ≡ Some x → slice_get asked k ≡ Some q → 4 ≤ kind_of q.station → kind_of q.station ≤ 7
+    → (k : ℕ) (x : Request) (q : PipelineRequest) → slice_get submitted k ≡ Some x → slice_get asked k ≡ Some q → 4 ≤ kind_of q.station → kind_of q.station ≤ 7
     → FramesApart x r
 fetched_apart submitted requests pushed waiting asked r next queue opened issuing k x q known at low high = elim (opened.held k q at (early_open q.station (omega arith))) [
   | inl any ↦

@@ -10,17 +10,17 @@ use Rattle.blk_base.specs.declared.parts.Mapping.{Mapping}
 use Rattle.schedule_text.specs.declared.line.Line.{Line}
 use Rattle.ring_words.specs.Shape.{Shape}
 use Rattle.segment_list.specs.declared.verdict.DiskInfo.{DiskInfo}
-use Rattle.pipeline_laws.specs.Station.{Request as Asked}
+use Rattle.pipeline_laws.specs.Station.{PipelineRequest}
 use Rattle.pipeline_laws.specs.Station.{is_finished}
 use Rattle.pipeline_laws.specs.Pipeline.{Pipeline, Step, after_steps}
 use Rattle.blk_front.specs.declared.request.Request.{Request}
-use Rattle.blk_front.specs.declared.stage.Stage.{Stage as FrontStage}
-use Rattle.blk_front.specs.declared.stage.Stage.TheVariants as front
+use Rattle.blk_front.specs.declared.stage.FrontStage.{FrontStage}
+use Rattle.blk_front.specs.declared.stage.FrontStage.TheVariants as front
 use Rattle.blk_front.specs.Step.{is_mapped}
-use Rattle.back_jobs.specs.Task.{Work}
+use Rattle.back_jobs.specs.Work.{Work}
 use Rattle.blk_back.specs.View.{info_of}
-use Rattle.blk_back.specs.declared.stage.Stage.{Stage as BackStage}
-use Rattle.blk_back.specs.declared.stage.Stage.TheVariants as back
+use Rattle.blk_back.specs.declared.stage.BackStage.{BackStage}
+use Rattle.blk_back.specs.declared.stage.BackStage.TheVariants as back
 use Rattle.blk_back.specs.declared.told.Halt.{Halt}
 use Rattle.split_model.specs.World.{World}
 use Rattle.machine_pipeline.specs.Step.{Does}
@@ -83,7 +83,7 @@ abbrev pub lasting_of : World → Lasting
 lasting_of w = record { size = w.front.sectors; fixed = w.front.read_only; last = w.front.last; start = w.front.start; shape = w.front.shape; pool = w.front.pool; words = w.front.words; info = w.back.jobs.info }
 
 -- from which another epoch may begin: each request was submitted as the pipeline has it
-pub record MayBegin (config : Options) (submitted : List Request) (asked : List Asked) (x : Lasting) : Type 0 where
+pub record MayBegin (config : Options) (submitted : List Request) (asked : List PipelineRequest) (x : Lasting) : Type 0 where
   pub sized : IsOfTheDisk config x.size x.fixed submitted
   pub each : AreSubmitted submitted x.size x.last
   pub few : x.last < 2 ^ 32
@@ -97,10 +97,10 @@ pub may_begin : (config : Options) (w : World) (g : Flow) (d : Pipeline) (s : Fr
 may_begin config w g d s b h = let shaped : w.front.shape ≡ record { abi = config.abi; order = config.order } = h.shaped.known ∙ h.shaped.whole in assumption shaped
 
 -- what stays: the pipeline closes, and has finished all; what both ends keep; and no request and no job is left
-pub record IsSpent (config given : Options) (asked : List Asked) (closing : Bool) (x : Lasting) (front_closes : Bool) (requests : List Request) (halt : Option Halt) (works : List Work) : Type 0 where
+pub record IsSpent (config given : Options) (asked : List PipelineRequest) (closing : Bool) (x : Lasting) (front_closes : Bool) (requests : List Request) (halt : Option Halt) (works : List Work) : Type 0 where
   pub options : given ≡ config
   pub leaves : closing ≡ true
-  pub finished : (k : ℕ) (q : Asked) → slice_get asked k ≡ Some q → is_finished q.station ≡ true
+  pub finished : (k : ℕ) (q : PipelineRequest) → slice_get asked k ≡ Some q → is_finished q.station ≡ true
   pub counted : length asked ≡ x.last
   pub submitted : List Request
   pub begins : MayBegin config submitted asked x
@@ -112,7 +112,7 @@ pub record IsSpent (config given : Options) (asked : List Asked) (closing : Bool
   pub no_job : works ≡ []
 
 -- what holds of the pipeline, of what both ends keep, of the front's requests, of the back's halt, jobs and pages, of both ends' next entries, and of mappings and memory, with the front at stage s and the back at stage b
-pub record IsOver (config given : Options) (asked : List Asked) (connected closing closed : Bool) (x : Lasting) (front_closes : Bool) (requests : List Request) (front_cons : ℕ) (halt : Option Halt) (works : List Work) (held : List Mapping) (back_cons made : ℕ) (live : List Held) (pages : List ℕ) (s : FrontStage) (b : BackStage) : Type 0 where
+pub record IsOver (config given : Options) (asked : List PipelineRequest) (connected closing closed : Bool) (x : Lasting) (front_closes : Bool) (requests : List Request) (front_cons : ℕ) (halt : Option Halt) (works : List Work) (held : List Mapping) (back_cons made : ℕ) (live : List Held) (pages : List ℕ) (s : FrontStage) (b : BackStage) : Type 0 where
   pub spent : IsSpent config given asked closing x front_closes requests halt works
   pub open spent use *
   pub shut : closed ≡ is_closed s
@@ -128,7 +128,7 @@ abbrev pub Over : Options → World → Pipeline → FrontStage → BackStage �
 Over config w d s b = IsOver config d.options d.requests d.front.connected d.front.closing d.front.closed (lasting_of w) w.front.closing w.front.requests w.front.ring.indices.cons w.back.halted w.back.jobs.works w.back.pages w.back.ring.indices.cons (length w.under.channels.ports) w.under.grants.live w.under.pages s b
 
 -- what stands where the rest changes
-pub over_at : {config given : Options} {asked : List Asked} {connected connected' closing closed closed' : Bool} {x : Lasting} {front_closes : Bool} {requests : List Request} {front_cons front_cons' : ℕ} {halt : Option Halt} {works : List Work} {held held' : List Mapping} {back_cons made made' : ℕ} {live live' : List Held} {pages pages' : List ℕ} {s s' : FrontStage} {b b' : BackStage}
+pub over_at : {config given : Options} {asked : List PipelineRequest} {connected connected' closing closed closed' : Bool} {x : Lasting} {front_closes : Bool} {requests : List Request} {front_cons front_cons' : ℕ} {halt : Option Halt} {works : List Work} {held held' : List Mapping} {back_cons made made' : ℕ} {live live' : List Held} {pages pages' : List ℕ} {s s' : FrontStage} {b b' : BackStage}
     → IsOver config given asked connected closing closed x front_closes requests front_cons halt works held back_cons made live pages s b
     → closed' ≡ is_closed s' → length pages' ≡ 1114112 → IsAborting held' b' → AreOwn held' → AreMapped live' held'
     → IsLeaving connected' made' x.shape.order pages' held' b' s' → (made' ≢ 0 → IsDrained pages' front_cons' back_cons)

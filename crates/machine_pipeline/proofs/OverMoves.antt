@@ -31,8 +31,8 @@ use Rattle.event_channel.specs.Channels.{unbound_port, closed_port as shut}
 use Rattle.hypervisor.specs.Act.{FrontAct, BackAct, Outcome, Took, front_act, front_watched, back_act, back_watched, watch_next}
 use Rattle.pipeline_laws.specs.Pipeline.{Pipeline}
 use Rattle.blk_front.specs.declared.request.Request.{Request}
-use Rattle.blk_front.specs.declared.stage.Stage.{Stage as FrontStage}
-use Rattle.blk_front.specs.declared.stage.Stage.TheVariants as front
+use Rattle.blk_front.specs.declared.stage.FrontStage.{FrontStage}
+use Rattle.blk_front.specs.declared.stage.FrontStage.TheVariants as front
 use Rattle.blk_front.specs.View as front_view
 use Rattle.blk_front.specs.View.{next_request, ring_frame, ring_page_frame, entry_frame, entry_word, slot_frame, slot_word}
 use Rattle.blk_front.specs.Ask.{is_through, loop_ask}
@@ -40,9 +40,9 @@ use Rattle.blk_front.specs.Step.{at, broken, is_mapped, ring_left, loop_step, st
 use Rattle.blk_front.specs.Submit.{is_connected}
 use Rattle.ring_words.specs.Ring.{responses_of}
 use Rattle.back_jobs.specs.Hands.{hands_in}
-use Rattle.back_jobs.specs.Task.{Work}
-use Rattle.blk_back.specs.declared.stage.Stage.{Stage as BackStage}
-use Rattle.blk_back.specs.declared.stage.Stage.TheVariants as back
+use Rattle.back_jobs.specs.Work.{Work}
+use Rattle.blk_back.specs.declared.stage.BackStage.{BackStage}
+use Rattle.blk_back.specs.declared.stage.BackStage.TheVariants as back
 use Rattle.blk_back.specs.declared.told.BackTold.{BackTold}
 use Rattle.blk_back.specs.declared.told.Halt.{Halt}
 use Rattle.blk_back.specs.Hands.{hands_at}

@@ -10,8 +10,8 @@ use Rattle.schedule_text.specs.declared.line.Line.TheVariants as lines
 use Rattle.pipeline_laws.specs.Station.{asked}
 use Rattle.pipeline_laws.specs.Pipeline.{Pipeline, Refuses, Connects, Closes}
 use Rattle.pipeline_laws.specs.Allowed.{refusal_now, AreFinished}
-use Rattle.blk_front.specs.declared.stage.Stage.{Stage as FrontStage}
-use Rattle.blk_front.specs.declared.stage.Stage.TheVariants as front
+use Rattle.blk_front.specs.declared.stage.FrontStage.{FrontStage}
+use Rattle.blk_front.specs.declared.stage.FrontStage.TheVariants as front
 use Rattle.blk_front.specs.declared.state.FrontState.{FrontState}
 use Rattle.blk_front.specs.declared.state.Offers.{Offers}
 use Rattle.blk_front.specs.declared.state.FrontState.TheVariants as states
@@ -20,8 +20,8 @@ use Rattle.blk_front.specs.declared.told.Refusal.TheVariants as refusal
 use Rattle.blk_front.specs.State.{is_open, is_unmade, is_made, is_bare, may_enter, in_state}
 use Rattle.blk_front.specs.Ask.{is_through}
 use Rattle.blk_front.specs.View.{View}
-use Rattle.blk_back.specs.declared.stage.Stage.{Stage as BackStage}
-use Rattle.blk_back.specs.declared.stage.Stage.TheVariants as back
+use Rattle.blk_back.specs.declared.stage.BackStage.{BackStage}
+use Rattle.blk_back.specs.declared.stage.BackStage.TheVariants as back
 use Rattle.blk_back.specs.declared.told.Halt.{Halt}
 use Rattle.split_model.specs.World.{World}
 use Rattle.split_model.specs.Shown.{state_lines, refusal_word, halt_lines}

@@ -8,9 +8,9 @@ use Rattle.xen_pages.specs.Pages.{word_of, with_word}
 use Rattle.pipeline_laws.specs.Pipeline.{Pipeline}
 use Rattle.blk_front.specs.declared.request.Request.{Request}
 use Rattle.blk_front.specs.Request.{frame_at}
-use Rattle.blk_front.specs.declared.stage.Stage.TheVariants as front
+use Rattle.blk_front.specs.declared.stage.FrontStage.TheVariants as front
 use Rattle.blk_base.specs.declared.parts.Mapping.{Mapping}
-use Rattle.back_jobs.specs.Task.{Work}
+use Rattle.back_jobs.specs.Work.{Work}
 use Rattle.back_jobs.specs.Jobs.{mapping_at}
 use Rattle.split_model.specs.World.{World}
 use Rattle.split_model.specs.Safe.{IsSafe}

@@ -12,8 +12,8 @@ use Rattle.ring_words.specs.Ring.{Ring, next_of}
 use Rattle.grant_table.specs.Table.{mappings_of}
 use Rattle.blk_front.specs.declared.request.Request.{Request}
 use Rattle.blk_front.specs.Request.{frame_at, flags_at, frames_for, IsShaped}
-use Rattle.blk_front.specs.declared.stage.Stage.TheVariants as front
-use Rattle.blk_back.specs.declared.stage.Stage.{Stage as BackStage}
+use Rattle.blk_front.specs.declared.stage.FrontStage.TheVariants as front
+use Rattle.blk_back.specs.declared.stage.BackStage.{BackStage}
 use Rattle.machine_pipeline.proofs.Flow.{Flow, frames_of, is_own}
 use Rattle.machine_pipeline.proofs.Series.{IsAmong, among_more, among_last}
 use Rattle.machine_pipeline.proofs.Wrapped.{next_wrapped}

@@ -1,12 +1,12 @@
 -- What the frames of reads hold: the words that the disk gave, from the job's last word until the data are told.
 use Rattle.std.specs.Prelude.{◌≡◌, ℕ, ◌+◌, ◌-◌, ◌*◌, ◌<◌, ◌≤◌, Bool, true, false, List, [], ◌∷◌, ◌++◌, length, slice_get, slice_index, Some}
 use Rattle.plain_disk.specs.Step.{is_okay}
-use Rattle.pipeline_laws.specs.Station.{Station, Ended, Replying, Replied, Taking, Telling, Request as Asked}
+use Rattle.pipeline_laws.specs.Station.{Station, Ended, Replying, Replied, Taking, Telling, PipelineRequest}
 use Rattle.blk_front.specs.declared.request.Request.{Request}
 use Rattle.blk_front.specs.Request.{is_write}
-use Rattle.back_jobs.specs.declared.stage.Stage.{Stage as JobStage}
-use Rattle.back_jobs.specs.declared.stage.Stage.TheVariants as job
-use Rattle.back_jobs.specs.Task.{Work}
+use Rattle.back_jobs.specs.declared.stage.JobStage.{JobStage}
+use Rattle.back_jobs.specs.declared.stage.JobStage.TheVariants as job
+use Rattle.back_jobs.specs.Work.{Work}
 use Rattle.machine_pipeline.proofs.Flow.{data_word}
 
 -- these are the 128 words of sector i of its data
@@ -51,9 +51,9 @@ has_data_at (Telling next) = true
 has_data_at station = false
 
 -- the frames of all reads: those that jobs serve, and those that went well
-pub record AreReadBack (submitted : List Request) (asked : List Asked) (works : List Work) (pages : List ℕ) : Type 0 where
-  pub working : (i : ℕ) (t : Work) (r : Request) (q : Asked) → slice_get works i ≡ Some t → slice_get submitted (t.id - 1) ≡ Some r → slice_get asked (t.id - 1) ≡ Some q → is_write r.transfer ≡ false → ReadAt pages r t.moved t.words q.words t.stage
-  pub after : (k : ℕ) (r : Request) (q : Asked) → slice_get submitted k ≡ Some r → slice_get asked k ≡ Some q → is_write r.transfer ≡ false → has_data_at q.station ≡ true → IsReadBack pages r r.count q.words
+pub record AreReadBack (submitted : List Request) (asked : List PipelineRequest) (works : List Work) (pages : List ℕ) : Type 0 where
+  pub working : (i : ℕ) (t : Work) (r : Request) (q : PipelineRequest) → slice_get works i ≡ Some t → slice_get submitted (t.id - 1) ≡ Some r → slice_get asked (t.id - 1) ≡ Some q → is_write r.transfer ≡ false → ReadAt pages r t.moved t.words q.words t.stage
+  pub after : (k : ℕ) (r : Request) (q : PipelineRequest) → slice_get submitted k ≡ Some r → slice_get asked k ≡ Some q → is_write r.transfer ≡ false → has_data_at q.station ≡ true → IsReadBack pages r r.count q.words
 
 -- a sector in hand stays that, over another memory, with more of its words written
 abbrev pub returned_on : {pages : List ℕ} {r : Request} {moved : ℕ} {hand : List ℕ} {noted : List (List ℕ)} {j : ℕ} (pages' : List ℕ) (j' : ℕ) (x : IsReturned pages r moved hand noted j)

@@ -4,14 +4,14 @@ use Rattle.std.specs.Prelude.{Option, Some, slice_get, slice_set}
 use Rattle.std.proofs.lemmas.Option.{same_Some, slice_get_within}
 use Rattle.std.proofs.lemmas.Bool.{false≢true, cases_eq}
 use Rattle.blk_base.specs.Options.{Options}
-use Rattle.pipeline_laws.specs.Station.{Station, Ended, Replying, Replied, Taking, Telling, Request as Asked}
+use Rattle.pipeline_laws.specs.Station.{Station, Ended, Replying, Replied, Taking, Telling, PipelineRequest}
 use Rattle.pipeline_laws.specs.Pipeline.{Pipeline}
 use Rattle.blk_front.specs.declared.request.Request.{Request}
 use Rattle.blk_front.specs.declared.stage.Ending.{Ending}
 use Rattle.blk_front.specs.Request.{is_write}
-use Rattle.back_jobs.specs.declared.stage.Stage.{Stage as JobStage}
-use Rattle.back_jobs.specs.declared.stage.Stage.TheVariants as job
-use Rattle.back_jobs.specs.Task.{Work}
+use Rattle.back_jobs.specs.declared.stage.JobStage.{JobStage}
+use Rattle.back_jobs.specs.declared.stage.JobStage.TheVariants as job
+use Rattle.back_jobs.specs.Work.{Work}
 use Rattle.blk_back.specs.declared.stage.Reply.{Reply}
 use Rattle.machine_pipeline.proofs.Flow.{Flow, worked, data_word}
 use Rattle.machine_pipeline.proofs.ReadBack.{IsReadBack, IsReturned, ReadAt, AreReadBack, has_data_at, returned_on}
@@ -23,15 +23,15 @@ use Rattle.machine_pipeline.proofs.Holds.{AreSubmitted}
 use Rattle.machine_pipeline.proofs.Stations.{StandsAt, AreStations, AreWorking, IsMoved, kind_of, worked_kind}
 
 -- fewer jobs
-pub reads_fewer : {submitted : List Request} {asked : List Asked} {works fewer : List Work} {pages : List ℕ}
+pub reads_fewer : {submitted : List Request} {asked : List PipelineRequest} {works fewer : List Work} {pages : List ℕ}
     → ((i : ℕ) (t : Work) → slice_get fewer i ≡ Some t → (j : ℕ) × (slice_get works j ≡ Some t))
     → AreReadBack submitted asked works pages → AreReadBack submitted asked fewer pages
 reads_fewer were h = record { working = λ i t r q here its at reads. let was = were i t here in h.working was.0 t r q was.1 its at reads; after = h.after }
 
 -- a job is another, of the same request
-pub reads_set : {submitted : List Request} {asked : List Asked} {works : List Work} {pages : List ℕ} (place : ℕ) (t t' : Work)
+pub reads_set : {submitted : List Request} {asked : List PipelineRequest} {works : List Work} {pages : List ℕ} (place : ℕ) (t t' : Work)
     → slice_get works place ≡ Some t
-    → ((r : Request) (q : Asked) → slice_get submitted (t'.id - 1) ≡ Some r → slice_get asked (t'.id - 1) ≡ Some q → is_write r.transfer ≡ false → ReadAt pages r t'.moved t'.words q.words t'.stage)
+    → ((r : Request) (q : PipelineRequest) → slice_get submitted (t'.id - 1) ≡ Some r → slice_get asked (t'.id - 1) ≡ Some q → is_write r.transfer ≡ false → ReadAt pages r t'.moved t'.words q.words t'.stage)
     → AreReadBack submitted asked works pages
     → AreReadBack submitted asked (slice_set works place t') pages
 reads_set {submitted} {asked} {works} {pages} place t t' here now h = record {
@@ -45,20 +45,20 @@ reads_set {submitted} {asked} {works} {pages} place t t' here now h = record {
 }
 
 -- the request that moved, as it is now
-now_is : {asked moved : List Asked} {k : ℕ} {from to : Station} (m : IsMoved asked moved k from to) (j : ℕ) (q : Asked) → j ≡ k → slice_get moved j ≡ Some q → m.now ≡ q
+now_is : {asked moved : List PipelineRequest} {k : ℕ} {from to : Station} (m : IsMoved asked moved k from to) (j : ℕ) (q : PipelineRequest) → j ≡ k → slice_get moved j ≡ Some q → m.now ≡ q
 now_is {moved = moved} m j q same at = same_Some m.now q (sym m.here ∙ ap (slice_get moved) (sym same) ∙ at)
 
-module _ {submitted : List Request} {asked moved : List Asked} {works : List Work} {pages : List ℕ} {k : ℕ} {from to : Station} (m : IsMoved asked moved k from to) where
+module _ {submitted : List Request} {asked moved : List PipelineRequest} {works : List Work} {pages : List ℕ} {k : ℕ} {from to : Station} (m : IsMoved asked moved k from to) where
   -- what has its data was read before, where what moved isn't one of them, or has them
   after_moved : ((r : Request) → slice_get submitted k ≡ Some r → is_write r.transfer ≡ false → has_data_at to ≡ true → IsReadBack pages r r.count m.now.words)
       → AreReadBack submitted asked works pages
-      → (j : ℕ) (r : Request) (q : Asked) → slice_get submitted j ≡ Some r → slice_get moved j ≡ Some q → is_write r.transfer ≡ false → has_data_at q.station ≡ true
+      → (j : ℕ) (r : Request) (q : PipelineRequest) → slice_get submitted j ≡ Some r → slice_get moved j ≡ Some q → is_write r.transfer ≡ false → has_data_at q.station ≡ true
       → IsReadBack pages r r.count q.words
   after_moved now h j r q its at reads there = elim (cases_eq j k) [
     | inl same ↦
         let one = now_is m j q same at in
-        subst (λ (x : Asked). IsReadBack pages r r.count x.words) one
-        (now r (ap (slice_get submitted) (sym same) ∙ its) reads (sym (ap has_data_at m.there) ∙ (ap (λ (x : Asked). has_data_at x.station) one ∙ there)))
+        subst (λ (x : PipelineRequest). IsReadBack pages r r.count x.words) one
+        (now r (ap (slice_get submitted) (sym same) ∙ its) reads (sym (ap has_data_at m.there) ∙ (ap (λ (x : PipelineRequest). has_data_at x.station) one ∙ there)))
     | inr other ↦ h.after j r q its (sym (m.others j other) ∙ at) reads there
   ]
 
@@ -67,7 +67,7 @@ module _ {submitted : List Request} {asked moved : List Asked} {works : List Wor
   reads_moved words has h = record {
     working = λ i t r q here its at reads. elim (cases_eq (t.id - 1) k) [
       | inl same ↦
-          subst (λ (ws : List (List ℕ)). ReadAt pages r t.moved t.words ws t.stage) (sym words ∙ ap (λ (x : Asked). x.words) (now_is m (t.id - 1) q same at))
+          subst (λ (ws : List (List ℕ)). ReadAt pages r t.moved t.words ws t.stage) (sym words ∙ ap (λ (x : PipelineRequest). x.words) (now_is m (t.id - 1) q same at))
           (h.working i t r m.was.q here its (ap (slice_get asked) same ∙ m.was.at) reads)
       | inr other ↦ h.working i t r q here its (sym (m.others (t.id - 1) other) ∙ at) reads
     ];
@@ -85,7 +85,7 @@ module _ {submitted : List Request} {asked moved : List Asked} {works : List Wor
     working = λ i u r q at its was reads. elim (set_was works place i t t' u here at) [
       | inl it ↦
           let same : u.id - 1 ≡ k = ap (λ (v : Work). v.id - 1) it.1 ∙ number in
-          rw it.1 (subst (λ (x : Asked). ReadAt pages r t'.moved t'.words x.words t'.stage) (now_is m (u.id - 1) q same was) (now r (ap (slice_get submitted) (sym same) ∙ its) reads).0)
+          rw it.1 (subst (λ (x : PipelineRequest). ReadAt pages r t'.moved t'.words x.words t'.stage) (now_is m (u.id - 1) q same was) (now r (ap (slice_get submitted) (sym same) ∙ its) reads).0)
       | inr other ↦ h.working i u r q other.1 its (sym (m.others (u.id - 1) (apart i u other.0 other.1)) ∙ was) reads
     ];
     after = after_moved (λ r its reads. (now r its reads).1) h;
@@ -101,16 +101,16 @@ module _ {submitted : List Request} {asked moved : List Asked} {works : List Wor
       | inl old ↦ h.working i u r q old its (sym (m.others (u.id - 1) (apart i u old)) ∙ was) reads
       | inr last ↦
           let one = now_is m (u.id - 1) q (ap (λ (v : Work). v.id - 1) last.1 ∙ number) was in
-          rw last.1 (subst (λ (ws : List (List ℕ)). ReadAt pages r t.moved t.words ws t.stage) (sym none ∙ ap (λ (x : Asked). x.words) one) (now r))
+          rw last.1 (subst (λ (ws : List (List ℕ)). ReadAt pages r t.moved t.words ws t.stage) (sym none ∙ ap (λ (x : PipelineRequest). x.words) one) (now r))
     ];
     after = after_moved (λ r its reads there. absurd (false≢true (sym empty ∙ there))) h;
   }
 
 -- a request more was submitted
-pub reads_more : (submitted : List Request) (asked : List Asked) (works : List Work) (pages : List ℕ) (x : Request) (y : Asked)
+pub reads_more : (submitted : List Request) (asked : List PipelineRequest) (works : List Work) (pages : List ℕ) (x : Request) (y : PipelineRequest)
     → length asked ≡ length submitted
     → has_data_at y.station ≡ false
-    → ((i : ℕ) (t : Work) → slice_get works i ≡ Some t → (q : Asked) × (slice_get asked (t.id - 1) ≡ Some q))
+    → ((i : ℕ) (t : Work) → slice_get works i ≡ Some t → (q : PipelineRequest) × (slice_get asked (t.id - 1) ≡ Some q))
     → AreReadBack submitted asked works pages
     → AreReadBack (submitted ++ x ∷ []) (asked ++ y ∷ []) works pages
 reads_more submitted asked works pages x y as_many empty known h = record {
@@ -119,7 +119,7 @@ reads_more submitted asked works pages x y as_many empty known h = record {
       h.working i t r q here (earlier submitted x (t.id - 1) r (omega (arith, as_many)) its) (earlier asked y (t.id - 1) q within at) reads;
   after = λ j r q its at reads there. elim (push_was asked y j q at) [
     | inl was ↦ h.after j r q (earlier submitted x j r (let within = slice_get_within asked j q was in omega (arith, as_many)) its) was reads there
-    | inr last ↦ absurd (false≢true (sym empty ∙ (ap (λ (z : Asked). has_data_at z.station) (sym last.1) ∙ there)))
+    | inr last ↦ absurd (false≢true (sym empty ∙ (ap (λ (z : PipelineRequest). has_data_at z.station) (sym last.1) ∙ there)))
   ];
 }
   where
@@ -159,8 +159,8 @@ data_kind (Telling next) t = (omega arith, omega arith)
 data_kind s t = absurd (false≢true t)
 
 -- memory changes in no frame of a request that was fetched and isn't finished
-pub reads_kept : (submitted : List Request) (asked : List Asked) (works : List Work) (old new : List ℕ)
-    → ((k : ℕ) (r : Request) (q : Asked) → slice_get submitted k ≡ Some r → slice_get asked k ≡ Some q → 4 ≤ kind_of q.station → kind_of q.station ≤ 7 → SameData old new r)
+pub reads_kept : (submitted : List Request) (asked : List PipelineRequest) (works : List Work) (old new : List ℕ)
+    → ((k : ℕ) (r : Request) (q : PipelineRequest) → slice_get submitted k ≡ Some r → slice_get asked k ≡ Some q → 4 ≤ kind_of q.station → kind_of q.station ≤ 7 → SameData old new r)
     → AreWorking works asked
     → AreReadBack submitted asked works old
     → AreReadBack submitted asked works new
@@ -168,7 +168,7 @@ reads_kept submitted asked works old new same stands h = record {
   working = λ i t r q here its at reads.
       let x : StandsAt asked (t.id - 1) (worked t.stage t.moved) = stands i t here in
       let one : x.q ≡ q = same_Some x.q q (sym x.at ∙ at) in
-      let kind : kind_of q.station ≡ 4 = ap (λ (y : Asked). kind_of y.station) (sym one) ∙ (ap kind_of x.there ∙ worked_kind t.stage t.moved) in
+      let kind : kind_of q.station ≡ 4 = ap (λ (y : PipelineRequest). kind_of y.station) (sym one) ∙ (ap kind_of x.there ∙ worked_kind t.stage t.moved) in
       read_at_kept old new r t.moved t.words q.words t.stage (same (t.id - 1) r q its at (omega (arith, kind)) (omega (arith, kind))) (h.working i t r q here its at reads);
   after = λ j r q its at reads there.
       let kind = data_kind q.station there in
@@ -177,7 +177,7 @@ reads_kept submitted asked works old new same stands h = record {
 
 -- so all stations stay
 pub stations_kept : (config : Options) (g : Flow) (d : Pipeline) (connected issuing fetching : Bool) (ending : Option Ending) (telling : Option ℕ) (replying : Option Reply) (requests : List Request) (works : List Work) (old new : List ℕ)
-    → ((k : ℕ) (r : Request) (q : Asked) → slice_get g.submitted k ≡ Some r → slice_get d.requests k ≡ Some q → 4 ≤ kind_of q.station → kind_of q.station ≤ 7 → SameData old new r)
+    → ((k : ℕ) (r : Request) (q : PipelineRequest) → slice_get g.submitted k ≡ Some r → slice_get d.requests k ≡ Some q → 4 ≤ kind_of q.station → kind_of q.station ≤ 7 → SameData old new r)
     → AreStations config g d connected issuing fetching ending telling replying requests works old
     → AreStations config g d connected issuing fetching ending telling replying requests works new
 stations_kept config g d connected issuing fetching ending telling replying requests works old new same h =

@@ -10,9 +10,9 @@ use Rattle.blk_base.specs.declared.config.Job.{Job}
 use Rattle.blk_base.specs.declared.config.Job.TheVariants.{Read, Write, Barrier, Flush, Discard}
 use Rattle.schedule_text.specs.declared.line.Refusal.{Refusal as RefusalWord}
 use Rattle.schedule_text.specs.declared.line.Refusal.TheVariants as words
-use Rattle.plain_disk.specs.declared.request.Request.{Request as Asked}
+use Rattle.plain_disk.specs.declared.request.DiskRequest.{DiskRequest}
 use Rattle.plain_disk.specs.Request.{is_finished}
-use Rattle.pipeline_laws.specs.Station.{Request as Carried, asked, stage_at, is_finished as is_ended}
+use Rattle.pipeline_laws.specs.Station.{PipelineRequest, asked, stage_at, is_finished as is_ended}
 use Rattle.pipeline_laws.specs.Allowed.{refusal_now}
 use Rattle.plain_disk.specs.Refusal.{frames_held, refusal_by}
 use Rattle.pipeline_laws.specs.Pipeline.{Pipeline}
@@ -21,8 +21,8 @@ use Rattle.blk_front.specs.declared.request.Transfer.TheVariants as transfer
 use Rattle.blk_front.specs.declared.request.Wish.{Wish}
 use Rattle.blk_front.specs.Request.{frames_for}
 use Rattle.blk_front.specs.declared.stage.Ending.{Ending}
-use Rattle.blk_front.specs.declared.stage.Stage.{Stage as FrontStage}
-use Rattle.blk_front.specs.declared.stage.Stage.TheVariants as front
+use Rattle.blk_front.specs.declared.stage.FrontStage.{FrontStage}
+use Rattle.blk_front.specs.declared.stage.FrontStage.TheVariants as front
 use Rattle.blk_front.specs.declared.state.Offers.{Offers}
 use Rattle.blk_front.specs.declared.told.Refusal.{Refusal}
 use Rattle.blk_front.specs.declared.told.Refusal.TheVariants as refusal
@@ -66,12 +66,12 @@ free_place (false ∷ pool) few = omega arith
 free_place (true ∷ pool) few = omega (arith, free_place pool, sum_by-cons (λ (b : Bool). cond b 1 0) true pool)
 
 -- as many are unfinished for the plain disk as for the pipeline
-as_unfinished : (carried : List Carried) → count_by (λ (q : Asked). not (is_finished q.stage)) (map asked carried) ≡ count_by (λ (x : Carried). not (is_ended x.station)) carried
+as_unfinished : (carried : List PipelineRequest) → count_by (λ (q : DiskRequest). not (is_finished q.stage)) (map asked carried) ≡ count_by (λ (x : PipelineRequest). not (is_ended x.station)) carried
 as_unfinished [] = refl
 as_unfinished (x ∷ carried) =
-    let one = sum_by-cons (λ (q : Asked). cond (not (is_finished q.stage)) 1 0) (asked x) (map asked carried) in
+    let one = sum_by-cons (λ (q : DiskRequest). cond (not (is_finished q.stage)) 1 0) (asked x) (map asked carried) in
     let same : ◌≡◌ {A = ℕ} (cond (not (is_finished (stage_at x.station))) 1 0) (cond (not (is_ended x.station)) 1 0) = ap (λ (b : Bool). cond (not b) 1 0) (same_stage x.station) in
-    omega (arith, as_unfinished carried, sum_by-cons (λ (y : Carried). cond (not (is_ended y.station)) 1 0) x carried)
+    omega (arith, as_unfinished carried, sum_by-cons (λ (y : PipelineRequest). cond (not (is_ended y.station)) 1 0) x carried)
 
 -- so many frames more are taken, or too few are free
 abbrev IsLacking : (lacks : Bool) → Option (List ℕ × List Bool) → Type 0
@@ -120,9 +120,9 @@ same_answer v wish one false false true unsupported offered refuses past long fu
 same_answer v wish one spent closing connected unsupported offered refuses past long full lacks taken none some serves fits = refl
 
 -- what the rule looks at, of a list of requests, is what the front looks at
-pub record AreAlike (config : Options) (v : View) (requests : List Asked) : Type 0 where
+pub record AreAlike (config : Options) (v : View) (requests : List DiskRequest) : Type 0 where
   pub spent : length requests ≡ v.last
-  pub opened : count_by (λ (q : Asked). not (is_finished q.stage)) requests ≡ unfinished v
+  pub opened : count_by (λ (q : DiskRequest). not (is_finished q.stage)) requests ≡ unfinished v
   pub held : sum_by frames_held requests ≡ count_by (λ (b : Bool). b) v.pool
   pub size : length v.pool ≡ 1000
   pub sectors : v.sectors ≡ config.sectors
@@ -131,7 +131,7 @@ pub record AreAlike (config : Options) (v : View) (requests : List Asked) : Type
   pub offers : is_ready v.stage ≡ true → AreOffered config.read_only config.indirect v.offers
 
 -- so the rule's answer is the front's
-pub ruled_alike : (config : Options) (v : View) (requests : List Asked) (job : Job) → config.indirect ≤ 960 → AreAlike config v requests → refusal_by (record { config = Some config; connected = is_ready v.stage; closing = v.closing; broken = false }) config requests job ≡ answer_of (submit_of v job).0
+pub ruled_alike : (config : Options) (v : View) (requests : List DiskRequest) (job : Job) → config.indirect ≤ 960 → AreAlike config v requests → refusal_by (record { config = Some config; connected = is_ready v.stage; closing = v.closing; broken = false }) config requests job ≡ answer_of (submit_of v job).0
 ruled_alike config v requests job narrow alike = by_job job
   where
     past : (n : ℕ) → nat_lt config.sectors n ≡ nat_lt v.sectors n

@@ -12,7 +12,7 @@ use Rattle.ring_words.specs.Shape.{Shape}
 use Rattle.blk_front.specs.declared.request.Request.{Request}
 use Rattle.blk_front.specs.Request.{is_write}
 use Rattle.blk_front.specs.declared.stage.Ending.{Ending}
-use Rattle.pipeline_laws.specs.Station.{Station, Waiting, Taking, Telling, Finished, Request as Asked, is_finished}
+use Rattle.pipeline_laws.specs.Station.{Station, Waiting, Taking, Telling, Finished, PipelineRequest, is_finished}
 use Rattle.pipeline_laws.specs.Pipeline.{Pipeline, Resumes, next, again, station_again}
 use Rattle.pipeline_laws.specs.Allowed.{is_unissued, AreFinished}
 use Rattle.machine_pipeline.specs.Step.{IsSame}
@@ -28,21 +28,21 @@ use Rattle.std.proofs.lemmas.List.Edits.{length-remove}
 use Rattle.machine_pipeline.proofs.Removals.{removed_was, removed_has}
 
 -- a request waits again
-abbrev pub WaitsAgain : List Asked → Request → Type 0
-WaitsAgain asked r = (q : Asked) × (slice_get asked (r.number - 1) ≡ Some q) × (station_again q.station ≡ Waiting)
+abbrev pub WaitsAgain : List PipelineRequest → Request → Type 0
+WaitsAgain asked r = (q : PipelineRequest) × (slice_get asked (r.number - 1) ≡ Some q) × (station_again q.station ≡ Waiting)
 
 -- the front's requests in the new epoch are those that wait again
-pub record AreAgain (asked : List Asked) (after : List Request) : Type 0 where
+pub record AreAgain (asked : List PipelineRequest) (after : List Request) : Type 0 where
   pub waits : (i : ℕ) (r : Request) → slice_get after i ≡ Some r → WaitsAgain asked r
-  pub all : (k : ℕ) (q : Asked) → slice_get asked k ≡ Some q → station_again q.station ≡ Waiting → (i : ℕ) × (r : Request) × (slice_get after i ≡ Some r) × (r.number ≡ k + 1)
+  pub all : (k : ℕ) (q : PipelineRequest) → slice_get asked k ≡ Some q → station_again q.station ≡ Waiting → (i : ℕ) × (r : Request) × (slice_get after i ≡ Some r) × (r.number ≡ k + 1)
 
 -- what holds of each as it stands then holds of all
-again_all : (P : ℕ → Asked → Type 0) (asked : List Asked) → ((k : ℕ) (p : Asked) → slice_get asked k ≡ Some p → P k (again p)) → (k : ℕ) (q : Asked) → slice_get (map again asked) k ≡ Some q → P k q
+again_all : (P : ℕ → PipelineRequest → Type 0) (asked : List PipelineRequest) → ((k : ℕ) (p : PipelineRequest) → slice_get asked k ≡ Some p → P k (again p)) → (k : ℕ) (q : PipelineRequest) → slice_get (map again asked) k ≡ Some q → P k q
 again_all P [] each k q e = absurd cc
 again_all P (p ∷ asked) each zero q e = subst (P zero) (same_Some (again p) q e) (each zero p refl)
 again_all P (p ∷ asked) each (suc k) q e = again_all (λ (j : ℕ). P (suc j)) asked (λ j r at. each (suc j) r at) k q e
 
-again_stands : (asked : List Asked) (k : ℕ) (p : Asked) (s : Station) → slice_get asked k ≡ Some p → station_again p.station ≡ s → StandsAt (map again asked) k s
+again_stands : (asked : List PipelineRequest) (k : ℕ) (p : PipelineRequest) (s : Station) → slice_get asked k ≡ Some p → station_again p.station ≡ s → StandsAt (map again asked) k s
 again_stands asked k p s e there = record { q = again p; at = slice_get-map again asked k ∙ ap (option_map again) e; there = there }
 
 -- a request that is told, or finished, stays where it stands, and each other waits again
@@ -63,28 +63,28 @@ data_again s t = elim (goes_again s) [ inl stays ↦ sym (ap has_data_at stays.0
 none_works : (s : Station) → kind_of (station_again s) ≢ 4
 none_works s works = elim (goes_again s) [ inl stays ↦ omega (arith, ap kind_of stays.0, stays.2) | inr waits ↦ omega (arith, ap kind_of waits.0) ]
 
-unfinished_again : (asked : List Asked) → count_by (λ (q : Asked). not (is_finished q.station)) (map again asked) ≡ count_by (λ (q : Asked). not (is_finished q.station)) asked
+unfinished_again : (asked : List PipelineRequest) → count_by (λ (q : PipelineRequest). not (is_finished q.station)) (map again asked) ≡ count_by (λ (q : PipelineRequest). not (is_finished q.station)) asked
 unfinished_again [] = refl
 unfinished_again (p ∷ asked) =
-    let now = sum_by-cons (λ (q : Asked). cond (not (is_finished q.station)) 1 0) (again p) (map again asked) in
+    let now = sum_by-cons (λ (q : PipelineRequest). cond (not (is_finished q.station)) 1 0) (again p) (map again asked) in
     let here : ◌≡◌ {A = ℕ} (cond (not (is_finished (station_again p.station))) 1 0) (cond (not (is_finished p.station)) 1 0) = ap (λ (b : Bool). cond (not b) 1 0) (station_finished p.station) in
-    omega (arith, unfinished_again asked, sum_by-cons (λ (q : Asked). cond (not (is_finished q.station)) 1 0) p asked)
+    omega (arith, unfinished_again asked, sum_by-cons (λ (q : PipelineRequest). cond (not (is_finished q.station)) 1 0) p asked)
 
 -- each is known as it was
-pub known_again : (submitted : List Request) (asked : List Asked) → AreKnown submitted asked → AreKnown submitted (map again asked)
+pub known_again : (submitted : List Request) (asked : List PipelineRequest) → AreKnown submitted asked → AreKnown submitted (map again asked)
 known_again submitted asked h = record {
   as_many = length-map asked again ∙ h.as_many;
   each = λ k r q e f. again_all (λ k q. slice_get submitted k ≡ Some r → q.job ≡ submitted_job r.transfer r.sector r.count) asked (λ j p at its. h.each j r p its at) k q f e;
 }
 
 -- a request that waits again stands at Waiting
-waiting_again : (asked : List Asked) (after : List Request) → AreAgain asked after → (i : ℕ) (r : Request) → slice_get after i ≡ Some r → StandsAt (map again asked) (r.number - 1) Waiting
+waiting_again : (asked : List PipelineRequest) (after : List Request) → AreAgain asked after → (i : ℕ) (r : Request) → slice_get after i ≡ Some r → StandsAt (map again asked) (r.number - 1) Waiting
 waiting_again asked after h i r e = let was = h.waits i r e in again_stands asked (r.number - 1) was.0 Waiting was.1 was.2
 
 -- the data of each read that went well stand in its frames
-abbrev pub HaveReadBack : (submitted : List Request) (asked : List Asked) (pages : List ℕ) → Type 0
+abbrev pub HaveReadBack : (submitted : List Request) (asked : List PipelineRequest) (pages : List ℕ) → Type 0
 HaveReadBack submitted asked pages =
-    (k : ℕ) (r : Request) (q : Asked) → slice_get submitted k ≡ Some r → slice_get asked k ≡ Some q → is_write r.transfer ≡ false → has_data_at q.station ≡ true → IsReadBack pages r r.count q.words
+    (k : ℕ) (r : Request) (q : PipelineRequest) → slice_get submitted k ≡ Some r → slice_get asked k ≡ Some q → is_write r.transfer ≡ false → has_data_at q.station ≡ true → IsReadBack pages r r.count q.words
 
 -- what the pipeline has to be as the guest is suspended, where these requests wait next, and the data of one are told on (`ending`, `telling`)
 pub record MayResume (config : Options) (d : Pipeline) (submitted : List Request) (closing : Bool) (pages : List ℕ) (after : List Request) (ending : Option Ending) (telling : Option ℕ) : Type 0 where
@@ -155,14 +155,14 @@ pub finished_no_data : (s : Station) → is_finished s ≡ true → has_data_at 
 finished_no_data (Finished status) e = refl
 finished_no_data s e = absurd (false≢true e)
 
-pub unfinished : (q : Asked) → station_again q.station ≡ Waiting → is_finished q.station ≡ false
+pub unfinished : (q : PipelineRequest) → station_again q.station ≡ Waiting → is_finished q.station ≡ false
 unfinished q waits = sym (station_finished q.station) ∙ ap is_finished waits
 
 -- the front's requests wait again
-waits_again : (asked : List Asked) (requests : List Request) → AreGoing requests asked → (i : ℕ) (r : Request) → slice_get requests i ≡ Some r → WaitsAgain asked r
-waits_again asked requests going i r e = let was = going i r e in (was.q, was.at, again_waiting (let x : Asked = was.q in x.station) was.early)
+waits_again : (asked : List PipelineRequest) (requests : List Request) → AreGoing requests asked → (i : ℕ) (r : Request) → slice_get requests i ≡ Some r → WaitsAgain asked r
+waits_again asked requests going i r e = let was = going i r e in (was.q, was.at, again_waiting (let x : PipelineRequest = was.q in x.station) was.early)
 
-pub all_again : (asked : List Asked) (requests : List Request) → AreOpen asked requests None → AreGoing requests asked → AreAgain asked requests
+pub all_again : (asked : List PipelineRequest) (requests : List Request) → AreOpen asked requests None → AreGoing requests asked → AreAgain asked requests
 all_again asked requests opened going = record {
   waits = waits_again asked requests going;
   all = λ k q e waits. elim (opened.held k q e (unfinished q waits)) [ inl any ↦ numbered requests (k + 1) any | inr other ↦ absurd (none-some other.0 other.1) ];
@@ -200,7 +200,7 @@ back_pooled pool requests after e put h = record {
 }
 
 -- all of them wait again
-pub put_back_again : (asked : List Asked) (requests after : List Request) (e : Ending)
+pub put_back_again : (asked : List PipelineRequest) (requests after : List Request) (e : Ending)
     → IsPutBack requests after e.request
     → AreOpen asked requests (Some e)
     → AreGoing requests asked
@@ -228,7 +228,7 @@ put_back_again asked requests after e put opened going taking = (
     among k (inr last) = (put.place, e.request, put.at, ap (λ (f : Ending). f.request.number) (same_Some e last.0 last.1) ∙ last.2)
 
 -- a read whose data were being told goes on, and the others wait again
-pub told_again_beside : (asked : List Asked) (requests : List Request) (e : Ending) (next : ℕ)
+pub told_again_beside : (asked : List PipelineRequest) (requests : List Request) (e : Ending) (next : ℕ)
     → AreOpen asked requests (Some e)
     → AreGoing requests asked
     → 1 ≤ e.request.number
@@ -241,7 +241,7 @@ told_again_beside asked requests e next opened going positive telling = record {
     | inr last ↦
         let number : e.request.number ≡ k + 1 = ap (λ (f : Ending). f.request.number) (same_Some e last.0 last.1) ∙ last.2 in
         let one : telling.q ≡ q = same_Some telling.q q (sym telling.at ∙ (ap (slice_get asked) (omega arith) ∙ at)) in
-        absurd (no_wait (sym (ap station_again (ap (λ (x : Asked). x.station) (sym one) ∙ telling.there)) ∙ waits))
+        absurd (no_wait (sym (ap station_again (ap (λ (x : PipelineRequest). x.station) (sym one) ∙ telling.there)) ∙ waits))
   ];
 }
   where

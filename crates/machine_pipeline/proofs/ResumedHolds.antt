@@ -12,19 +12,19 @@ use Rattle.schedule_text.specs.declared.line.Line.TheVariants as lines
 use Rattle.hypervisor.specs.Suspend.{tables_cleared, suspended as under_suspended}
 use Rattle.hypervisor.proofs.Cleared.{kept_word, length-tables_cleared}
 use Rattle.blk_front.specs.declared.request.Request.{Request}
-use Rattle.blk_front.specs.declared.stage.Stage.{Stage as FrontStage}
-use Rattle.blk_front.specs.declared.stage.Stage.TheVariants as front
+use Rattle.blk_front.specs.declared.stage.FrontStage.{FrontStage}
+use Rattle.blk_front.specs.declared.stage.FrontStage.TheVariants as front
 use Rattle.blk_front.specs.declared.stage.Ending.{Ending}
 use Rattle.blk_front.specs.State.{is_open}
 use Rattle.blk_front.specs.Submit.{ending_of}
 use Rattle.blk_front.specs.Suspend.{by_number, with_ending, requests_after, ending_after, stage_after, resumed}
 use Rattle.blk_front.specs.View.{View, next_request}
-use Rattle.blk_back.specs.declared.stage.Stage.{Stage as BackStage}
-use Rattle.blk_back.specs.declared.stage.Stage.TheVariants as back
+use Rattle.blk_back.specs.declared.stage.BackStage.{BackStage}
+use Rattle.blk_back.specs.declared.stage.BackStage.TheVariants as back
 use Rattle.split_model.specs.World.{World, state_after}
 use Rattle.split_model.specs.Happening.{Suspends, happens, lines_at}
 use Rattle.split_model.proofs.Suspending.{begun_back, gone_world, suspend_cases, suspended_cases}
-use Rattle.pipeline_laws.specs.Station.{Taking, Telling, Request as Asked, is_finished}
+use Rattle.pipeline_laws.specs.Station.{Taking, Telling, PipelineRequest, is_finished}
 use Rattle.pipeline_laws.specs.Pipeline.{Pipeline, Front, Resumes, next, again}
 use Rattle.machine_pipeline.specs.Plain.{IsPlain}
 use Rattle.machine_pipeline.specs.Step.{IsSame}
@@ -177,7 +177,7 @@ module _ (config : Options) (w : World) (g : Flow) (d : Pipeline) (s : FrontStag
       others : All (λ (r : Request). r.number ≢ e.request.number) w.front.requests
       others = all_from (λ (r : Request). r.number ≢ e.request.number) w.front.requests (λ i r at same.
           let going = h.stations.going i r at in
-          apart d.requests (r.number - 1) (e.request.number - 1) (let q : Asked = going.q in q.station) (Taking e.status) (record { q = going.q; at = going.at; there = refl })
+          apart d.requests (r.number - 1) (e.request.number - 1) (let q : PipelineRequest = going.q in q.station) (Taking e.status) (record { q = going.q; at = going.at; there = refl })
           taking (omega (arith, going.early)) (ap (λ (n : ℕ). n - 1) same))
 
   -- its words stand where they stood
@@ -249,7 +249,7 @@ module _ (config : Options) (w : World) (d : Pipeline) (o : Over config w d w.fr
   none_waits plain on ending = subst (λ (rs : List Request). Begins config w d (front.RingWord 0) rs ending) (sym o.no_request)
       (wait_anew config w d [] ending plain o.begins o.memory resumes o.pooled (omega arith))
     where
-      none_open : (k : ℕ) (q : Asked) → slice_get d.requests k ≡ Some q → is_finished q.station ≡ false → ⊥
+      none_open : (k : ℕ) (q : PipelineRequest) → slice_get d.requests k ≡ Some q → is_finished q.station ≡ false → ⊥
       none_open k q e going = true≢false (sym (o.finished k q e) ∙ going)
 
       resumes : MayResume config d o.submitted w.front.closing w.under.pages [] None None
@@ -261,7 +261,7 @@ module _ (config : Options) (w : World) (d : Pipeline) (o : Over config w d w.fr
         reads = λ k r q its at reads there. absurd (true≢false (sym there ∙ finished_no_data q.station (o.finished k q at)));
         series = grind (arith, none-some);
         waits = record { waits = λ i r e. absurd cc; all = λ k q e waits. absurd (none_open k q e (unfinished q waits)) };
-        opened = record { unfinished = count_none (λ (q : Asked). not (is_finished q.station)) d.requests (λ k q e. ap not (o.finished k q e)); held = λ k q e going. absurd (none_open k q e going) };
+        opened = record { unfinished = count_none (λ (q : PipelineRequest). not (is_finished q.station)) d.requests (λ k q e. ap not (o.finished k q e)); held = λ k q e going. absurd (none_open k q e going) };
         goes_on = λ e same. absurd cc;
       }
 

@@ -17,8 +17,8 @@ use Rattle.pipeline_laws.specs.Pipeline.{Pipeline}
 use Rattle.ring_words.specs.Ring.{responses_of}
 use Rattle.xen_pages.specs.Pages.{word_of}
 use Rattle.blk_front.specs.declared.request.Request.{Request}
-use Rattle.blk_front.specs.declared.stage.Stage.{Stage as FrontStage}
-use Rattle.blk_front.specs.declared.stage.Stage.TheVariants as front
+use Rattle.blk_front.specs.declared.stage.FrontStage.{FrontStage}
+use Rattle.blk_front.specs.declared.stage.FrontStage.TheVariants as front
 use Rattle.blk_front.specs.View.{View, next_request, ring_frame, slot_frame, slot_word}
 use Rattle.blk_front.specs.Ask.{is_through, loop_ask}
 use Rattle.blk_front.specs.Step.{at, looked, loop_step}

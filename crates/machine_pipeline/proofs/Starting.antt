@@ -3,11 +3,11 @@ use Rattle.std.proofs.Common.{◌≡◌, ℕ, ◌<◌, ◌≤◌, Bool, false, L
 use Rattle.blk_base.specs.Options.{Options}
 use Rattle.event_channel.specs.Channels.{ChannelState}
 use Rattle.pipeline_laws.specs.Pipeline.{Pipeline}
-use Rattle.blk_front.specs.declared.stage.Stage.{Stage as FrontStage}
+use Rattle.blk_front.specs.declared.stage.FrontStage.{FrontStage}
 use Rattle.blk_front.specs.View.{next_request}
 use Rattle.blk_front.specs.Submit.{is_ready, is_connected, ending_of}
-use Rattle.blk_back.specs.declared.stage.Stage.{Stage as BackStage}
-use Rattle.blk_back.specs.declared.stage.Stage.TheVariants as back
+use Rattle.blk_back.specs.declared.stage.BackStage.{BackStage}
+use Rattle.blk_back.specs.declared.stage.BackStage.TheVariants as back
 use Rattle.split_model.specs.World.{World}
 use Rattle.machine_pipeline.proofs.Flow.{Flow, filled, named_frames, granted_frames, entered, ending_at, is_front_arming, may_front_sleep, is_back_arming, may_back_sleep, is_bound_back, telling_at, is_issuing, is_fetching, reply_at}
 use Rattle.machine_pipeline.proofs.Holds.{FrontAt, AreRingWords, AreSlots, IsFilled, ArePooled, IsOffered, PortsAt, Holds, AreEntries, IsFrontSleep, IsBackSleep}

@@ -12,8 +12,8 @@ use Rattle.event_channel.specs.declared.channels.PortState.TheVariants.{Unbound}
 use Rattle.event_channel.specs.Channels.{with_port}
 use Rattle.xen_pages.specs.Pages.{word_of, with_word}
 use Rattle.pipeline_laws.specs.Pipeline.{Pipeline}
-use Rattle.blk_front.specs.declared.stage.Stage.{Stage as FrontStage}
-use Rattle.blk_front.specs.declared.stage.Stage.TheVariants as front
+use Rattle.blk_front.specs.declared.stage.FrontStage.{FrontStage}
+use Rattle.blk_front.specs.declared.stage.FrontStage.TheVariants as front
 use Rattle.blk_front.specs.View.{View, fresh_word, next_request, entry_frame, entry_word, ring_page_frame}
 use Rattle.blk_front.specs.Step.{at}
 use Rattle.blk_front.specs.Submit.{is_connected}

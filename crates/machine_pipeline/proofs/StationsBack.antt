@@ -9,10 +9,10 @@ use Rattle.schedule_text.specs.declared.line.Line.TheVariants as lines
 use Rattle.blk_front.specs.declared.request.Request.{Request}
 use Rattle.blk_front.specs.Request.{is_write}
 use Rattle.blk_front.specs.declared.stage.Ending.{Ending}
-use Rattle.back_jobs.specs.Task.{Work}
+use Rattle.back_jobs.specs.Work.{Work}
 use Rattle.blk_back.specs.declared.stage.Reply.{Reply}
 use Rattle.pipeline_laws.specs.Allowed.{is_unissued}
-use Rattle.pipeline_laws.specs.Station.{Waiting, Issuing, Station, Fetching, Working, Ended, Request as Asked}
+use Rattle.pipeline_laws.specs.Station.{Waiting, Issuing, Station, Fetching, Working, Ended, PipelineRequest}
 use Rattle.pipeline_laws.specs.Move.{Move, BeginsFetch, Fetches, BeginsResponse, Replies, moved, station_after, words_after}
 use Rattle.pipeline_laws.specs.Ring.{Ring, ring_after}
 use Rattle.pipeline_laws.specs.Pipeline.{Pipeline}
@@ -29,7 +29,7 @@ use Rattle.machine_pipeline.proofs.StationsFront.{moves_on}
 use Rattle.machine_pipeline.proofs.Stations.{StandsAt, apart as stands_apart, AreStations, AllStand, ArePushed, HaveJobs, IsResponding, AreReplied, early_open, AreWorking, IsRing, IsMoved, is_moved, stands_now, other_was, other_stays, kind_of, worked_kind, known_moved, open_moved, issued_moved, waiting_moved, pushed_moved, works_moved, held_moved, going_moved, replying_moved, replied_moved, taking_moved}
 
 -- where the back or one of its jobs moves a request on, nothing changes at the front
-stand_on : {submitted series : List Request} {sent got got' : ℕ} {replies replies' : List Reply} {asked moved : List Asked}
+stand_on : {submitted series : List Request} {sent got got' : ℕ} {replies replies' : List Reply} {asked moved : List PipelineRequest}
     {issuing fetching fetching' : Bool} {ending : Option Ending} {telling : Option ℕ}
     {replying replying' : Option Reply} {requests : List Request} {works works' : List Work} {k : ℕ} {from to : Station} (m : IsMoved asked moved k from to)
     → (2 ≤ kind_of from) × (kind_of from < 7) × (2 ≤ kind_of to) × (kind_of to < 7)
@@ -52,7 +52,7 @@ stand_on {telling = telling} {requests = requests} {from = from} {to = to} m (fr
     late_issued s late = refl
 
 -- a job whose stage is another, of the same station
-works_at : {asked : List Asked} (works : List Work) (place : ℕ) (t t' : Work) → slice_get works place ≡ Some t → t'.id ≡ t.id → worked t'.stage t'.moved ≡ worked t.stage t.moved
+works_at : {asked : List PipelineRequest} (works : List Work) (place : ℕ) (t t' : Work) → slice_get works place ≡ Some t → t'.id ≡ t.id → worked t'.stage t'.moved ≡ worked t.stage t.moved
     → AreWorking works asked → AreWorking (slice_set works place t') asked
 works_at works place t t' here number same h i u e = elim (set_was works place i t t' u here e) [
   | inl it ↦ rw (it.1, number, same) (h place t here)
@@ -141,7 +141,7 @@ module _ {config : Options} {g : Flow} {d : Pipeline} {connected issuing : Bool}
       assumption (
         reads,
         works_at works place t t' here number same h.works,
-        λ (k : ℕ) (q : Asked) (at : slice_get d.requests k ≡ Some q) (kind : kind_of q.station ≡ 4). set_has works place (k + 1) t t' here number (h.held k q at kind),
+        λ (k : ℕ) (q : PipelineRequest) (at : slice_get d.requests k ≡ Some q) (kind : kind_of q.station ≡ 4). set_has works place (k + 1) t t' here number (h.held k q at kind),
       )
 
   -- a job makes a move of its request
@@ -150,9 +150,9 @@ module _ {config : Options} {g : Flow} {d : Pipeline} {connected issuing : Bool}
       → AllPairs (λ (a b : Work). a.id < b.id) works
       → ((i : ℕ) (u : Work) → slice_get works i ≡ Some u → 1 ≤ u.id)
       → t'.id ≡ t.id
-      → (let q : Asked = x.q in station_after q.job move) ≡ worked t'.stage t'.moved
+      → (let q : PipelineRequest = x.q in station_after q.job move) ≡ worked t'.stage t'.moved
       → ring_after d.ring (t.id - 1) move ≡ d.ring
-      → ((r : Request) → slice_get g.submitted (t.id - 1) ≡ Some r → is_write r.transfer ≡ false → (let q : Asked = x.q in ReadAt pages r t'.moved t'.words (words_after move q.words) t'.stage × (has_data_at (worked t'.stage t'.moved) ≡ true → IsReadBack pages r r.count (words_after move q.words))))
+      → ((r : Request) → slice_get g.submitted (t.id - 1) ≡ Some r → is_write r.transfer ≡ false → (let q : PipelineRequest = x.q in ReadAt pages r t'.moved t'.words (words_after move q.words) t'.stage × (has_data_at (worked t'.stage t'.moved) ≡ true → IsReadBack pages r r.count (words_after move q.words))))
       → AreStations config g d connected issuing fetching ending telling replying requests works pages
       → AreStations config g (record d { requests = slice_set d.requests (t.id - 1) (moved x.q move); ring = ring_after d.ring (t.id - 1) move }) connected issuing fetching ending telling replying requests (slice_set works place t') pages
   job_steps {works = works} place t t' x move here ascending positive number after still now h = record {

@@ -14,9 +14,9 @@ use Rattle.blk_front.specs.declared.request.Transfer.{Transfer}
 use Rattle.blk_front.specs.declared.request.Transfer.TheVariants as transfer
 use Rattle.blk_front.specs.Request.{is_write, has_data}
 use Rattle.blk_front.specs.declared.stage.Ending.{Ending}
-use Rattle.back_jobs.specs.Task.{Work}
+use Rattle.back_jobs.specs.Work.{Work}
 use Rattle.blk_back.specs.declared.stage.Reply.{Reply}
-use Rattle.pipeline_laws.specs.Station.{Station, Waiting, Issuing, Pushed, Fetching, Replying, Replied, Taking, Telling, Finished, Request as Asked, is_finished, submitted}
+use Rattle.pipeline_laws.specs.Station.{Station, Waiting, Issuing, Pushed, Fetching, Replying, Replied, Taking, Telling, Finished, PipelineRequest, is_finished, submitted}
 use Rattle.pipeline_laws.specs.Move.{answered_station, told_station, words_after, Move, BeginsEntry, Pushes, Takes, Answers, Tells, moved, station_before, station_after, move_lines}
 use Rattle.pipeline_laws.specs.Ring.{Ring, ring_after}
 use Rattle.pipeline_laws.specs.Pipeline.{Pipeline, Submits, Moves, Connects, StartsToClose}
@@ -38,8 +38,8 @@ use Rattle.machine_pipeline.proofs.Stations.{StandsAt, AreStations, AllStand, Is
 -- a request moves from one station to another, and the pipeline's ring with it: so the step, where what is said of the ring and of all requests goes on holding
 pub moves_on : {config : Options} {g g' : Flow} {d : Pipeline} {connected issuing issuing' fetching fetching' : Bool} {ending ending' : Option Ending} {telling telling' : Option ℕ} {replying replying' : Option Reply} {requests requests' : List Request} {works works' : List Work} {pages : List ℕ} {k : ℕ} {from to : Station} {said : List Line} (x : StandsAt d.requests k from) (move : Move)
     → AreStations config g d connected issuing fetching ending telling replying requests works pages
-    → (let q : Asked = x.q in station_after q.job move) ≡ to
-    → (let q : Asked = x.q in station_before q.job move) ≡ from
+    → (let q : PipelineRequest = x.q in station_after q.job move) ≡ to
+    → (let q : PipelineRequest = x.q in station_before q.job move) ≡ from
     → May d k x.q move
     → move_lines k move ≡ said
     → ((a b : List (List ℕ)) → IsSame a b → DiskGoes (Moves k x.q move) a b)
@@ -163,7 +163,7 @@ pushes config g d connected fetching ending telling replying requests works page
     x = h.waiting.issued refl r next
 
     -- one before it was issued, as the series ascends
-    first : (j : ℕ) (y : Asked) → j < k → slice_get d.requests j ≡ Some y → is_unissued y.station ≡ false
+    first : (j : ℕ) (y : PipelineRequest) → j < k → slice_get d.requests j ≡ Some y → is_unissued y.station ≡ false
     first j y lt e = elim (cases_Bool (is_unissued y.station)) [
       | inl t ↦
           let left = h.issued j y e t in
@@ -219,7 +219,7 @@ takes config g d connected issuing fetching replying requests works pages place 
     }) (reads_moved (is_moved x (moved x.q (Takes rep.status)) refl refl) refl (λ t. t) h.reads)
 
 -- a request of which all was told is finished
-opened_finished : {asked finished : List Asked} {k : ℕ} {from : Station} {status : Status} {requests : List Request} (e : Ending)
+opened_finished : {asked finished : List PipelineRequest} {k : ℕ} {from : Station} {status : Status} {requests : List Request} (e : Ending)
     → IsMoved asked finished k from (Finished status)
     → is_finished from ≡ false
     → e.request.number ≡ k + 1
@@ -232,7 +232,7 @@ opened_finished {finished = finished} {k = k} {from = from} {requests = requests
       held = λ j q at going. elim (cases_eq j k) [
         | inl same ↦
             let one : m.now ≡ q = same_Some m.now q (sym m.here ∙ ap (slice_get finished) (sym same) ∙ at) in
-            absurd (true≢false (sym (ap is_finished m.there) ∙ (ap (λ (x : Asked). is_finished x.station) one ∙ going)))
+            absurd (true≢false (sym (ap is_finished m.there) ∙ (ap (λ (x : PipelineRequest). is_finished x.station) one ∙ going)))
         | inr other ↦ (elim (h.held j q (sym (m.others j other) ∙ at) going) [
           | inl any ↦ inl any
           | inr it ↦ absurd (other (omega (arith, number, it.2, ap (λ (x : Ending). x.request.number) (same_Some e it.0 it.1))))
@@ -254,7 +254,7 @@ tells_on : {config : Options} {g : Flow} {d : Pipeline} {connected issuing fetch
     {works : List Work} {pages : List ℕ} {said : List Line} (e : Ending) (move : Move) (next : Option ℕ) (status : Status)
     → (h : AreStations config g d connected issuing fetching (Some e) telling replying requests works pages)
     → 1 ≤ e.request.number
-    → (let x = h.taking e refl in let q : Asked = x.q in (station_after q.job move ≡ told_on status next) × (station_before q.job move ≡ finishing telling e.status)
+    → (let x = h.taking e refl in let q : PipelineRequest = x.q in (station_after q.job move ≡ told_on status next) × (station_before q.job move ≡ finishing telling e.status)
     × May d (e.request.number - 1) q move × (words_after move q.words ≡ q.words))
     → move_lines (e.request.number - 1) move ≡ said
     → ((a b : List (List ℕ)) → IsSame a b → DiskGoes (Moves (e.request.number - 1) (let x = h.taking e refl in x.q) move) a b)
@@ -279,7 +279,7 @@ tells_on {g = g} {telling = telling} {requests = requests} {works = works} e mov
       taking = left.1;
     }) (reads_moved (is_moved x (moved x.q move) stands.0 refl) stands.3 kept h.reads)
   where
-    by_next : {asked after : List Asked} {from : Station} (n : Option ℕ) (m : IsMoved asked after (e.request.number - 1) from (told_on status n))
+    by_next : {asked after : List PipelineRequest} {from : Station} (n : Option ℕ) (m : IsMoved asked after (e.request.number - 1) from (told_on status n))
         → (is_finished from ≡ false → AreOpen asked requests (Some e) → AreOpen after requests (told_ending e n))
         × IsTaking (told_ending e n) n after × (7 ≤ kind_of (told_on status n)) × (is_unissued (told_on status n) ≡ false)
     by_next None m = (λ early. opened_finished e m early (omega arith), λ f same. absurd (none-some f same), omega arith, refl)
@@ -341,7 +341,7 @@ tells config g d connected issuing fetching replying requests works pages words 
     (ap (λ (n : ℕ). lines.Data n i words ∷ []) (omega arith)) (λ a b same. same) refl (λ t. refl)
 
 -- a request more is submitted
-stands_more : (asked : List Asked) (q : Asked) (k : ℕ) (station : Station) → StandsAt asked k station → StandsAt (asked ++ q ∷ []) k station
+stands_more : (asked : List PipelineRequest) (q : PipelineRequest) (k : ℕ) (station : Station) → StandsAt asked k station → StandsAt (asked ++ q ∷ []) k station
 stands_more asked q k station x = record { q = x.q; at = get_append asked (q ∷ []) k x.q x.at; there = x.there }
 
 pub submits : (config : Options) (g : Flow) (d : Pipeline) (connected issuing fetching : Bool) (ending : Option Ending) (telling : Option ℕ) (replying : Option Reply) (requests : List Request) (works : List Work) (pages : List ℕ) (x : Request)
@@ -383,7 +383,7 @@ submits config g d connected issuing fetching ending telling replying requests w
       going = more_all (λ (i : ℕ) (y : Request). IsGoing (d.requests ++ submitted job ∷ []) (y.number - 1)) requests x
           (λ i y at. let stood = h.going i y at in record { q = stood.q; at = get_append d.requests (submitted job ∷ []) (y.number - 1) stood.q stood.at; early = stood.early })
           (record { q = stands_last.q; at = stands_last.at; early = omega (arith, ap kind_of stands_last.there) });
-      held = λ j q at kind. elim (push_was d.requests (submitted job) j q at) [ inl was ↦ h.held j q was kind | inr new ↦ absurd (let none = ap (λ (y : Asked). kind_of y.station) new.1 in omega (arith, none, kind)) ];
+      held = λ j q at kind. elim (push_was d.requests (submitted job) j q at) [ inl was ↦ h.held j q was kind | inr new ↦ absurd (let none = ap (λ (y : PipelineRequest). kind_of y.station) new.1 in omega (arith, none, kind)) ];
       replying = λ rep e. stands_more d.requests (submitted job) (rep.id - 1) (Replying rep.status) (h.replying rep e);
       replied = λ i rep e. stands_more d.requests (submitted job) (rep.id - 1) (Replied rep.status) (h.replied i rep e);
       taking = λ e same. stands_more d.requests (submitted job) (e.request.number - 1) (finishing telling e.status) (h.taking e same);

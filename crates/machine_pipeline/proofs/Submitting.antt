@@ -10,18 +10,18 @@ use Rattle.ring_words.specs.Ring.{Ring}
 use Rattle.grant_table.specs.declared.held.Held.{Held}
 use Rattle.blk_front.specs.declared.request.Request.{Request}
 use Rattle.blk_front.specs.Request.{frames_for}
-use Rattle.blk_front.specs.declared.stage.Stage.{Stage as FrontStage}
-use Rattle.blk_front.specs.declared.stage.Stage.TheVariants as front
+use Rattle.blk_front.specs.declared.stage.FrontStage.{FrontStage}
+use Rattle.blk_front.specs.declared.stage.FrontStage.TheVariants as front
 use Rattle.blk_back.specs.declared.stage.Reply.{Reply}
-use Rattle.blk_back.specs.declared.stage.Stage.{Stage as BackStage}
-use Rattle.blk_back.specs.declared.stage.Stage.TheVariants as back
+use Rattle.blk_back.specs.declared.stage.BackStage.{BackStage}
+use Rattle.blk_back.specs.declared.stage.BackStage.TheVariants as back
 use Rattle.machine_pipeline.proofs.Flow.{Flow, is_issuing}
 use Rattle.machine_pipeline.proofs.Holds.{AreSubmitted, AreIndices, FrontAt, AreSlots, IsFilled, IsGranted, AreEntries, AreWorks, AreReplies, IsReplying, BackAt, IsNextAt, IsEndingAt}
 use Rattle.ring_words.specs.Shape.{entries_of, Shape}
 use Rattle.machine_pipeline.proofs.Series.{IsSeries, among_was, numbered_grown}
 use Rattle.machine_pipeline.proofs.Lists.{get_append}
 use Rattle.machine_pipeline.proofs.Growing.{longer, push_was}
-use Rattle.back_jobs.specs.Task.{Work}
+use Rattle.back_jobs.specs.Work.{Work}
 use Rattle.blk_front.specs.declared.stage.Ending.{Ending}
 
 -- one more was submitted

@@ -7,7 +7,7 @@ use Rattle.std.proofs.lemmas.List.Edits.{length-remove}
 use Rattle.std.proofs.lemmas.List.Quantifiers.{all_pairs_remove}
 use Rattle.std.proofs.lemmas.List.Sums.{sum_by-remove}
 use Rattle.std.proofs.lemmas.Bool.Decides.{nat_tests}
-use Rattle.pipeline_laws.specs.Station.{Request as Asked}
+use Rattle.pipeline_laws.specs.Station.{PipelineRequest}
 use Rattle.blk_front.specs.declared.request.Request.{Request}
 use Rattle.blk_front.specs.declared.stage.Ending.{Ending}
 use Rattle.blk_front.specs.Step.{taken}
@@ -74,7 +74,7 @@ pooled_without pool requests place r e here same h = record {
   used = omega (arith, h.used, sum_removed frames_of requests place r here, ap frames_of same);
 }
 
-pub opened_without : (asked : List Asked) (requests : List Request) (place : ℕ) (r : Request) (e : Ending)
+pub opened_without : (asked : List PipelineRequest) (requests : List Request) (place : ℕ) (r : Request) (e : Ending)
     → slice_get requests place ≡ Some r
     → e.request.number ≡ r.number
     → AreOpen asked requests None

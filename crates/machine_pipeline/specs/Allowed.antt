@@ -7,8 +7,8 @@ use Rattle.schedule_text.specs.Range.{IsInRange}
 use Rattle.event_channel.specs.Channels.{made_before}
 use Rattle.blk_base.specs.declared.config.Job.{Job}
 use Rattle.blk_base.specs.declared.config.Job.TheVariants.{Read, Write, Barrier, Flush, Discard}
-use Rattle.blk_front.specs.declared.stage.Stage.{Stage}
-use Rattle.blk_front.specs.declared.stage.Stage.TheVariants.{RingWord}
+use Rattle.blk_front.specs.declared.stage.FrontStage.{FrontStage}
+use Rattle.blk_front.specs.declared.stage.FrontStage.TheVariants.{RingWord}
 use Rattle.blk_front.specs.declared.state.FrontState.{FrontState}
 use Rattle.blk_front.specs.declared.state.FrontState.TheVariants.{Agreed, Connected, Leaving, Closed, Broken}
 use Rattle.blk_front.specs.declared.state.Offers.{Offers}
@@ -18,7 +18,7 @@ use Rattle.blk_front.specs.Ask.{is_through}
 use Rattle.blk_front.specs.State.{is_made}
 use Rattle.blk_front.specs.Submit.{is_connected}
 use Rattle.blk_back.specs.View as back
-use Rattle.blk_back.specs.declared.stage.Stage.TheVariants.{Halted}
+use Rattle.blk_back.specs.declared.stage.BackStage.TheVariants.{Halted}
 use Rattle.blk_back.specs.declared.told.Halt.{Halt}
 use Rattle.split_model.specs.World.{World, is_quiet, may_suspend}
 use Rattle.split_model.specs.Keys.{KeyMove, Gets, Sets, Watches, TakesWatch}
@@ -43,7 +43,7 @@ IsSpelled (Watches path) = is_key_path path ≡ true
 IsSpelled TakesWatch = Unit {0}
 
 -- it has made nothing yet, or it has made its ring and its port and is at nothing in particular
-abbrev pub is_free : Stage → Bool
+abbrev pub is_free : FrontStage → Bool
 is_free (RingWord k) = k == 0
 is_free s = is_made s
 

@@ -14,14 +14,14 @@ use Rattle.ring_words.specs.Ring.{next_of, requests_of, overruns, notifies}
 use Rattle.ring_words.specs.Shape.{Shape, entry_words_of, slot_word_of}
 use Rattle.blk_layout.specs.Entry.{request_of}
 use Rattle.segment_list.specs.declared.verdict.DiskInfo.{DiskInfo}
-use Rattle.back_jobs.specs.Task.{Work, IsAnswer as IsJobAnswer}
+use Rattle.back_jobs.specs.Work.{Work, IsAnswer as IsJobAnswer}
 use Rattle.back_jobs.specs.Jobs.{place_of, work_of, waits, ask_job, first_mapping, is_done}
 use Rattle.back_jobs.specs.Hands.{hands_in, Names}
 use Rattle.blk_back.specs.declared.told.Halt.{Halt}
 use Rattle.blk_back.specs.declared.told.Halt.TheVariants as halt
 use Rattle.blk_back.specs.declared.stage.Reply.{Reply}
-use Rattle.blk_back.specs.declared.stage.Stage.{Stage}
-use Rattle.blk_back.specs.declared.stage.Stage.TheVariants as stage
+use Rattle.blk_back.specs.declared.stage.BackStage.{BackStage}
+use Rattle.blk_back.specs.declared.stage.BackStage.TheVariants as stage
 use Rattle.blk_back.specs.View.{View, no_page, page_of, slot_word, new_of, start_of, info_of}
 use Rattle.blk_back.specs.Ask.{ask_at, ask_of, loop_ask, response_word, reply_ask, entry_ask, index_ask, unmap_ask, next_reply, IsAnswer}
 use Rattle.blk_back.specs.Step.{unmapping_next, abort, unbound, bound, other_pages, mapped, may_attach, attached, halts, overrun, looked, loop_word, loop_step, fetched, fetch_step, next_number, step_at, step_of, job_ask_of, job_step}
@@ -34,7 +34,7 @@ use Rattle.split_model.proofs.Shapes.{attaches_waiting, attaches_grefs}
 use Rattle.move_laws.proofs.Jobs.{AreJobs, none_jobs, started_jobs, told_jobs, removed_jobs, after_jobs, asked_names}
 
 -- an entry has the word that is read next
-abbrev IsFetched : Stage → Shape → Type 0
+abbrev IsFetched : BackStage → Shape → Type 0
 IsFetched (stage.Fetch k) s = k < entry_words_of s.abi
 IsFetched other s = Unit {0}
 
@@ -58,7 +58,7 @@ record AreAll (v : View) : Type 0 where
   jobs : AreJobs v.jobs.works
 
 -- so it is with a back at a stage of this kind
-at_stage : (s : Stage) (v : View) → IsFetched s v.shape → IsMapped s v.shape.order v.grefs v.pages → AreWritable v.pages → AreJobs v.jobs.works → IsBack (record v { stage = s })
+at_stage : (s : BackStage) (v : View) → IsFetched s v.shape → IsMapped s v.shape.order v.grefs v.pages → AreWritable v.pages → AreJobs v.jobs.works → IsBack (record v { stage = s })
 at_stage s v fetched mapped writable jobs = record { fetched = fetched; mapped = mapped; writable = writable; jobs = jobs }
 
 -- a word of a page of the ring is read or written
@@ -107,7 +107,7 @@ first_named works (page ∷ pages) = Contains-append_right works (page ∷ pages
 all_of : (v : View) → IsBack v → length v.pages ≡ 2 ^ v.shape.order → AreAll v
 all_of v b pages = record { pages = pages; writable = b.writable; jobs = b.jobs }
 
-names_at : (s : Stage) (v : View) → IsFetched s v.shape → IsMapped s v.shape.order v.grefs v.pages → IsBack v → Names (hands_at s v) (ask_at s v)
+names_at : (s : BackStage) (v : View) → IsFetched s v.shape → IsMapped s v.shape.order v.grefs v.pages → IsBack v → Names (hands_at s v) (ask_at s v)
 names_at stage.Loop v fetched kept b = loop_names v (next_reply v) (all_of v b kept)
 names_at (stage.Fetch k) v fetched kept b = entry_read v k (all_of v b kept) fetched
 names_at (stage.ReplyHigh r) v fetched kept b = reply_written v r 1 (all_of v b kept) (omega arith)
@@ -205,7 +205,7 @@ mapped_kept m v grefs room mode b = by_test (nat_lt (length v.pages + 1) (length
         let above : length v.grefs ≤ length v.pages + 1 = grind (arith, nat_tests) in
         record { fetched = tt; mapped = omega (arith, longer, above, grefs, room); writable = All-push (λ (x : Mapping). x.mode ≡ ReadWrite) v.pages m b.writable mode; jobs = b.jobs }
 
-step_kept : (s : Stage) (v : View) (given : BackAnswer) → IsFetched s v.shape → IsMapped s v.shape.order v.grefs v.pages → IsAnswer (ask_at s v) given → IsBack v → IsBack (step_at s v given)
+step_kept : (s : BackStage) (v : View) (given : BackAnswer) → IsFetched s v.shape → IsMapped s v.shape.order v.grefs v.pages → IsAnswer (ask_at s v) given → IsBack v → IsBack (step_at s v given)
 step_kept stage.MapRing v (answer.Mapped m) fetched kept h b = mapped_kept m v kept.0 kept.1 h.1 b
 step_kept stage.MapRing v (answer.MapRefused status) fetched kept h b = let aborted = unbound_kept v b.writable b.jobs in record { fetched = aborted.fetched; mapped = aborted.mapped; writable = b.writable; jobs = b.jobs }
 step_kept stage.Bind v answer.Done fetched kept h b = at_stage stage.Loop v tt kept b.writable b.jobs
@@ -239,7 +239,7 @@ back_step v given h b =
 -- where it takes the terms of its front no page is mapped yet
 pub back_attached : (shape : Shape) (grefs : List ℕ) (port : ℕ) (v : View) → may_attach shape grefs v ≡ true → IsBack v → IsBack (attached shape grefs port v)
 back_attached shape grefs port v may b =
-    let none : length v.pages ≡ 0 = subst (λ (s : Stage). IsMapped s v.shape.order v.grefs v.pages) (attaches_waiting shape grefs v may) b.mapped in
+    let none : length v.pages ≡ 0 = subst (λ (s : BackStage). IsMapped s v.shape.order v.grefs v.pages) (attaches_waiting shape grefs v may) b.mapped in
     let some = pow_pos shape.order in
     record { fetched = tt; mapped = (attaches_grefs shape grefs v may, omega arith); writable = b.writable; jobs = b.jobs }
 
@@ -247,7 +247,7 @@ back_attached shape grefs port v may b =
 pub back_halted : (why : Halt) (v : View) → IsBack v → IsBack (halts why v)
 back_halted why v b =
     halts_cases (λ x. IsBack x) why v (λ here. let aborted = unbound_kept v b.writable b.jobs in record { fetched = aborted.fetched; mapped = aborted.mapped; writable = b.writable; jobs = b.jobs })
-    (λ here. abort_kept (record v { halted = Some why }) (record { pages = subst (λ (s : Stage). IsMapped s v.shape.order v.grefs v.pages) here b.mapped; writable = b.writable; jobs = b.jobs })) b
+    (λ here. abort_kept (record v { halted = Some why }) (record { pages = subst (λ (s : BackStage). IsMapped s v.shape.order v.grefs v.pages) here b.mapped; writable = b.writable; jobs = b.jobs })) b
 
 job_step_at : (halted : Bool) (v : View) (number : ℕ) (given : BackAnswer) → IsJobAnswer (if halted then ask.Wait else ask_job v.jobs number) given → IsBack v → IsBack (record (job_step v number given) { told = None })
 job_step_at true v number given h b = absurd h

@@ -19,8 +19,8 @@ use Rattle.ring_words.specs.Ring.{responses_of, notifies}
 use Rattle.ring_words.specs.Shape.{Shape, entries_of, entry_words_of, slot_word_of}
 use Rattle.blk_layout.specs.declared.response.Response.{Response}
 use Rattle.blk_layout.specs.Response.{response_of}
-use Rattle.blk_front.specs.declared.stage.Stage.{Stage}
-use Rattle.blk_front.specs.declared.stage.Stage.TheVariants as stage
+use Rattle.blk_front.specs.declared.stage.FrontStage.{FrontStage}
+use Rattle.blk_front.specs.declared.stage.FrontStage.TheVariants as stage
 use Rattle.blk_front.specs.declared.stage.Ending.{Ending}
 use Rattle.blk_front.specs.declared.request.Request.{Request}
 use Rattle.blk_front.specs.declared.request.Transfer.{Transfer}
@@ -46,7 +46,7 @@ use Rattle.split_model.proofs.Shapes.{entered_order}
 use Rattle.split_model.proofs.Suspending.{front_cases}
 
 -- a stage is at one of the words or the pages that it goes through
-abbrev pub IsPlaced : Stage → Shape → Type 0
+abbrev pub IsPlaced : FrontStage → Shape → Type 0
 IsPlaced (stage.RingWord k) shape = k < 16
 IsPlaced (stage.RingFrame page) shape = page < 2 ^ shape.order
 IsPlaced (stage.RingFence page) shape = page < 2 ^ shape.order
@@ -179,7 +179,7 @@ page_name v page narrow below = entry_within (ring_page_frame page) (in_page v.s
 page_flags : (v : View) (page : ℕ) → v.shape.order ≤ 4 → page < 2 ^ v.shape.order → (entry_frame (ring_page_frame page) < 1018) × (entry_word (ring_page_frame page) < 1024)
 page_flags v page narrow below = let entry = page_name v page narrow below in (entry.0, omega (arith, entry.1))
 
-within_at : (s : Stage) (v : View) → IsPlaced s v.shape → IsFront v → StaysInMemory (ask_at s v)
+within_at : (s : FrontStage) (v : View) → IsPlaced s v.shape → IsFront v → StaysInMemory (ask_at s v)
 within_at (stage.RingWord k) v p f = (omega arith, omega arith)
 within_at (stage.RingFrame page) v p f = page_name v page f.order p
 within_at (stage.RingFlags page) v p f = page_flags v page f.order p
@@ -214,12 +214,12 @@ either : (b : Bool) (x y : View) → IsFront x → IsFront y → IsFront (if b t
 either true x y p q = p
 either false x y p q = q
 
-either_stage : (b : Bool) (x y : Stage) (shape : Shape) → (b ≡ true → IsPlaced x shape) → (b ≡ false → IsPlaced y shape) → IsPlaced (if b then x else y) shape
+either_stage : (b : Bool) (x y : FrontStage) (shape : Shape) → (b ≡ true → IsPlaced x shape) → (b ≡ false → IsPlaced y shape) → IsPlaced (if b then x else y) shape
 either_stage true x y shape p q = p refl
 either_stage false x y shape p q = q refl
 
 -- the same requests and frames at a stage
-at_stage : (s : Stage) (v : View) → IsPlaced s v.shape → IsFront v → IsFront (at s v)
+at_stage : (s : FrontStage) (v : View) → IsPlaced s v.shape → IsFront v → IsFront (at s v)
 at_stage s v p f = record { order = f.order; placed = p; shared = f.shared; ending = f.ending; pool = f.pool }
 
 looked_kept : (v : View) (word : ℕ) (otherwise : View) → IsFront v → IsFront otherwise → IsFront (looked v word otherwise)
@@ -228,7 +228,7 @@ looked_kept v word otherwise f h =
     (either (word == v.ring.indices.cons) otherwise (record v { ring = record v.ring { seen = word }; stage = stage.Loop }) h (record { order = f.order; placed = tt; shared = f.shared; ending = f.ending; pool = f.pool }))
 
 -- and at a word of the entry of one of them
-entered_kept : (v : View) (r : Request) (s : Stage) → IsPlaced s v.shape → IsFront v → IsFront (entered v r s)
+entered_kept : (v : View) (r : Request) (s : FrontStage) → IsPlaced s v.shape → IsFront v → IsFront (entered v r s)
 entered_kept v r s p f = record { order = f.order; placed = p; shared = f.shared; ending = f.ending; pool = f.pool }
 
 begun_kept : (v : View) (r : Request) (way : Transfer) → IsFront v → IsFront (begun v r way)
@@ -321,7 +321,7 @@ page_granted v page = either_stage (nat_lt (page + 1) (2 ^ v.shape.order)) (stag
 page_left : (v : View) (page : ℕ) → IsPlaced (ring_left v page) v.shape
 page_left v page = either_stage (nat_lt (page + 1) (2 ^ v.shape.order)) (stage.RingRead (page + 1)) stage.ClosePort v.shape (λ t. grind (arith, nat_tests)) (λ t. tt)
 
-step_kept : (s : Stage) (v : View) (x : FrontAnswer) → IsPlaced s v.shape → IsFront v → IsFront (step_at s v x)
+step_kept : (s : FrontStage) (v : View) (x : FrontAnswer) → IsPlaced s v.shape → IsFront v → IsFront (step_at s v x)
 step_kept (stage.RingWord k) v x p f = at_stage _ v (either_stage (k == 15) (stage.RingFrame 0) (stage.RingWord (k + 1)) v.shape (λ t. pow_pos v.shape.order) (λ t. grind (arith, nat_tests))) f
 step_kept (stage.RingFrame page) v x p f = at_stage _ v p f
 step_kept (stage.RingFence page) v x p f = at_stage _ v p f
@@ -366,7 +366,7 @@ front_step v x f =
     record { order = y.order; placed = y.placed; shared = y.shared; ending = y.ending; pool = y.pool }
 
 -- where the ring isn't begun the shape doesn't matter
-unmade_placed : (s : Stage) (before now : Shape) → is_unmade s ≡ true → IsPlaced s before → IsPlaced s now
+unmade_placed : (s : FrontStage) (before now : Shape) → is_unmade s ≡ true → IsPlaced s before → IsPlaced s now
 unmade_placed (stage.RingWord k) before now unmade p = p
 unmade_placed s before now unmade p = absurd (cc)
 
@@ -393,7 +393,7 @@ pub front_entered : (s : FrontState) (v : View) → IsFront v → IsFront (enter
 front_entered s v f = enters_cases (λ x shown. IsFront x) s v (λ may. in_state_kept s v may f) f
 
 -- and after a suspend
-suspended_placed : (s : Stage) (shape : Shape) → IsPlaced (stage_after s) shape
+suspended_placed : (s : FrontStage) (shape : Shape) → IsPlaced (stage_after s) shape
 suspended_placed (stage.ReadData n) shape = tt
 suspended_placed (stage.LeftData n) shape = tt
 suspended_placed s shape = omega arith

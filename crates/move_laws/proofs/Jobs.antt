@@ -25,10 +25,10 @@ use Rattle.segment_list.specs.declared.verdict.Why.TheVariants as why
 use Rattle.segment_list.specs.Segments.{IsSound, fails_test, sectors_of}
 use Rattle.segment_list.specs.Verdict.{planned, transfer_verdict, flush_verdict, verdict_of, IsOnDisk}
 use Rattle.segment_list.proofs.Served.{transfer_served, finished_on_disk}
-use Rattle.back_jobs.specs.declared.stage.Stage.{Stage}
-use Rattle.back_jobs.specs.declared.stage.Stage.TheVariants as stage
-use Rattle.back_jobs.specs.Task.{Work, ask_of, ask_at, map_ask, page_ask, copied, is_copied_out, passes, judged, page_done, paging, mode_of, step_of, step_at, sector_stage, next_sector, next_segment, counted, first_of, rest_of, last_of, begun, served, moving, ended, frameless, IsAnswer}
-use Rattle.back_jobs.specs.Jobs.{Held, mapping_at, asked, work_at, told_at, removed_at, after_mapping, start_job}
+use Rattle.back_jobs.specs.declared.stage.JobStage.{JobStage}
+use Rattle.back_jobs.specs.declared.stage.JobStage.TheVariants as stage
+use Rattle.back_jobs.specs.Work.{Work, ask_of, ask_at, map_ask, page_ask, copied, is_copied_out, passes, judged, page_done, paging, mode_of, step_of, step_at, sector_stage, next_sector, next_segment, counted, first_of, rest_of, last_of, begun, served, moving, ended, frameless, IsAnswer}
+use Rattle.back_jobs.specs.Jobs.{HeldJobs, mapping_at, asked, work_at, told_at, removed_at, after_mapping, start_job}
 use Rattle.back_jobs.specs.Hands.{hand_of, hands_in, Names}
 use Rattle.back_jobs.proofs.Hands.{hand_at, named_in}
 use Rattle.back_jobs.proofs.Sizes.{only}
@@ -41,7 +41,7 @@ IsInside t = t.within ≤ last_of t.rest
 abbrev Moves : Mapping → Bool → Work → Type 0
 Moves m writes t = (m.mode ≡ mode_of t.writes) × (t.writes ≡ writes)
 
-abbrev pub IsPlaced : Stage → Work → Type 0
+abbrev pub IsPlaced : JobStage → Work → Type 0
 IsPlaced stage.Map t = IsInside t
 IsPlaced (stage.ReadWord m k) t = (k < 128) × IsInside t × Moves m true t
 IsPlaced (stage.DiskWrite m) t = IsInside t × Moves m true t
@@ -50,7 +50,7 @@ IsPlaced (stage.WriteWord m k) t = (k < 128) × IsInside t × Moves m false t
 IsPlaced s t = Unit {0}
 
 -- the segments may not have been tested yet, or they failed the tests
-abbrev is_untested : Stage → Bool
+abbrev is_untested : JobStage → Bool
 is_untested stage.MapPage = true
 is_untested (stage.PageReference m) = true
 is_untested (stage.PageSectors m gref) = true
@@ -78,7 +78,7 @@ names_page : (pages : List ℕ) → Names [] (page_ask pages)
 names_page [] = tt
 names_page (gref ∷ pages) = tt
 
-names_at : (s : Stage) (t : Work) → (is_untested s ≡ false → AllByRecursion IsSound t.rest) → IsPlaced s t → Names (hand_at s) (ask_at s t)
+names_at : (s : JobStage) (t : Work) → (is_untested s ≡ false → AllByRecursion IsSound t.rest) → IsPlaced s t → Names (hand_at s) (ask_at s t)
 names_at stage.MapPage t sound p = names_page t.pages
 names_at (stage.PageReference m) t sound p = (only m, omega arith)
 names_at (stage.PageSectors m gref) t sound p = (only m, omega arith)
@@ -167,7 +167,7 @@ page_done_job : (t : Work) → IsJob (page_done t)
 page_done_job t =
     either (length t.rest == t.named) (judged t) (record t { pages = drop 1 t.pages; stage = stage.MapPage }) (λ all. judged_job t) (λ more. record { segments = λ e. absurd (cc); placed = tt })
 
-step_job_at : (s : Stage) (t : Work) (given : BackAnswer) → (is_untested s ≡ false → AllByRecursion IsSound t.rest) → IsPlaced s t → IsAnswer (ask_at s t) given → IsJob (step_at s t given)
+step_job_at : (s : JobStage) (t : Work) (given : BackAnswer) → (is_untested s ≡ false → AllByRecursion IsSound t.rest) → IsPlaced s t → IsAnswer (ask_at s t) given → IsJob (step_at s t given)
 step_job_at stage.MapPage t given sound p h = page_step t.pages t given h
 step_job_at (stage.PageReference m) t (answer.Word word) sound p h = record { segments = λ e. absurd (cc); placed = tt }
 step_job_at (stage.PageSectors m gref) t (answer.Word word) sound p h = copied_job t m (t.rest ++ segment_of gref word ∷ [])
@@ -250,7 +250,7 @@ AreJobs works = All IsJob works
 pub none_jobs : AreJobs []
 none_jobs = All-nil IsJob
 
-pub started_jobs : (h : Held) (number : ℕ) (request : RawRequest) → AreJobs h.works → AreJobs (start_job h number request).works
+pub started_jobs : (h : HeldJobs) (number : ℕ) (request : RawRequest) → AreJobs h.works → AreJobs (start_job h number request).works
 started_jobs h number request all = All-push IsJob h.works _ all (begun_job number request h.info.sectors h.info (verdict_of request h.info) refl)
 
 pub told_jobs : (works : List Work) (place : Option ℕ) (waits : Bool) (found : Option Work) (given : BackAnswer) → work_at works place ≡ found → IsAnswer (asked waits found) given → AreJobs works → AreJobs (told_at works place found given)

@@ -23,13 +23,13 @@ use Rattle.segment_list.specs.declared.verdict.Why.TheVariants as why
 use Rattle.segment_list.specs.declared.verdict.Verdict.{Verdict}
 use Rattle.segment_list.specs.declared.verdict.Verdict.TheVariants as verdict
 use Rattle.segment_list.specs.Verdict.{verdict_of}
-use Rattle.back_jobs.specs.declared.stage.Stage.{Stage as JobStage}
-use Rattle.back_jobs.specs.declared.stage.Stage.TheVariants as job
-use Rattle.back_jobs.specs.Task.{Work, ask_at, map_ask, page_ask, is_copied_out, passes, judged, page_done, paging, first_of, step_of, step_at as job_step_at, sector_stage, next_sector, next_segment, counted, rest_of, last_of, begun, moving, ended, frameless}
-use Rattle.back_jobs.specs.Jobs.{Held, work_at, work_of, place_of, waits, asked, ask_job, told_at, removed_at, after_mapping, mapping_at, is_done, start_job}
+use Rattle.back_jobs.specs.declared.stage.JobStage.{JobStage}
+use Rattle.back_jobs.specs.declared.stage.JobStage.TheVariants as job
+use Rattle.back_jobs.specs.Work.{Work, ask_at, map_ask, page_ask, is_copied_out, passes, judged, page_done, paging, first_of, step_of, step_at as job_step_at, sector_stage, next_sector, next_segment, counted, rest_of, last_of, begun, moving, ended, frameless}
+use Rattle.back_jobs.specs.Jobs.{HeldJobs, work_at, work_of, place_of, waits, asked, ask_job, told_at, removed_at, after_mapping, mapping_at, is_done, start_job}
 use Rattle.blk_back.specs.declared.stage.Reply.{Reply}
-use Rattle.blk_back.specs.declared.stage.Stage.{Stage}
-use Rattle.blk_back.specs.declared.stage.Stage.TheVariants as stage
+use Rattle.blk_back.specs.declared.stage.BackStage.{BackStage}
+use Rattle.blk_back.specs.declared.stage.BackStage.TheVariants as stage
 use Rattle.blk_back.specs.declared.told.Halt.{Halt}
 use Rattle.blk_back.specs.declared.told.Halt.TheVariants as halt
 use Rattle.blk_back.specs.View.{View}
@@ -157,10 +157,10 @@ begun_reads number (Indirect code count device id sector pages) size info u = by
         rw (other, another) (refused (suc (suc n)) why.Op (info.max_indirect == 0))
 
 -- the back's disk is such a one, and its jobs leave it its content
-abbrev pub OnlyReads : Held → Type 0
+abbrev pub OnlyReads : HeldJobs → Type 0
 OnlyReads h = IsUnchanging h.info × All Reads h.works
 
-started : (h : Held) (number : ℕ) (request : RawRequest) → OnlyReads h → OnlyReads (start_job h number request)
+started : (h : HeldJobs) (number : ℕ) (request : RawRequest) → OnlyReads h → OnlyReads (start_job h number request)
 started h number request o = (o.0, All-push Reads h.works _ o.1 (begun_reads number request h.info.sectors h.info o.0))
 
 told_reads : (works : List Work) (place : Option ℕ) (found : Option Work) (given : BackAnswer) → work_at works place ≡ found → All Reads works → All Reads (told_at works place found given)
@@ -203,7 +203,7 @@ loop_stays v None (answer.Word word) o =
     (looked_stays v word (record v { ring = record v.ring { seen = word }; stage = stage.StoreEvent }) o o) o
 loop_stays v None given o = o
 
-step_stays : (s : Stage) (v : View) (given : BackAnswer) → Stays v → Stays (step_at s v given)
+step_stays : (s : BackStage) (v : View) (given : BackAnswer) → Stays v → Stays (step_at s v given)
 step_stays stage.MapRing v (answer.Mapped m) o = o
 step_stays stage.MapRing v (answer.MapRefused status) o = o
 step_stays stage.Bind v answer.Done o = o
@@ -285,7 +285,7 @@ asked_called works (Some place) false (Some t) outcome a b e all jobs does =
     let reads : Reads t = subst Reads same (All-get_or Reads works place t within all) in
     stage_called t.stage t outcome a b reads.0 reads.1 is.placed does
 
-job_called : (halted : Bool) (h : Held) (number : ℕ) (outcome : Outcome) (a b : DiskSeen) → OnlyReads h → All IsJob h.works → DiskDoes (if halted then ask.Wait else ask_job h number) outcome a b → b.content ≡ a.content
+job_called : (halted : Bool) (h : HeldJobs) (number : ℕ) (outcome : Outcome) (a b : DiskSeen) → OnlyReads h → All IsJob h.works → DiskDoes (if halted then ask.Wait else ask_job h number) outcome a b → b.content ≡ a.content
 job_called true h number outcome a b o jobs does = none_called outcome a b does
 job_called false h number outcome a b o jobs does = asked_called h.works (place_of h.works number) (waits h.works number) (work_of h.works number) outcome a b refl o.1 jobs does
 

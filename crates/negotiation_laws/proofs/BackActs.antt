@@ -9,7 +9,7 @@ use Rattle.xenbus_state.specs.declared.table.BackAction.{BackAction}
 use Rattle.xenbus_state.specs.declared.table.BackAction.TheVariants as action
 use Rattle.xenbus_state.specs.BackView.{BackView}
 use Rattle.xenbus_state.specs.BackSound.{IsResting}
-use Rattle.xenbus_state.specs.declared.stage.BackStage.TheVariants as stage
+use Rattle.xenbus_state.specs.declared.stage.BackBusStage.TheVariants as stage
 use Rattle.negotiation_laws.specs.Laws.{gone_halt}
 use Rattle.negotiation_laws.proofs.Subjects.{IsFrontState, IsReady, SettledBack, serves}
 

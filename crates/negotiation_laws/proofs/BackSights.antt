@@ -16,8 +16,8 @@ use Rattle.xenbus_state.specs.declared.keys.BackKey.{BackKey}
 use Rattle.xenbus_state.specs.declared.keys.BackKey.TheVariants as back_key
 use Rattle.xenbus_state.specs.declared.state.BusState.{BusState}
 use Rattle.xenbus_state.specs.declared.state.BusState.TheVariants as state
-use Rattle.xenbus_state.specs.declared.stage.BackStage.{BackStage}
-use Rattle.xenbus_state.specs.declared.stage.BackStage.TheVariants as stage
+use Rattle.xenbus_state.specs.declared.stage.BackBusStage.{BackBusStage}
+use Rattle.xenbus_state.specs.declared.stage.BackBusStage.TheVariants as stage
 use Rattle.xenbus_state.specs.declared.table.BackAction.{BackAction}
 use Rattle.xenbus_state.specs.declared.table.BackAction.TheVariants as action
 use Rattle.xenbus_state.specs.BackView.{BackView}
@@ -38,12 +38,12 @@ abbrev pub Sight : BackView → BusState → Watches → Type 0
 Sight v fs w = BackSees v.stage v.state fs w
 
 -- what the back does with a state that it reads
-abbrev pub ActsAt : BackStage → BackView → BusState → Type 0
+abbrev pub ActsAt : BackBusStage → BackView → BusState → Type 0
 ActsAt stage.ReadState v fs = ActsFor (back_action v.state v.unplugged (Some fs)) v.state fs v.unplugged
 ActsAt s v fs = Unit {0}
 
 -- a key is read: the next one is, or the pages are mapped, or the back halts; its state stays
-abbrev IsKeyStage : BackStage → Type 0
+abbrev IsKeyStage : BackBusStage → Type 0
 IsKeyStage (stage.ReadKey k) = Unit {0}
 IsKeyStage stage.MapPage = Unit {0}
 IsKeyStage stage.UnmapOthers = Unit {0}
@@ -74,7 +74,7 @@ key_reads key.Protocol text v = read_or_halted (with_layout v) (layout_read text
 key_reads key.FeaturePersistent text v = read_or_halted (with_persistent v) (count_read text) v (λ x. record { same = refl; stage = tt })
 
 module _ (fs : BusState) where
-  key_stage_sees : (s : BackStage) (own : BusState) (w : Watches) → IsKeyStage s → Sees front_state w (IsReady fs) → BackSees s own fs w
+  key_stage_sees : (s : BackBusStage) (own : BusState) (w : Watches) → IsKeyStage s → Sees front_state w (IsReady fs) → BackSees s own fs w
   key_stage_sees (stage.ReadKey k) own w k_stage h = h
   key_stage_sees stage.MapPage own w k_stage h = h
   key_stage_sees stage.UnmapOthers own w k_stage h = sees_so front_state w (IsReady fs) (Unit {0}) (λ a. tt) h
@@ -136,7 +136,7 @@ module _ (fs : BusState) where
   halted_sees (Some path) v w h = sees_taken front_state w (Unit {0}) h
 
   -- each move of the back but that it says that it closes
-  pub back_sees_at : (s : BackStage) (v : BackView) (page : Mapping) (d : Directory) → key_of d.keys front_state ≡ Some (state_text fs)
+  pub back_sees_at : (s : BackBusStage) (v : BackView) (page : Mapping) (d : Directory) → key_of d.keys front_state ≡ Some (state_text fs)
       → ActsAt s v fs → IsPlaced s v → BackSees s v.state fs d.back
       → Sight (step_at s (at s v) (back_answered (ask_at s v) page d)) fs (back_done (ask_at s v) d).back
   back_sees_at (stage.Publish k) v page d shown acts placed h = offered_sees k v.state (fired d.back (back_path k)) (ap (λ (u : Watches). fired u (back_path k)) h)
@@ -162,7 +162,7 @@ acted_state action.Nothing v = refl
 acted_state action.Connect v = refl
 acted_state (action.Halt reason) v = refl
 
-woken_state : (s : BackStage) (o : Option (List ℕ)) (v : BackView) → (step_at s (at s v) (back_woken o)).state ≡ v.state
+woken_state : (s : BackBusStage) (o : Option (List ℕ)) (v : BackView) → (step_at s (at s v) (back_woken o)).state ≡ v.state
 woken_state stage.Rest None v = refl
 woken_state stage.Rest (Some path) v = refl
 woken_state s None v = refl
@@ -177,7 +177,7 @@ unmap_state [] v page d = unmap_none (next_watch d.back)
     unmap_none (Some path) = refl
 unmap_state (first ∷ pages) v page d = refl
 
-pub back_state_at : (s : BackStage) (v : BackView) (page : Mapping) (d : Directory)
+pub back_state_at : (s : BackBusStage) (v : BackView) (page : Mapping) (d : Directory)
     → (step_at s (at s v) (back_answered (ask_at s v) page d)).state ≡ back_own (ask_at s v) v.state
 back_state_at (stage.Publish k) v page d = refl
 back_state_at (stage.WriteState s) v page d = refl

@@ -21,8 +21,8 @@ use Rattle.xenbus_state.specs.declared.offer.DiskFacts.{DiskFacts}
 use Rattle.xenbus_state.specs.declared.values.FrontTerms.{FrontTerms}
 use Rattle.xenbus_state.specs.declared.state.BusState.{BusState}
 use Rattle.xenbus_state.specs.declared.state.BusState.TheVariants as state
-use Rattle.xenbus_state.specs.declared.stage.BackStage.{BackStage}
-use Rattle.xenbus_state.specs.declared.stage.BackStage.TheVariants as stage
+use Rattle.xenbus_state.specs.declared.stage.BackBusStage.{BackBusStage}
+use Rattle.xenbus_state.specs.declared.stage.BackBusStage.TheVariants as stage
 use Rattle.xenbus_state.specs.declared.table.BackAction.{BackAction}
 use Rattle.xenbus_state.specs.declared.table.BackAction.TheVariants as action
 use Rattle.xenbus_state.specs.BackView.{BackView, is_halting, halted}
@@ -50,14 +50,14 @@ module _ (n : ℕ) (port : Option ℕ) (terms : FrontTerms) (f : Features) (disk
   abbrev pub Stands : BackView → List (List ℕ × List ℕ) → Type 0
   Stands v keys = BackHolds v.stage v n port terms f disk (back_texts keys)
 
-  moves : (s t : BackStage) (v : BackView) (before texts : BackKey → Option (List ℕ)) → BackHolds s v n port terms f disk before
+  moves : (s t : BackBusStage) (v : BackView) (before texts : BackKey → Option (List ℕ)) → BackHolds s v n port terms f disk before
       → (serves t v.state ≡ true → (3 ≤ n) × IsSome port) → (is_halting t ≡ true → 5 ≤ n)
       → BackSaid t v.state texts f disk → (serves t v.state ≡ true → BackRead t v.terms terms v.grefs) → BackHolds t (at t v) n port terms f disk texts
   moves s t v before texts h serving halting said read =
       record { own = h.own; offer = h.offer; disk = h.disk; serving_after = serving; halting_after = halting; said = said; read = read }
 
   -- a key of the back is set
-  set : (k : BackKey) (t : BackStage) (v : BackView) (keys : List (List ℕ × List ℕ)) → v.features ≡ f → v.disk ≡ disk
+  set : (k : BackKey) (t : BackBusStage) (v : BackView) (keys : List (List ℕ × List ℕ)) → v.features ≡ f → v.disk ≡ disk
       → BackHolds t (at t v) n port terms f disk (back_texts (with_key keys (back_path k) (text_of (back_value f disk k))))
       → BackHolds t (at t v) n port terms f disk (back_texts (with_key keys (back_path k) (text_of (back_value v.features v.disk k))))
   set k t v keys e g h =
@@ -329,7 +329,7 @@ module _ (n : ℕ) (port : Option ℕ) (terms : FrontTerms) (f : Features) (disk
   watch_holds own v texts e g h = moves stage.Watch stage.Rest v texts texts h (rw (e, g) never) never (h.said.0, rw (e, g) tt) (rw (e, g) never)
 
   -- each move of the back but that it says that it closes
-  pub back_holds_at : (s : BackStage) (v : BackView) (page : Mapping) (d : Directory) (fs : BusState) → n ≡ state_number fs → IsPlaced s v
+  pub back_holds_at : (s : BackBusStage) (v : BackView) (page : Mapping) (d : Directory) (fs : BusState) → n ≡ state_number fs → IsPlaced s v
       → FrontShows d.keys fs port terms → BackHolds s v n port terms f disk (back_texts d.keys)
       → Stands (step_at s (at s v) (back_answered (ask_at s v) page d)) (back_done (ask_at s v) d).keys
   back_holds_at (stage.Publish k) v page d fs e placed shows h = publish_holds k v d.keys h

@@ -7,8 +7,8 @@ use Rattle.xenbus_state.specs.States.{state_number}
 use Rattle.xenbus_state.specs.Values.{text_of}
 use Rattle.xenbus_state.specs.Keys.{front_name, back_name}
 use Rattle.xenbus_state.specs.declared.state.BusState.{BusState}
-use Rattle.xenbus_state.specs.declared.stage.FrontStage.{FrontStage}
-use Rattle.xenbus_state.specs.declared.stage.BackStage.{BackStage}
+use Rattle.xenbus_state.specs.declared.stage.FrontBusStage.{FrontBusStage}
+use Rattle.xenbus_state.specs.declared.stage.BackBusStage.{BackBusStage}
 use Rattle.xenbus_state.specs.declared.front.FrontBusAsk.{FrontBusAsk}
 use Rattle.xenbus_state.specs.declared.front.FrontBusAsk.TheVariants as front_ask
 use Rattle.xenbus_state.specs.declared.back.BackBusAsk.{BackBusAsk}
@@ -51,7 +51,7 @@ front_ask_own front_ask.Wait d own h = h
 front_ask_own a d own h = h
 
 -- it leaves or fires the back's watch
-pub front_ask_seen : (a : FrontBusAsk) (d : Directory) (s : BackStage) (own fs : BusState) → BackSees s own fs d.back → BackSees s own (own_after a fs) (front_done a d).back
+pub front_ask_seen : (a : FrontBusAsk) (d : Directory) (s : BackBusStage) (own fs : BusState) → BackSees s own fs d.back → BackSees s own (own_after a fs) (front_done a d).back
 unfolding own_after
 front_ask_seen (front_ask.SetState gs) d s own fs h = back_sees_state s own fs gs d.back h
 front_ask_seen (front_ask.SetKey k value) d s own fs h = back_sees_kept (front_path k) s own fs d.back (front_key_apart k) h
@@ -81,7 +81,7 @@ back_ask_own back_ask.Wait d own h = h
 back_ask_own a d own h = h
 
 -- it leaves or fires the front's watch
-pub back_ask_seen : (a : BackBusAsk) (d : Directory) (s : FrontStage) (closing : Bool) (own : BusState) (gone : Bool) (b : BusState)
+pub back_ask_seen : (a : BackBusAsk) (d : Directory) (s : FrontBusStage) (closing : Bool) (own : BusState) (gone : Bool) (b : BusState)
     → FrontSees s closing own gone b d.front → FrontSees s closing own gone (back_own a b) (back_done a d).front
 back_ask_seen (back_ask.SetState c) d s closing own gone b h = front_sees_state s closing own gone b c d.front h
 back_ask_seen (back_ask.SetKey k value) d s closing own gone b h = front_sees_kept (back_path k) s closing own gone b d.front (back_key_apart k) h

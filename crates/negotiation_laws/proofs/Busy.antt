@@ -14,8 +14,8 @@ use Rattle.xenbus_state.specs.declared.offer.Features.{Features}
 use Rattle.xenbus_state.specs.declared.offer.DiskFacts.{DiskFacts}
 use Rattle.xenbus_state.specs.declared.state.BusState.{BusState}
 use Rattle.xenbus_state.specs.declared.state.BusState.TheVariants as state
-use Rattle.xenbus_state.specs.declared.stage.FrontStage.{FrontStage}
-use Rattle.xenbus_state.specs.declared.stage.FrontStage.TheVariants as stage
+use Rattle.xenbus_state.specs.declared.stage.FrontBusStage.{FrontBusStage}
+use Rattle.xenbus_state.specs.declared.stage.FrontBusStage.TheVariants as stage
 use Rattle.xenbus_state.specs.declared.table.FrontAction.{FrontAction}
 use Rattle.xenbus_state.specs.declared.table.FrontAction.TheVariants as action
 use Rattle.xenbus_state.specs.declared.front.FrontBusAsk.{FrontBusAsk}
@@ -54,7 +54,7 @@ RestSees state.Initialising b w = Sees back_state w (b ≡ state.Initialising)
 RestSees state.Initialised b w = Sees back_state w (b ≡ state.InitWait)
 RestSees own b w = Unit {0}
 
-abbrev pub HeardAt : FrontStage → BusState → BusState → Watches → Type 0
+abbrev pub HeardAt : FrontBusStage → BusState → BusState → Watches → Type 0
 HeardAt stage.Rest own b w = RestSees own b w
 HeardAt s own b w = Unit {0}
 
@@ -111,7 +111,7 @@ act_rests state.Closed own closing honest after connected = tt
 act_rests b own closing honest after connected = absurd honest
 
 -- such a front begins no close
-due_busy : (s : FrontStage) (v : FrontView) → due_at s v false ≡ s
+due_busy : (s : FrontBusStage) (v : FrontView) → due_at s v false ≡ s
 due_busy stage.Rest v = by_test v.closing
   where
     by_test : (closing : Bool) → (if closing && false then closing_stage v.state v else stage.Rest) ≡ stage.Rest
@@ -155,7 +155,7 @@ module _ (b : BusState) where
   fact_hears k None v w = tt
   fact_hears k (Some m) v w = fact_next (next_fact k) v.state w
 
-  either_hears : (last : Bool) (s t : FrontStage) (own : BusState) (w : Watches) → HeardAt s own b w → HeardAt t own b w → HeardAt (if last then s else t) own b w
+  either_hears : (last : Bool) (s t : FrontBusStage) (own : BusState) (w : Watches) → HeardAt s own b w → HeardAt t own b w → HeardAt (if last then s else t) own b w
   either_hears true s t own w g h = g
   either_hears false s t own w g h = h
 
@@ -191,7 +191,7 @@ module _ (b : BusState) where
   closed_hears (Some path) v w = tt
 
   -- each move of a front with unfinished requests
-  hears_at : (s : FrontStage) (v : FrontView) (port : ℕ) (d : Directory) → key_of d.keys back_state ≡ Some (state_text b) → RestsAt (front_action v.state v.closing false (Some b)) v.state b
+  hears_at : (s : FrontBusStage) (v : FrontView) (port : ℕ) (d : Directory) → key_of d.keys back_state ≡ Some (state_text b) → RestsAt (front_action v.state v.closing false (Some b)) v.state b
       → IsFrontWrite s → FrontSees s v.closing v.state v.gone b d.front → HeardAt s v.state b d.front
       → Hears (step_at s (at s v) false (front_answered (ask_at s v) port d)) (front_done (ask_at s v) d).front
   hears_at stage.Start v port d shown rests writes sees h = rest_sees v.state b (with_watch d.front back_state) (inl (ap (λ (u : Watches). with_watch u back_state) sees))
@@ -222,7 +222,7 @@ back_rests state.Initialising a d b h = back_leaves a d b state.Initialising h
 back_rests state.Initialised a d b h = back_leaves a d b state.InitWait h
 back_rests own a d b h = tt
 
-back_hears : (s : FrontStage) (own : BusState) (a : BackBusAsk) (d : Directory) (b : BusState) → HeardAt s own b d.front → HeardAt s own (back_own a b) (back_done a d).front
+back_hears : (s : FrontBusStage) (own : BusState) (a : BackBusAsk) (d : Directory) (b : BusState) → HeardAt s own b d.front → HeardAt s own (back_own a b) (back_done a d).front
 back_hears stage.Rest own a d b h = back_rests own a d b h
 back_hears s own a d b h = tt
 
@@ -245,7 +245,7 @@ module _ (f : Features) (d : DiskFacts) (n : Negotiation) where
   front_heard idle port busy h known =
       subst (λ (i : Bool). IsHeard (front_moved i port n)) (sym busy)
       (subst
-      (λ (s : FrontStage). HeardAt (step_at s (at s n.front) false (front_answered (ask_at s n.front) port n.keys)).stage (step_at s (at s n.front) false (front_answered (ask_at s n.front) port n.keys)).state n.back.state (front_done (ask_at s n.front) n.keys).front)
+      (λ (s : FrontBusStage). HeardAt (step_at s (at s n.front) false (front_answered (ask_at s n.front) port n.keys)).stage (step_at s (at s n.front) false (front_answered (ask_at s n.front) port n.keys)).state n.back.state (front_done (ask_at s n.front) n.keys).front)
       (sym (due_busy n.front.stage n.front))
       (hears_at n.back.state n.front.stage n.front port n.keys h.states.back (act_rests n.back.state n.front.state n.front.closing shows.honest h.front.state_after shows.connected) h.front.writes h.front_sees known))
     where
@@ -295,7 +295,7 @@ rest_late state.Closing b w honest none h other = omega arith
 rest_late state.Closed b w honest none h other = omega arith
 rest_late own b w honest none h other = absurd honest
 
-waits_late : (s : FrontStage) (v : FrontView) (b : BusState) (w : Watches) → IsTimely s v.state → IsFrontState v.state → stage_needs s ≤ state_number b → (6 ≤ state_number b → 5 ≤ state_number v.state)
+waits_late : (s : FrontBusStage) (v : FrontView) (b : BusState) (w : Watches) → IsTimely s v.state → IsFrontState v.state → stage_needs s ≤ state_number b → (6 ≤ state_number b → 5 ≤ state_number v.state)
     → has_pending w ≡ false → HeardAt s v.state b w → SettledBack b v.state ⊎ (b ≡ state.Closed) → IsWait (ask_at s v) → 4 ≤ state_number v.state
 waits_late stage.Rest v b w timely honest after closed none h other waits = rest_late v.state b w honest none h other
 waits_late stage.Closed v b w timely honest after closed none h other waits = rw timely (omega arith)
@@ -308,7 +308,7 @@ heard_rests f d n rest h known =
     let shows = back_shows f d n h in
     let back_waits = subst (λ (a : BackBusAsk). IsBackWait a) (sym rest.back_waits) tt in
     let other = back_is_now n.back n.front.state n.keys.back h.back_sound.placed rest.back_taken h.back_sees back_waits in
-    let front_waits = subst (λ (s : FrontStage). IsWait (ask_at s n.front)) (due_busy n.front.stage n.front) (subst (λ (a : FrontBusAsk). IsWait a) (sym rest.front_waits) tt) in
+    let front_waits = subst (λ (s : FrontBusStage). IsWait (ask_at s n.front)) (due_busy n.front.stage n.front) (subst (λ (a : FrontBusAsk). IsWait a) (sym rest.front_waits) tt) in
     waits_late n.front.stage n.front n.back.state n.keys.front h.front_sound.timely h.front.own h.front.stage_after shows.closed rest.front_taken known other front_waits
 
 -- so in each run

@@ -6,8 +6,8 @@ use Rattle.key_directory.specs.Directory.{Directory, key_of}
 use Rattle.key_directory.specs.Watches.{Watches, no_watches, next_watch, with_watch, taken, fired, has_pending, same_path}
 use Rattle.key_directory.specs.Paths.{is_at_or_under}
 use Rattle.std.specs.List.{list_any, filter}
-use Rattle.xenbus_state.specs.declared.stage.BackStage.{BackStage}
-use Rattle.xenbus_state.specs.declared.stage.BackStage.TheVariants as back
+use Rattle.xenbus_state.specs.declared.stage.BackBusStage.{BackBusStage}
+use Rattle.xenbus_state.specs.declared.stage.BackBusStage.TheVariants as back
 use Rattle.xenbus_state.specs.declared.front.FrontBusAsk.{FrontBusAsk}
 use Rattle.xenbus_state.specs.declared.front.FrontBusAsk.TheVariants as front_ask
 use Rattle.xenbus_state.specs.States.{state_number}
@@ -20,8 +20,8 @@ use Rattle.xenbus_state.specs.declared.keys.BackKey.{BackKey}
 use Rattle.xenbus_state.specs.declared.keys.BackKey.TheVariants as back_key
 use Rattle.xenbus_state.specs.declared.state.BusState.{BusState}
 use Rattle.xenbus_state.specs.declared.state.BusState.TheVariants as state
-use Rattle.xenbus_state.specs.declared.stage.FrontStage.{FrontStage}
-use Rattle.xenbus_state.specs.declared.stage.FrontStage.TheVariants as front
+use Rattle.xenbus_state.specs.declared.stage.FrontBusStage.{FrontBusStage}
+use Rattle.xenbus_state.specs.declared.stage.FrontBusStage.TheVariants as front
 use Rattle.xenbus_state.specs.declared.table.FrontAction.{FrontAction}
 use Rattle.xenbus_state.specs.declared.table.FrontAction.TheVariants as front_act
 use Rattle.xenbus_state.specs.FrontView.{FrontView, pages_of, ring_order, terms_of}
@@ -46,7 +46,7 @@ use Rattle.negotiation_laws.proofs.Watching.{front_key_apart}
 use Rattle.xenbus_state.proofs.Powers.{few_pages}
 
 -- the pages and words at hand are few
-abbrev pub IsLow : FrontStage → Type 0
+abbrev pub IsLow : FrontBusStage → Type 0
 IsLow (front.RingWord word) = word < 16
 IsLow (front.Grant page) = page < 16
 IsLow (front.EndGrant page) = page < 16
@@ -54,7 +54,7 @@ IsLow (front.Publish (key.RingRefOf page)) = page < 16
 IsLow s = Unit {0}
 
 -- a step of a program lowers what is left of it
-record Falls (s : FrontStage) (own : BusState) (w : FrontView) : Type 0 where
+record Falls (s : FrontBusStage) (own : BusState) (w : FrontView) : Type 0 where
   less : front_left w.stage w.state < front_left s own
   rests : front_reading w.stage ≡ 0
 
@@ -119,14 +119,14 @@ start_falls : (v : FrontView) → v.state ≡ state.Initialising → Falls front
 start_falls v e = record { less = rw e (omega arith); rests = refl }
 
 -- a stage of a program
-abbrev pub IsProgram : FrontStage → Type 0
+abbrev pub IsProgram : FrontBusStage → Type 0
 IsProgram front.Rest = ⊥
 IsProgram front.ReadState = ⊥
 IsProgram front.Closed = ⊥
 IsProgram (front.Broken word) = ⊥
 IsProgram s = Unit {0}
 
-front_falls : (s : FrontStage) (v : FrontView) (idle : Bool) (port : ℕ) (d : Directory) → IsProgram s → IsLow s → IsFrontWrite s
+front_falls : (s : FrontBusStage) (v : FrontView) (idle : Bool) (port : ℕ) (d : Directory) → IsProgram s → IsLow s → IsFrontWrite s
     → front_sound.IsTimely s v.state → Falls s v.state (front_step.step_at s (front_step.at s v) idle (front_answered (front_asks.ask_at s v) port d))
 front_falls front.Start v idle port d program low writes timely = start_falls v timely
 front_falls (front.ReadFeature k) v idle port d program low writes timely = feature_falls k (count_read (key_of d.keys (back_path k))) v
@@ -142,7 +142,7 @@ front_falls front.ClosePort v idle port d program low writes timely = record { l
 front_falls s v idle port d program low writes timely = absurd program
 
 -- what is due is no more than what is left at rest
-due_falls : (s : FrontStage) (v : FrontView) (idle : Bool) → IsFrontState v.state → front_sound.IsTimely s v.state → front_left (due_at s v idle) v.state ≤ front_left s v.state
+due_falls : (s : FrontBusStage) (v : FrontView) (idle : Bool) → IsFrontState v.state → front_sound.IsTimely s v.state → front_left (due_at s v idle) v.state ≤ front_left s v.state
 due_falls front.Rest v idle honest low = by_test (v.closing && idle)
   where
     leaves : (gone : Bool) (port : Option ℕ) → front_left (leaving gone port) state.Closing ≤ 20
@@ -164,7 +164,7 @@ due_falls front.Rest v idle honest low = by_test (v.closing && idle)
 due_falls s v idle honest timely = omega arith
 
 -- what is at hand is low
-due_low : (s : FrontStage) (v : FrontView) (idle : Bool) (texts : FrontKey → Option (List ℕ)) → front_sound.IsPlaced s v
+due_low : (s : FrontBusStage) (v : FrontView) (idle : Bool) (texts : FrontKey → Option (List ℕ)) → front_sound.IsPlaced s v
     → FrontSaid s v.state v.port (terms_of v) texts → ring_order v ≤ 4 → IsLow (due_at s v idle)
 due_low (front.RingWord word) v idle texts placed said few = placed
 due_low (front.Grant page) v idle texts placed said few = (let high = few_pages (ring_order v) few in omega arith)
@@ -210,12 +210,12 @@ set_more w path = by_test (list_any (λ watch. same_path path watch) w.pending)
     by_test false = simp length-append (omega arith)
 
 -- the front's watch under a write of the front, the back's under one of the back
-pub front_same : (other : List ℕ) (s : FrontStage) (closing : Bool) (own : BusState) (gone : Bool) (b : BusState) (w : Watches)
+pub front_same : (other : List ℕ) (s : FrontBusStage) (closing : Bool) (own : BusState) (gone : Bool) (b : BusState) (w : Watches)
     → is_at_or_under back_state other ≡ false → FrontSees s closing own gone b w → length (fired w other).pending ≡ length w.pending
 front_same other front.Start closing own gone b w apart h = none_same w other h
 front_same other s closing own gone b w apart h = sees_same back_state other w (FrontHeard s closing own gone b) apart h
 
-pub back_same : (other : List ℕ) (s : BackStage) (own fs : BusState) (w : Watches) → is_at_or_under front_state other ≡ false → BackSees s own fs w
+pub back_same : (other : List ℕ) (s : BackBusStage) (own fs : BusState) (w : Watches) → is_at_or_under front_state other ≡ false → BackSees s own fs w
     → length (fired w other).pending ≡ length w.pending
 back_same other (back.Publish k) own fs w apart h = none_same w other h
 back_same other (back.WriteState state.InitWait) own fs w apart h = none_same w other h
@@ -223,12 +223,12 @@ back_same other back.Watch own fs w apart h = none_same w other h
 back_same other s own fs w apart h = sees_same front_state other w (BackHeard s own fs) apart h
 
 -- and under a write of the other's state
-pub front_more : (s : FrontStage) (closing : Bool) (own : BusState) (gone : Bool) (b : BusState) (w : Watches) → FrontSees s closing own gone b w
+pub front_more : (s : FrontBusStage) (closing : Bool) (own : BusState) (gone : Bool) (b : BusState) (w : Watches) → FrontSees s closing own gone b w
     → length (fired w back_state).pending ≤ length w.pending + 1
 front_more front.Start closing own gone b w h = (let same = none_same w back_state h in omega arith)
 front_more s closing own gone b w h = sees_more back_state back_state w (FrontHeard s closing own gone b) refl h
 
-pub back_more : (s : BackStage) (own fs : BusState) (w : Watches) → BackSees s own fs w → length (fired w front_state).pending ≤ length w.pending + 1
+pub back_more : (s : BackBusStage) (own fs : BusState) (w : Watches) → BackSees s own fs w → length (fired w front_state).pending ≤ length w.pending + 1
 back_more (back.Publish k) own fs w h = (let same = none_same w front_state h in omega arith)
 back_more (back.WriteState state.InitWait) own fs w h = (let same = none_same w front_state h in omega arith)
 back_more back.Watch own fs w h = (let same = none_same w front_state h in omega arith)
@@ -242,7 +242,7 @@ abbrev pub IsFrontWait : FrontBusAsk → Type 0
 IsFrontWait front_ask.Wait = Unit {0}
 IsFrontWait a = ⊥
 
-front_fires : (a : FrontBusAsk) (d : Directory) (s : FrontStage) (closing : Bool) (fs : BusState) (gone : Bool) (b : BusState) (q : BackStage)
+front_fires : (a : FrontBusAsk) (d : Directory) (s : FrontBusStage) (closing : Bool) (fs : BusState) (gone : Bool) (b : BusState) (q : BackBusStage)
     → (IsFrontWait a → ⊥) → FrontSees s closing fs gone b d.front → BackSees q b fs d.back → pendings (front_done a d) ≤ pendings d + 1
 front_fires front_ask.Wait d s closing fs gone b q no_wait f g = absurd (no_wait tt)
 front_fires front_ask.Watch d s closing fs gone b q no_wait f g = (let more = set_more d.front back_state in omega arith)
@@ -314,7 +314,7 @@ read_sum : (less more most reads before here there other : ℕ) → less ≤ mor
 read_sum less more most reads before here there other a b c e = omega arith
 
 module _ (f : Features) (d : DiskFacts) (t : Negotiation) where
-  program_left : (s : FrontStage) (idle : Bool) (port : ℕ) (other : ℕ) → IsProgram s → (IsFrontWait (front_asks.ask_at s t.front) → ⊥)
+  program_left : (s : FrontBusStage) (idle : Bool) (port : ℕ) (other : ℕ) → IsProgram s → (IsFrontWait (front_asks.ask_at s t.front) → ⊥)
       → IsLow s → front_sound.IsTimely s t.front.state → IsFrontWrite s → front_left s t.front.state ≤ front_left t.front.stage t.front.state → Holds f d t
       → let u = front_step.step_at s (front_step.at s t.front) idle (front_answered (front_asks.ask_at s t.front) port t.keys) in let k = front_done (front_asks.ask_at s t.front) t.keys in
       one_if (front_goes (front_asks.ask_at s t.front) t.keys.front) + (3 * front_left u.stage u.state + front_reading u.stage + 2 * length k.front.pending + (other + 2 * length k.back.pending))
@@ -325,7 +325,7 @@ module _ (f : Features) (d : DiskFacts) (t : Negotiation) where
       program_sum _ _ _ _ _ (front_reading t.front.stage) _ _ _ _ other (one_at_most (front_goes (front_asks.ask_at s t.front) t.keys.front)) falls.less begun falls.rests fires
 
   -- all stages together
-  Lowers : FrontStage → (idle : Bool) (port : ℕ) (other : ℕ) → Type 0
+  Lowers : FrontBusStage → (idle : Bool) (port : ℕ) (other : ℕ) → Type 0
   Lowers s idle port other =
       let u = front_step.step_at s (front_step.at s t.front) idle (front_answered (front_asks.ask_at s t.front) port t.keys) in let k = front_done (front_asks.ask_at s t.front) t.keys in
       one_if (front_goes (front_asks.ask_at s t.front) t.keys.front) + (3 * front_left u.stage u.state + front_reading u.stage + 2 * length k.front.pending + (other + 2 * length k.back.pending))
@@ -339,7 +339,7 @@ module _ (f : Features) (d : DiskFacts) (t : Negotiation) where
       (acted_reads (front_action t.front.state t.front.closing idle (Some t.back.state)) t.front idle t.back.state (front_acts_now f d t idle h)) in
       read_sum _ (front_rest_left t.front.state) (front_left t.front.stage t.front.state) _ (front_reading t.front.stage) (length t.keys.front.pending) (length t.keys.back.pending) other reads.less begun reads.rests reading
 
-  lowers_at : (s : FrontStage) (idle : Bool) (port : ℕ) (other : ℕ) → IsLow s → front_sound.IsTimely s t.front.state → IsFrontWrite s
+  lowers_at : (s : FrontBusStage) (idle : Bool) (port : ℕ) (other : ℕ) → IsLow s → front_sound.IsTimely s t.front.state → IsFrontWrite s
       → front_left s t.front.state ≤ front_left t.front.stage t.front.state → front_reading s ≤ front_reading t.front.stage
       → FrontSees s t.front.closing t.front.state t.front.gone t.back.state t.keys.front → Holds f d t → Lowers s idle port other
   unfolding Lowers
@@ -353,7 +353,7 @@ module _ (f : Features) (d : DiskFacts) (t : Negotiation) where
   lowers_at front.Start idle port other low timely writes begun reading sees h = program_left front.Start idle port other tt (λ w. w) low timely writes begun h
   lowers_at s idle port other low timely writes begun reading sees h = program_left s idle port other tt (λ w. w) low timely writes begun h
 
-due_reading : (s : FrontStage) (v : FrontView) (idle : Bool) → front_reading (due_at s v idle) ≤ front_reading s
+due_reading : (s : FrontBusStage) (v : FrontView) (idle : Bool) → front_reading (due_at s v idle) ≤ front_reading s
 due_reading front.Rest v idle = by_test (v.closing && idle)
   where
     leaves : (gone : Bool) (port : Option ℕ) → front_reading (leaving gone port) ≤ 0

@@ -13,10 +13,10 @@ use Rattle.xenbus_state.specs.declared.offer.DiskFacts.{DiskFacts}
 use Rattle.xenbus_state.specs.declared.values.FrontTerms.{FrontTerms}
 use Rattle.xenbus_state.specs.declared.state.BusState.{BusState}
 use Rattle.xenbus_state.specs.declared.state.BusState.TheVariants as state
-use Rattle.xenbus_state.specs.declared.stage.FrontStage.{FrontStage}
-use Rattle.xenbus_state.specs.declared.stage.FrontStage.TheVariants as front
-use Rattle.xenbus_state.specs.declared.stage.BackStage.{BackStage}
-use Rattle.xenbus_state.specs.declared.stage.BackStage.TheVariants as back
+use Rattle.xenbus_state.specs.declared.stage.FrontBusStage.{FrontBusStage}
+use Rattle.xenbus_state.specs.declared.stage.FrontBusStage.TheVariants as front
+use Rattle.xenbus_state.specs.declared.stage.BackBusStage.{BackBusStage}
+use Rattle.xenbus_state.specs.declared.stage.BackBusStage.TheVariants as back
 use Rattle.xenbus_state.specs.declared.front.FrontBusAsk.{FrontBusAsk}
 use Rattle.xenbus_state.specs.declared.front.FrontBusAsk.TheVariants as front_ask
 use Rattle.xenbus_state.specs.declared.back.BackBusAsk.{BackBusAsk}
@@ -71,7 +71,7 @@ pub record IsConnected (v : BackView) (n : ℕ) (port : Option ℕ) (terms : Fro
   pub grefs_read : v.grefs ≡ grefs_of (2 ^ terms.order)
 
 module _ (v : BackView) (n : ℕ) (port : Option ℕ) (terms : FrontTerms) (f : Features) (d : DiskFacts) (texts : BackKey → Option (List ℕ)) where
-  connected_at : (s : BackStage) → v.state ≡ state.Connected → IsPlaced s v → BackHolds s v n port terms f d texts → IsConnected v n port terms f d texts
+  connected_at : (s : BackBusStage) → v.state ≡ state.Connected → IsPlaced s v → BackHolds s v n port terms f d texts → IsConnected v n port terms f d texts
   connected_at back.Rest e placed h =
       let read = h.read (rw e refl) in record { serving = h.serving_after (rw e refl); facts = subst (λ (own : BusState). FactsAt own texts f d) e h.said.1; terms_read = read.0; grefs_read = read.1 }
   connected_at back.ReadState e placed h =
@@ -136,7 +136,7 @@ unmap_asked [] texts terms = tt
 unmap_asked (page ∷ pages) texts terms = tt
 
 module _ (f : Features) (d : DiskFacts) (t : Negotiation) where
-  key_asked : (s : BackStage) → IsPlaced s t.back → BackHolds s t.back (state_number t.front.state) t.front.port (terms_of t.front) f d (back_texts t.keys.keys)
+  key_asked : (s : BackBusStage) → IsPlaced s t.back → BackHolds s t.back (state_number t.front.state) t.front.port (terms_of t.front) f d (back_texts t.keys.keys)
       → Holds f d t → KeyAsked (back_asks.ask_at s t.back) (front_texts t.keys.keys) (terms_of t.front)
   key_asked (back.ReadKey k) placed held h =
       let shows = front_shows f d t h in
@@ -165,7 +165,7 @@ unmap_maps : (pages : List Mapping) (v : BackView) (terms : FrontTerms) → MapA
 unmap_maps [] v terms = tt
 unmap_maps (page ∷ pages) v terms = tt
 
-map_asked : (s : BackStage) (v : BackView) (n : ℕ) (port : Option ℕ) (terms : FrontTerms) (f : Features) (d : DiskFacts) (texts : BackKey → Option (List ℕ))
+map_asked : (s : BackBusStage) (v : BackView) (n : ℕ) (port : Option ℕ) (terms : FrontTerms) (f : Features) (d : DiskFacts) (texts : BackKey → Option (List ℕ))
     → BackHolds s v n port terms f d texts → MapAsked (back_asks.ask_at s v) v terms
 map_asked back.MapPage v n port terms f d texts h = h.read refl
 map_asked back.UnmapPage v n port terms f d texts h = unmap_maps v.pages v terms
@@ -188,7 +188,7 @@ maps_by_terms r gref e =
 
 -- what the front has read
 module _ (v : FrontView) (n : ℕ) (f : Features) (d : DiskFacts) (texts : FrontKey → Option (List ℕ)) where
-  offer_at : (s : FrontStage) → v.state ≡ state.Initialised → front_sound.IsTimely s v.state → FrontHolds s v n f d texts → v.features ≡ f
+  offer_at : (s : FrontBusStage) → v.state ≡ state.Initialised → front_sound.IsTimely s v.state → FrontHolds s v n f d texts → v.features ≡ f
   offer_at (front.ReadFeature k) e timely h = absurd (unlike v.state state.Initialising state.Initialised timely e (omega arith))
   offer_at (front.RingWord word) e timely h = h.read
   offer_at (front.Grant page) e timely h = h.read
@@ -199,7 +199,7 @@ module _ (v : FrontView) (n : ℕ) (f : Features) (d : DiskFacts) (texts : Front
   offer_at (front.WriteState state.Connected) e timely h = h.read.0
   offer_at s e timely h = subst (λ (own : BusState). ReadAt own v.features f v.disk d) e h.read
 
-  disk_at : (s : FrontStage) → v.state ≡ state.Connected → front_sound.IsTimely s v.state → FrontHolds s v n f d texts → (v.features ≡ f) × (v.disk ≡ d)
+  disk_at : (s : FrontBusStage) → v.state ≡ state.Connected → front_sound.IsTimely s v.state → FrontHolds s v n f d texts → (v.features ≡ f) × (v.disk ≡ d)
   disk_at (front.ReadFeature k) e timely h = absurd (unlike v.state state.Initialising state.Connected timely e (omega arith))
   disk_at (front.RingWord word) e timely h = absurd (unlike v.state state.Initialising state.Connected timely e (omega arith))
   disk_at (front.Grant page) e timely h = absurd (unlike v.state state.Initialising state.Connected timely e (omega arith))
@@ -247,7 +247,7 @@ abbrev BackKeyAsked : FrontBusAsk → (BackKey → Option (List ℕ)) → Featur
 BackKeyAsked (front_ask.GetKey k) texts f d = BackSays texts f d k
 BackKeyAsked a texts f d = Unit {0}
 
-back_key_asked : (f : Features) (d : DiskFacts) (t : Negotiation) (s : FrontStage) → front_sound.IsTimely s t.front.state
+back_key_asked : (f : Features) (d : DiskFacts) (t : Negotiation) (s : FrontBusStage) → front_sound.IsTimely s t.front.state
     → FrontHolds s t.front (state_number t.back.state) f d (front_texts t.keys.keys) → Holds f d t
     → BackKeyAsked (front_asks.ask_at s t.front) (back_texts t.keys.keys) f d
 back_key_asked f d t (front.ReadFeature k) timely held h = feature_said k t.front.features f d (back_texts t.keys.keys) held.read ((back_shows f d t h).features held.stage_after)

@@ -12,8 +12,8 @@ use Rattle.xenbus_state.specs.declared.keys.BackKey.{BackKey}
 use Rattle.xenbus_state.specs.declared.keys.BackKey.TheVariants as back_key
 use Rattle.xenbus_state.specs.declared.state.BusState.{BusState}
 use Rattle.xenbus_state.specs.declared.state.BusState.TheVariants as state
-use Rattle.xenbus_state.specs.declared.stage.FrontStage.{FrontStage}
-use Rattle.xenbus_state.specs.declared.stage.FrontStage.TheVariants as stage
+use Rattle.xenbus_state.specs.declared.stage.FrontBusStage.{FrontBusStage}
+use Rattle.xenbus_state.specs.declared.stage.FrontBusStage.TheVariants as stage
 use Rattle.xenbus_state.specs.declared.table.FrontAction.{FrontAction}
 use Rattle.xenbus_state.specs.declared.table.FrontAction.TheVariants as action
 use Rattle.xenbus_state.specs.FrontView.{FrontView, ring_order, pages_of, terms_of}
@@ -54,7 +54,7 @@ module _ (b : BusState) where
   due_resting false v idle w e h = h
 
   -- so at each stage
-  pub due_sees : (s : FrontStage) (v : FrontView) (idle : Bool) (w : Watches) → FrontSees s v.closing v.state v.gone b w → FrontSees (due_at s v idle) v.closing v.state v.gone b w
+  pub due_sees : (s : FrontBusStage) (v : FrontView) (idle : Bool) (w : Watches) → FrontSees s v.closing v.state v.gone b w → FrontSees (due_at s v idle) v.closing v.state v.gone b w
   due_sees stage.Rest v idle w h = due_resting (v.closing && idle) v idle w refl h
   due_sees s v idle w h = h
 
@@ -166,7 +166,7 @@ module _ (b : BusState) where
       subst (λ (r : Option BusState). Sight (acted (front_action v.state v.closing idle r) (at stage.ReadState v)) b w) (sym (state_shown o b shown)) (acted_sees (front_action v.state v.closing idle (Some b)) v idle w acts h)
 
   -- each move of the front
-  pub front_sees_at : (s : FrontStage) (v : FrontView) (idle : Bool) (port : ℕ) (d : Directory)
+  pub front_sees_at : (s : FrontBusStage) (v : FrontView) (idle : Bool) (port : ℕ) (d : Directory)
       → key_of d.keys back_state ≡ Some (state_text b) → ActsFor (front_action v.state v.closing idle (Some b)) v.state v.closing v.gone idle b
       → IsFrontWrite s → (v.closing ≡ false → IsOpenAt s) → FrontSees s v.closing v.state v.gone b d.front
       → Sight (step_at s (at s v) idle (front_answered (ask_at s v) port d)) b (front_done (ask_at s v) d).front
@@ -207,7 +207,7 @@ fact_keeps : (k : BackKey) (o : Option ℕ) (v : FrontView) → KeepsTerms v (fa
 fact_keeps k None v = record { port = refl; terms = refl }
 fact_keeps k (Some m) v = record { port = refl; terms = refl }
 
-woken_keeps : (s : FrontStage) (o : Option (List ℕ)) (v : FrontView) (idle : Bool) → KeepsTerms v (step_at s (at s v) idle (front_woken o))
+woken_keeps : (s : FrontBusStage) (o : Option (List ℕ)) (v : FrontView) (idle : Bool) → KeepsTerms v (step_at s (at s v) idle (front_woken o))
 woken_keeps stage.Rest None v idle = record { port = refl; terms = refl }
 woken_keeps stage.Rest (Some path) v idle = record { port = refl; terms = refl }
 woken_keeps s None v idle = record { port = refl; terms = refl }
@@ -217,7 +217,7 @@ early : (own : BusState) → own ≡ state.Initialising → 3 ≤ state_number o
 early own e late = let low : state_number own ≡ 1 = rw e refl in omega arith
 
 -- at each move
-pub front_keeps_terms : (s : FrontStage) (v : FrontView) (idle : Bool) (port : ℕ) (d : Directory) (n : ℕ) → IsTimely s v.state
+pub front_keeps_terms : (s : FrontBusStage) (v : FrontView) (idle : Bool) (port : ℕ) (d : Directory) (n : ℕ) → IsTimely s v.state
     → 3 ≤ state_number v.state → stage_needs s ≤ n → n < 6 → KeepsTerms v (step_at s (at s v) idle (front_answered (ask_at s v) port d))
 front_keeps_terms stage.Start v idle port d n timely late after low = record { port = refl; terms = refl }
 front_keeps_terms stage.Rest v idle port d n timely late after low = woken_keeps stage.Rest (next_watch d.front) v idle

@@ -19,8 +19,8 @@ use Rattle.xenbus_state.specs.declared.offer.DiskFacts.{DiskFacts}
 use Rattle.xenbus_state.specs.declared.values.FrontTerms.{FrontTerms}
 use Rattle.xenbus_state.specs.declared.state.BusState.{BusState}
 use Rattle.xenbus_state.specs.declared.state.BusState.TheVariants as state
-use Rattle.xenbus_state.specs.declared.stage.FrontStage.{FrontStage}
-use Rattle.xenbus_state.specs.declared.stage.FrontStage.TheVariants as stage
+use Rattle.xenbus_state.specs.declared.stage.FrontBusStage.{FrontBusStage}
+use Rattle.xenbus_state.specs.declared.stage.FrontBusStage.TheVariants as stage
 use Rattle.xenbus_state.specs.declared.table.FrontAction.{FrontAction}
 use Rattle.xenbus_state.specs.declared.table.FrontAction.TheVariants as action
 use Rattle.xenbus_state.specs.FrontView.{FrontView, ring_order, pages_of, terms_of}
@@ -56,7 +56,7 @@ module _ (n : ℕ) (f : Features) (disk : DiskFacts) where
   Stands v keys = FrontHolds v.stage v n f disk (front_texts keys)
 
   -- to another stage, with nothing else changed
-  moves : (s t : FrontStage) (v : FrontView) (before texts : FrontKey → Option (List ℕ)) → FrontHolds s v n f disk before → IsFrontWrite t → stage_needs t ≤ n
+  moves : (s t : FrontBusStage) (v : FrontView) (before texts : FrontKey → Option (List ℕ)) → FrontHolds s v n f disk before → IsFrontWrite t → stage_needs t ≤ n
       → (v.closing ≡ false → IsOpenAt t)
       → FrontSaid t v.state v.port (terms_of v) texts → FrontRead t v.state v.features f v.disk disk → FrontHolds t (at t v) n f disk texts
   moves s t v before texts h writes after leaves_open said read = record {
@@ -71,7 +71,7 @@ module _ (n : ℕ) (f : Features) (disk : DiskFacts) where
     read = read;
   }
 
-  goes : (s t : FrontStage) (v : FrontView) (texts : FrontKey → Option (List ℕ)) → FrontHolds s v n f disk texts → IsFrontWrite t → stage_needs t ≤ n
+  goes : (s t : FrontBusStage) (v : FrontView) (texts : FrontKey → Option (List ℕ)) → FrontHolds s v n f disk texts → IsFrontWrite t → stage_needs t ≤ n
       → (v.closing ≡ false → IsOpenAt t)
       → FrontSaid t v.state v.port (terms_of v) texts → FrontRead t v.state v.features f v.disk disk → FrontHolds t (at t v) n f disk texts
   goes s t v texts = moves s t v texts texts
@@ -103,7 +103,7 @@ module _ (n : ℕ) (f : Features) (disk : DiskFacts) where
   due_resting false v idle texts e h = h
 
   -- so at each stage
-  pub due_holds : (s : FrontStage) (v : FrontView) (idle : Bool) (texts : FrontKey → Option (List ℕ)) → FrontHolds s v n f disk texts
+  pub due_holds : (s : FrontBusStage) (v : FrontView) (idle : Bool) (texts : FrontKey → Option (List ℕ)) → FrontHolds s v n f disk texts
       → FrontHolds (due_at s v idle) v n f disk texts
   due_holds stage.Rest v idle texts h = due_resting (v.closing && idle) v idle texts refl h
   due_holds s v idle texts h = h
@@ -375,7 +375,7 @@ module _ (n : ℕ) (f : Features) (disk : DiskFacts) where
   broken_holds word (Some path) v idle keys h = goes (stage.Broken word) (stage.Broken word) v _ h tt h.stage_after (λ o. (h.leaves_open o).1) h.said h.read
 
   -- each move of the front
-  pub front_holds_at : (s : FrontStage) (v : FrontView) (idle : Bool) (port : ℕ) (d : Directory) (b : BusState) → n ≡ state_number b
+  pub front_holds_at : (s : FrontBusStage) (v : FrontView) (idle : Bool) (port : ℕ) (d : Directory) (b : BusState) → n ≡ state_number b
       → IsTimely s v.state → port < 2 ^ 32 → ring_order v ≤ 4 → BackShows d.keys b v.state f disk → FrontHolds s v n f disk (front_texts d.keys)
       → Stands (step_at s (at s v) idle (front_answered (ask_at s v) port d)) (front_done (ask_at s v) d).keys
   front_holds_at stage.Start v idle port d b e timely fits few shows h = goes stage.Start stage.Rest v _ h tt (omega arith) (λ o. tt) (rw timely h.said) (rw timely tt)

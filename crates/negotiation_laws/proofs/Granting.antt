@@ -19,10 +19,10 @@ use Rattle.xenbus_state.specs.declared.offer.DiskFacts.{DiskFacts}
 use Rattle.xenbus_state.specs.declared.values.FrontTerms.{FrontTerms}
 use Rattle.xenbus_state.specs.declared.state.BusState.{BusState}
 use Rattle.xenbus_state.specs.declared.state.BusState.TheVariants as state
-use Rattle.xenbus_state.specs.declared.stage.FrontStage.{FrontStage}
-use Rattle.xenbus_state.specs.declared.stage.FrontStage.TheVariants as front
-use Rattle.xenbus_state.specs.declared.stage.BackStage.{BackStage}
-use Rattle.xenbus_state.specs.declared.stage.BackStage.TheVariants as back
+use Rattle.xenbus_state.specs.declared.stage.FrontBusStage.{FrontBusStage}
+use Rattle.xenbus_state.specs.declared.stage.FrontBusStage.TheVariants as front
+use Rattle.xenbus_state.specs.declared.stage.BackBusStage.{BackBusStage}
+use Rattle.xenbus_state.specs.declared.stage.BackBusStage.TheVariants as back
 use Rattle.xenbus_state.specs.declared.table.FrontAction.{FrontAction}
 use Rattle.xenbus_state.specs.declared.table.FrontAction.TheVariants as front_act
 use Rattle.xenbus_state.specs.declared.front.FrontBusAsk.{FrontBusAsk}
@@ -59,7 +59,7 @@ GrantedAt state.Initialised port pages held = held ≡ numbers_from 0 pages
 GrantedAt state.Connected port pages held = held ≡ numbers_from 0 pages
 GrantedAt own port pages held = IsSome port → held ≡ numbers_from 0 pages
 
-abbrev Granted : FrontStage → BusState → Option ℕ → ℕ → List ℕ → Type 0
+abbrev Granted : FrontBusStage → BusState → Option ℕ → ℕ → List ℕ → Type 0
 Granted front.Start own port pages held = held ≡ []
 Granted (front.ReadFeature k) own port pages held = held ≡ []
 Granted (front.RingWord word) own port pages held = held ≡ []
@@ -74,7 +74,7 @@ Granted front.ReadState own port pages held = GrantedAt own port pages held
 Granted (front.WriteState state.Closing) own port pages held = GrantedAt own port pages held
 Granted s own port pages held = Unit {0}
 
-abbrev Grants : FrontStage → FrontView → List ℕ → Type 0
+abbrev Grants : FrontBusStage → FrontView → List ℕ → Type 0
 Grants s v held = Granted s v.state v.port (pages_of v) held
 
 -- what is due is begun
@@ -87,7 +87,7 @@ due_closing state.Closing v held h = by_gone v.gone v.port h
     by_gone true None h = tt
 due_closing own v held h = h
 
-due_grants : (s : FrontStage) (v : FrontView) (idle : Bool) (held : List ℕ) → Grants s v held → Grants (due_at s v idle) v held
+due_grants : (s : FrontBusStage) (v : FrontView) (idle : Bool) (held : List ℕ) → Grants s v held → Grants (due_at s v idle) v held
 due_grants front.Rest v idle held h = by_test (v.closing && idle)
   where
     by_test : (closes : Bool) → Grants (if closes then closing_stage v.state v else front.Rest) v held
@@ -175,7 +175,7 @@ others_grant : (port : Option ℕ) (v : FrontView) (held : List ℕ) → Grants 
 others_grant (Some port) v held = tt
 others_grant None v held = tt
 
-woken_grants : (s : FrontStage) (o : Option (List ℕ)) (v : FrontView) (idle : Bool) (held : List ℕ) → Grants s v held
+woken_grants : (s : FrontBusStage) (o : Option (List ℕ)) (v : FrontView) (idle : Bool) (held : List ℕ) → Grants s v held
     → let w = front_step.step_at s (front_step.at s v) idle (front_woken o) in Grants w.stage w held
 woken_grants front.Rest None v idle held h = h
 woken_grants front.Rest (Some path) v idle held h = h
@@ -188,11 +188,11 @@ port_first own port terms texts h e some =
     let unsaid = subst (λ (s : BusState). SaidAt s port terms texts) e h in
     true≢false (sym (subst (λ (o : Option ℕ). IsSome o) unsaid.0 some))
 
-abbrev IsNextPage : FrontStage → FrontView → Type 0
+abbrev IsNextPage : FrontBusStage → FrontView → Type 0
 IsNextPage (front.Grant page) v = page < pages_of v
 IsNextPage s v = Unit {0}
 
-due_page : (s : FrontStage) (v : FrontView) (idle : Bool) → front_sound.IsPlaced s v → IsNextPage (due_at s v idle) v
+due_page : (s : FrontBusStage) (v : FrontView) (idle : Bool) → front_sound.IsPlaced s v → IsNextPage (due_at s v idle) v
 due_page (front.Grant page) v idle h = h
 due_page front.Rest v idle h = by_test (v.closing && idle)
   where
@@ -217,7 +217,7 @@ module _ (f : Features) (d : DiskFacts) (t : Negotiation) where
       subst (λ (r : Option BusState). let w = front_step.acted (front_action t.front.state t.front.closing idle r) (front_step.at front.ReadState t.front) in Grants w.stage w held) (sym (state_shown (key_of t.keys.keys back_state) t.back.state h.states.back))
       (acted_grants (front_action t.front.state t.front.closing idle (Some t.back.state)) t.front idle t.back.state held (front_acts_now f d t idle h) g)
 
-  grants_at : (s : FrontStage) (idle : Bool) (port : ℕ) (held : List ℕ) → front_sound.IsTimely s t.front.state → IsNextPage s t.front
+  grants_at : (s : FrontBusStage) (idle : Bool) (port : ℕ) (held : List ℕ) → front_sound.IsTimely s t.front.state → IsNextPage s t.front
       → FrontHolds s t.front (state_number t.back.state) f d (front_texts t.keys.keys) → Holds f d t → Grants s t.front held
       → let w = front_step.step_at s (front_step.at s t.front) idle (front_answered (front_asks.ask_at s t.front) port t.keys) in Grants w.stage w (granted_by (front_asks.ask_at s t.front) held)
   grants_at front.Start idle port held timely page own h g = rw timely g
@@ -267,7 +267,7 @@ all_granted f d (x ∷ xs) t held fits h g = all_granted f d xs (happened x t) (
 early : (own : BusState) → own ≡ state.Initialising → 3 ≤ state_number own → ⊥
 early own e late = let same : state_number own ≡ 1 = ap state_number e in omega arith
 
-ready_granted : (s : FrontStage) (v : FrontView) (n : ℕ) (held : List ℕ) → front_sound.IsTimely s v.state → IsFrontWrite s → stage_needs s ≤ n → n < 6
+ready_granted : (s : FrontBusStage) (v : FrontView) (n : ℕ) (held : List ℕ) → front_sound.IsTimely s v.state → IsFrontWrite s → stage_needs s ≤ n → n < 6
     → 3 ≤ state_number v.state → IsSome v.port → Grants s v held → held ≡ numbers_from 0 (pages_of v)
 ready_granted front.Start v n held timely writes after low late some g = absurd (early v.state timely late)
 ready_granted (front.ReadFeature k) v n held timely writes after low late some g = absurd (early v.state timely late)
@@ -321,7 +321,7 @@ unmap_no_map [] t = tt
 unmap_no_map (page ∷ pages) t = tt
 
 module _ (f : Features) (d : DiskFacts) (t : Negotiation) where
-  maps_at : (s : BackStage) → IsPlaced s t.back → BackHolds s t.back (state_number t.front.state) t.front.port (terms_of t.front) f d (back_texts t.keys.keys)
+  maps_at : (s : BackBusStage) → IsPlaced s t.back → BackHolds s t.back (state_number t.front.state) t.front.port (terms_of t.front) f d (back_texts t.keys.keys)
       → MapsNow (back_asks.ask_at s t.back) t
   maps_at back.MapPage placed held =
       let serving = held.serving_after refl in
@@ -372,7 +372,7 @@ resting_serves own v e h four = absurd h
 too_early : (own s : BusState) → own ≡ s → state_number s < 4 → 4 ≤ state_number own → ⊥
 too_early own s e low high = let same : state_number own ≡ state_number s = ap state_number e in omega arith
 
-serves_at : (s : BackStage) (v : BackView) (n : ℕ) → IsPlaced s v → (is_halting s ≡ true → 5 ≤ n) → n < 5 → 4 ≤ state_number v.state → IsServing v
+serves_at : (s : BackBusStage) (v : BackView) (n : ℕ) → IsPlaced s v → (is_halting s ≡ true → 5 ≤ n) → n < 5 → 4 ≤ state_number v.state → IsServing v
 serves_at back.Rest v n placed halting low four = resting_serves v.state v refl placed four
 serves_at back.ReadState v n placed halting low four = resting_serves v.state v refl placed four
 serves_at (back.Publish k) v n placed halting low four = absurd (too_early v.state state.Initialising placed.0 (omega arith) four)
@@ -395,7 +395,7 @@ abbrev ConnectsNow : FrontBusAsk → BackView → Type 0
 ConnectsNow (front_ask.SetState state.Connected) v = IsServing v
 ConnectsNow a v = Unit {0}
 
-connects_at : (f : Features) (d : DiskFacts) (t : Negotiation) (s : FrontStage) → front_sound.IsTimely s t.front.state
+connects_at : (f : Features) (d : DiskFacts) (t : Negotiation) (s : FrontBusStage) → front_sound.IsTimely s t.front.state
     → FrontHolds s t.front (state_number t.back.state) f d (front_texts t.keys.keys) → Holds f d t → ConnectsNow (front_asks.ask_at s t.front) t.back
 connects_at f d t (front.WriteState state.Connected) timely own h =
     (let low = timely.0 in serves_at t.back.stage t.back (state_number t.front.state) h.back_sound.placed h.back.halting_after (omega arith) own.stage_after)

@@ -15,8 +15,8 @@ use Rattle.xenbus_state.specs.declared.offer.DiskFacts.{DiskFacts}
 use Rattle.xenbus_state.specs.declared.values.FrontTerms.{FrontTerms}
 use Rattle.xenbus_state.specs.declared.state.BusState.{BusState}
 use Rattle.xenbus_state.specs.declared.state.BusState.TheVariants as state
-use Rattle.xenbus_state.specs.declared.stage.BackStage.{BackStage}
-use Rattle.xenbus_state.specs.declared.stage.BackStage.TheVariants as back
+use Rattle.xenbus_state.specs.declared.stage.BackBusStage.{BackBusStage}
+use Rattle.xenbus_state.specs.declared.stage.BackBusStage.TheVariants as back
 use Rattle.xenbus_state.specs.declared.table.BackAction.{BackAction}
 use Rattle.xenbus_state.specs.declared.table.BackAction.TheVariants as back_act
 use Rattle.xenbus_state.specs.declared.back.BackBusAsk.TheVariants as back_ask
@@ -59,7 +59,7 @@ written_serving state.Closing v w has = absurd (has_none v.pages v.bound w.1.pag
 written_serving state.Closed v w has = absurd (has_none v.pages v.bound w.1.pages w.1.bound has)
 written_serving s v w has = absurd w
 
-woken_serving : (s : BackStage) (o : Option (List ℕ)) (v : BackView) → (HasRing v.pages v.bound → serves s v.state ≡ true)
+woken_serving : (s : BackBusStage) (o : Option (List ℕ)) (v : BackView) → (HasRing v.pages v.bound → serves s v.state ≡ true)
     → IsServing (back_step.step_at s (back_step.at s v) (back_woken o))
 woken_serving back.Rest None v k has = k has
 woken_serving back.Rest (Some path) v k has = k has
@@ -106,7 +106,7 @@ module _ (f : Features) (d : DiskFacts) (t : Negotiation) where
       let late = held.serving_after refl in
       (key_holds (state_number t.front.state) t.front.port (terms_of t.front) f d k t.back t.keys.keys placed.2 shows.order shows.fits (shows.said late.0 late.1) held).1
 
-  serving_at : (s : BackStage) (page : Mapping) → IsPlaced s t.back
+  serving_at : (s : BackBusStage) (page : Mapping) → IsPlaced s t.back
       → BackHolds s t.back (state_number t.front.state) t.front.port (terms_of t.front) f d (back_texts t.keys.keys) → Holds f d t
       → (HasRing t.back.pages t.back.bound → serves s t.back.state ≡ true)
       → IsServing (back_step.step_at s (back_step.at s t.back) (back_answered (back_asks.ask_at s t.back) page t.keys))
@@ -125,7 +125,7 @@ module _ (f : Features) (d : DiskFacts) (t : Negotiation) where
   serving_at back.ClosePort page placed held h e has = absurd (has_none t.back.pages false placed.1 refl has)
   serving_at back.Halted page placed held h e has = woken_serving back.Halted (next_watch t.keys.back) t.back e has
 
-  saying_serving : (s : BackStage) (own : BusState) → back_asks.says_closing_at s own ≡ true → serves s state.Closing ≡ true
+  saying_serving : (s : BackBusStage) (own : BusState) → back_asks.says_closing_at s own ≡ true → serves s state.Closing ≡ true
   saying_serving back.Rest state.Connected e = refl
   saying_serving back.ReadState state.Connected e = refl
   saying_serving s own e = absurd (cc)
@@ -159,7 +159,7 @@ run_serving : (r : NegotiationRun) → IsServing (now r).back
 run_serving r = all_serving r.offer r.facts r.happenings (begins r) r.ports (start_holds r.front r.offer r.facts r.within) (λ has. absurd (has_none [] false refl refl has))
 
 -- a back with a port has read all terms
-bound_terms : (s : BackStage) (v : BackView) (terms : FrontTerms) → v.bound ≡ true → IsPlaced s v → BackRead s v.terms terms v.grefs → v.terms ≡ terms
+bound_terms : (s : BackBusStage) (v : BackView) (terms : FrontTerms) → v.bound ≡ true → IsPlaced s v → BackRead s v.terms terms v.grefs → v.terms ≡ terms
 bound_terms (back.ReadKey k) v terms bound placed read = absurd (true≢false (sym bound ∙ placed.1.bound))
 bound_terms back.Watch v terms bound placed read = read.0
 bound_terms s v terms bound placed read = read.0

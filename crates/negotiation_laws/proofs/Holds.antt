@@ -14,10 +14,10 @@ use Rattle.xenbus_state.specs.declared.offer.DiskFacts.{DiskFacts}
 use Rattle.xenbus_state.specs.declared.values.FrontTerms.{FrontTerms}
 use Rattle.xenbus_state.specs.declared.state.BusState.{BusState}
 use Rattle.xenbus_state.specs.declared.state.BusState.TheVariants as state
-use Rattle.xenbus_state.specs.declared.stage.FrontStage.{FrontStage}
-use Rattle.xenbus_state.specs.declared.stage.FrontStage.TheVariants as front
-use Rattle.xenbus_state.specs.declared.stage.BackStage.{BackStage}
-use Rattle.xenbus_state.specs.declared.stage.BackStage.TheVariants as back
+use Rattle.xenbus_state.specs.declared.stage.FrontBusStage.{FrontBusStage}
+use Rattle.xenbus_state.specs.declared.stage.FrontBusStage.TheVariants as front
+use Rattle.xenbus_state.specs.declared.stage.BackBusStage.{BackBusStage}
+use Rattle.xenbus_state.specs.declared.stage.BackBusStage.TheVariants as back
 use Rattle.xenbus_state.specs.declared.front.FrontBusAsk.{FrontBusAsk}
 use Rattle.xenbus_state.specs.declared.front.FrontBusAsk.TheVariants as front_ask
 use Rattle.xenbus_state.specs.declared.back.BackBusAsk.{BackBusAsk}
@@ -102,7 +102,7 @@ due_closing_timely state.Connected v low = (omega arith, omega arith)
 due_closing_timely own v low = absurd (omega arith)
 
 -- so where what is due is begun
-pub due_timely : (s : FrontStage) (v : FrontView) (idle : Bool) → front_sound.IsTimely s v.state → front_sound.IsTimely (due_at s v idle) v.state
+pub due_timely : (s : FrontBusStage) (v : FrontView) (idle : Bool) → front_sound.IsTimely s v.state → front_sound.IsTimely (due_at s v idle) v.state
 due_timely front.Rest v idle h = by_test (v.closing && idle)
   where
     by_test : (closes : Bool) → front_sound.IsTimely (if closes then closing_stage v.state v else front.Rest) v.state
@@ -156,7 +156,7 @@ module _ (f : Features) (d : DiskFacts) (t : Negotiation) where
       front_acts.front_acts t.back.state t.front.state t.front.closing t.front.gone idle shows.honest h.front.own h.front.state_after shows.connected (λ o. (h.front.leaves_open o).0)
 
 -- what is true of the back stays true where the front's state rises and its terms stay
-back_holds_by : (s : BackStage) (v : BackView) (n m : ℕ) (port q : Option ℕ) (terms u : FrontTerms) (f : Features) (d : DiskFacts) (texts more : BackKey → Option (List ℕ))
+back_holds_by : (s : BackBusStage) (v : BackView) (n m : ℕ) (port q : Option ℕ) (terms u : FrontTerms) (f : Features) (d : DiskFacts) (texts more : BackKey → Option (List ℕ))
     → n ≤ m → (serves s v.state ≡ true → (q ≡ port) × (u ≡ terms)) → more ≡ texts → BackHolds s v n port terms f d texts → BackHolds s v m q u f d more
 back_holds_by s v n m port q terms u f d texts more rises keeps same h = record {
   own = h.own;
@@ -168,7 +168,7 @@ back_holds_by s v n m port q terms u f d texts more rises keeps same h = record 
   read = λ e. subst (λ (r : FrontTerms). BackRead s v.terms r v.grefs) (sym (keeps e).1) (h.read e);
 }
 
-front_holds_by : (s : FrontStage) (v : FrontView) (n m : ℕ) (f : Features) (d : DiskFacts) (texts more : FrontKey → Option (List ℕ)) → n ≤ m → more ≡ texts
+front_holds_by : (s : FrontBusStage) (v : FrontView) (n m : ℕ) (f : Features) (d : DiskFacts) (texts more : FrontKey → Option (List ℕ)) → n ≤ m → more ≡ texts
     → FrontHolds s v n f d texts → FrontHolds s v m f d more
 front_holds_by s v n m f d texts more rises same h = record {
   own = h.own;
@@ -219,19 +219,19 @@ front_move_holds f d t idle port fits h =
     }
 
 -- what the back does on reading the front's state now
-pub acts_at : (f : Features) (d : DiskFacts) (t : Negotiation) (s : BackStage) → back_sound.IsPlaced s t.back → t.back.stage ≡ s → Holds f d t → ActsAt s t.back t.front.state
+pub acts_at : (f : Features) (d : DiskFacts) (t : Negotiation) (s : BackBusStage) → back_sound.IsPlaced s t.back → t.back.stage ≡ s → Holds f d t → ActsAt s t.back t.front.state
 acts_at f d t back.ReadState placed e h =
-    let held = subst (λ (s : BackStage). BackHolds s t.back (state_number t.front.state) t.front.port (terms_of t.front) f d (back_texts t.keys.keys)) e h.back in
+    let held = subst (λ (s : BackBusStage). BackHolds s t.back (state_number t.front.state) t.front.port (terms_of t.front) f d (back_texts t.keys.keys)) e h.back in
     back_acts.back_acts t.front.state t.back.state t.back.unplugged t.back h.front.own placed (λ serving. (held.serving_after serving).0)
 acts_at f d t s placed e h = tt
 
 -- a back that says that it closes
-saying_holds : (s : BackStage) (v : BackView) (n : ℕ) (port : Option ℕ) (terms : FrontTerms) (f : Features) (d : DiskFacts) (texts more : BackKey → Option (List ℕ))
+saying_holds : (s : BackBusStage) (v : BackView) (n : ℕ) (port : Option ℕ) (terms : FrontTerms) (f : Features) (d : DiskFacts) (texts more : BackKey → Option (List ℕ))
     → back_asks.says_closing_at s v.state ≡ true → more ≡ texts → BackHolds s v n port terms f d texts
     → BackHolds s (record v { state = state.Closing }) n port terms f d more
 saying_holds s v n port terms f d texts more e same h = by_stage s v.state refl e h.said h.serving_after h.read
   where
-    by_stage : (s : BackStage) (own : BusState) → v.state ≡ own → back_asks.says_closing_at s own ≡ true → BackSaid s own texts f d
+    by_stage : (s : BackBusStage) (own : BusState) → v.state ≡ own → back_asks.says_closing_at s own ≡ true → BackSaid s own texts f d
         → (serves s own ≡ true → (3 ≤ n) × IsSome port) → (serves s own ≡ true → BackRead s v.terms terms v.grefs)
         → BackHolds s (record v { state = state.Closing }) n port terms f d more
     by_stage back.Rest state.Connected e says said serving read =
@@ -240,7 +240,7 @@ saying_holds s v n port terms f d texts more e same h = by_stage s v.state refl 
         record { own = tt; offer = h.offer; disk = h.disk; serving_after = serving; halting_after = λ e. absurd (true≢false (sym e)); said = subst (λ (g : BackKey → Option (List ℕ)). BackSaid back.Rest state.Connected g f d) (sym same) said; read = read }
     by_stage s own e says said serving read = absurd (cc)
 
-saying_sees : (s : BackStage) (own fs : BusState) (w : Watches) → back_asks.says_closing_at s own ≡ true → BackSees s own fs w → BackSees s state.Closing fs (fired w back_state)
+saying_sees : (s : BackBusStage) (own fs : BusState) (w : Watches) → back_asks.says_closing_at s own ≡ true → BackSees s own fs w → BackSees s state.Closing fs (fired w back_state)
 saying_sees back.Rest state.Connected fs w e h = back_sees_kept back_state back.Rest state.Closing fs w refl h
 saying_sees back.ReadState state.Connected fs w e h = back_sees_kept back_state back.ReadState state.Closing fs w refl h
 saying_sees s own fs w e h = absurd (cc)
@@ -316,7 +316,7 @@ facts_closing : (closing : Bool) (b : BusState) → FactsHeard closing b → Fac
 facts_closing true b h = h
 facts_closing false b h = front_acts.states_differ b state.Closed (rw h (omega arith))
 
-closing_sees : (s : FrontStage) (closing : Bool) (own : BusState) (gone : Bool) (b : BusState) (w : Watches) → FrontSees s closing own gone b w → FrontSees s true own gone b w
+closing_sees : (s : FrontBusStage) (closing : Bool) (own : BusState) (gone : Bool) (b : BusState) (w : Watches) → FrontSees s closing own gone b w → FrontSees s true own gone b w
 closing_sees front.Rest closing own gone b w h = sees_so back_state w (RestHeard closing own gone b) (RestHeard true own gone b) (rest_closing closing gone own b) h
 closing_sees (front.ReadFact k) closing own gone b w h = sees_so back_state w (FactsHeard closing b) (FactsHeard true b) (facts_closing closing b) h
 closing_sees (front.WriteState state.Connected) closing own gone b w h = sees_so back_state w (FactsHeard closing b) (FactsHeard true b) (facts_closing closing b) h

@@ -3,10 +3,10 @@ use Rattle.std.proofs.Common.{◌≡◌, ap, ℕ, ◌<◌, ◌≤◌, refl, arit
 use Rattle.xenbus_state.specs.States.{state_number}
 use Rattle.xenbus_state.specs.declared.state.BusState.{BusState}
 use Rattle.xenbus_state.specs.declared.state.BusState.TheVariants as state
-use Rattle.xenbus_state.specs.declared.stage.FrontStage.{FrontStage}
-use Rattle.xenbus_state.specs.declared.stage.FrontStage.TheVariants as front
-use Rattle.xenbus_state.specs.declared.stage.BackStage.{BackStage}
-use Rattle.xenbus_state.specs.declared.stage.BackStage.TheVariants as back
+use Rattle.xenbus_state.specs.declared.stage.FrontBusStage.{FrontBusStage}
+use Rattle.xenbus_state.specs.declared.stage.FrontBusStage.TheVariants as front
+use Rattle.xenbus_state.specs.declared.stage.BackBusStage.{BackBusStage}
+use Rattle.xenbus_state.specs.declared.stage.BackBusStage.TheVariants as back
 use Rattle.xenbus_state.specs.FrontView.{FrontView}
 use Rattle.xenbus_state.specs.FrontAsk as front_asks
 use Rattle.xenbus_state.specs.FrontAsk.{due}
@@ -24,7 +24,7 @@ use Rattle.negotiation_laws.proofs.Subjects.{stage_needs}
 not_yet : (own s : BusState) → own ≡ s → state_number s < 6 → 6 ≤ state_number own → ⊥
 not_yet own s e low high = let same : state_number own ≡ state_number s = ap state_number e in omega arith
 
-closed_halted : (s : BackStage) (v : BackView) → v.stage ≡ s → IsPlaced s v → 6 ≤ state_number v.state → IsHalted v
+closed_halted : (s : BackBusStage) (v : BackView) → v.stage ≡ s → IsPlaced s v → 6 ≤ state_number v.state → IsHalted v
 closed_halted back.Halted v e placed high = record { stage = e; closed = placed.0; aborted = placed.1 }
 closed_halted (back.Publish k) v e placed high = absurd (not_yet v.state state.Initialising placed.0 (omega arith) high)
 closed_halted (back.WriteState state.InitWait) v e placed high = absurd (not_yet v.state state.Initialising placed.0 (omega arith) high)
@@ -43,7 +43,7 @@ closed_halted back.UnmapOthers v e placed high = absurd (let low = placed in ome
 closed_halted back.UnmapPage v e placed high = absurd (let low = placed.0 in omega arith)
 closed_halted back.ClosePort v e placed high = absurd (let low = placed.0 in omega arith)
 
-leaves_at : (s : FrontStage) (v : FrontView) (n : ℕ) → stage_needs s ≤ n → IsLeaving (front_asks.ask_at s v) → 6 ≤ n
+leaves_at : (s : FrontBusStage) (v : FrontView) (n : ℕ) → stage_needs s ≤ n → IsLeaving (front_asks.ask_at s v) → 6 ≤ n
 leaves_at (front.EndGrant page) v n after leaves = after
 leaves_at front.EndOtherGrants v n after leaves = after
 leaves_at front.ClosePort v n after leaves = after

@@ -12,10 +12,10 @@ use Rattle.xenbus_state.specs.declared.offer.Features.{Features}
 use Rattle.xenbus_state.specs.declared.offer.DiskFacts.{DiskFacts}
 use Rattle.xenbus_state.specs.declared.state.BusState.{BusState}
 use Rattle.xenbus_state.specs.declared.state.BusState.TheVariants as state
-use Rattle.xenbus_state.specs.declared.stage.FrontStage.{FrontStage}
-use Rattle.xenbus_state.specs.declared.stage.FrontStage.TheVariants as front
-use Rattle.xenbus_state.specs.declared.stage.BackStage.{BackStage}
-use Rattle.xenbus_state.specs.declared.stage.BackStage.TheVariants as back
+use Rattle.xenbus_state.specs.declared.stage.FrontBusStage.{FrontBusStage}
+use Rattle.xenbus_state.specs.declared.stage.FrontBusStage.TheVariants as front
+use Rattle.xenbus_state.specs.declared.stage.BackBusStage.{BackBusStage}
+use Rattle.xenbus_state.specs.declared.stage.BackBusStage.TheVariants as back
 use Rattle.xenbus_state.specs.declared.front.FrontBusAsk.{FrontBusAsk}
 use Rattle.xenbus_state.specs.declared.front.FrontBusAsk.TheVariants as front_ask
 use Rattle.xenbus_state.specs.declared.back.BackBusAsk.{BackBusAsk}
@@ -68,7 +68,7 @@ module _ (b : BusState) (last : Option BusState) where
   broken_hears word None v idle w listens = never listens
   broken_hears word (Some path) v idle w listens = never listens
 
-  front_hears_at : (s : FrontStage) (t : Negotiation) (idle : Bool) (port : ℕ)
+  front_hears_at : (s : FrontBusStage) (t : Negotiation) (idle : Bool) (port : ℕ)
       → state_read (key_of t.keys.keys back_state) ≡ Some b → FrontSees s t.front.closing t.front.state t.front.gone b t.keys.front
       → (front_listens s ≡ true → Sees back_state t.keys.front (last ≡ Some b))
       → front_listens (front_step.step_at s (front_step.at s t.front) idle (front_answered (front_asks.ask_at s t.front) port t.keys)).stage ≡ true
@@ -83,7 +83,7 @@ module _ (b : BusState) (last : Option BusState) where
   front_hears_at (front.Broken word) t idle port shown sees h listens = broken_hears word (next_watch t.keys.front) t.front idle (taken t.keys.front) listens
   front_hears_at s t idle port shown sees h listens = h refl
 
-  due_hears : (s : FrontStage) (v : FrontView) (idle : Bool) (w : Watches) → (front_listens s ≡ true → Sees back_state w (last ≡ Some b))
+  due_hears : (s : FrontBusStage) (v : FrontView) (idle : Bool) (w : Watches) → (front_listens s ≡ true → Sees back_state w (last ≡ Some b))
       → front_listens (due_at s v idle) ≡ true → Sees back_state w (last ≡ Some b)
   due_hears front.Rest v idle w h e = h refl
   due_hears s v idle w h e = h e
@@ -182,7 +182,7 @@ module _ (fs : BusState) (last : Option BusState) where
   unmap_hears [] t some h = absurd (omega arith)
   unmap_hears (page ∷ pages) t some h = h
 
-  back_hears_at : (s : BackStage) (t : Negotiation) (page : Mapping) → state_read (key_of t.keys.keys front_state) ≡ Some fs
+  back_hears_at : (s : BackBusStage) (t : Negotiation) (page : Mapping) → state_read (key_of t.keys.keys front_state) ≡ Some fs
       → IsPlaced s t.back → BackSees s t.back.state fs t.keys.back → (back_listens s ≡ true → Sees front_state t.keys.back (last ≡ Some fs))
       → back_listens (back_step.step_at s (back_step.at s t.back) (back_answered (back_asks.ask_at s t.back) page t.keys)).stage ≡ true
       → Sees front_state (back_done (back_asks.ask_at s t.back) t.keys).back (back_heard_by (back_asks.ask_at s t.back) t last ≡ Some fs)

@@ -18,10 +18,10 @@ use Rattle.xenbus_state.specs.declared.offer.Features.{Features}
 use Rattle.xenbus_state.specs.declared.offer.DiskFacts.{DiskFacts}
 use Rattle.xenbus_state.specs.declared.state.BusState.{BusState}
 use Rattle.xenbus_state.specs.declared.state.BusState.TheVariants as state
-use Rattle.xenbus_state.specs.declared.stage.FrontStage.{FrontStage}
-use Rattle.xenbus_state.specs.declared.stage.FrontStage.TheVariants as front
-use Rattle.xenbus_state.specs.declared.stage.BackStage.{BackStage}
-use Rattle.xenbus_state.specs.declared.stage.BackStage.TheVariants as back
+use Rattle.xenbus_state.specs.declared.stage.FrontBusStage.{FrontBusStage}
+use Rattle.xenbus_state.specs.declared.stage.FrontBusStage.TheVariants as front
+use Rattle.xenbus_state.specs.declared.stage.BackBusStage.{BackBusStage}
+use Rattle.xenbus_state.specs.declared.stage.BackBusStage.TheVariants as back
 use Rattle.xenbus_state.specs.declared.table.FrontAction.{FrontAction}
 use Rattle.xenbus_state.specs.declared.table.FrontAction.TheVariants as front_act
 use Rattle.xenbus_state.specs.declared.table.BackAction.{BackAction}
@@ -68,7 +68,7 @@ fact_open : (k : BackKey) (o : Option ℕ) (v : FrontView) → (front_step.fact_
 fact_open k None v = refl
 fact_open k (Some m) v = refl
 
-woken_open : (s : FrontStage) (o : Option (List ℕ)) (v : FrontView) (idle : Bool)
+woken_open : (s : FrontBusStage) (o : Option (List ℕ)) (v : FrontView) (idle : Bool)
     → (front_step.step_at s (front_step.at s v) idle (front_woken o)).closing ≡ v.closing
 woken_open front.Rest None v idle = refl
 woken_open front.Rest (Some path) v idle = refl
@@ -82,7 +82,7 @@ module _ (f : Features) (d : DiskFacts) (t : Negotiation) where
       subst (λ (r : Option BusState). (front_step.acted (front_action t.front.state t.front.closing idle r) (front_step.at front.ReadState t.front)).closing ≡ t.front.closing) (sym (state_shown (key_of t.keys.keys back_state) t.back.state h.states.back))
       (acted_open (front_action t.front.state t.front.closing idle (Some t.back.state)) t.front idle t.back.state low (front_acts_now f d t idle h))
 
-  closing_at : (s : FrontStage) (idle : Bool) (port : ℕ) → state_number t.back.state ≤ 4 → Holds f d t
+  closing_at : (s : FrontBusStage) (idle : Bool) (port : ℕ) → state_number t.back.state ≤ 4 → Holds f d t
       → (front_step.step_at s (front_step.at s t.front) idle (front_answered (front_asks.ask_at s t.front) port t.keys)).closing ≡ t.front.closing
   closing_at front.Rest idle port low h = woken_open front.Rest (next_watch t.keys.front) t.front idle
   closing_at front.ReadState idle port low h = state_open idle low h
@@ -122,7 +122,7 @@ module _ (f : Features) (d : DiskFacts) (t : Negotiation) where
   key_unasked front_key.Protocol text v = kept_unasked (with_layout v) (layout_read text) v (λ x. refl)
   key_unasked front_key.FeaturePersistent text v = kept_unasked (with_persistent v) (count_read text) v (λ x. refl)
 
-  back_woken_open : (s : BackStage) (o : Option (List ℕ)) (v : BackView) → (back_step.step_at s (back_step.at s v) (back_woken o)).unplugged ≡ v.unplugged
+  back_woken_open : (s : BackBusStage) (o : Option (List ℕ)) (v : BackView) → (back_step.step_at s (back_step.at s v) (back_woken o)).unplugged ≡ v.unplugged
   back_woken_open back.Rest None v = refl
   back_woken_open back.Rest (Some path) v = refl
   back_woken_open s None v = refl
@@ -133,7 +133,7 @@ module _ (f : Features) (d : DiskFacts) (t : Negotiation) where
   unmap_open [] v page k some = absurd (omega arith)
   unmap_open (first ∷ pages) v page k some = refl
 
-  unplugged_at : (s : BackStage) (page : Mapping) → IsPlaced s t.back
+  unplugged_at : (s : BackBusStage) (page : Mapping) → IsPlaced s t.back
       → (back_step.step_at s (back_step.at s t.back) (back_answered (back_asks.ask_at s t.back) page t.keys)).unplugged ≡ t.back.unplugged
   unplugged_at back.Rest page placed = back_woken_open back.Rest (next_watch t.keys.back) t.back
   unplugged_at back.ReadState page placed =
@@ -149,7 +149,7 @@ module _ (f : Features) (d : DiskFacts) (t : Negotiation) where
   unmap_low [] own low = low
   unmap_low (page ∷ pages) own low = low
 
-  own_low : (s : BackStage) (v : BackView) (n : ℕ) → IsPlaced s v → (is_halting s ≡ true → 5 ≤ n) → n ≤ 4 → state_number v.state ≤ 4
+  own_low : (s : BackBusStage) (v : BackView) (n : ℕ) → IsPlaced s v → (is_halting s ≡ true → 5 ≤ n) → n ≤ 4 → state_number v.state ≤ 4
       → state_number (back_own (back_asks.ask_at s v) v.state) ≤ 4
   own_low (back.WriteState state.InitWait) v n placed halting few low = omega arith
   own_low (back.WriteState state.Connected) v n placed halting few low = omega arith

@@ -8,10 +8,10 @@ use Rattle.xenbus_state.specs.declared.offer.Features.{Features}
 use Rattle.xenbus_state.specs.declared.offer.DiskFacts.{DiskFacts}
 use Rattle.xenbus_state.specs.declared.state.BusState.{BusState}
 use Rattle.xenbus_state.specs.declared.state.BusState.TheVariants as state
-use Rattle.xenbus_state.specs.declared.stage.FrontStage.{FrontStage}
-use Rattle.xenbus_state.specs.declared.stage.FrontStage.TheVariants as front
-use Rattle.xenbus_state.specs.declared.stage.BackStage.{BackStage}
-use Rattle.xenbus_state.specs.declared.stage.BackStage.TheVariants as back
+use Rattle.xenbus_state.specs.declared.stage.FrontBusStage.{FrontBusStage}
+use Rattle.xenbus_state.specs.declared.stage.FrontBusStage.TheVariants as front
+use Rattle.xenbus_state.specs.declared.stage.BackBusStage.{BackBusStage}
+use Rattle.xenbus_state.specs.declared.stage.BackBusStage.TheVariants as back
 use Rattle.xenbus_state.specs.declared.front.FrontBusAsk.{FrontBusAsk}
 use Rattle.xenbus_state.specs.declared.front.FrontBusAsk.TheVariants as front_ask
 use Rattle.xenbus_state.specs.declared.back.BackBusAsk.{BackBusAsk}
@@ -119,7 +119,7 @@ unmap_waits : (pages : List Mapping) → 0 < length pages → IsBackWait (back_a
 unmap_waits [] some h = omega arith
 unmap_waits (page ∷ pages) some h = h
 
-back_is : (s : BackStage) (v : BackView) (fs : BusState) (w : Watches) → IsPlaced s v → has_pending w ≡ false → BackSees s v.state fs w
+back_is : (s : BackBusStage) (v : BackView) (fs : BusState) (w : Watches) → IsPlaced s v → has_pending w ≡ false → BackSees s v.state fs w
     → IsBackWait (back_asks.ask_at s v) → SettledBack v.state fs ⊎ (v.state ≡ state.Closed)
 back_is back.Rest v fs w placed none sees h = inl (heard front_state w (SettledBack v.state fs) none sees)
 back_is back.Halted v fs w placed none sees h = inr placed.0
@@ -149,7 +149,7 @@ module _ (f : Features) (d : DiskFacts) (t : Negotiation) (idle : Bool) where
   closed_agrees e (inl seen) = absurd (late_seen t.back.state t.front.state (rw e (omega arith)) seen)
   closed_agrees e (inr gone) = inr (inl (e, gone))
 
-  agrees_at : (s : FrontStage) → front_sound.IsTimely s t.front.state → is_broken s ≡ false
+  agrees_at : (s : FrontBusStage) → front_sound.IsTimely s t.front.state → is_broken s ≡ false
       → FrontSees s t.front.closing t.front.state t.front.gone t.back.state t.keys.front → has_pending t.keys.front ≡ false
       → IsWait (front_asks.ask_at (due_at s t.front idle) t.front)
       → (t.front.state ≡ state.Closing → idle ≡ true) → Holds f d t → SettledBack t.back.state t.front.state ⊎ (t.back.state ≡ state.Closed)

@@ -17,9 +17,9 @@ use Rattle.xenbus_state.specs.declared.offer.Features.{Features}
 use Rattle.xenbus_state.specs.declared.offer.DiskFacts.{DiskFacts}
 use Rattle.xenbus_state.specs.declared.state.BusState.{BusState}
 use Rattle.xenbus_state.specs.declared.state.BusState.TheVariants as state
-use Rattle.xenbus_state.specs.declared.stage.FrontStage.{FrontStage}
-use Rattle.xenbus_state.specs.declared.stage.BackStage.{BackStage}
-use Rattle.xenbus_state.specs.declared.stage.BackStage.TheVariants as back
+use Rattle.xenbus_state.specs.declared.stage.FrontBusStage.{FrontBusStage}
+use Rattle.xenbus_state.specs.declared.stage.BackBusStage.{BackBusStage}
+use Rattle.xenbus_state.specs.declared.stage.BackBusStage.TheVariants as back
 use Rattle.xenbus_state.specs.declared.table.BackAction.{BackAction}
 use Rattle.xenbus_state.specs.declared.table.BackAction.TheVariants as back_act
 use Rattle.xenbus_state.specs.declared.front.FrontBusAsk.{FrontBusAsk}
@@ -141,13 +141,13 @@ close_falls : (v : BackView) → Falls 3 (record v { bound = false; stage = back
 close_falls v = (let last = last_low v.state in record { less = omega arith; rests = refl })
 
 -- a stage of a program
-abbrev IsProgram : BackStage → Type 0
+abbrev IsProgram : BackBusStage → Type 0
 IsProgram back.Rest = ⊥
 IsProgram back.ReadState = ⊥
 IsProgram back.Halted = ⊥
 IsProgram s = Unit {0}
 
-back_falls : (s : BackStage) (v : BackView) (page : Mapping) (d : Directory) → IsProgram s → v.terms.order ≤ 4 → IsPlaced s v
+back_falls : (s : BackBusStage) (v : BackView) (page : Mapping) (d : Directory) → IsProgram s → v.terms.order ≤ 4 → IsPlaced s v
     → Falls (back_left s v.state (length v.pages)) (back_step.step_at s (back_step.at s v) (back_answered (back_asks.ask_at s v) page d))
 back_falls (back.Publish k) v page d program few placed = offered_falls k v
 back_falls (back.WriteState s) v page d program few placed = written_falls s v placed
@@ -168,7 +168,7 @@ abbrev IsWait : BackBusAsk → Type 0
 IsWait back_ask.Wait = Unit {0}
 IsWait a = ⊥
 
-back_fires : (a : BackBusAsk) (d : Directory) (s : FrontStage) (closing : Bool) (fs : BusState) (gone : Bool) (b : BusState) (q : BackStage) → (IsWait a → ⊥)
+back_fires : (a : BackBusAsk) (d : Directory) (s : FrontBusStage) (closing : Bool) (fs : BusState) (gone : Bool) (b : BusState) (q : BackBusStage) → (IsWait a → ⊥)
     → FrontSees s closing fs gone b d.front → BackSees q b fs d.back → pendings (back_done a d) ≤ pendings d + 1
 back_fires back_ask.Wait d s closing fs gone b q no_wait f g = absurd (no_wait tt)
 back_fires back_ask.Watch d s closing fs gone b q no_wait f g = (let more = set_more d.back front_state in omega arith)
@@ -229,13 +229,13 @@ read_sum : (less more reads here there other : ℕ) → less ≤ more → reads 
 read_sum less more reads here there other a b = omega arith
 
 module _ (f : Features) (d : DiskFacts) (t : Negotiation) where
-  Lowers : BackStage → (page : Mapping) (other : ℕ) → Type 0
+  Lowers : BackBusStage → (page : Mapping) (other : ℕ) → Type 0
   Lowers s page other =
       let u = back_step.step_at s (back_step.at s t.back) (back_answered (back_asks.ask_at s t.back) page t.keys) in let k = back_done (back_asks.ask_at s t.back) t.keys in
       one_if (back_goes (back_asks.ask_at s t.back) t.keys.back) + (other + 2 * length k.front.pending + (3 * back_left u.stage u.state (length u.pages) + back_reading u.stage + 2 * length k.back.pending))
       ≤ other + 2 * length t.keys.front.pending + (3 * back_left s t.back.state (length t.back.pages) + back_reading s + 2 * length t.keys.back.pending)
 
-  program_left : (s : BackStage) (page : Mapping) (other : ℕ) → IsProgram s → (IsWait (back_asks.ask_at s t.back) → ⊥) → IsPlaced s t.back
+  program_left : (s : BackBusStage) (page : Mapping) (other : ℕ) → IsProgram s → (IsWait (back_asks.ask_at s t.back) → ⊥) → IsPlaced s t.back
       → Holds f d t → Lowers s page other
   unfolding Lowers
   program_left s page other program no_wait placed h =
@@ -247,7 +247,7 @@ module _ (f : Features) (d : DiskFacts) (t : Negotiation) where
   unmaps [] some w = omega arith
   unmaps (page ∷ pages) some w = w
 
-  lowers_at : (s : BackStage) (page : Mapping) (other : ℕ) → t.back.stage ≡ s → IsPlaced s t.back
+  lowers_at : (s : BackBusStage) (page : Mapping) (other : ℕ) → t.back.stage ≡ s → IsPlaced s t.back
       → BackSees s t.back.state t.front.state t.keys.back → Holds f d t → Lowers s page other
   unfolding Lowers
   lowers_at back.Rest page other e placed sees h =
@@ -263,7 +263,7 @@ module _ (f : Features) (d : DiskFacts) (t : Negotiation) where
   lowers_at s page other e placed sees h = program_left s page other tt (λ w. w) placed h
 
   -- the back says that it closes
-  says_falls : (s : BackStage) (own : BusState) (pages : ℕ) → back_asks.says_closing_at s own ≡ true → back_left s state.Closing pages < back_left s own pages
+  says_falls : (s : BackBusStage) (own : BusState) (pages : ℕ) → back_asks.says_closing_at s own ≡ true → back_left s state.Closing pages < back_left s own pages
   says_falls back.Rest state.Connected pages e = omega arith
   says_falls back.ReadState state.Connected pages e = omega arith
   says_falls s own pages e = absurd (cc)

@@ -9,10 +9,10 @@ use Rattle.xenbus_state.specs.declared.offer.DiskFacts.{DiskFacts}
 use Rattle.xenbus_state.specs.declared.values.FrontTerms.{FrontTerms}
 use Rattle.xenbus_state.specs.declared.state.BusState.{BusState}
 use Rattle.xenbus_state.specs.declared.state.BusState.TheVariants as state
-use Rattle.xenbus_state.specs.declared.stage.FrontStage.{FrontStage}
-use Rattle.xenbus_state.specs.declared.stage.FrontStage.TheVariants as front
-use Rattle.xenbus_state.specs.declared.stage.BackStage.{BackStage}
-use Rattle.xenbus_state.specs.declared.stage.BackStage.TheVariants as back
+use Rattle.xenbus_state.specs.declared.stage.FrontBusStage.{FrontBusStage}
+use Rattle.xenbus_state.specs.declared.stage.FrontBusStage.TheVariants as front
+use Rattle.xenbus_state.specs.declared.stage.BackBusStage.{BackBusStage}
+use Rattle.xenbus_state.specs.declared.stage.BackBusStage.TheVariants as back
 use Rattle.xenbus_state.specs.BackView.{BackView}
 use Rattle.xenbus_state.specs.FrontSound as front_sound
 use Rattle.xenbus_state.specs.BackSound.{IsPlaced, IsResting}
@@ -46,7 +46,7 @@ module _ (n : ℕ) (f : Features) (d : DiskFacts) (texts : BackKey → Option (L
 
 module _ (n : ℕ) (port : Option ℕ) (terms : FrontTerms) (f : Features) (d : DiskFacts) (texts : BackKey → Option (List ℕ)) where
   -- at each stage of the back
-  pub speaks : (s : BackStage) (v : BackView) → IsPlaced s v → BackHolds s v n port terms f d texts → Speaks v.state n f d texts
+  pub speaks : (s : BackBusStage) (v : BackView) → IsPlaced s v → BackHolds s v n port terms f d texts → Speaks v.state n f d texts
   speaks (back.Publish k) v placed h = let low : state_number v.state ≡ 1 = rw placed.0 refl in speaks_early n f d texts v.state (omega arith) (λ two. absurd (omega arith))
   speaks (back.WriteState state.InitWait) v placed h =
       let low : state_number v.state ≡ 1 = rw placed.0 refl in speaks_early n f d texts v.state (omega arith) (λ two. absurd (omega arith))
@@ -73,7 +73,7 @@ served_resting state.Closing e = omega arith
 served_resting own e = absurd (cc)
 
 -- at each stage
-pub serving_open : (s : BackStage) (v : BackView) → IsPlaced s v → serves s v.state ≡ true → state_number v.state < 6
+pub serving_open : (s : BackBusStage) (v : BackView) → IsPlaced s v → serves s v.state ≡ true → state_number v.state < 6
 serving_open (back.WriteState state.Connected) v placed e = rw placed.0 (omega arith)
 serving_open back.Rest v placed e = served_resting v.state e
 serving_open back.ReadState v placed e = served_resting v.state e
@@ -115,7 +115,7 @@ tells_all : (own : BusState) (port : Option ℕ) (terms : FrontTerms) (texts : F
 tells_all own port terms texts h = record { ready = λ r. h.0; said = λ late some. h.1 }
 
 -- at each stage of the front
-pub tells : (s : FrontStage) (own : BusState) (port : Option ℕ) (terms : FrontTerms) (texts : FrontKey → Option (List ℕ)) → front_sound.IsTimely s own
+pub tells : (s : FrontBusStage) (own : BusState) (port : Option ℕ) (terms : FrontTerms) (texts : FrontKey → Option (List ℕ)) → front_sound.IsTimely s own
     → FrontSaid s own port terms texts → Tells own port terms texts
 tells front.Start own port terms texts timely h = tells_first own port terms texts timely
 tells (front.ReadFeature k) own port terms texts timely h = tells_first own port terms texts timely

@@ -14,10 +14,10 @@ use Rattle.xenbus_state.specs.declared.offer.Features.{Features}
 use Rattle.xenbus_state.specs.declared.offer.DiskFacts.{DiskFacts}
 use Rattle.xenbus_state.specs.declared.state.BusState.{BusState}
 use Rattle.xenbus_state.specs.declared.state.BusState.TheVariants as state
-use Rattle.xenbus_state.specs.declared.stage.FrontStage.{FrontStage}
-use Rattle.xenbus_state.specs.declared.stage.FrontStage.TheVariants as front
-use Rattle.xenbus_state.specs.declared.stage.BackStage.{BackStage}
-use Rattle.xenbus_state.specs.declared.stage.BackStage.TheVariants as back
+use Rattle.xenbus_state.specs.declared.stage.FrontBusStage.{FrontBusStage}
+use Rattle.xenbus_state.specs.declared.stage.FrontBusStage.TheVariants as front
+use Rattle.xenbus_state.specs.declared.stage.BackBusStage.{BackBusStage}
+use Rattle.xenbus_state.specs.declared.stage.BackBusStage.TheVariants as back
 use Rattle.xenbus_state.specs.declared.table.FrontAction.{FrontAction}
 use Rattle.xenbus_state.specs.declared.table.FrontAction.TheVariants as front_act
 use Rattle.xenbus_state.specs.declared.table.BackAction.{BackAction}
@@ -66,13 +66,13 @@ fact_stays : (k : BackKey) (o : Option ℕ) (v : FrontView) → v.state ≡ stat
 fact_stays k None v own = record { features = λ e. refl; disk = λ e. refl }
 fact_stays k (Some m) v own = record { features = λ e. refl; disk = λ e. absurd (early v.state state.Initialised 4 own (omega arith) e) }
 
-woken_stays : (s : FrontStage) (o : Option (List ℕ)) (v : FrontView) (idle : Bool) → ReadStays v (step_at s (at s v) idle (front_woken o))
+woken_stays : (s : FrontBusStage) (o : Option (List ℕ)) (v : FrontView) (idle : Bool) → ReadStays v (step_at s (at s v) idle (front_woken o))
 woken_stays front.Rest None v idle = record { features = λ e. refl; disk = λ e. refl }
 woken_stays front.Rest (Some path) v idle = record { features = λ e. refl; disk = λ e. refl }
 woken_stays s None v idle = record { features = λ e. refl; disk = λ e. refl }
 woken_stays s (Some path) v idle = record { features = λ e. refl; disk = λ e. refl }
 
-read_stays_at : (s : FrontStage) (v : FrontView) (idle : Bool) (port : ℕ) (d : Directory) → front_sound.IsTimely s v.state
+read_stays_at : (s : FrontBusStage) (v : FrontView) (idle : Bool) (port : ℕ) (d : Directory) → front_sound.IsTimely s v.state
     → ReadStays v (step_at s (at s v) idle (front_answered (ask_at s v) port d))
 read_stays_at front.Rest v idle port d timely = woken_stays front.Rest (next_watch d.front) v idle
 read_stays_at front.ReadState v idle port d timely = acted_stays (front_action v.state v.closing idle (state_read (key_of d.keys back_state))) v
@@ -85,7 +85,7 @@ read_stays_at front.Start v idle port d timely = record { features = λ e. refl;
 read_stays_at s v idle port d timely = record { features = λ e. refl; disk = λ e. refl }
 
 -- what the front has said
-said_stays_at : (s : FrontStage) (v : FrontView) (d : Directory) → front_sound.IsTimely s v.state → 3 ≤ state_number v.state
+said_stays_at : (s : FrontBusStage) (v : FrontView) (d : Directory) → front_sound.IsTimely s v.state → 3 ≤ state_number v.state
     → front_texts (front_done (ask_at s v) d).keys ≡ front_texts d.keys
 said_stays_at (front.Publish k) v d timely late = absurd (early v.state state.Initialising 3 timely (omega arith) late)
 said_stays_at (front.WriteState s) v d timely late = front_texts_state d.keys (state_text s)
@@ -102,7 +102,7 @@ back_acted_stays back_act.Nothing v = record { terms = λ e. refl; grefs = λ e.
 back_acted_stays back_act.Connect v = record { terms = λ e. refl; grefs = λ e. refl }
 back_acted_stays (back_act.Halt reason) v = record { terms = λ e. refl; grefs = λ e. refl }
 
-back_woken_stays : (s : BackStage) (o : Option (List ℕ)) (v : BackView) → TermsStay v (back_step.step_at s (back_step.at s v) (back_woken o))
+back_woken_stays : (s : BackBusStage) (o : Option (List ℕ)) (v : BackView) → TermsStay v (back_step.step_at s (back_step.at s v) (back_woken o))
 back_woken_stays back.Rest None v = record { terms = λ e. refl; grefs = λ e. refl }
 back_woken_stays back.Rest (Some path) v = record { terms = λ e. refl; grefs = λ e. refl }
 back_woken_stays s None v = record { terms = λ e. refl; grefs = λ e. refl }
@@ -113,7 +113,7 @@ unmap_stays : (pages : List Mapping) (v : BackView) (page : Mapping) (d : Direct
 unmap_stays [] v page d some = absurd (omega arith)
 unmap_stays (first ∷ pages) v page d some = record { terms = λ e. refl; grefs = λ e. refl }
 
-terms_stay_at : (s : BackStage) (v : BackView) (page : Mapping) (d : Directory) → back_sound.IsPlaced s v
+terms_stay_at : (s : BackBusStage) (v : BackView) (page : Mapping) (d : Directory) → back_sound.IsPlaced s v
     → TermsStay v (back_step.step_at s (back_step.at s v) (back_answered (back_asks.ask_at s v) page d))
 terms_stay_at back.Rest v page d placed = back_woken_stays back.Rest (next_watch d.back) v
 terms_stay_at back.ReadState v page d placed = back_acted_stays (back_action v.state v.unplugged (state_read (key_of d.keys front_state))) v
@@ -140,7 +140,7 @@ facts_unmap : (f : Features) (e : DiskFacts) (pages : List Mapping) (d : Directo
 facts_unmap f e [] d h = h
 facts_unmap f e (page ∷ pages) d h = h
 
-facts_stay_at : (f : Features) (e : DiskFacts) (s : BackStage) (v : BackView) (d : Directory) → v.features ≡ f → v.disk ≡ e
+facts_stay_at : (f : Features) (e : DiskFacts) (s : BackBusStage) (v : BackView) (d : Directory) → v.features ≡ f → v.disk ≡ e
     → AreFactsSaid (back_texts d.keys) f e → AreFactsSaid (back_texts (back_done (back_asks.ask_at s v) d).keys) f e
 facts_stay_at f e (back.Publish k) v d offer disk h = facts_set f e k v d.keys offer disk h
 facts_stay_at f e (back.PublishFact k) v d offer disk h = facts_set f e k v d.keys offer disk h

@@ -12,10 +12,10 @@ use Rattle.xenbus_state.specs.declared.state.BusState.TheVariants as state
 use Rattle.xenbus_state.specs.declared.offer.Features.{Features}
 use Rattle.xenbus_state.specs.declared.offer.DiskFacts.{DiskFacts}
 use Rattle.xenbus_state.specs.declared.values.FrontTerms.{FrontTerms}
-use Rattle.xenbus_state.specs.declared.stage.FrontStage.{FrontStage}
-use Rattle.xenbus_state.specs.declared.stage.FrontStage.TheVariants as front
-use Rattle.xenbus_state.specs.declared.stage.BackStage.{BackStage}
-use Rattle.xenbus_state.specs.declared.stage.BackStage.TheVariants as back
+use Rattle.xenbus_state.specs.declared.stage.FrontBusStage.{FrontBusStage}
+use Rattle.xenbus_state.specs.declared.stage.FrontBusStage.TheVariants as front
+use Rattle.xenbus_state.specs.declared.stage.BackBusStage.{BackBusStage}
+use Rattle.xenbus_state.specs.declared.stage.BackBusStage.TheVariants as back
 use Rattle.xenbus_state.specs.FrontView.{FrontView, terms_of}
 use Rattle.xenbus_state.specs.BackView.{BackView, is_halting}
 use Rattle.negotiation_laws.specs.Negotiation.{front_state, back_state, state_text}
@@ -41,7 +41,7 @@ IsBackState state.Closed = Unit {0}
 IsBackState s = ⊥
 
 -- the front writes no other state than these
-abbrev pub IsFrontWrite : FrontStage → Type 0
+abbrev pub IsFrontWrite : FrontBusStage → Type 0
 IsFrontWrite (front.WriteState state.Initialised) = Unit {0}
 IsFrontWrite (front.WriteState state.Connected) = Unit {0}
 IsFrontWrite (front.WriteState state.Closing) = Unit {0}
@@ -50,7 +50,7 @@ IsFrontWrite (front.WriteState s) = ⊥
 IsFrontWrite s = Unit {0}
 
 -- the state that the back has written at least, where the front is at this stage, and where it has written this state
-abbrev pub stage_needs : FrontStage → ℕ
+abbrev pub stage_needs : FrontBusStage → ℕ
 stage_needs (front.ReadFeature key) = 2
 stage_needs (front.RingWord word) = 2
 stage_needs (front.Grant page) = 2
@@ -75,7 +75,7 @@ state_needs state.Closed = 6
 state_needs s = 0
 
 -- a front that is not closing
-abbrev pub IsOpenAt : FrontStage → Type 0
+abbrev pub IsOpenAt : FrontBusStage → Type 0
 IsOpenAt (front.WriteState state.Closing) = ⊥
 IsOpenAt (front.WriteState state.Closed) = ⊥
 IsOpenAt (front.EndGrant page) = ⊥
@@ -107,7 +107,7 @@ SaidBefore front_key.Protocol terms texts = IsRingSaid texts terms × FrontSays 
 SaidBefore front_key.FeaturePersistent terms texts = IsRingSaid texts terms × FrontSays texts terms front_key.EventChannel × FrontSays texts terms front_key.Protocol
 
 -- at this stage
-abbrev pub FrontSaid : FrontStage → BusState → Option ℕ → FrontTerms → (FrontKey → Option (List ℕ)) → Type 0
+abbrev pub FrontSaid : FrontBusStage → BusState → Option ℕ → FrontTerms → (FrontKey → Option (List ℕ)) → Type 0
 FrontSaid front.Start own port terms texts = Unsaid port texts
 FrontSaid (front.ReadFeature key) own port terms texts = Unsaid port texts
 FrontSaid (front.RingWord word) own port terms texts = Unsaid port texts
@@ -143,7 +143,7 @@ ReadAt state.Connected r f e d = (r ≡ f) × (e ≡ d)
 ReadAt s r f e d = Unit {0}
 
 -- what the front has read at this stage
-abbrev pub FrontRead : FrontStage → BusState → (r f : Features) (e d : DiskFacts) → Type 0
+abbrev pub FrontRead : FrontBusStage → BusState → (r f : Features) (e d : DiskFacts) → Type 0
 FrontRead (front.ReadFeature key) own r f e d = ReadBefore key r f
 FrontRead (front.RingWord word) own r f e d = r ≡ f
 FrontRead (front.Grant page) own r f e d = r ≡ f
@@ -155,7 +155,7 @@ FrontRead (front.WriteState state.Connected) own r f e d = (r ≡ f) × (e ≡ d
 FrontRead s own r f e d = ReadAt own r f e d
 
 -- the front at this stage, over a back that offers f, whose disk is d, and whose state is n
-pub record FrontHolds (s : FrontStage) (v : FrontView) (n : ℕ) (f : Features) (d : DiskFacts) (texts : FrontKey → Option (List ℕ)) : Type 0 where
+pub record FrontHolds (s : FrontBusStage) (v : FrontView) (n : ℕ) (f : Features) (d : DiskFacts) (texts : FrontKey → Option (List ℕ)) : Type 0 where
   pub own : IsFrontState v.state
   pub writes : IsFrontWrite s
   pub stage_after : stage_needs s ≤ n
@@ -197,7 +197,7 @@ FactsLeft state.Connected t f d = AreFactsSaid t f d
 FactsLeft s t f d = Unit {0}
 
 -- which keys of the back are said at this stage
-abbrev pub BackSaid : BackStage → BusState → (BackKey → Option (List ℕ)) → Features → DiskFacts → Type 0
+abbrev pub BackSaid : BackBusStage → BusState → (BackKey → Option (List ℕ)) → Features → DiskFacts → Type 0
 BackSaid (back.Publish key) own t f d = FeaturesBefore key t f d
 BackSaid (back.PublishFact key) own t f d = AreFeaturesSaid t f d × FactsSaidBefore key t f d
 BackSaid (back.WriteState state.Connected) own t f d = AreFeaturesSaid t f d × AreFactsSaid t f d
@@ -212,7 +212,7 @@ BackSaid back.Halted own t f d = AreFeaturesSaid t f d × FactsLeft own t f d
 BackSaid s own t f d = AreFeaturesSaid t f d × Unit {0}
 
 -- a back that goes by the front's terms, also where it has halted since and holds something still
-abbrev pub serves : BackStage → BusState → Bool
+abbrev pub serves : BackBusStage → BusState → Bool
 serves (back.ReadKey key) own = true
 serves back.MapPage own = true
 serves back.Bind own = true
@@ -242,12 +242,12 @@ TermsBefore front_key.Protocol r t grefs = (r.order ≡ t.order) × (grefs ≡ g
 TermsBefore front_key.FeaturePersistent r t grefs = (r.order ≡ t.order) × (grefs ≡ grefs_of (2 ^ t.order)) × (r.port ≡ t.port) × (r.abi ≡ t.abi)
 
 -- what the back has read at this stage, if it goes by the front's terms
-abbrev pub BackRead : BackStage → (r t : FrontTerms) → List ℕ → Type 0
+abbrev pub BackRead : BackBusStage → (r t : FrontTerms) → List ℕ → Type 0
 BackRead (back.ReadKey key) r t grefs = TermsBefore key r t grefs
 BackRead s r t grefs = (r ≡ t) × (grefs ≡ grefs_of (2 ^ t.order))
 
 -- the back at this stage, over a front whose state is n, with this port and these terms
-pub record BackHolds (s : BackStage) (v : BackView) (n : ℕ) (port : Option ℕ) (terms : FrontTerms) (f : Features) (d : DiskFacts) (texts : BackKey → Option (List ℕ)) : Type 0 where
+pub record BackHolds (s : BackBusStage) (v : BackView) (n : ℕ) (port : Option ℕ) (terms : FrontTerms) (f : Features) (d : DiskFacts) (texts : BackKey → Option (List ℕ)) : Type 0 where
   pub own : IsBackState v.state
   pub offer : v.features ≡ f
   pub disk : v.disk ≡ d
@@ -278,7 +278,7 @@ FactsHeard false b = b ≡ state.Connected
 FactsHeard true b = b ≢ state.Closed
 
 -- what the front has read last at this stage
-abbrev pub FrontHeard : FrontStage → (closing : Bool) → BusState → (gone : Bool) → BusState → Type 0
+abbrev pub FrontHeard : FrontBusStage → (closing : Bool) → BusState → (gone : Bool) → BusState → Type 0
 FrontHeard front.Rest closing own gone b = RestHeard closing own gone b
 FrontHeard (front.ReadFeature key) closing own gone b = b ≡ state.InitWait
 FrontHeard (front.RingWord word) closing own gone b = b ≡ state.InitWait
@@ -292,7 +292,7 @@ FrontHeard (front.WriteState state.Closing) closing own gone b = RestHeard true 
 FrontHeard s closing own gone b = Unit {0}
 
 -- the front's watch at this stage
-abbrev pub FrontSees : FrontStage → (closing : Bool) → BusState → (gone : Bool) → BusState → Watches → Type 0
+abbrev pub FrontSees : FrontBusStage → (closing : Bool) → BusState → (gone : Bool) → BusState → Watches → Type 0
 FrontSees front.Start closing own gone b w = w ≡ no_watches
 FrontSees s closing own gone b w = Sees back_state w (FrontHeard s closing own gone b)
 
@@ -310,7 +310,7 @@ SettledBack state.Closing fs = IsReady fs
 SettledBack own fs = ⊥
 
 -- what the back has read last at this stage
-abbrev pub BackHeard : BackStage → (own fs : BusState) → Type 0
+abbrev pub BackHeard : BackBusStage → (own fs : BusState) → Type 0
 BackHeard back.Rest own fs = SettledBack own fs
 BackHeard (back.ReadKey key) own fs = IsReady fs
 BackHeard back.MapPage own fs = IsReady fs
@@ -320,7 +320,7 @@ BackHeard (back.WriteState state.Connected) own fs = IsReady fs
 BackHeard s own fs = Unit {0}
 
 -- the back's watch at this stage
-abbrev pub BackSees : BackStage → (own fs : BusState) → Watches → Type 0
+abbrev pub BackSees : BackBusStage → (own fs : BusState) → Watches → Type 0
 BackSees (back.Publish key) own fs w = w ≡ no_watches
 BackSees (back.WriteState state.InitWait) own fs w = w ≡ no_watches
 BackSees back.Watch own fs w = w ≡ no_watches

@@ -15,10 +15,10 @@ use Rattle.xenbus_state.specs.declared.offer.Features.{Features}
 use Rattle.xenbus_state.specs.declared.offer.DiskFacts.{DiskFacts}
 use Rattle.xenbus_state.specs.declared.state.BusState.{BusState}
 use Rattle.xenbus_state.specs.declared.state.BusState.TheVariants as state
-use Rattle.xenbus_state.specs.declared.stage.FrontStage.{FrontStage}
-use Rattle.xenbus_state.specs.declared.stage.FrontStage.TheVariants as front
-use Rattle.xenbus_state.specs.declared.stage.BackStage.{BackStage}
-use Rattle.xenbus_state.specs.declared.stage.BackStage.TheVariants as back
+use Rattle.xenbus_state.specs.declared.stage.FrontBusStage.{FrontBusStage}
+use Rattle.xenbus_state.specs.declared.stage.FrontBusStage.TheVariants as front
+use Rattle.xenbus_state.specs.declared.stage.BackBusStage.{BackBusStage}
+use Rattle.xenbus_state.specs.declared.stage.BackBusStage.TheVariants as back
 use Rattle.xenbus_state.specs.declared.table.FrontAction.{FrontAction}
 use Rattle.xenbus_state.specs.declared.table.FrontAction.TheVariants as front_act
 use Rattle.xenbus_state.specs.declared.table.BackAction.{BackAction}
@@ -97,7 +97,7 @@ module _ (f : Features) (d : DiskFacts) (t : Negotiation) where
   key_halts k reason None u n own goes e = absurd (true≢false (sym (subst (λ (s : BusState). serves back.UnmapOthers s ≡ true) own goes)))
   key_halts k reason (Some w) u n own goes e = absurd (some_other reason e)
 
-  halts_at : (s : BackStage) (page : Mapping) (reason : BackHalt) → t.back.stage ≡ s → IsPlaced s t.back
+  halts_at : (s : BackBusStage) (page : Mapping) (reason : BackHalt) → t.back.stage ≡ s → IsPlaced s t.back
       → BackHolds s t.back (state_number t.front.state) t.front.port (terms_of t.front) f d (back_texts t.keys.keys) → Holds f d t
       → back_step.halt_at s (back_step.at s t.back) (back_answered (back_asks.ask_at s t.back) page t.keys) ≡ Some reason → HaltsGone t.back t.front.state reason
   halts_at back.ReadState page reason same placed held h e =
@@ -207,7 +207,7 @@ module _ (f : Features) (d : DiskFacts) (t : Negotiation) where
       let so = acted_breaks (front_action t.front.state t.front.closing idle (Some t.back.state)) t.front idle t.back.state word (front_acts_now f d t idle h) read in
       record { six = so.0; breaks = so.1; early = low }
 
-  breaks_at : (s : FrontStage) (idle : Bool) (port : ℕ) (word : ℕ) → front_sound.IsTimely s t.front.state
+  breaks_at : (s : FrontBusStage) (idle : Bool) (port : ℕ) (word : ℕ) → front_sound.IsTimely s t.front.state
       → FrontHolds s t.front (state_number t.back.state) f d (front_texts t.keys.keys) → Holds f d t
       → front_step.news_at s (front_step.at s t.front) idle (front_answered (front_asks.ask_at s t.front) port t.keys) ≡ Some (news.Broken word) → BreaksSo idle word
   breaks_at front.ReadState idle port word timely held h e = state_breaks idle word timely h e
@@ -263,7 +263,7 @@ fact_unbroken back_key.Sectors m v = refl
 fact_unbroken back_key.SectorSize m v = refl
 fact_unbroken k m v = refl
 
-choice_unbroken : (more : Bool) (s t : FrontStage) → is_broken s ≡ false → is_broken t ≡ false → is_broken (if more then s else t) ≡ false
+choice_unbroken : (more : Bool) (s t : FrontBusStage) → is_broken s ≡ false → is_broken t ≡ false → is_broken (if more then s else t) ≡ false
 choice_unbroken true s t e g = e
 choice_unbroken false s t e g = g
 
@@ -279,7 +279,7 @@ others_unbroken : (port : Option ℕ) → is_broken (front_step.after_grants por
 others_unbroken (Some port) = refl
 others_unbroken None = refl
 
-woken_unbroken : (s : FrontStage) (o : Option (List ℕ)) (v : FrontView) (idle : Bool) → is_broken s ≡ false
+woken_unbroken : (s : FrontBusStage) (o : Option (List ℕ)) (v : FrontView) (idle : Bool) → is_broken s ≡ false
     → is_broken (front_step.step_at s (front_step.at s v) idle (front_woken o)).stage ≡ false
 woken_unbroken front.Rest None v idle e = refl
 woken_unbroken front.Rest (Some path) v idle e = refl
@@ -306,7 +306,7 @@ module _ (f : Features) (d : DiskFacts) (t : Negotiation) where
       subst (λ (r : Option BusState). is_broken (front_step.acted (front_action t.front.state t.front.closing idle r) (front_step.at front.ReadState t.front)).stage ≡ false) (sym (state_shown (key_of t.keys.keys back_state) t.back.state h.states.back))
       (acted_unbroken (front_action t.front.state t.front.closing idle (Some t.back.state)) t.front idle t.back.state (front_acts_now f d t idle h) never)
 
-  unbroken_at : (s : FrontStage) (idle : Bool) (port : ℕ) → front_sound.IsTimely s t.front.state
+  unbroken_at : (s : FrontBusStage) (idle : Bool) (port : ℕ) → front_sound.IsTimely s t.front.state
       → FrontHolds s t.front (state_number t.back.state) f d (front_texts t.keys.keys) → (t.front.state ≡ state.Closing → idle ≡ true) → is_broken s ≡ false
       → Holds f d t
       → is_broken (front_step.step_at s (front_step.at s t.front) idle (front_answered (front_asks.ask_at s t.front) port t.keys)).stage ≡ false
@@ -331,7 +331,7 @@ module _ (f : Features) (d : DiskFacts) (t : Negotiation) where
   unbroken_at front.Closed idle port timely held served e h = woken_unbroken front.Closed (next_watch t.keys.front) t.front idle refl
   unbroken_at (front.Broken word) idle port timely held served e h = absurd (true≢false e)
 
-due_unbroken : (s : FrontStage) (v : FrontView) (idle : Bool) → is_broken s ≡ false → is_broken (due_at s v idle) ≡ false
+due_unbroken : (s : FrontBusStage) (v : FrontView) (idle : Bool) → is_broken s ≡ false → is_broken (due_at s v idle) ≡ false
 due_unbroken front.Rest v idle e = choice_unbroken (v.closing && idle) (closing_stage v.state v) front.Rest (closes v.state) refl
   where
     leaves : (gone : Bool) (port : Option ℕ) → is_broken (leaving gone port) ≡ false

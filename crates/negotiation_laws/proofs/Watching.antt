@@ -8,10 +8,10 @@ use Rattle.xenbus_state.specs.declared.keys.BackKey.{BackKey}
 use Rattle.xenbus_state.specs.declared.keys.BackKey.TheVariants as back_key
 use Rattle.xenbus_state.specs.declared.state.BusState.{BusState}
 use Rattle.xenbus_state.specs.declared.state.BusState.TheVariants as state
-use Rattle.xenbus_state.specs.declared.stage.FrontStage.{FrontStage}
-use Rattle.xenbus_state.specs.declared.stage.FrontStage.TheVariants as front
-use Rattle.xenbus_state.specs.declared.stage.BackStage.{BackStage}
-use Rattle.xenbus_state.specs.declared.stage.BackStage.TheVariants as back
+use Rattle.xenbus_state.specs.declared.stage.FrontBusStage.{FrontBusStage}
+use Rattle.xenbus_state.specs.declared.stage.FrontBusStage.TheVariants as front
+use Rattle.xenbus_state.specs.declared.stage.BackBusStage.{BackBusStage}
+use Rattle.xenbus_state.specs.declared.stage.BackBusStage.TheVariants as back
 use Rattle.negotiation_laws.specs.Negotiation.{front_path, back_path, front_state, back_state}
 use Rattle.negotiation_laws.proofs.Subjects.{Sees, FrontHeard, FrontSees, BackHeard, BackSees}
 
@@ -43,24 +43,24 @@ none_fired : (w : Watches) (path : List ℕ) → w ≡ no_watches → fired w pa
 none_fired w path e = ap (λ (u : Watches). fired u path) e
 
 -- the front's watch, where the back writes its state or a key, or the front itself
-pub front_sees_state : (s : FrontStage) (closing : Bool) (own : BusState) (gone : Bool) (b c : BusState) (w : Watches) → FrontSees s closing own gone b w
+pub front_sees_state : (s : FrontBusStage) (closing : Bool) (own : BusState) (gone : Bool) (b c : BusState) (w : Watches) → FrontSees s closing own gone b w
     → FrontSees s closing own gone c (fired w back_state)
 front_sees_state front.Start closing own gone b c w h = none_fired w back_state h
 front_sees_state s closing own gone b c w h = sees_fired back_state back_state w (FrontHeard s closing own gone b) (FrontHeard s closing own gone c) refl h
 
-pub front_sees_kept : (other : List ℕ) (s : FrontStage) (closing : Bool) (own : BusState) (gone : Bool) (b : BusState) (w : Watches)
+pub front_sees_kept : (other : List ℕ) (s : FrontBusStage) (closing : Bool) (own : BusState) (gone : Bool) (b : BusState) (w : Watches)
     → is_at_or_under back_state other ≡ false → FrontSees s closing own gone b w → FrontSees s closing own gone b (fired w other)
 front_sees_kept other front.Start closing own gone b w apart h = none_fired w other h
 front_sees_kept other s closing own gone b w apart h = sees_kept back_state other w (FrontHeard s closing own gone b) apart h
 
 -- the back's watch, where the front writes its state or a key, or the back itself
-pub back_sees_state : (s : BackStage) (own fs gs : BusState) (w : Watches) → BackSees s own fs w → BackSees s own gs (fired w front_state)
+pub back_sees_state : (s : BackBusStage) (own fs gs : BusState) (w : Watches) → BackSees s own fs w → BackSees s own gs (fired w front_state)
 back_sees_state (back.Publish key) own fs gs w h = none_fired w front_state h
 back_sees_state (back.WriteState state.InitWait) own fs gs w h = none_fired w front_state h
 back_sees_state back.Watch own fs gs w h = none_fired w front_state h
 back_sees_state s own fs gs w h = sees_fired front_state front_state w (BackHeard s own fs) (BackHeard s own gs) refl h
 
-pub back_sees_kept : (other : List ℕ) (s : BackStage) (own fs : BusState) (w : Watches) → is_at_or_under front_state other ≡ false → BackSees s own fs w
+pub back_sees_kept : (other : List ℕ) (s : BackBusStage) (own fs : BusState) (w : Watches) → is_at_or_under front_state other ≡ false → BackSees s own fs w
     → BackSees s own fs (fired w other)
 back_sees_kept other (back.Publish key) own fs w apart h = none_fired w other h
 back_sees_kept other (back.WriteState state.InitWait) own fs w apart h = none_fired w other h

@@ -3,10 +3,10 @@ use Rattle.std.specs.Prelude.{Bool, true, false, List, [], ◌∷◌, Option}
 use Rattle.xenbus_state.specs.States.{state_read}
 use Rattle.xenbus_state.specs.declared.state.BusState.{BusState}
 use Rattle.xenbus_state.specs.declared.state.BusState.TheVariants as state
-use Rattle.xenbus_state.specs.declared.stage.FrontStage.{FrontStage}
-use Rattle.xenbus_state.specs.declared.stage.FrontStage.TheVariants as front
-use Rattle.xenbus_state.specs.declared.stage.BackStage.{BackStage}
-use Rattle.xenbus_state.specs.declared.stage.BackStage.TheVariants as back
+use Rattle.xenbus_state.specs.declared.stage.FrontBusStage.{FrontBusStage}
+use Rattle.xenbus_state.specs.declared.stage.FrontBusStage.TheVariants as front
+use Rattle.xenbus_state.specs.declared.stage.BackBusStage.{BackBusStage}
+use Rattle.xenbus_state.specs.declared.stage.BackBusStage.TheVariants as back
 use Rattle.xenbus_state.specs.declared.front.FrontBusAsk.{FrontBusAsk}
 use Rattle.xenbus_state.specs.declared.front.FrontBusAsk.TheVariants as front_ask
 use Rattle.xenbus_state.specs.declared.back.BackBusAsk.{BackBusAsk}
@@ -17,7 +17,7 @@ use Rattle.negotiation_laws.specs.Negotiation.{Negotiation, front_state, back_st
 use Rattle.negotiation_laws.specs.Happening.{Happening, FrontMoves, BackMoves, happened}
 
 -- an end that listens has set its watch, is not about to read the other's state, and hasn't ended
-abbrev pub front_listens : FrontStage → Bool
+abbrev pub front_listens : FrontBusStage → Bool
 front_listens front.Start = false
 front_listens front.ReadState = false
 front_listens front.Closed = false
@@ -25,7 +25,7 @@ front_listens (front.Broken word) = false
 front_listens s = true
 
 -- so a back
-abbrev pub back_listens : BackStage → Bool
+abbrev pub back_listens : BackBusStage → Bool
 back_listens (back.Publish key) = false
 back_listens (back.WriteState state.InitWait) = false
 back_listens back.Watch = false

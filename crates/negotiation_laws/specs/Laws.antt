@@ -19,13 +19,13 @@ use Rattle.xenbus_state.specs.declared.front.FrontBusAsk.TheVariants as front_as
 use Rattle.xenbus_state.specs.declared.back.BackBusAsk.TheVariants as back_ask
 use Rattle.xenbus_state.specs.Tables.{is_connected}
 use Rattle.blk_base.specs.Options.{Options}
-use Rattle.xenbus_state.specs.declared.stage.FrontStage.TheVariants as front_stage
+use Rattle.xenbus_state.specs.declared.stage.FrontBusStage.TheVariants as front_stage
 use Rattle.xenbus_state.specs.FrontView.{FrontView, pages_of, terms_of, is_broken, suspended, start_of as first_of}
 use Rattle.xenbus_state.specs.FrontAsk as front
 use Rattle.xenbus_state.specs.BackAsk as back
 use Rattle.xenbus_state.specs.BackSound.{IsMapped, HoldsNothing}
 use Rattle.xenbus_state.specs.BackView.{BackView}
-use Rattle.xenbus_state.specs.declared.stage.BackStage.TheVariants as back_stage
+use Rattle.xenbus_state.specs.declared.stage.BackBusStage.TheVariants as back_stage
 use Rattle.xenbus_state.specs.declared.front.FrontBusAsk.{FrontBusAsk}
 use Rattle.negotiation_laws.specs.Negotiation.{Negotiation, new_epoch, front_state, back_state, state_text, front_answered, back_answered}
 use Rattle.std.specs.List.{list_any}

@@ -7,10 +7,10 @@ use Rattle.xenbus_state.specs.declared.keys.BackKey.{BackKey}
 use Rattle.xenbus_state.specs.declared.keys.BackKey.TheVariants as back_key
 use Rattle.xenbus_state.specs.declared.state.BusState.{BusState}
 use Rattle.xenbus_state.specs.declared.state.BusState.TheVariants as state
-use Rattle.xenbus_state.specs.declared.stage.FrontStage.{FrontStage}
-use Rattle.xenbus_state.specs.declared.stage.FrontStage.TheVariants as front
-use Rattle.xenbus_state.specs.declared.stage.BackStage.{BackStage}
-use Rattle.xenbus_state.specs.declared.stage.BackStage.TheVariants as back
+use Rattle.xenbus_state.specs.declared.stage.FrontBusStage.{FrontBusStage}
+use Rattle.xenbus_state.specs.declared.stage.FrontBusStage.TheVariants as front
+use Rattle.xenbus_state.specs.declared.stage.BackBusStage.{BackBusStage}
+use Rattle.xenbus_state.specs.declared.stage.BackBusStage.TheVariants as back
 use Rattle.xenbus_state.specs.declared.front.FrontBusAsk.{FrontBusAsk}
 use Rattle.xenbus_state.specs.declared.front.FrontBusAsk.TheVariants as front_ask
 use Rattle.xenbus_state.specs.declared.back.BackBusAsk.{BackBusAsk}
@@ -60,7 +60,7 @@ front_write_left state.Closing = 21
 front_write_left s = 1
 
 -- at this stage, where it has written this state last
-abbrev pub front_left : FrontStage → BusState → ℕ
+abbrev pub front_left : FrontBusStage → BusState → ℕ
 front_left front.Start own = 89
 front_left front.Rest own = front_rest_left own
 front_left front.ReadState own = front_rest_left own
@@ -110,7 +110,7 @@ back_write_left state.Closing = 2
 back_write_left s = 1
 
 -- at this stage, where it has written this state last
-abbrev pub back_left : BackStage → BusState → (pages : ℕ) → ℕ
+abbrev pub back_left : BackBusStage → BusState → (pages : ℕ) → ℕ
 back_left (back.Publish key) own pages = offered_left key
 back_left (back.WriteState s) own pages = back_write_left s
 back_left back.Watch own pages = 65
@@ -126,12 +126,12 @@ back_left back.ClosePort own pages = 3
 back_left back.Halted own pages = 0
 
 -- one that is about to read has that to do too
-abbrev pub front_reading : FrontStage → ℕ
+abbrev pub front_reading : FrontBusStage → ℕ
 front_reading front.ReadState = 1
 front_reading s = 0
 
 -- so a back
-abbrev pub back_reading : BackStage → ℕ
+abbrev pub back_reading : BackBusStage → ℕ
 back_reading back.ReadState = 1
 back_reading s = 0
 

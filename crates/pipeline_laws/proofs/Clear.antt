@@ -3,12 +3,12 @@ use Rattle.std.proofs.Common.{◌≡◌, ℕ, zero, suc, ◌+◌, ◌-◌, ◌<�
 use Rattle.std.specs.Prelude.{Some, slice_get}
 use Rattle.blk_base.specs.declared.config.Job.{Job}
 use Rattle.blk_base.specs.declared.operation.Status.TheVariants as status
-use Rattle.plain_disk.specs.declared.request.Request.{Request as Asked}
+use Rattle.plain_disk.specs.declared.request.DiskRequest.{DiskRequest}
 use Rattle.plain_disk.specs.declared.request.Place.{Place}
 use Rattle.plain_disk.specs.Request.{is_barrier, is_ordered, is_settled, are_settled, places_of}
 use Rattle.plain_disk.specs.Disk.{Disk}
 use Rattle.plain_disk.specs.Step.{is_in_order}
-use Rattle.pipeline_laws.specs.Station.{Station, Waiting, Issuing, Pushed, Fetching, Working, Failed, Ended, Replying, Replied, Taking, Telling, Finished, Request, asked, asked_at}
+use Rattle.pipeline_laws.specs.Station.{Station, Waiting, Issuing, Pushed, Fetching, Working, Failed, Ended, Replying, Replied, Taking, Telling, Finished, PipelineRequest, asked, asked_at}
 use Rattle.pipeline_laws.specs.Pipeline.{Pipeline}
 use Rattle.pipeline_laws.specs.Allowed.{IsAt, IsClear, is_working}
 use Rattle.pipeline_laws.proofs.Lists.{Each, each_front}
@@ -16,10 +16,10 @@ use Rattle.pipeline_laws.proofs.Matches.{Matches, IsDone, done_at}
 use Rattle.pipeline_laws.proofs.Order.{Phase, Unissued, OnRing, AtBack, Past, phase_of, IsInPhase, HasEntry, IsOrdered, index_below}
 
 -- what the plain disk asks of an earlier request
-abbrev is_out_of_way : Bool → List Place → ℕ → Asked → Bool
+abbrev is_out_of_way : Bool → List Place → ℕ → DiskRequest → Bool
 is_out_of_way barrier done id r = not (is_ordered r.job) || not (barrier || is_barrier r.job) || is_settled done id r
 
-all_settled : (barrier : Bool) (done : List Place) (from : ℕ) (rs : List Asked) → Each (λ k (r : Asked). is_out_of_way barrier done (from + k) r ≡ true) rs → are_settled done from rs barrier ≡ true
+all_settled : (barrier : Bool) (done : List Place) (from : ℕ) (rs : List DiskRequest) → Each (λ k (r : DiskRequest). is_out_of_way barrier done (from + k) r ≡ true) rs → are_settled done from rs barrier ≡ true
 all_settled barrier done from [] each = refl
 all_settled barrier done from (r ∷ rs) each =
     let start : from + 0 ≡ from = omega arith in
@@ -59,7 +59,7 @@ by_settled : (ordered conflict settled : Bool) → settled ≡ true → (not ord
 by_settled ordered conflict settled e = grind arith
 
 -- an earlier request is out of the way: it was fetched before, for it has the lower number
-earlier_out : (p : Pipeline) (d : Disk) (content : List (List ℕ)) (k j : ℕ) (x y : Request) → Matches p d content → IsOrdered p.requests p.ring.pushed p.ring.fetched → HasEntry p.ring.pushed k 0 p.ring.fetched → IsClear p k x → j < k → slice_get p.requests j ≡ Some y
+earlier_out : (p : Pipeline) (d : Disk) (content : List (List ℕ)) (k j : ℕ) (x y : PipelineRequest) → Matches p d content → IsOrdered p.requests p.ring.pushed p.ring.fetched → HasEntry p.ring.pushed k 0 p.ring.fetched → IsClear p k x → j < k → slice_get p.requests j ≡ Some y
     → is_out_of_way (is_barrier x.job) d.done (j + 1) (asked y) ≡ true
 earlier_out p d content k j x y m o job clear lt here = by_phase (phase_of y.station) refl (o.each j y here)
   where
@@ -88,10 +88,10 @@ earlier_out p d content k j x y m o job clear lt here = by_phase (phase_of y.sta
         no_work s f = refl
 
 -- so a job that is clear is in order for the plain disk
-pub in_order : (p : Pipeline) (d : Disk) (content : List (List ℕ)) (k moved : ℕ) (x : Request) (r : Asked) → Matches p d content → IsOrdered p.requests p.ring.pushed p.ring.fetched → IsAt p k x (Working moved) → r.job ≡ x.job → IsClear p k x → is_in_order d (k + 1) r ≡ true
+pub in_order : (p : Pipeline) (d : Disk) (content : List (List ℕ)) (k moved : ℕ) (x : PipelineRequest) (r : DiskRequest) → Matches p d content → IsOrdered p.requests p.ring.pushed p.ring.fetched → IsAt p k x (Working moved) → r.job ≡ x.job → IsClear p k x → is_in_order d (k + 1) r ≡ true
 in_order p d content k moved x r m o at same clear =
     let back : k + 1 - 1 ≡ k = omega arith in
     let job : HasEntry p.ring.pushed k 0 p.ring.fetched = subst (λ s. IsInPhase p.ring.pushed p.ring.fetched k (phase_of s)) at.there (o.each k x at.here) in
-    rw (back, same, m.requests) (all_settled (is_barrier x.job) d.done 1 (take k (map asked p.requests)) (each_front asked (λ j (q : Asked). is_out_of_way (is_barrier x.job) d.done (1 + j) q ≡ true) k p.requests (λ j y lt e.
+    rw (back, same, m.requests) (all_settled (is_barrier x.job) d.done 1 (take k (map asked p.requests)) (each_front asked (λ j (q : DiskRequest). is_out_of_way (is_barrier x.job) d.done (1 + j) q ≡ true) k p.requests (λ j y lt e.
     let on : j + 1 ≡ 1 + j = omega arith in
     rw on at (earlier_out p d content k j x y m o job clear lt e))))

@@ -12,7 +12,7 @@ use Rattle.schedule_text.specs.declared.line.Line.{Line}
 use Rattle.schedule_text.specs.declared.line.Line.TheVariants as lines
 use Rattle.schedule_text.specs.Recorder.{recorded, kept_of}
 use Rattle.plain_disk.specs.Request.{sector_of, count_of, filling}
-use Rattle.pipeline_laws.specs.Station.{Request, submitted}
+use Rattle.pipeline_laws.specs.Station.{PipelineRequest, submitted}
 use Rattle.pipeline_laws.specs.Move.{Move, BeginsEntry, Pushes, BeginsFetch, Fetches, Fills, Reads, Flushes, Trims, Fails, Ends, BeginsResponse, Replies, Takes, Answers, Tells, moved, move_lines}
 use Rattle.pipeline_laws.specs.Pipeline.{Pipeline, Step, Submits, Refuses, Moves, Connects, StartsToClose, Closes, Leaves, Resumes, Rests, Shows, again, next, step_lines, lines_of}
 use Rattle.pipeline_laws.specs.Allowed.{IsAllowed, AreAllowed, is_aside}
@@ -20,7 +20,7 @@ use Rattle.pipeline_laws.specs.Disk.{lost_sector, lost_count, DiskDoes, DiskGoes
 use Rattle.pipeline_laws.specs.Effects.{LineDoes, jobs_after, LinesDo}
 use Rattle.pipeline_laws.proofs.Lists.{get_map}
 
-abbrev pub job_in : Request → Job
+abbrev pub job_in : PipelineRequest → Job
 job_in x = x.job
 
 -- the requests after all these lines
@@ -58,17 +58,17 @@ aside_jobs jobs (lines.Submit id job) aside = absurd (true≢false (sym aside))
 aside_jobs jobs line aside = refl
 
 -- the request of a number
-its_job : (jobs : List Job) (requests : List Request) (k : ℕ) (x : Request) (job : Job) → jobs ≡ map job_in requests → slice_get requests k ≡ Some x → slice_get jobs (k + 1 - 1) ≡ Some job → job ≡ x.job
+its_job : (jobs : List Job) (requests : List PipelineRequest) (k : ℕ) (x : PipelineRequest) (job : Job) → jobs ≡ map job_in requests → slice_get requests k ≡ Some x → slice_get jobs (k + 1 - 1) ≡ Some job → job ≡ x.job
 its_job jobs requests k x job all here at =
     let place : k + 1 - 1 ≡ k = omega arith in
     same_Some job x.job (sym at ∙ (ap (slice_get jobs) place ∙ (ap (λ (js : List Job). slice_get js k) all ∙ get_map job_in requests k x here)))
 
-job_at : (jobs : List Job) (requests : List Request) (k : ℕ) (x : Request) → jobs ≡ map job_in requests → slice_get requests k ≡ Some x → slice_get jobs (k + 1 - 1) ≡ Some x.job
+job_at : (jobs : List Job) (requests : List PipelineRequest) (k : ℕ) (x : PipelineRequest) → jobs ≡ map job_in requests → slice_get requests k ≡ Some x → slice_get jobs (k + 1 - 1) ≡ Some x.job
 job_at jobs requests k x all here =
     let place : k + 1 - 1 ≡ k = omega arith in
     ap (slice_get jobs) place ∙ (ap (λ (js : List Job). slice_get js k) all ∙ get_map job_in requests k x here)
 
-move_calls : (jobs : List Job) (requests : List Request) (k : ℕ) (x : Request) (move : Move) (before after : List (List ℕ)) → jobs ≡ map job_in requests → slice_get requests k ≡ Some x → LinesDo jobs (move_lines k move) before after → DiskDoes x.job move before after
+move_calls : (jobs : List Job) (requests : List PipelineRequest) (k : ℕ) (x : PipelineRequest) (move : Move) (before after : List (List ℕ)) → jobs ≡ map job_in requests → slice_get requests k ≡ Some x → LinesDo jobs (move_lines k move) before after → DiskDoes x.job move before after
 move_calls jobs requests k x (Fills index) before after all here d =
     let same = its_job jobs requests k x d.1.0 all here d.1.1 in
     d.2 ∙ subst (λ (j : Job). d.0 ≡ slice_set before (sector_of j + index) (filling j index)) same d.1.2
@@ -94,7 +94,7 @@ move_calls jobs requests k x (Ends status) before after all here d = d
 move_calls jobs requests k x (BeginsResponse status) before after all here d = d
 move_calls jobs requests k x (Takes status) before after all here d = d
 
-move_effects : (jobs : List Job) (requests : List Request) (k : ℕ) (x : Request) (move : Move) (before after : List (List ℕ)) → jobs ≡ map job_in requests → slice_get requests k ≡ Some x → DiskDoes x.job move before after → LinesDo jobs (move_lines k move) before after
+move_effects : (jobs : List Job) (requests : List PipelineRequest) (k : ℕ) (x : PipelineRequest) (move : Move) (before after : List (List ℕ)) → jobs ≡ map job_in requests → slice_get requests k ≡ Some x → DiskDoes x.job move before after → LinesDo jobs (move_lines k move) before after
 move_effects jobs requests k x (Fills index) before after all here d = (after, (x.job, job_at jobs requests k x all here, d), refl)
 move_effects jobs requests k x (Reads index words) before after all here d = (after, (x.job, job_at jobs requests k x all here, d.0, d.1), refl)
 move_effects jobs requests k x Trims before after all here d = (after, (x.job, job_at jobs requests k x all here, d), refl)
@@ -136,14 +136,14 @@ step_effects p Resumes jobs before after all may d = (after, d, refl)
 step_effects p Rests jobs before after all may d = (after, d, refl)
 
 -- the requests after a step
-jobs_set : (xs : List Request) (k : ℕ) (x y : Request) → slice_get xs k ≡ Some x → y.job ≡ x.job → map job_in (slice_set xs k y) ≡ map job_in xs
+jobs_set : (xs : List PipelineRequest) (k : ℕ) (x y : PipelineRequest) → slice_get xs k ≡ Some x → y.job ≡ x.job → map job_in (slice_set xs k y) ≡ map job_in xs
 jobs_set [] k x y here same = absurd (none-some x here)
 jobs_set (z ∷ xs) zero x y here same =
     let it : z ≡ x = same_Some z x here in
     ap (λ (j : Job). j ∷ map job_in xs) (same ∙ ap job_in (sym it))
 jobs_set (z ∷ xs) (suc k) x y here same = ap (λ (js : List Job). z.job ∷ js) (jobs_set xs k x y here same)
 
-jobs_again : (xs : List Request) → map job_in (map again xs) ≡ map job_in xs
+jobs_again : (xs : List PipelineRequest) → map job_in (map again xs) ≡ map job_in xs
 jobs_again [] = refl
 jobs_again (x ∷ xs) = ap (λ (js : List Job). x.job ∷ js) (jobs_again xs)
 

@@ -5,13 +5,13 @@ use Rattle.std.proofs.lemmas.Bool.Decides.{nat_tests}
 use Rattle.blk_base.specs.declared.config.Job.{Job}
 use Rattle.blk_base.specs.declared.operation.Status.{Status}
 use Rattle.blk_base.specs.declared.operation.Status.TheVariants.{Unsupported}
-use Rattle.plain_disk.specs.declared.request.Request.{Request as Asked}
+use Rattle.plain_disk.specs.declared.request.DiskRequest.{DiskRequest}
 use Rattle.plain_disk.specs.declared.request.Place.{Place}
 use Rattle.plain_disk.specs.declared.request.Noted.{Noted}
 use Rattle.plain_disk.specs.Request.{is_read, places_of}
 use Rattle.plain_disk.specs.Disk.{Disk, request_of}
 use Rattle.plain_disk.specs.Step.{place, with_request, is_okay}
-use Rattle.pipeline_laws.specs.Station.{Station, Working, Failed, Ended, Replying, Replied, Taking, Telling, Finished, Request, asked, asked_at}
+use Rattle.pipeline_laws.specs.Station.{Station, Working, Failed, Ended, Replying, Replied, Taking, Telling, Finished, PipelineRequest, asked, asked_at}
 use Rattle.pipeline_laws.specs.Pipeline.{Pipeline}
 use Rattle.pipeline_laws.specs.Allowed.{IsAt}
 use Rattle.pipeline_laws.proofs.Lists.{Each, get_map, set_map}
@@ -50,7 +50,7 @@ is_unserved (Replying status) = is_refusal status
 is_unserved station = false
 
 -- what the plain disk has noted of the request at this place
-pub record IsTold (places : List Place) (notes : List Noted) (k : ℕ) (x : Request) : Type 0 where
+pub record IsTold (places : List Place) (notes : List Noted) (k : ℕ) (x : PipelineRequest) : Type 0 where
   pub done : IsDone places (k + 1) (done_at x.job x.station)
   pub noted : AreNoted notes (k + 1) x.words
   pub long : IsLong x.station (is_read x.job) x.words
@@ -70,7 +70,7 @@ done_elsewhere done id other i (Some n) apart h = done_other done id other n i a
 apart_of : (j k : ℕ) → j ≢ k → j + 1 ≢ k + 1
 apart_of j k other e = other (omega arith)
 
-pub told_elsewhere : (done : List Place) (noted : List Noted) (j k i : ℕ) (y : Request) → j ≢ k → IsTold done noted j y → IsTold (done ++ place (k + 1) i ∷ []) noted j y
+pub told_elsewhere : (done : List Place) (noted : List Noted) (j k i : ℕ) (y : PipelineRequest) → j ≢ k → IsTold done noted j y → IsTold (done ++ place (k + 1) i ∷ []) noted j y
 told_elsewhere done noted j k i y other h = record {
   done = done_elsewhere done (j + 1) (k + 1) i (done_at y.job y.station) (apart_of j k other) h.done;
   noted = h.noted;
@@ -81,7 +81,7 @@ told_elsewhere done noted j k i y other h = record {
 abbrev pub note : ℕ → ℕ → List ℕ → Noted
 note id index words = record { id = id; index = index; words = words }
 
-pub read_elsewhere : (done : List Place) (noted : List Noted) (j k i : ℕ) (words : List ℕ) (y : Request) → j ≢ k → IsTold done noted j y → IsTold (done ++ place (k + 1) i ∷ []) (noted ++ note (k + 1) i words ∷ []) j y
+pub read_elsewhere : (done : List Place) (noted : List Noted) (j k i : ℕ) (words : List ℕ) (y : PipelineRequest) → j ≢ k → IsTold done noted j y → IsTold (done ++ place (k + 1) i ∷ []) (noted ++ note (k + 1) i words ∷ []) j y
 read_elsewhere done noted j k i words y other h = record {
   done = done_elsewhere done (j + 1) (k + 1) i (done_at y.job y.station) (apart_of j k other) h.done;
   noted = noted_other noted (j + 1) (k + 1) i words y.words (apart_of j k other) h.noted;
@@ -90,17 +90,17 @@ read_elsewhere done noted j k i words y other h = record {
 }
 
 -- finding a request, and setting it anew
-request_found : (rs : List Asked) (k : ℕ) (r : Asked) → slice_get rs k ≡ Some r → request_of rs (k + 1) ≡ Some r
+request_found : (rs : List DiskRequest) (k : ℕ) (r : DiskRequest) → slice_get rs k ≡ Some r → request_of rs (k + 1) ≡ Some r
 request_found rs k r e =
     let test : (k + 1 == 0) ≡ false = grind (arith, nat_tests) in
     let back : k + 1 - 1 ≡ k = omega arith in
     rw (test, back) e
 
-pub asked_here : (p : Pipeline) (d : Disk) (content : List (List ℕ)) (k : ℕ) (x : Request) (station : Station) → Matches p d content → IsAt p k x station → request_of d.requests (k + 1) ≡ Some (asked_at x.job station)
+pub asked_here : (p : Pipeline) (d : Disk) (content : List (List ℕ)) (k : ℕ) (x : PipelineRequest) (station : Station) → Matches p d content → IsAt p k x station → request_of d.requests (k + 1) ≡ Some (asked_at x.job station)
 asked_here p d content k x station m at =
     request_found d.requests k (asked_at x.job station) (rw m.requests (get_map asked p.requests k x at.here ∙ ap (λ s. Some (asked_at x.job s)) at.there))
 
-pub set_asked : (rs : List Asked) (requests : List Request) (k : ℕ) (y : Request) → rs ≡ map asked requests → with_request rs (k + 1) (asked y) ≡ map asked (slice_set requests k y)
+pub set_asked : (rs : List DiskRequest) (requests : List PipelineRequest) (k : ℕ) (y : PipelineRequest) → rs ≡ map asked requests → with_request rs (k + 1) (asked y) ≡ map asked (slice_set requests k y)
 set_asked rs requests k y same =
     let back : k + 1 - 1 ≡ k = omega arith in
     rw (same, back) (set_map asked requests k y)

@@ -9,13 +9,13 @@ use Rattle.blk_base.specs.declared.config.Job.TheVariants.{Read}
 use Rattle.blk_base.specs.declared.operation.Status.{Status}
 use Rattle.blk_base.specs.declared.operation.Status.TheVariants as status
 use Rattle.schedule_text.specs.declared.line.Line.TheVariants as lines
-use Rattle.plain_disk.specs.declared.request.Request.{Request as Asked}
+use Rattle.plain_disk.specs.declared.request.DiskRequest.{DiskRequest}
 use Rattle.plain_disk.specs.declared.request.Place.{Place}
-use Rattle.plain_disk.specs.declared.request.Stage.TheVariants as stage
+use Rattle.plain_disk.specs.declared.request.RequestStage.TheVariants as stage
 use Rattle.plain_disk.specs.Request.{is_read, places_of, done_count}
 use Rattle.plain_disk.specs.Disk.{Disk, noted_at}
 use Rattle.plain_disk.specs.Step.{with_request, is_status, is_okay, told_stage, next_stage, are_noted}
-use Rattle.pipeline_laws.specs.Station.{Station, Waiting, Issuing, Pushed, Fetching, Working, Failed, Ended, Replying, Replied, Taking, Telling, Finished, Request, asked, asked_at}
+use Rattle.pipeline_laws.specs.Station.{Station, Waiting, Issuing, Pushed, Fetching, Working, Failed, Ended, Replying, Replied, Taking, Telling, Finished, PipelineRequest, asked, asked_at}
 use Rattle.pipeline_laws.specs.Move.{Move, BeginsEntry, Pushes, BeginsFetch, Fetches, Ends, BeginsResponse, Replies, Takes, Answers, Tells, station_before, moved, move_lines, answered_station, told_station}
 use Rattle.pipeline_laws.specs.Ring.{Ring}
 use Rattle.pipeline_laws.specs.Pipeline.{Pipeline, Moves, next}
@@ -26,7 +26,7 @@ use Rattle.pipeline_laws.proofs.Matches.{Matches, IsTold, IsLong, IsDone, done_a
 use Rattle.pipeline_laws.proofs.Serving.{Leads, one_line}
 
 -- a request is elsewhere, and the plain disk keeps the same of it
-stays : (p : Pipeline) (d : Disk) (content : List (List ℕ)) (ring : Ring) (k : ℕ) (x y : Request) → slice_get p.requests k ≡ Some x → asked y ≡ asked x → IsTold d.done d.noted k y → Matches p d content → Leads (record p { requests = slice_set p.requests k y; ring = ring }) d [] content
+stays : (p : Pipeline) (d : Disk) (content : List (List ℕ)) (ring : Ring) (k : ℕ) (x y : PipelineRequest) → slice_get p.requests k ≡ Some x → asked y ≡ asked x → IsTold d.done d.noted k y → Matches p d content → Leads (record p { requests = slice_set p.requests k y; ring = ring }) d [] content
 stays p d content ring k x y here same told m = record {
   disk = d;
   run = refl;
@@ -43,7 +43,7 @@ fresh_long true = refl
 fresh_long false = tt
 
 -- a move without a line
-pub goes_on : (p : Pipeline) (d : Disk) (content : List (List ℕ)) (k : ℕ) (x : Request) (move : Move) → move_lines k move ≡ [] → May p k x move → IsAt p k x (station_before x.job move) → Matches p d content → Leads (next p (Moves k x move)) d (move_lines k move) content
+pub goes_on : (p : Pipeline) (d : Disk) (content : List (List ℕ)) (k : ℕ) (x : PipelineRequest) (move : Move) → move_lines k move ≡ [] → May p k x move → IsAt p k x (station_before x.job move) → Matches p d content → Leads (next p (Moves k x move)) d (move_lines k move) content
 goes_on p d content k x move silent may at m = by_move move silent may at.there
   where
     was : IsTold d.done d.noted k x
@@ -71,7 +71,7 @@ goes_on p d content k x move silent may at m = by_move move silent may at.there
     by_move mv none may e = absurd (cc)
 
 -- a request is told of
-changed : (p : Pipeline) (d : Disk) (content : List (List ℕ)) (ring : Ring) (k : ℕ) (x y : Request) (r : Asked) → slice_get p.requests k ≡ Some x → r ≡ asked y → IsTold d.done d.noted k y → Matches p d content
+changed : (p : Pipeline) (d : Disk) (content : List (List ℕ)) (ring : Ring) (k : ℕ) (x y : PipelineRequest) (r : DiskRequest) → slice_get p.requests k ≡ Some x → r ≡ asked y → IsTold d.done d.noted k y → Matches p d content
     → Matches (record p { requests = slice_set p.requests k y; ring = ring }) (record d { requests = with_request d.requests (k + 1) r }) content
 changed p d content ring k x y r here same told m = record {
   requests = rw same (set_asked d.requests p.requests k y m.requests);
@@ -81,13 +81,13 @@ changed p d content ring k x y r here same told m = record {
 }
 
 -- a reply
-pub replies : (p : Pipeline) (d : Disk) (content : List (List ℕ)) (k : ℕ) (x : Request) (s : Status) → IsAt p k x (Replying s) → Matches p d content → Leads (next p (Moves k x (Replies s))) d (move_lines k (Replies s)) content
+pub replies : (p : Pipeline) (d : Disk) (content : List (List ℕ)) (k : ℕ) (x : PipelineRequest) (s : Status) → IsAt p k x (Replying s) → Matches p d content → Leads (next p (Moves k x (Replies s))) d (move_lines k (Replies s)) content
 replies p d content k x s at m = by_status s at
   where
     was : IsTold d.done d.noted k x
     was = m.each k x at.here
 
-    later : (t : Status) (r : Asked) → r ≡ asked_at x.job (Replied t) → Matches (next p (Moves k x (Replies t))) (record d { requests = with_request d.requests (k + 1) r }) content
+    later : (t : Status) (r : DiskRequest) → r ≡ asked_at x.job (Replied t) → Matches (next p (Moves k x (Replies t))) (record d { requests = with_request d.requests (k + 1) r }) content
     later t r e = changed p d content _ k x (moved x (Replies t)) r at.here e (record { done = tt; noted = was.noted; long = tt; served = refl }) m
 
     by_status : (t : Status) → IsAt p k x (Replying t) → Leads (next p (Moves k x (Replies t))) d (move_lines k (Replies t)) content
@@ -134,7 +134,7 @@ answered_as (Read sector count) status.Error = refl
 answered_as (Read sector count) status.Unsupported = refl
 answered_as job s = refl
 
-pub answers : (p : Pipeline) (d : Disk) (content : List (List ℕ)) (k : ℕ) (x : Request) (s : Status) → IsAt p k x (Taking s) → Matches p d content → Leads (next p (Moves k x (Answers s))) d (move_lines k (Answers s)) content
+pub answers : (p : Pipeline) (d : Disk) (content : List (List ℕ)) (k : ℕ) (x : PipelineRequest) (s : Status) → IsAt p k x (Taking s) → Matches p d content → Leads (next p (Moves k x (Answers s))) d (move_lines k (Answers s)) content
 answers p d content k x s at m =
     let read : Bool = is_read x.job && is_okay s in
     record {
@@ -155,7 +155,7 @@ told_as job n = by_test (nat_lt (n + 1) (places_of job))
     by_test true = refl
     by_test false = refl
 
-pub tells : (p : Pipeline) (d : Disk) (content : List (List ℕ)) (k : ℕ) (x : Request) (n : ℕ) (words : List ℕ) → IsAt p k x (Telling n) → slice_get x.words n ≡ Some words → Matches p d content → Leads (next p (Moves k x (Tells n words))) d (move_lines k (Tells n words)) content
+pub tells : (p : Pipeline) (d : Disk) (content : List (List ℕ)) (k : ℕ) (x : PipelineRequest) (n : ℕ) (words : List ℕ) → IsAt p k x (Telling n) → slice_get x.words n ≡ Some words → Matches p d content → Leads (next p (Moves k x (Tells n words))) d (move_lines k (Tells n words)) content
 tells p d content k x n words at has m =
     let was = m.each k x at.here in
     let next_one : (n == n) ≡ true = grind (arith, nat_tests) in

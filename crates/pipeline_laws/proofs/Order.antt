@@ -9,7 +9,7 @@ use Rattle.blk_base.specs.declared.operation.Status.{Status}
 use Rattle.blk_base.specs.declared.operation.Status.TheVariants as status
 use Rattle.plain_disk.specs.Request.{is_read, places_of}
 use Rattle.plain_disk.specs.Step.{is_okay}
-use Rattle.pipeline_laws.specs.Station.{Station, Waiting, Issuing, Pushed, Fetching, Working, Failed, Ended, Replying, Replied, Telling, Finished, Request, submitted}
+use Rattle.pipeline_laws.specs.Station.{Station, Waiting, Issuing, Pushed, Fetching, Working, Failed, Ended, Replying, Replied, Telling, Finished, PipelineRequest, submitted}
 use Rattle.pipeline_laws.specs.Move.{Move, BeginsEntry, Pushes, BeginsFetch, Fetches, Fills, Reads, Flushes, Trims, Fails, Ends, BeginsResponse, Replies, Takes, Answers, Tells, station_before, moved}
 use Rattle.pipeline_laws.specs.Ring.{IsNextEntry, ring_after}
 use Rattle.pipeline_laws.specs.Pipeline.{Pipeline, station_again, again}
@@ -46,17 +46,17 @@ IsInPhase pushed fetched k OnRing = HasEntry pushed k fetched (length pushed)
 IsInPhase pushed fetched k AtBack = HasEntry pushed k 0 fetched
 IsInPhase pushed fetched k Past = Unit {0}
 
-abbrev pub IsPlaced : List ℕ → ℕ → ℕ → Request → Type 0
+abbrev pub IsPlaced : List ℕ → ℕ → ℕ → PipelineRequest → Type 0
 IsPlaced pushed fetched k x = IsInPhase pushed fetched k (phase_of x.station)
 
-pub record IsOrdered (requests : List Request) (pushed : List ℕ) (fetched : ℕ) : Type 0 where
+pub record IsOrdered (requests : List PipelineRequest) (pushed : List ℕ) (fetched : ℕ) : Type 0 where
   pub each : Each (IsPlaced pushed fetched) requests
   pub ascending : (i j k l : ℕ) → i < j → slice_get pushed i ≡ Some k → slice_get pushed j ≡ Some l → k < l
   pub below : Each (λ i (k : ℕ). k < length requests) pushed
   pub within : fetched ≤ length pushed
 
 -- entries of lower numbers have lower indices
-pub index_below : (requests : List Request) (pushed : List ℕ) (fetched i j k l : ℕ) → IsOrdered requests pushed fetched → slice_get pushed i ≡ Some k → slice_get pushed j ≡ Some l → k < l → i < j
+pub index_below : (requests : List PipelineRequest) (pushed : List ℕ) (fetched i j k l : ℕ) → IsOrdered requests pushed fetched → slice_get pushed i ≡ Some k → slice_get pushed j ≡ Some l → k < l → i < j
 index_below requests pushed fetched i j k l o e f lt = elim (cases_order i j) [
   | inl same ↦ (let one : k ≡ l = same_Some k l (sym e ∙ (ap (slice_get pushed) same ∙ f)) in absurd (omega arith))
   | inr other ↦ elim other [
@@ -66,7 +66,7 @@ index_below requests pushed fetched i j k l o e f lt = elim (cases_order i j) [
 ]
 
 -- a request goes on, and neither is pushed nor fetched
-stays_ordered : (requests : List Request) (pushed : List ℕ) (fetched k : ℕ) (x : Request) → IsPlaced pushed fetched k x → IsOrdered requests pushed fetched → IsOrdered (slice_set requests k x) pushed fetched
+stays_ordered : (requests : List PipelineRequest) (pushed : List ℕ) (fetched k : ℕ) (x : PipelineRequest) → IsPlaced pushed fetched k x → IsOrdered requests pushed fetched → IsOrdered (slice_set requests k x) pushed fetched
 stays_ordered requests pushed fetched k x new o = record {
   each = each_set (IsPlaced pushed fetched) (IsPlaced pushed fetched) requests k x new (λ j y other e h. h) o.each;
   ascending = o.ascending;
@@ -105,7 +105,7 @@ pushed_other pushed fetched k j station other first h = by_phase (phase_of stati
     by_phase AtBack late h = record { index = h.index; entry = get_more pushed k h.index j h.entry; low = h.low; high = h.high }
     by_phase Past late h = tt
 
-ascending_more : (requests : List Request) (pushed : List ℕ) (fetched k : ℕ) → ((i j : ℕ) → slice_get pushed i ≡ Some j → j < k) → IsOrdered requests pushed fetched → (i j l m : ℕ) → i < j → slice_get (pushed ++ k ∷ []) i ≡ Some l → slice_get (pushed ++ k ∷ []) j ≡ Some m → l < m
+ascending_more : (requests : List PipelineRequest) (pushed : List ℕ) (fetched k : ℕ) → ((i j : ℕ) → slice_get pushed i ≡ Some j → j < k) → IsOrdered requests pushed fetched → (i j l m : ℕ) → i < j → slice_get (pushed ++ k ∷ []) i ≡ Some l → slice_get (pushed ++ k ∷ []) j ≡ Some m → l < m
 ascending_more requests pushed fetched k low o i j l m lt e f = by_places (last_or pushed k l i e) (last_or pushed k m j f)
   where
     by_places : ((i ≡ length pushed) × (l ≡ k)) ⊎ ((i < length pushed) × (slice_get pushed i ≡ Some l)) → ((j ≡ length pushed) × (m ≡ k)) ⊎ ((j < length pushed) × (slice_get pushed j ≡ Some m)) → l < m
@@ -117,7 +117,7 @@ ascending_more requests pushed fetched k low o i j l m lt e f = by_places (last_
         omega arith
     by_places (inr b) (inr c) = o.ascending i j l m lt b.1 c.1
 
-pushes_ordered : (p : Pipeline) (k : ℕ) (x : Request) → IsAt p k x Issuing → IsFirst p k → IsOrdered p.requests p.ring.pushed p.ring.fetched → IsOrdered (slice_set p.requests k (moved x Pushes)) (p.ring.pushed ++ k ∷ []) p.ring.fetched
+pushes_ordered : (p : Pipeline) (k : ℕ) (x : PipelineRequest) → IsAt p k x Issuing → IsFirst p k → IsOrdered p.requests p.ring.pushed p.ring.fetched → IsOrdered (slice_set p.requests k (moved x Pushes)) (p.ring.pushed ++ k ∷ []) p.ring.fetched
 pushes_ordered p k x at first o =
     let low : IsInPhase p.ring.pushed p.ring.fetched k Unissued = subst (λ s. IsInPhase p.ring.pushed p.ring.fetched k (phase_of s)) at.there (o.each k x at.here) in
     let long = length_push p.ring.pushed k in
@@ -133,7 +133,7 @@ pushes_ordered p k x at first o =
     }
 
 -- fetched
-fetches_ordered : (p : Pipeline) (k : ℕ) (x : Request) → IsAt p k x Fetching → IsNextEntry p.ring k → IsOrdered p.requests p.ring.pushed p.ring.fetched → IsOrdered (slice_set p.requests k (moved x Fetches)) p.ring.pushed (p.ring.fetched + 1)
+fetches_ordered : (p : Pipeline) (k : ℕ) (x : PipelineRequest) → IsAt p k x Fetching → IsNextEntry p.ring k → IsOrdered p.requests p.ring.pushed p.ring.fetched → IsOrdered (slice_set p.requests k (moved x Fetches)) p.ring.pushed (p.ring.fetched + 1)
 fetches_ordered p k x at entry o =
     let reached = slice_get_within p.ring.pushed p.ring.fetched k entry in
     record {
@@ -161,14 +161,14 @@ answered_past : (pushed : List ℕ) (fetched k next : ℕ) (status : Status) (b 
 answered_past pushed fetched k next status true = tt
 answered_past pushed fetched k next status false = tt
 
-pub move_ordered : (p : Pipeline) (k : ℕ) (x : Request) (move : Move) → IsAt p k x (station_before x.job move) → May p k x move → IsOrdered p.requests p.ring.pushed p.ring.fetched
+pub move_ordered : (p : Pipeline) (k : ℕ) (x : PipelineRequest) (move : Move) → IsAt p k x (station_before x.job move) → May p k x move → IsOrdered p.requests p.ring.pushed p.ring.fetched
     → IsOrdered (slice_set p.requests k (moved x move)) (ring_after p.ring k move).pushed (ring_after p.ring k move).fetched
 move_ordered p k x move at may o = by_move move at may
   where
     was : (station : Station) → x.station ≡ station → IsInPhase p.ring.pushed p.ring.fetched k (phase_of station)
     was station e = subst (λ s. IsInPhase p.ring.pushed p.ring.fetched k (phase_of s)) e (o.each k x at.here)
 
-    stays : (y : Request) → IsPlaced p.ring.pushed p.ring.fetched k y → IsOrdered (slice_set p.requests k y) p.ring.pushed p.ring.fetched
+    stays : (y : PipelineRequest) → IsPlaced p.ring.pushed p.ring.fetched k y → IsOrdered (slice_set p.requests k y) p.ring.pushed p.ring.fetched
     stays y new = stays_ordered p.requests p.ring.pushed p.ring.fetched k y new o
 
     by_move : (m : Move) → IsAt p k x (station_before x.job m) → May p k x m → IsOrdered (slice_set p.requests k (moved x m)) (ring_after p.ring k m).pushed (ring_after p.ring k m).fetched
@@ -191,7 +191,7 @@ move_ordered p k x move at may o = by_move move at may
     by_move (Tells index words) a may = stays (moved x (Tells index words)) (answered_past p.ring.pushed p.ring.fetched k (index + 1) status.Okay (nat_lt (index + 1) (places_of x.job)))
 
 -- a submission
-pub submit_ordered : (requests : List Request) (pushed : List ℕ) (fetched : ℕ) (job : Job) → IsOrdered requests pushed fetched → IsOrdered (requests ++ submitted job ∷ []) pushed fetched
+pub submit_ordered : (requests : List PipelineRequest) (pushed : List ℕ) (fetched : ℕ) (job : Job) → IsOrdered requests pushed fetched → IsOrdered (requests ++ submitted job ∷ []) pushed fetched
 submit_ordered requests pushed fetched job o =
     let long = length_push requests (submitted job) in
     record {
@@ -211,7 +211,7 @@ again_placed k Pushed = λ i j e. absurd (none-some j e)
 again_placed k Fetching = λ i j e. absurd (none-some j e)
 again_placed k station = λ i j e. absurd (none-some j e)
 
-pub resume_ordered : (requests : List Request) (pushed : List ℕ) (fetched : ℕ) → IsOrdered requests pushed fetched → IsOrdered (map again requests) [] 0
+pub resume_ordered : (requests : List PipelineRequest) (pushed : List ℕ) (fetched : ℕ) → IsOrdered requests pushed fetched → IsOrdered (map again requests) [] 0
 resume_ordered requests pushed fetched o = record {
   each = each_map again (IsPlaced pushed fetched) (IsPlaced [] 0) requests (λ j y h. again_placed j y.station) o.each;
   ascending = λ i j k l lt e f. absurd (none-some k e);

@@ -3,9 +3,9 @@ use Rattle.std.proofs.Common.{◌≡◌, ◌*◌, ◌^◌, ◌≤◌, not, List,
 use Rattle.std.specs.Prelude.{None}
 use Rattle.blk_base.specs.Options.{Options}
 use Rattle.blk_base.specs.declared.config.Job.{Job}
-use Rattle.plain_disk.specs.declared.request.Request.{Request as Asked}
+use Rattle.plain_disk.specs.declared.request.DiskRequest.{DiskRequest}
 use Rattle.plain_disk.specs.Request as plain
-use Rattle.pipeline_laws.specs.Station.{Station, Finished, Request, submitted, is_finished, asked, stage_at}
+use Rattle.pipeline_laws.specs.Station.{Station, Finished, PipelineRequest, submitted, is_finished, asked, stage_at}
 use Rattle.pipeline_laws.specs.Pipeline.{Pipeline, Step, Submits, Moves, Resumes, pipeline_of, next, after_steps}
 use Rattle.pipeline_laws.specs.Allowed.{sight_of, refusal_now, IsAllowed, AreAllowed}
 use Rattle.pipeline_laws.specs.Queue.{IsQueue}
@@ -25,8 +25,8 @@ record IsQueued (p : Pipeline) : Type 0 where
 submit_few : (p : Pipeline) (job : Job) → refusal_now p job ≡ None → unfinished_count (p.requests ++ submitted job ∷ []) ≤ 32 * 2 ^ p.options.order
 submit_few p job accepted =
     let few = accepted_few (sight_of p) p.options (map asked p.requests) job accepted in
-    let same = count_map (λ (r : Asked). not (plain.is_finished r.stage)) (λ (x : Request). not (is_finished x.station)) asked p.requests (λ x. ap not (finished x.station)) in
-    let more = count_push (λ (x : Request). not (is_finished x.station)) p.requests (submitted job) in
+    let same = count_map (λ (r : DiskRequest). not (plain.is_finished r.stage)) (λ (x : PipelineRequest). not (is_finished x.station)) asked p.requests (λ x. ap not (finished x.station)) in
+    let more = count_push (λ (x : PipelineRequest). not (is_finished x.station)) p.requests (submitted job) in
     omega arith
   where
     finished : (station : Station) → plain.is_finished (stage_at station) ≡ is_finished station

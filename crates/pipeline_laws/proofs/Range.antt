@@ -7,11 +7,11 @@ use Rattle.blk_base.specs.Options.{Options}
 use Rattle.blk_base.specs.declared.config.Job.{Job}
 use Rattle.blk_io.specs.Disk.{zero_sector, zeroed}
 use Rattle.schedule_text.specs.declared.line.Refusal.TheVariants as refusal
-use Rattle.plain_disk.specs.declared.request.Request.{Request as Asked}
+use Rattle.plain_disk.specs.declared.request.DiskRequest.{DiskRequest}
 use Rattle.plain_disk.specs.declared.sight.Sight.{Sight}
 use Rattle.plain_disk.specs.Request.{places_of, is_finished, is_write, is_discard, sector_of, count_of, filling}
 use Rattle.plain_disk.specs.Refusal.{is_unsupported, is_refused_write, is_past_end, is_long, is_full, lacks_frames, refusal_by}
-use Rattle.pipeline_laws.specs.Station.{Request}
+use Rattle.pipeline_laws.specs.Station.{PipelineRequest}
 use Rattle.pipeline_laws.specs.Move.{Move, Fills, Reads, Trims, Fails}
 use Rattle.pipeline_laws.specs.Disk.{DiskDoes}
 use Rattle.pipeline_laws.proofs.Lists.{Each}
@@ -22,8 +22,8 @@ use Rattle.pipeline_laws.proofs.Operations.{write_places, discard_fills}
 abbrev pub IsOnDisk : ℕ → Job → Type 0
 IsOnDisk sectors job = sector_of job + count_of job ≤ sectors
 
-abbrev pub AreOnDisk : ℕ → List Request → Type 0
-AreOnDisk sectors requests = Each (λ k (x : Request). IsOnDisk sectors x.job) requests
+abbrev pub AreOnDisk : ℕ → List PipelineRequest → Type 0
+AreOnDisk sectors requests = Each (λ k (x : PipelineRequest). IsOnDisk sectors x.job) requests
 
 -- where no rule refuses a request, those of the range and of the full ring don't
 none_false : {X : Type 0} (a b c d e f g h : Bool) (r s t u v w x y : X) (rest : Option X)
@@ -39,20 +39,20 @@ none_false false false false false false false true h r s t u v w x y rest none 
 none_false false false false false false false false true r s t u v w x y rest none = absurd (none-some y (sym none))
 none_false false false false false false false false false r s t u v w x y rest none = (refl, refl)
 
-accepted : (s : Sight) (o : Options) (requests : List Asked) (job : Job) → refusal_by s o requests job ≡ None → (is_past_end o job ≡ false) × (is_full o requests ≡ false)
+accepted : (s : Sight) (o : Options) (requests : List DiskRequest) (job : Job) → refusal_by s o requests job ≡ None → (is_past_end o job ≡ false) × (is_full o requests ≡ false)
 accepted s o requests job e =
     none_false (length requests == 4294967295) (not s.closing && (not s.connected || s.broken)) s.closing (is_unsupported o job) (is_refused_write o job) (is_past_end o job) (is_long o job) (is_full o requests)
     refusal.Spent refusal.NotReady refusal.Closing refusal.Unsupported refusal.ReadOnly refusal.Range refusal.Long refusal.Full
     (if lacks_frames requests job then Some refusal.Buffers else None) e
 
-pub accepted_on_disk : (s : Sight) (o : Options) (requests : List Asked) (job : Job) → refusal_by s o requests job ≡ None → IsOnDisk o.sectors job
+pub accepted_on_disk : (s : Sight) (o : Options) (requests : List DiskRequest) (job : Job) → refusal_by s o requests job ≡ None → IsOnDisk o.sectors job
 accepted_on_disk s o requests job e = within (sector_of job + count_of job) o.sectors (accepted s o requests job e).0
   where
     within : (end sectors : ℕ) → nat_lt sectors end ≡ false → end ≤ sectors
     within end sectors t = grind (arith, nat_tests)
 
-pub accepted_few : (s : Sight) (o : Options) (requests : List Asked) (job : Job) → refusal_by s o requests job ≡ None → count_by (λ (r : Asked). not (is_finished r.stage)) requests < 32 * 2 ^ o.order
-accepted_few s o requests job e = few (32 * 2 ^ o.order) (count_by (λ (r : Asked). not (is_finished r.stage)) requests) (accepted s o requests job e).1
+pub accepted_few : (s : Sight) (o : Options) (requests : List DiskRequest) (job : Job) → refusal_by s o requests job ≡ None → count_by (λ (r : DiskRequest). not (is_finished r.stage)) requests < 32 * 2 ^ o.order
+accepted_few s o requests job e = few (32 * 2 ^ o.order) (count_by (λ (r : DiskRequest). not (is_finished r.stage)) requests) (accepted s o requests job e).1
   where
     few : (entries held : ℕ) → nat_le entries held ≡ false → held < entries
     few entries held t = grind (arith, nat_tests)

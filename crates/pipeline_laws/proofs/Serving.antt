@@ -13,7 +13,7 @@ use Rattle.plain_disk.specs.declared.request.Written.{Written}
 use Rattle.plain_disk.specs.Request.{opened, is_read, is_write, is_flush, is_discard, is_ordered, places_of, sector_of, count_of, filling, may_serve}
 use Rattle.plain_disk.specs.Disk.{Disk}
 use Rattle.plain_disk.specs.Step.{step, after, served, place, one_sector, all_sectors, may_hold, place_words, lost_of, with_request, is_in_order}
-use Rattle.pipeline_laws.specs.Station.{Working, Failed, Request, asked, asked_at}
+use Rattle.pipeline_laws.specs.Station.{Working, Failed, PipelineRequest, asked, asked_at}
 use Rattle.pipeline_laws.specs.Move.{Fills, Reads, Flushes, Trims, Fails, moved, move_lines}
 use Rattle.pipeline_laws.specs.Pipeline.{Pipeline, Moves, next}
 use Rattle.pipeline_laws.specs.Allowed.{IsAt, IsClear}
@@ -41,7 +41,7 @@ may_serve_at done id n job h more =
     let within : nat_lt n (places_of job) ≡ true = grind (arith, nat_tests) in
     rw (within, h.rest n (omega arith)) refl
 
-job_done : (p : Pipeline) (d : Disk) (content : List (List ℕ)) (k n : ℕ) (x : Request) → Matches p d content → IsAt p k x (Working n) → IsDoneTo d.done (k + 1) n
+job_done : (p : Pipeline) (d : Disk) (content : List (List ℕ)) (k n : ℕ) (x : PipelineRequest) → Matches p d content → IsAt p k x (Working n) → IsDoneTo d.done (k + 1) n
 job_done p d content k n x m at = subst (λ s. IsDone d.done (k + 1) (done_at x.job s)) at.there (m.each k x at.here).done
 
 unread_long : (b : Bool) (n : ℕ) (words : List (List ℕ)) → b ≡ false → IsLong (Working n) b words
@@ -49,7 +49,7 @@ unread_long true n words e = absurd (cc)
 unread_long false n words e = tt
 
 -- what stays of the requests that are still to come
-served_later : (p : Pipeline) (d : Disk) (content : List (List ℕ)) (k n : ℕ) (x y : Request) → Matches p d content → slice_get p.requests k ≡ Some x → (id : ℕ) → length (slice_set p.requests k y) < id → IsDoneTo (d.done ++ place (k + 1) n ∷ []) id 0
+served_later : (p : Pipeline) (d : Disk) (content : List (List ℕ)) (k n : ℕ) (x y : PipelineRequest) → Matches p d content → slice_get p.requests k ≡ Some x → (id : ℕ) → length (slice_set p.requests k y) < id → IsDoneTo (d.done ++ place (k + 1) n ∷ []) id 0
 served_later p d content k n x y m here id above =
     let within = slice_get_within p.requests k x here in
     let same = length-set p.requests k y in
@@ -57,20 +57,20 @@ served_later p d content k n x y m here id above =
     done_other d.done id (k + 1) 0 n apart (m.later id (omega arith))
 
 -- a place of a job that reads nothing was served
-abbrev worked : Request → ℕ → Request
+abbrev worked : PipelineRequest → ℕ → PipelineRequest
 worked x n = record { job = x.job; station = Working n; words = x.words }
 
-served_each : (p : Pipeline) (d : Disk) (content : List (List ℕ)) (k n : ℕ) (x : Request) → Matches p d content → IsAt p k x (Working n) → is_read x.job ≡ false
+served_each : (p : Pipeline) (d : Disk) (content : List (List ℕ)) (k n : ℕ) (x : PipelineRequest) → Matches p d content → IsAt p k x (Working n) → is_read x.job ≡ false
     → Each (IsTold (d.done ++ place (k + 1) n ∷ []) d.noted) (slice_set p.requests k (worked x (n + 1)))
 served_each p d content k n x m at unread =
     each_set (IsTold d.done d.noted) (IsTold (d.done ++ place (k + 1) n ∷ []) d.noted) p.requests k (worked x (n + 1))
     (record { done = done_more d.done (k + 1) n (job_done p d content k n x m at); noted = (m.each k x at.here).noted; long = unread_long (is_read x.job) (n + 1) x.words unread; served = refl })
     (λ j y other e h. told_elsewhere d.done d.noted j k n y other h) m.each
 
-same_asked : (p : Pipeline) (d : Disk) (content : List (List ℕ)) (k n m : ℕ) (x : Request) (words : List (List ℕ)) → Matches p d content → IsAt p k x (Working n) → d.requests ≡ map asked (slice_set p.requests k (record { job = x.job; station = Working m; words = words }))
+same_asked : (p : Pipeline) (d : Disk) (content : List (List ℕ)) (k n m : ℕ) (x : PipelineRequest) (words : List (List ℕ)) → Matches p d content → IsAt p k x (Working n) → d.requests ≡ map asked (slice_set p.requests k (record { job = x.job; station = Working m; words = words }))
 same_asked p d content k n m x words h at = h.requests ∙ sym (set_same asked p.requests k x (record { job = x.job; station = Working m; words = words }) at.here (ap (asked_at x.job) (sym at.there)))
 
-pub fills : (p : Pipeline) (d : Disk) (content later : List (List ℕ)) (k : ℕ) (x : Request) (n : ℕ) → IsAt p k x (Working n) → is_write x.job ≡ true → n < places_of x.job → IsClear p k x
+pub fills : (p : Pipeline) (d : Disk) (content later : List (List ℕ)) (k : ℕ) (x : PipelineRequest) (n : ℕ) → IsAt p k x (Working n) → is_write x.job ≡ true → n < places_of x.job → IsClear p k x
     → Changes (sector_of x.job + n) 1 (Some (filling x.job n)) content later → Matches p d content → IsOrdered p.requests p.ring.pushed p.ring.fetched → Leads (next p (Moves k x (Fills n))) d (move_lines k (Fills n)) later
 fills p d content later k x n at job more clear changes m o = record {
   disk = served d (place (k + 1) n) (one_sector x.job n (Some (filling x.job n)));
@@ -88,7 +88,7 @@ fills p d content later k x n at job more clear changes m o = record {
   };
 }
 
-pub flushes : (p : Pipeline) (d : Disk) (content : List (List ℕ)) (k : ℕ) (x : Request) → IsAt p k x (Working 0) → is_flush x.job ≡ true → Matches p d content → Leads (next p (Moves k x Flushes)) d (move_lines k Flushes) content
+pub flushes : (p : Pipeline) (d : Disk) (content : List (List ℕ)) (k : ℕ) (x : PipelineRequest) → IsAt p k x (Working 0) → is_flush x.job ≡ true → Matches p d content → Leads (next p (Moves k x Flushes)) d (move_lines k Flushes) content
 flushes p d content k x at job m = record {
   disk = record d { done = d.done ++ place (k + 1) 0 ∷ [] };
   run = one_line d _ (lines.Flushed (k + 1)) (rw (
@@ -109,7 +109,7 @@ from_start sector count words content later changes =
     let e : sector + 0 ≡ sector = omega arith in
     rw e changes
 
-pub trims : (p : Pipeline) (d : Disk) (content later : List (List ℕ)) (k : ℕ) (x : Request) → IsAt p k x (Working 0) → is_discard x.job ≡ true → IsClear p k x
+pub trims : (p : Pipeline) (d : Disk) (content later : List (List ℕ)) (k : ℕ) (x : PipelineRequest) → IsAt p k x (Working 0) → is_discard x.job ≡ true → IsClear p k x
     → Changes (sector_of x.job) (count_of x.job) (Some (filling x.job 0)) content later → Matches p d content → IsOrdered p.requests p.ring.pushed p.ring.fetched → Leads (next p (Moves k x Trims)) d (move_lines k Trims) later
 trims p d content later k x at job clear changes m o = record {
   disk = served d (place (k + 1) 0) (all_sectors x.job (Some (filling x.job 0)));
@@ -139,7 +139,7 @@ fault_order : (ordered clear : Bool) → (ordered ≡ true → clear ≡ true) �
 fault_order true clear h = h refl
 fault_order false clear h = refl
 
-pub fails : (p : Pipeline) (d : Disk) (content later : List (List ℕ)) (k : ℕ) (x : Request) (n : ℕ) → IsAt p k x (Working n) → n < places_of x.job → (is_ordered x.job ≡ true → IsClear p k x)
+pub fails : (p : Pipeline) (d : Disk) (content later : List (List ℕ)) (k : ℕ) (x : PipelineRequest) (n : ℕ) → IsAt p k x (Working n) → n < places_of x.job → (is_ordered x.job ≡ true → IsClear p k x)
     → Changes (lost_sector x.job n) (lost_count x.job) None content later → Matches p d content → IsOrdered p.requests p.ring.pushed p.ring.fetched → Leads (next p (Moves k x (Fails n))) d (move_lines k (Fails n)) later
 fails p d content later k x n at more clear changes m o = record {
   disk = record d { requests = with_request d.requests (k + 1) (asked_at x.job Failed); written = lost_of d.written x.job n };
@@ -176,7 +176,7 @@ holds_words : (known : Option (List ℕ)) (words : List ℕ) → ((w : List ℕ)
 holds_words None words same = refl
 holds_words (Some w) words same = rw (same w refl) (nat_list_eq_equiv.refl w)
 
-pub reads : (p : Pipeline) (d : Disk) (content : List (List ℕ)) (k : ℕ) (x : Request) (n : ℕ) (words : List ℕ) → IsAt p k x (Working n) → is_read x.job ≡ true → n < places_of x.job
+pub reads : (p : Pipeline) (d : Disk) (content : List (List ℕ)) (k : ℕ) (x : PipelineRequest) (n : ℕ) (words : List ℕ) → IsAt p k x (Working n) → is_read x.job ≡ true → n < places_of x.job
     → slice_get content (sector_of x.job + n) ≡ Some words → Matches p d content → Leads (next p (Moves k x (Reads n words))) d (move_lines k (Reads n words)) content
 reads p d content k x n words at job more here m =
     let was : IsTold d.done d.noted k x = m.each k x at.here in

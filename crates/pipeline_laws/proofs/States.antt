@@ -6,7 +6,7 @@ use Rattle.std.proofs.lemmas.Option.{none-some, cond_some}
 use Rattle.blk_base.specs.declared.operation.Status.TheVariants.{Unsupported}
 use Rattle.schedule_text.specs.declared.line.Line.{Line}
 use Rattle.schedule_text.specs.declared.line.Line.TheVariants as lines
-use Rattle.plain_disk.specs.declared.request.Request.{Request as Asked}
+use Rattle.plain_disk.specs.declared.request.DiskRequest.{DiskRequest}
 use Rattle.plain_disk.specs.declared.sight.Sight.{Sight}
 use Rattle.plain_disk.specs.Request.{is_open}
 use Rattle.plain_disk.specs.Disk.{Disk, disk_of, request_of}
@@ -59,7 +59,7 @@ states_hold before p content Rests may so obeys = obeys_more IsStateAt before _ 
 states_hold before p content (Shows line) may so obeys = obeys_more IsStateAt before _ obeys (aside_states before line may)
 
 -- the plain disk takes no reply `unsupported`
-no_refusal : (d d' : Disk) (id : ℕ) (r : Option Asked) → replied_of d id Unsupported r ≡ Some d' → ⊥
+no_refusal : (d d' : Disk) (id : ℕ) (r : Option DiskRequest) → replied_of d id Unsupported r ≡ Some d' → ⊥
 no_refusal d d' id None e = none-some d' e
 no_refusal d d' id (Some r) e = never (is_open r.stage) (is_none r.reply) (cond_some _ _ _ e).0
   where

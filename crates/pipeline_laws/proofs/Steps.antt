@@ -9,12 +9,12 @@ use Rattle.blk_base.specs.Options.{Options}
 use Rattle.blk_base.specs.declared.config.Job.{Job}
 use Rattle.schedule_text.specs.declared.line.Line.{Line}
 use Rattle.schedule_text.specs.declared.line.Line.TheVariants as lines
-use Rattle.plain_disk.specs.declared.request.Request.{Request as Asked}
+use Rattle.plain_disk.specs.declared.request.DiskRequest.{DiskRequest}
 use Rattle.plain_disk.specs.Request as plain
 use Rattle.plain_disk.specs.Request.{opened, is_read}
 use Rattle.plain_disk.specs.Disk.{Disk, disk_of}
 use Rattle.plain_disk.specs.Step.{step, after, reopened, epoch_of}
-use Rattle.pipeline_laws.specs.Station.{Station, Telling, Finished, Request, submitted, is_finished, asked, asked_at, stage_at}
+use Rattle.pipeline_laws.specs.Station.{Station, Telling, Finished, PipelineRequest, submitted, is_finished, asked, asked_at, stage_at}
 use Rattle.pipeline_laws.specs.Move.{Move, BeginsEntry, Pushes, BeginsFetch, Fetches, Fills, Reads, Flushes, Trims, Fails, Ends, BeginsResponse, Replies, Takes, Answers, Tells, station_before, moved, move_lines}
 use Rattle.pipeline_laws.specs.Pipeline.{Front, Pipeline, Step, Submits, Refuses, Moves, Connects, StartsToClose, Closes, Leaves, Resumes, Rests, Shows, pipeline_of, station_again, again, next, step_lines}
 use Rattle.pipeline_laws.specs.Allowed.{IsAt, May, AreFinished, refusal_now, is_aside, sight_of, IsAllowed}
@@ -37,7 +37,7 @@ pub record Stands (p : Pipeline) (d : Disk) (content : List (List ℕ)) : Type 0
   pub sized : length content ≡ p.options.sectors
 
 -- a move
-move_leads : (p : Pipeline) (d : Disk) (content later : List (List ℕ)) (k : ℕ) (x : Request) (move : Move) → IsAt p k x (station_before x.job move) → May p k x move → DiskDoes x.job move content later → Stands p d content
+move_leads : (p : Pipeline) (d : Disk) (content later : List (List ℕ)) (k : ℕ) (x : PipelineRequest) (move : Move) → IsAt p k x (station_before x.job move) → May p k x move → DiskDoes x.job move content later → Stands p d content
     → Leads (next p (Moves k x move)) d (move_lines k move) later
 move_leads p d content later k x move at may does s = by_move move at may does
   where
@@ -73,7 +73,7 @@ pub record Goes (p : Pipeline) (d : Disk) (report : List Line) (content : List (
   pub run : after report d ≡ Some disk
   pub stands : Stands p disk content
 
-move_goes : (p : Pipeline) (d : Disk) (content later : List (List ℕ)) (k : ℕ) (x : Request) (move : Move) → IsAt p k x (station_before x.job move) → May p k x move → DiskDoes x.job move content later → Stands p d content
+move_goes : (p : Pipeline) (d : Disk) (content later : List (List ℕ)) (k : ℕ) (x : PipelineRequest) (move : Move) → IsAt p k x (station_before x.job move) → May p k x move → DiskDoes x.job move content later → Stands p d content
     → Goes (next p (Moves k x move)) d (move_lines k move) later
 move_goes p d content later k x move at may does s =
     let leads = move_leads p d content later k x move at may does s in
@@ -83,7 +83,7 @@ move_goes p d content later k x move at may does s =
       stands = record {
         matches = leads.matches;
         ordered = move_ordered p k x move at may s.ordered;
-        on_disk = each_kept (λ j (y : Request). IsOnDisk p.options.sectors y.job) p.requests k (moved x move) (s.on_disk k x at.here) s.on_disk;
+        on_disk = each_kept (λ j (y : PipelineRequest). IsOnDisk p.options.sectors y.job) p.requests k (moved x move) (s.on_disk k x at.here) s.on_disk;
         sized = move_sized x.job move content later does ∙ s.sized;
       };
     }
@@ -106,7 +106,7 @@ submit_goes p d content job accepted s =
           known = m.known;
         };
         ordered = submit_ordered p.requests p.ring.pushed p.ring.fetched job s.ordered;
-        on_disk = each_more (λ j (y : Request). IsOnDisk p.options.sectors y.job) (λ j (y : Request). IsOnDisk p.options.sectors y.job) p.requests (submitted job) (accepted_on_disk (sight_of p) p.options (map asked p.requests) job accepted) (λ j y e h. h) s.on_disk;
+        on_disk = each_more (λ j (y : PipelineRequest). IsOnDisk p.options.sectors y.job) (λ j (y : PipelineRequest). IsOnDisk p.options.sectors y.job) p.requests (submitted job) (accepted_on_disk (sight_of p) p.options (map asked p.requests) job accepted) (λ j y e h. h) s.on_disk;
         sized = s.sized;
       };
     }
@@ -146,13 +146,13 @@ resume_goes p d content s =
           known = m.known;
         };
         ordered = resume_ordered p.requests p.ring.pushed p.ring.fetched s.ordered;
-        on_disk = each_map again (λ j (y : Request). IsOnDisk p.options.sectors y.job) (λ j (y : Request). IsOnDisk p.options.sectors y.job) p.requests (λ j y h. h) s.on_disk;
+        on_disk = each_map again (λ j (y : PipelineRequest). IsOnDisk p.options.sectors y.job) (λ j (y : PipelineRequest). IsOnDisk p.options.sectors y.job) p.requests (λ j y h. h) s.on_disk;
         sized = s.sized;
       };
     }
 
 -- a look where nothing is left to do
-all_finished : (requests : List Request) → Each (λ k (x : Request). is_finished x.station ≡ true) requests → list_all (λ (r : Asked). plain.is_finished r.stage) (map asked requests) ≡ true
+all_finished : (requests : List PipelineRequest) → Each (λ k (x : PipelineRequest). is_finished x.station ≡ true) requests → list_all (λ (r : DiskRequest). plain.is_finished r.stage) (map asked requests) ≡ true
 all_finished [] each = refl
 all_finished (x ∷ requests) each = rw (finished x.station (each zero x refl), all_finished requests (λ k y e. each (suc k) y e)) refl
   where

@@ -10,13 +10,13 @@ use Rattle.schedule_text.specs.declared.line.Line.TheVariants as lines
 use Rattle.plain_disk.specs.declared.sight.Sight.{Sight}
 use Rattle.plain_disk.specs.Request.{places_of, is_read, is_write, is_flush, is_discard, is_barrier, is_ordered}
 use Rattle.plain_disk.specs.Refusal.{refusal_by}
-use Rattle.pipeline_laws.specs.Station.{Station, Waiting, Issuing, Working, Request, is_finished, asked}
+use Rattle.pipeline_laws.specs.Station.{Station, Waiting, Issuing, Working, PipelineRequest, is_finished, asked}
 use Rattle.pipeline_laws.specs.Move.{Move, BeginsEntry, Pushes, BeginsFetch, Fetches, Fills, Reads, Flushes, Trims, Fails, Ends, BeginsResponse, Replies, Takes, Answers, Tells, station_before}
 use Rattle.pipeline_laws.specs.Ring.{IsNextEntry, IsNextResponse}
 use Rattle.pipeline_laws.specs.Pipeline.{Pipeline, Step, Submits, Refuses, Moves, Connects, StartsToClose, Closes, Leaves, Resumes, Rests, Shows, next}
 
 -- this request is there
-pub record IsAt (p : Pipeline) (k : ℕ) (x : Request) (station : Station) : Type 0 where
+pub record IsAt (p : Pipeline) (k : ℕ) (x : PipelineRequest) (station : Station) : Type 0 where
   pub here : slice_get p.requests k ≡ Some x
   pub there : x.station ≡ station
 
@@ -28,7 +28,7 @@ is_unissued station = false
 
 -- requests are pushed in the order of their numbers: each one before this was pushed
 pub record IsFirst (p : Pipeline) (k : ℕ) : Type 0 where
-  pub none : (j : ℕ) (y : Request) → j < k → slice_get p.requests j ≡ Some y → is_unissued y.station ≡ false
+  pub none : (j : ℕ) (y : PipelineRequest) → j < k → slice_get p.requests j ≡ Some y → is_unissued y.station ≡ false
 
 -- a job that has places left
 abbrev pub is_working : Job → Station → Bool
@@ -36,17 +36,17 @@ is_working job (Working moved) = not (moved == places_of job)
 is_working job station = false
 
 -- a write, barrier or discard that has places left, where it or the one after it is a barrier (BLKIF_OP_WRITE_BARRIER)
-abbrev pub is_in_way : Bool → Request → Bool
+abbrev pub is_in_way : Bool → PipelineRequest → Bool
 is_in_way barrier y = is_ordered y.job && (barrier || is_barrier y.job) && is_working y.job y.station
 
 -- no job that was fetched before this one is in its way
-pub record IsClear (p : Pipeline) (k : ℕ) (x : Request) : Type 0 where
+pub record IsClear (p : Pipeline) (k : ℕ) (x : PipelineRequest) : Type 0 where
   pub index : ℕ
   pub entry : slice_get p.ring.pushed index ≡ Some k
-  pub clear : (i j : ℕ) (y : Request) → i < index → slice_get p.ring.pushed i ≡ Some j → slice_get p.requests j ≡ Some y → is_in_way (is_barrier x.job) y ≡ false
+  pub clear : (i j : ℕ) (y : PipelineRequest) → i < index → slice_get p.ring.pushed i ≡ Some j → slice_get p.requests j ≡ Some y → is_in_way (is_barrier x.job) y ≡ false
 
 -- what a move needs besides its station
-abbrev pub May : Pipeline → ℕ → Request → Move → Type 0
+abbrev pub May : Pipeline → ℕ → PipelineRequest → Move → Type 0
 May p k x BeginsEntry = Unit {0}
 May p k x Pushes = IsFirst p k
 May p k x BeginsFetch = IsNextEntry p.ring k
@@ -66,7 +66,7 @@ May p k x (Tells index words) = slice_get x.words index ≡ Some words
 
 -- all of each request was told
 pub record AreFinished (p : Pipeline) : Type 0 where
-  pub each : (k : ℕ) (x : Request) → slice_get p.requests k ≡ Some x → is_finished x.station ≡ true
+  pub each : (k : ℕ) (x : PipelineRequest) → slice_get p.requests k ≡ Some x → is_finished x.station ≡ true
 
 -- what the front shows of itself
 abbrev pub sight_of : Pipeline → Sight

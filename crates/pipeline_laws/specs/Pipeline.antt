@@ -7,7 +7,7 @@ use Rattle.schedule_text.specs.declared.line.Halt.{Halt}
 use Rattle.schedule_text.specs.declared.line.Refusal.{Refusal}
 use Rattle.schedule_text.specs.declared.line.Line.{Line}
 use Rattle.schedule_text.specs.declared.line.Line.TheVariants as lines
-use Rattle.pipeline_laws.specs.Station.{Station, Waiting, Telling, Finished, Request, submitted}
+use Rattle.pipeline_laws.specs.Station.{Station, Waiting, Telling, Finished, PipelineRequest, submitted}
 use Rattle.pipeline_laws.specs.Move.{Move, moved, move_lines}
 use Rattle.pipeline_laws.specs.Ring.{Ring, empty_ring, ring_after}
 
@@ -21,7 +21,7 @@ pub record Front : Type 0 where
 pub record Pipeline : Type 0 where
   pub options : Options
   pub front : Front
-  pub requests : List Request
+  pub requests : List PipelineRequest
   pub ring : Ring
 
 abbrev pub pipeline_of : Options → Pipeline
@@ -32,7 +32,7 @@ pub data Step : Type 0 where
   Submits : (job : Job) → Step
   Refuses : (job : Job) (refusal : Refusal) → Step
   -- the request at this place of the list, as it stands, makes a move
-  Moves : (k : ℕ) (x : Request) (move : Move) → Step
+  Moves : (k : ℕ) (x : PipelineRequest) (move : Move) → Step
   -- the front connects, begins to close, and is closed; the back leaves a front that is gone
   Connects : Step
   StartsToClose : Step
@@ -51,7 +51,7 @@ station_again (Telling next) = Telling next
 station_again (Finished status) = Finished status
 station_again station = Waiting
 
-abbrev pub again : Request → Request
+abbrev pub again : PipelineRequest → PipelineRequest
 again x = record x { station = station_again x.station }
 
 abbrev pub next : Pipeline → Step → Pipeline

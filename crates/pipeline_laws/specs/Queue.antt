@@ -1,6 +1,6 @@
 -- The ring is a queue (`io/ring.h`): its four indices count the requests that lie between them, and its entries and responses name those that are due.
 use Rattle.std.specs.Prelude.{◌≡◌, ℕ, ◌+◌, ◌*◌, ◌^◌, ◌<◌, ◌≤◌, Bool, true, false, List, length, count_by, slice_get, Some}
-use Rattle.pipeline_laws.specs.Station.{Station, Pushed, Fetching, Working, Failed, Ended, Replying, Replied, Request}
+use Rattle.pipeline_laws.specs.Station.{Station, Pushed, Fetching, Working, Failed, Ended, Replying, Replied, PipelineRequest}
 use Rattle.pipeline_laws.specs.Pipeline.{Pipeline}
 
 -- the sections of the ring: off it; an entry that waits to be fetched, or is being copied; a request at the back, up to its response; a response that waits to be taken
@@ -28,12 +28,12 @@ is_same Response Response = true
 is_same a b = false
 
 -- how many requests are in a section
-abbrev pub count_in : Section → List Request → ℕ
-count_in section requests = count_by (λ (x : Request). is_same section (section_of x.station)) requests
+abbrev pub count_in : Section → List PipelineRequest → ℕ
+count_in section requests = count_by (λ (x : PipelineRequest). is_same section (section_of x.station)) requests
 
 -- the request at this place is in that section
-pub record IsIn (requests : List Request) (k : ℕ) (section : Section) : Type 0 where
-  pub request : Request
+pub record IsIn (requests : List PipelineRequest) (k : ℕ) (section : Section) : Type 0 where
+  pub request : PipelineRequest
   pub here : slice_get requests k ≡ Some request
   pub there : section_of request.station ≡ section
 

@@ -3,9 +3,9 @@ use Rattle.std.specs.Prelude.{ℕ, Bool, true, false, not, List, [], Option, Som
 use Rattle.blk_base.specs.declared.config.Job.{Job}
 use Rattle.blk_base.specs.declared.operation.Status.{Status}
 use Rattle.blk_base.specs.declared.operation.Status.TheVariants.{Okay}
-use Rattle.plain_disk.specs.declared.request.Stage.{Stage}
-use Rattle.plain_disk.specs.declared.request.Stage.TheVariants as stage
-use Rattle.plain_disk.specs.declared.request.Request.{Request as Asked}
+use Rattle.plain_disk.specs.declared.request.RequestStage.{RequestStage}
+use Rattle.plain_disk.specs.declared.request.RequestStage.TheVariants as stage
+use Rattle.plain_disk.specs.declared.request.DiskRequest.{DiskRequest}
 use Rattle.plain_disk.specs.Step.{is_okay}
 
 pub data Station : Type 0 where
@@ -35,13 +35,13 @@ pub data Station : Type 0 where
   Finished : (status : Status) → Station
 
 -- a request: what it asks, where it is, and what it read since it was fetched last, a list of words a sector
-pub record Request : Type 0 where
+pub record PipelineRequest : Type 0 where
   pub job : Job
   pub station : Station
   pub words : List (List ℕ)
 
 -- a request that was just submitted
-abbrev pub submitted : Job → Request
+abbrev pub submitted : Job → PipelineRequest
 submitted job = record { job = job; station = Waiting; words = [] }
 
 -- all of a request was told
@@ -66,14 +66,14 @@ reply_at (Telling next) = Some Okay
 reply_at (Finished status) = Some status
 reply_at station = None
 
-abbrev pub stage_at : Station → Stage
+abbrev pub stage_at : Station → RequestStage
 stage_at (Telling next) = stage.Telling next
 stage_at (Finished status) = stage.Finished
 stage_at station = stage.Open
 
 -- what the plain disk keeps of a request: its station says all of it
-abbrev pub asked_at : Job → Station → Asked
+abbrev pub asked_at : Job → Station → DiskRequest
 asked_at job station = record { job = job; faulted = is_faulted station; reply = reply_at station; stage = stage_at station }
 
-abbrev pub asked : Request → Asked
+abbrev pub asked : PipelineRequest → DiskRequest
 asked x = asked_at x.job x.station

@@ -19,7 +19,7 @@ ghost use Rattle.schedule_text.specs.declared.line.Refusal.{Refusal};
 ghost use Rattle.plain_disk.specs.Request.{filling};
 ghost use Rattle.plain_disk.specs.Disk.{Disk, disk_of};
 ghost use Rattle.plain_disk.specs.Step.{after};
-ghost use Rattle.pipeline_laws.specs.Station.{Request};
+ghost use Rattle.pipeline_laws.specs.Station.{PipelineRequest};
 ghost use Rattle.pipeline_laws.specs.Move.{Pushes, BeginsFetch, Fills, Ends, Answers};
 ghost use Rattle.pipeline_laws.specs.Pipeline.{Step, Submits, Refuses, Moves, Connects, StartsToClose, Closes, Rests, pipeline_of, after_steps, lines_of};
 ghost use Rattle.pipeline_laws.specs.Allowed.{IsAllowed, AreAllowed};
@@ -124,11 +124,11 @@ pub fn a_fault_is_answered_error()
 /// left; a second answer; `quiet`, or a closed front, before all is told; a refusal that no rule
 /// gives, and a request past the end of the disk that is accepted.
 pub fn a_wrong_step_is_no_step_of_the_pipeline()
-    ensures barrier { (x : Request) → IsAllowed (after_steps two_jobs (pipeline_of two_sectors)) (Moves 1 x (Fills 0)) → ⊥ }
-    ensures push { (x : Request) → IsAllowed (after_steps second_begun (pipeline_of two_sectors)) (Moves 1 x Pushes) → ⊥ }
-    ensures fetch { (x : Request) → IsAllowed (after_steps two_entries (pipeline_of two_sectors)) (Moves 1 x BeginsFetch) → ⊥ }
-    ensures end { (x : Request) → IsAllowed (after_steps half_done (pipeline_of two_sectors)) (Moves 0 x (Ends Okay)) → ⊥ }
-    ensures again { (x : Request) (status : Status) → IsAllowed (after_steps order_steps (pipeline_of two_sectors)) (Moves 0 x (Answers status)) → ⊥ }
+    ensures barrier { (x : PipelineRequest) → IsAllowed (after_steps two_jobs (pipeline_of two_sectors)) (Moves 1 x (Fills 0)) → ⊥ }
+    ensures push { (x : PipelineRequest) → IsAllowed (after_steps second_begun (pipeline_of two_sectors)) (Moves 1 x Pushes) → ⊥ }
+    ensures fetch { (x : PipelineRequest) → IsAllowed (after_steps two_entries (pipeline_of two_sectors)) (Moves 1 x BeginsFetch) → ⊥ }
+    ensures end { (x : PipelineRequest) → IsAllowed (after_steps half_done (pipeline_of two_sectors)) (Moves 0 x (Ends Okay)) → ⊥ }
+    ensures again { (x : PipelineRequest) (status : Status) → IsAllowed (after_steps order_steps (pipeline_of two_sectors)) (Moves 0 x (Answers status)) → ⊥ }
     ensures quiet { IsAllowed (after_steps two_jobs (pipeline_of two_sectors)) Rests → ⊥ }
     ensures closed { IsAllowed (after_steps (two_jobs ++ StartsToClose ∷ []) (pipeline_of two_sectors)) Closes → ⊥ }
     ensures refused { (refusal : Refusal) → IsAllowed (after_steps (Connects ∷ []) (pipeline_of two_sectors)) (Refuses write.job refusal) → ⊥ }

@@ -1,6 +1,6 @@
 -- The plain disk: what each sector holds, where that is known, and what was asked of it.
 use Rattle.std.specs.Prelude.{ℕ, ◌+◌, ◌-◌, Bool, ◌&&◌, nat_le, nat_lt, List, [], fold, slice_get, Option, Some, None, if◌then◌else◌, ◌==◌}
-use Rattle.plain_disk.specs.declared.request.Request.{Request}
+use Rattle.plain_disk.specs.declared.request.DiskRequest.{DiskRequest}
 use Rattle.plain_disk.specs.declared.request.Place.{Place}
 use Rattle.plain_disk.specs.declared.request.Noted.{Noted}
 use Rattle.plain_disk.specs.declared.request.Written.{Written}
@@ -9,7 +9,7 @@ use Rattle.plain_disk.specs.declared.request.Written.{Written}
 pub record Disk : Type 0 where
   pub first : List (List ℕ)
   pub written : List Written
-  pub requests : List Request
+  pub requests : List DiskRequest
   pub done : List Place
   pub noted : List Noted
 
@@ -26,7 +26,7 @@ abbrev pub words_at : List (List ℕ) → List Written → ℕ → Option (List 
 words_at first written sector = fold (λ (words : Option (List ℕ)) (w : Written). if covers w sector then w.words else words) (slice_get first sector) written
 
 -- the request of a number, from 1
-abbrev pub request_of : List Request → ℕ → Option Request
+abbrev pub request_of : List DiskRequest → ℕ → Option DiskRequest
 request_of requests id = if id == 0 then None else slice_get requests (id - 1)
 
 -- the words that a request's sector showed when it was read in this epoch, the last ones where there are several

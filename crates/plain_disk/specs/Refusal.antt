@@ -7,7 +7,7 @@ use Rattle.schedule_text.specs.declared.line.Refusal.{Refusal}
 use Rattle.schedule_text.specs.declared.line.Refusal.TheVariants as refusal
 use Rattle.schedule_text.specs.declared.line.Line.{Line}
 use Rattle.schedule_text.specs.declared.line.Line.TheVariants as lines
-use Rattle.plain_disk.specs.declared.request.Request.{Request}
+use Rattle.plain_disk.specs.declared.request.DiskRequest.{DiskRequest}
 use Rattle.plain_disk.specs.declared.sight.Sight.{Sight}
 use Rattle.plain_disk.specs.Request.{sector_of, count_of, is_finished}
 use Rattle.plain_disk.specs.Disk.{Disk, disk_of}
@@ -60,19 +60,19 @@ is_long o (Barrier sector count tag) = nat_lt 11 ((count + 7) / 8)
 is_long o job = false
 
 -- as many unfinished requests as the ring has entries, 32 for each of its pages
-abbrev pub is_full : Options → List Request → Bool
-is_full o requests = nat_le (32 * 2 ^ o.order) (count_by (λ (r : Request). not (is_finished r.stage)) requests)
+abbrev pub is_full : Options → List DiskRequest → Bool
+is_full o requests = nat_le (32 * 2 ^ o.order) (count_by (λ (r : DiskRequest). not (is_finished r.stage)) requests)
 
 -- the frames that an unfinished request holds
-abbrev pub frames_held : Request → ℕ
+abbrev pub frames_held : DiskRequest → ℕ
 frames_held r = if is_finished r.stage then 0 else frames_of r.job
 
 -- too few of the 1000 frames of the pool are free
-abbrev pub lacks_frames : List Request → Job → Bool
+abbrev pub lacks_frames : List DiskRequest → Job → Bool
 lacks_frames requests job = nat_lt 1000 (sum_by frames_held requests + frames_of job)
 
 -- the first of these that applies, or none
-abbrev pub refusal_by : Sight → Options → List Request → Job → Option Refusal
+abbrev pub refusal_by : Sight → Options → List DiskRequest → Job → Option Refusal
 refusal_by s o requests job =
     if length requests == 4294967295 then Some refusal.Spent
     else (if not s.closing && (not s.connected || s.broken) then Some refusal.NotReady
@@ -85,11 +85,11 @@ refusal_by s o requests job =
     else (if lacks_frames requests job then Some refusal.Buffers
     else None))))))))
 
-abbrev pub refusal_at : Sight → Option Options → List Request → Job → Option Refusal
+abbrev pub refusal_at : Sight → Option Options → List DiskRequest → Job → Option Refusal
 refusal_at s None requests job = Some refusal.NotReady
 refusal_at s (Some o) requests job = refusal_by s o requests job
 
-abbrev pub requests_in : Option Disk → List Request
+abbrev pub requests_in : Option Disk → List DiskRequest
 requests_in None = []
 requests_in (Some d) = d.requests
 

@@ -3,13 +3,13 @@ use Rattle.std.specs.Prelude.{ℕ, ◌+◌, ◌^◌, ◌%◌, Bool, true, false,
 use Rattle.std.specs.List.{list_any}
 use Rattle.blk_base.specs.declared.config.Job.{Job}
 use Rattle.blk_base.specs.declared.config.Job.TheVariants.{Read, Write, Barrier, Flush, Discard}
-use Rattle.plain_disk.specs.declared.request.Stage.{Stage}
-use Rattle.plain_disk.specs.declared.request.Stage.TheVariants.{Open, Finished}
-use Rattle.plain_disk.specs.declared.request.Request.{Request}
+use Rattle.plain_disk.specs.declared.request.RequestStage.{RequestStage}
+use Rattle.plain_disk.specs.declared.request.RequestStage.TheVariants.{Open, Finished}
+use Rattle.plain_disk.specs.declared.request.DiskRequest.{DiskRequest}
 use Rattle.plain_disk.specs.declared.request.Place.{Place}
 
 -- a request that was just submitted
-abbrev pub opened : Job → Request
+abbrev pub opened : Job → DiskRequest
 opened job = record { job = job; faulted = false; reply = None; stage = Open }
 
 -- how many places a request has: its sectors, or one for a flush and a discard
@@ -68,11 +68,11 @@ filling (Write sector count tag) index = replicate 128 ((tag + index) % 2 ^ 32)
 filling (Barrier sector count tag) index = replicate 128 ((tag + index) % 2 ^ 32)
 filling job index = replicate 128 0
 
-abbrev pub is_open : Stage → Bool
+abbrev pub is_open : RequestStage → Bool
 is_open Open = true
 is_open stage = false
 
-abbrev pub is_finished : Stage → Bool
+abbrev pub is_finished : RequestStage → Bool
 is_finished Finished = true
 is_finished stage = false
 
@@ -85,15 +85,15 @@ abbrev pub done_count : List Place → ℕ → ℕ
 done_count done id = count_by (λ (p : Place). p.id == id) done
 
 -- a place that may be served now: of an open request that wasn't replied to and didn't fault in this epoch, in it, and not done
-abbrev pub may_serve : List Place → ℕ → Request → ℕ → Bool
+abbrev pub may_serve : List Place → ℕ → DiskRequest → ℕ → Bool
 may_serve done id r index = is_open r.stage && is_none r.reply && not r.faulted && nat_lt index (places_of r.job) && not (is_done done id index)
 
 -- a request after which what waits for it may go on: wholly done, faulted or replied to in this epoch, or answered
-abbrev pub is_settled : List Place → ℕ → Request → Bool
+abbrev pub is_settled : List Place → ℕ → DiskRequest → Bool
 is_settled done id r = not (is_open r.stage) || is_some r.reply || r.faulted || done_count done id == places_of r.job
 
 -- the requests before this one, from the number `id` on, that a barrier orders with it are settled
-abbrev pub are_settled : List Place → ℕ → List Request → Bool → Bool
+abbrev pub are_settled : List Place → ℕ → List DiskRequest → Bool → Bool
 are_settled done id [] barrier = true
 are_settled done id (r ∷ earlier) barrier =
     (not (is_ordered r.job) || not (barrier || is_barrier r.job) || is_settled done id r) && are_settled done (id + 1) earlier barrier

@@ -8,16 +8,16 @@ use Rattle.blk_base.specs.declared.operation.Status.{Status}
 use Rattle.blk_base.specs.declared.operation.Status.TheVariants as status
 use Rattle.schedule_text.specs.declared.line.Line.{Line}
 use Rattle.schedule_text.specs.declared.line.Line.TheVariants as lines
-use Rattle.plain_disk.specs.declared.request.Stage.{Stage}
-use Rattle.plain_disk.specs.declared.request.Stage.TheVariants.{Telling, Finished}
-use Rattle.plain_disk.specs.declared.request.Request.{Request}
+use Rattle.plain_disk.specs.declared.request.RequestStage.{RequestStage}
+use Rattle.plain_disk.specs.declared.request.RequestStage.TheVariants.{Telling, Finished}
+use Rattle.plain_disk.specs.declared.request.DiskRequest.{DiskRequest}
 use Rattle.plain_disk.specs.declared.request.Place.{Place}
 use Rattle.plain_disk.specs.declared.request.Written.{Written}
 use Rattle.plain_disk.specs.Request.{opened, places_of, is_read, is_write, is_flush, is_discard, is_barrier, is_ordered, sector_of, count_of, filling, is_open, is_finished, may_serve, done_count, are_settled}
 use Rattle.plain_disk.specs.Disk.{Disk, words_at, request_of, noted_at}
 
 -- the requests with one of them changed
-abbrev pub with_request : List Request → ℕ → Request → List Request
+abbrev pub with_request : List DiskRequest → ℕ → DiskRequest → List DiskRequest
 with_request requests id r = slice_set requests (id - 1) r
 
 -- a request was submitted, under the next number
@@ -25,7 +25,7 @@ abbrev pub submitted_of : Disk → ℕ → Job → Option Disk
 submitted_of d id job = if id == length d.requests + 1 then Some (record d { requests = d.requests ++ opened job ∷ [] }) else None
 
 -- the order condition of request `id`: each earlier write, barrier and discard is settled, where that one or this one is a barrier
-abbrev pub is_in_order : Disk → ℕ → Request → Bool
+abbrev pub is_in_order : Disk → ℕ → DiskRequest → Bool
 is_in_order d id r = are_settled d.done 1 (take (id - 1) d.requests) (is_barrier r.job)
 
 -- a place was done
@@ -45,7 +45,7 @@ abbrev pub served : Disk → Place → Written → Disk
 served d p w = record d { done = d.done ++ p ∷ []; written = d.written ++ w ∷ [] }
 
 -- a sector of a write or barrier was filled
-abbrev pub effect_of : Disk → ℕ → ℕ → Option Request → Option Disk
+abbrev pub effect_of : Disk → ℕ → ℕ → Option DiskRequest → Option Disk
 effect_of d id index None = None
 effect_of d id index (Some r) =
     if is_write r.job && may_serve d.done id r index && is_in_order d id r
@@ -62,7 +62,7 @@ abbrev pub place_words : List (List ℕ) → List Written → Job → ℕ → Op
 place_words first written job index = words_at first written (sector_of job + index)
 
 -- a sector of a read showed these words
-abbrev pub read_of : Disk → ℕ → ℕ → List ℕ → Option Request → Option Disk
+abbrev pub read_of : Disk → ℕ → ℕ → List ℕ → Option DiskRequest → Option Disk
 read_of d id index words None = None
 read_of d id index words (Some r) =
     if is_read r.job && may_serve d.done id r index && may_hold (place_words d.first d.written r.job index) words
@@ -70,7 +70,7 @@ read_of d id index words (Some r) =
     else None
 
 -- a flush was done
-abbrev pub flushed_of : Disk → ℕ → Option Request → Option Disk
+abbrev pub flushed_of : Disk → ℕ → Option DiskRequest → Option Disk
 flushed_of d id None = None
 flushed_of d id (Some r) =
     if is_flush r.job && may_serve d.done id r 0
@@ -78,7 +78,7 @@ flushed_of d id (Some r) =
     else None
 
 -- a discard was done: its sectors are zeros
-abbrev pub trimmed_of : Disk → ℕ → Option Request → Option Disk
+abbrev pub trimmed_of : Disk → ℕ → Option DiskRequest → Option Disk
 trimmed_of d id None = None
 trimmed_of d id (Some r) =
     if is_discard r.job && may_serve d.done id r 0 && is_in_order d id r
@@ -93,7 +93,7 @@ lost_of written job index =
     else written)
 
 -- the disk failed at a place
-abbrev pub fault_of : Disk → ℕ → ℕ → Option Request → Option Disk
+abbrev pub fault_of : Disk → ℕ → ℕ → Option DiskRequest → Option Disk
 fault_of d id index None = None
 fault_of d id index (Some r) =
     if may_serve d.done id r index && (not (is_ordered r.job) || is_in_order d id r)
@@ -101,13 +101,13 @@ fault_of d id index (Some r) =
     else None
 
 -- a reply may say this: `ok` where all is done in this epoch, `error` where the disk failed in it, never `unsupported`
-abbrev pub may_reply : Disk → ℕ → Request → Status → Bool
+abbrev pub may_reply : Disk → ℕ → DiskRequest → Status → Bool
 may_reply d id r status.Okay = done_count d.done id == places_of r.job
 may_reply d id r status.Error = r.faulted
 may_reply d id r status.Unsupported = false
 
 -- the back replied
-abbrev pub replied_of : Disk → ℕ → Status → Option Request → Option Disk
+abbrev pub replied_of : Disk → ℕ → Status → Option DiskRequest → Option Disk
 replied_of d id status None = None
 replied_of d id status (Some r) =
     if is_open r.stage && is_none r.reply && may_reply d id r status
@@ -126,11 +126,11 @@ is_status (Some status.Unsupported) status.Unsupported = true
 is_status (Some a) b = false
 
 -- the stage of a request whose answer was told: a read that went well has its sectors told next
-abbrev pub told_stage : Job → Status → Stage
+abbrev pub told_stage : Job → Status → RequestStage
 told_stage job status = if is_read job && is_okay status then Telling 0 else Finished
 
 -- the front took the reply
-abbrev pub answered_of : Disk → ℕ → Status → Option Request → Option Disk
+abbrev pub answered_of : Disk → ℕ → Status → Option DiskRequest → Option Disk
 answered_of d id status None = None
 answered_of d id status (Some r) =
     if is_open r.stage && is_status r.reply status
@@ -138,7 +138,7 @@ answered_of d id status (Some r) =
     else None
 
 -- the stage after one sector more was told: after the last one nothing is left
-abbrev pub next_stage : Job → ℕ → Stage
+abbrev pub next_stage : Job → ℕ → RequestStage
 next_stage job index = if nat_lt (index + 1) (places_of job) then Telling (index + 1) else Finished
 
 -- these words were noted
@@ -147,12 +147,12 @@ are_noted None words = false
 are_noted (Some noted) words = pointwise nat_eq noted words
 
 -- this sector is told next
-abbrev pub is_next : Stage → ℕ → Bool
+abbrev pub is_next : RequestStage → ℕ → Bool
 is_next (Telling next) index = index == next
 is_next stage index = false
 
 -- the front told a sector of a read
-abbrev pub data_of : Disk → ℕ → ℕ → List ℕ → Option Request → Option Disk
+abbrev pub data_of : Disk → ℕ → ℕ → List ℕ → Option DiskRequest → Option Disk
 data_of d id index words None = None
 data_of d id index words (Some r) =
     if is_next r.stage index && are_noted (noted_at d.noted id index) words
@@ -160,7 +160,7 @@ data_of d id index words (Some r) =
     else None
 
 -- a new epoch: an open request has nothing done, no fault and no reply
-abbrev pub reopened : Request → Request
+abbrev pub reopened : DiskRequest → DiskRequest
 reopened r = if is_open r.stage then record r { faulted = false; reply = None } else r
 
 -- what was noted stays: the last note of a sector counts, and an answer `ok` needs all sectors read anew
@@ -169,7 +169,7 @@ epoch_of d = record d { requests = map reopened d.requests; done = [] }
 
 -- nothing is left to do: all requests are finished
 abbrev pub quiet_of : Disk → Option Disk
-quiet_of d = if list_all (λ (r : Request). is_finished r.stage) d.requests then Some d else None
+quiet_of d = if list_all (λ (r : DiskRequest). is_finished r.stage) d.requests then Some d else None
 
 -- the step of a line
 abbrev pub step : Disk → Line → Option Disk

@@ -7,7 +7,7 @@ ghost use Rattle.plain_disk.specs.Stands.{Steps};
 mod steps;
 
 use crate::looking;
-use crate::request::{Noted, Place, Request, Written};
+use crate::request::{DiskRequest, Noted, Place, Written};
 use blk_base::{OutOfMemory, SectorWords};
 use schedule_text::Line;
 use std::alloc::Global;
@@ -28,7 +28,7 @@ pub enum Stand {
 pub struct PlainDisk {
     first: Vec<SectorWords>,
     written: Vec<Written>,
-    requests: Vec<Request>,
+    requests: Vec<DiskRequest>,
     done: Vec<Place>,
     noted: Vec<Noted>,
 }
@@ -67,7 +67,7 @@ impl PlainDisk {
     }
 
     /// The requests that were submitted, number 1 first.
-    pub fn requests(&self) -> &[Request]
+    pub fn requests(&self) -> &[DiskRequest]
         ensures { result.now ≡ self.now.requests }
     {
         self.requests.as_slice()

@@ -17,5 +17,5 @@ pub use looking::{
     is_ordered, is_read, is_status, is_write, may_hold, next_stage, places_of, reopened, sector_of,
     told_stage,
 };
-pub use request::{Noted, Place, Request, Stage, Written};
+pub use request::{DiskRequest, Noted, Place, RequestStage, Written};
 pub use sight::Sight;

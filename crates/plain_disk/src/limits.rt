@@ -3,7 +3,7 @@ ghost use Rattle.std.specs.Prelude.{◌≡◌, ◌+◌, ◌^◌, ◌*◌, ◌/�
 ghost use Rattle.plain_disk.specs.Refusal.{frames_of, is_unsupported, is_refused_write, is_past_end, is_long, is_full, lacks_frames, frames_held};
 
 use crate::looking;
-use crate::request::Request;
+use crate::request::DiskRequest;
 use blk_base::{Config, Job, SectorCount};
 
 // The segments that so many sectors take.
@@ -90,7 +90,7 @@ fn entries(config: &Config) -> u64
     32 << config.order
 }
 
-pub fn is_full(config: &Config, requests: &[Request]) -> bool
+pub fn is_full(config: &Config, requests: &[DiskRequest]) -> bool
     ensures { result ≡ is_full config.now requests.now }
 {
     let unfinished = requests
@@ -101,7 +101,7 @@ pub fn is_full(config: &Config, requests: &[Request]) -> bool
 }
 
 // The frames that a request holds.
-fn frames_held(r: &Request) -> u32
+fn frames_held(r: &DiskRequest) -> u32
     ensures { result ≡ frames_held r.now }
 {
     if looking::is_finished(r.stage) {
@@ -111,7 +111,7 @@ fn frames_held(r: &Request) -> u32
     }
 }
 
-pub fn lacks_frames(requests: &[Request], job: &Job) -> bool
+pub fn lacks_frames(requests: &[DiskRequest], job: &Job) -> bool
     ensures { result ≡ lacks_frames requests.now job.now }
 {
     let mut held = 0u64;

@@ -4,9 +4,9 @@ ghost use Rattle.plain_disk.specs.Request.{places_of, sector_of, count_of, filli
 ghost use Rattle.plain_disk.specs.Disk.{covers, words_at, request_of, noted_at};
 ghost use Rattle.plain_disk.specs.Step.{may_hold, are_noted, is_next, is_status, told_stage, next_stage, place_words, reopened};
 ghost use Rattle.std.specs.List.{list_all};
-ghost use Rattle.plain_disk.specs.declared.request.Request.{Request};
+ghost use Rattle.plain_disk.specs.declared.request.DiskRequest.{DiskRequest};
 
-use crate::request::{Noted, Place, Request, Stage, Written};
+use crate::request::{DiskRequest, Noted, Place, RequestStage, Written};
 use blk_base::{Job, SectorWords, Status};
 
 /// How many places a request has.
@@ -102,17 +102,17 @@ pub fn is_ordered(job: &Job) -> bool
 }
 
 /// Whether a request's answer wasn't told.
-pub fn is_open(stage: Stage) -> bool
+pub fn is_open(stage: RequestStage) -> bool
     ensures { result ≡ is_open stage }
 {
-    matches!(stage, Stage::Open)
+    matches!(stage, RequestStage::Open)
 }
 
 /// Whether all of a request was told.
-pub fn is_finished(stage: Stage) -> bool
+pub fn is_finished(stage: RequestStage) -> bool
     ensures { result ≡ is_finished stage }
 {
-    matches!(stage, Stage::Finished)
+    matches!(stage, RequestStage::Finished)
 }
 
 /// Whether a place was done in this epoch.
@@ -130,7 +130,7 @@ pub fn done_count(done: &[Place], id: u64) -> usize
 }
 
 /// Whether a place may be served now.
-pub fn may_serve(done: &[Place], id: u64, r: &Request, index: u32) -> bool
+pub fn may_serve(done: &[Place], id: u64, r: &DiskRequest, index: u32) -> bool
     ensures { result ≡ may_serve done.now id r.now index }
 {
     is_open(r.stage)
@@ -141,7 +141,7 @@ pub fn may_serve(done: &[Place], id: u64, r: &Request, index: u32) -> bool
 }
 
 /// Whether what waits for a request may go on.
-pub fn is_settled(done: &[Place], id: u64, r: &Request) -> bool
+pub fn is_settled(done: &[Place], id: u64, r: &DiskRequest) -> bool
     ensures { result ≡ is_settled done.now id r.now }
 {
     !is_open(r.stage)
@@ -152,7 +152,7 @@ pub fn is_settled(done: &[Place], id: u64, r: &Request) -> bool
 
 /// Whether the requests of the first numbers are settled where a barrier orders them with one that
 /// comes later.
-pub fn are_settled(done: &[Place], earlier: &[Request], barrier: bool) -> bool
+pub fn are_settled(done: &[Place], earlier: &[DiskRequest], barrier: bool) -> bool
     ensures { result ≡ are_settled done.now 1 earlier.now barrier }
 {
     for i in 0..earlier.len() {
@@ -198,7 +198,7 @@ fn first_words(first: &[SectorWords], sector: u128) -> Option<SectorWords>
 }
 
 /// The request of a number.
-pub fn request_of(requests: &[Request], id: u64) -> Option<Request>
+pub fn request_of(requests: &[DiskRequest], id: u64) -> Option<DiskRequest>
     ensures value { result ≡ request_of requests.now id }
 {
     if id == 0 {
@@ -254,11 +254,11 @@ pub fn are_noted(noted: &Option<SectorWords>, words: &SectorWords) -> bool
 }
 
 /// Whether a sector is told next.
-pub fn is_next(stage: Stage, index: u32) -> bool
+pub fn is_next(stage: RequestStage, index: u32) -> bool
     ensures { result ≡ is_next stage index }
 {
     match stage {
-        Stage::Telling(next) => index == next,
+        RequestStage::Telling(next) => index == next,
         _ => false,
     }
 }
@@ -276,29 +276,29 @@ pub fn is_status(reply: Option<Status>, status: Status) -> bool
 }
 
 /// The stage of a request whose answer was told.
-pub fn told_stage(job: &Job, status: Status) -> Stage
+pub fn told_stage(job: &Job, status: Status) -> RequestStage
     ensures { result ≡ told_stage job.now status }
 {
     match (is_read(job), status) {
-        (true, Status::Okay) => Stage::Telling(0),
-        _ => Stage::Finished,
+        (true, Status::Okay) => RequestStage::Telling(0),
+        _ => RequestStage::Finished,
     }
 }
 
 /// The stage of a request after one sector more was told.
-pub fn next_stage(job: &Job, index: u32) -> Stage
+pub fn next_stage(job: &Job, index: u32) -> RequestStage
     ensures { result ≡ next_stage job.now index }
 {
     let places = places_of(job);
     if index < places && index + 1 != places {
-        Stage::Telling(index + 1)
+        RequestStage::Telling(index + 1)
     } else {
-        Stage::Finished
+        RequestStage::Finished
     }
 }
 
 /// A request in a new epoch.
-pub fn reopened(r: &Request) -> Request
+pub fn reopened(r: &DiskRequest) -> DiskRequest
     ensures { result ≡ reopened r.now }
 {
     let mut next = *r;
@@ -310,8 +310,8 @@ pub fn reopened(r: &Request) -> Request
 }
 
 /// Whether all of each request was told.
-pub fn are_finished(requests: &[Request]) -> bool
-    ensures { result ≡ list_all (λ (r : Request). is_finished r.stage) requests.now }
+pub fn are_finished(requests: &[DiskRequest]) -> bool
+    ensures { result ≡ list_all (λ (r : DiskRequest). is_finished r.stage) requests.now }
 {
     requests.iter().all(|r| is_finished(r.stage))
 }

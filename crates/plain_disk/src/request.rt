@@ -3,7 +3,7 @@ use blk_base::{Job, SectorWords, Status};
 
 /// How far a request is told of.
 #[derive(Clone, Copy, Debug, PartialEq, Eq)]
-pub enum Stage {
+pub enum RequestStage {
     /// Its answer wasn't told.
     Open,
     /// A read whose answer was `ok`: the sector that is told next.
@@ -15,11 +15,11 @@ pub enum Stage {
 /// A request that was submitted. Whether it faulted and what was replied to it is kept for the
 /// present epoch alone.
 #[derive(Clone, Copy, Debug, PartialEq, Eq)]
-pub struct Request {
+pub struct DiskRequest {
     pub job: Job,
     pub faulted: bool,
     pub reply: Option<Status>,
-    pub stage: Stage,
+    pub stage: RequestStage,
 }
 
 /// A place of a request that was done in this epoch: its number, and the sector in it from 0; 0 for

@@ -1,10 +1,10 @@
 // When a submission is refused.
 ghost use Rattle.std.specs.Prelude.{◌≡◌, ◌+◌, sum_by, count_by, not};
-ghost use Rattle.plain_disk.specs.declared.request.Request.{Request};
+ghost use Rattle.plain_disk.specs.declared.request.DiskRequest.{DiskRequest};
 ghost use Rattle.plain_disk.specs.Request.{is_finished};
 
 use crate::limits;
-use crate::request::Request;
+use crate::request::DiskRequest;
 use blk_base::{Config, Job};
 use schedule_text::{Line, Refusal};
 
@@ -49,7 +49,7 @@ impl Sight {
 
     /// How a submission is refused now, where these requests were submitted; `None` exactly where it
     /// is accepted.
-    pub fn refusal(&self, requests: &[Request], job: &Job) -> Option<Refusal>
+    pub fn refusal(&self, requests: &[DiskRequest], job: &Job) -> Option<Refusal>
         ensures { result ≡ refusal_at self.now self.now.config requests.now job.now }
     {
         match &self.config {
@@ -59,7 +59,7 @@ impl Sight {
     }
 
     // The first reason that applies.
-    fn refusal_by(&self, config: &Config, requests: &[Request], job: &Job) -> Option<Refusal>
+    fn refusal_by(&self, config: &Config, requests: &[DiskRequest], job: &Job) -> Option<Refusal>
         ensures { result ≡ refusal_by self.now config.now requests.now job.now }
     {
         if requests.len() == 4294967295 {

@@ -5,7 +5,7 @@ use Rattle.std.proofs.lemmas.Option.{none-some, same_Some, slice_get_within}
 use Rattle.std.proofs.lemmas.Bool.Decides.{nat_tests}
 use Rattle.std.proofs.lemmas.List.Edits.{length-remove}
 use Rattle.std.proofs.lemmas.List.Sums.{sum_by_push}
-use Rattle.plain_disk.specs.declared.request.Request.{Request as Asked}
+use Rattle.plain_disk.specs.declared.request.DiskRequest.{DiskRequest}
 use Rattle.plain_disk.specs.Request.{is_finished}
 use Rattle.plain_disk.specs.Refusal.{frames_of as job_frames, frames_held}
 use Rattle.blk_front.specs.declared.request.Request.{Request}
@@ -23,8 +23,8 @@ use Rattle.machine_pipeline.proofs.Resumed.{IsPutBack, back_was, back_sum, back_
 use Rattle.machine_pipeline.proofs.Holding.{all_frames}
 
 -- a request of the front's is open in the list, under its number
-pub record IsAsked (asked : List Asked) (r : Request) : Type 0 where
-  pub x : Asked
+pub record IsAsked (asked : List DiskRequest) (r : Request) : Type 0 where
+  pub x : DiskRequest
   pub at : slice_get asked (r.number - 1) ≡ Some x
   pub positive : 1 ≤ r.number
   pub unended : is_finished x.stage ≡ false
@@ -38,11 +38,11 @@ ending_number n None = 0
 ending_number n (Some e) = cond (e.request.number == n) 1 0
 
 -- all of the front's requests are, the one that is ending too, under different numbers, and no others are; and their frames are those that are in use
-pub record AreAsked (asked : List Asked) (requests : List Request) (ending : Option Ending) (pool : List Bool) : Type 0 where
+pub record AreAsked (asked : List DiskRequest) (requests : List Request) (ending : Option Ending) (pool : List Bool) : Type 0 where
   pub each : (i : ℕ) (r : Request) → slice_get requests i ≡ Some r → IsAsked asked r
   pub last : (e : Ending) → ending ≡ Some e → IsAsked asked e.request
   pub once : (n : ℕ) → count_by (λ (r : Request). r.number == n) requests + ending_number n ending ≤ 1
-  pub opened : count_by (λ (q : Asked). not (is_finished q.stage)) asked ≡ length requests + count_of ending
+  pub opened : count_by (λ (q : DiskRequest). not (is_finished q.stage)) asked ≡ length requests + count_of ending
   pub held : sum_by frames_held asked ≡ sum_by frames_of requests + ending_frames ending
   pub pooled : ArePooled pool requests ending
 
@@ -50,18 +50,18 @@ equal : (n m : ℕ) → n ≡ m → (n == m) ≡ true
 equal n m e = grind (arith, nat_tests)
 
 -- its job needs the frames that it has
-its_frames : (asked : List Asked) (r : Request) → (is : IsAsked asked r) → job_frames is.x.job ≡ frames_of r
+its_frames : (asked : List DiskRequest) (r : Request) → (is : IsAsked asked r) → job_frames is.x.job ≡ frames_of r
 its_frames asked r is = let shaped = is.shaped in ap job_frames is.job ∙ (all_frames r.transfer r.sector r.count shaped.counted ∙ sym shaped.frames)
 
 -- what one of the list counts, and the frames that it holds
-counts : (q : Asked) (b : Bool) → is_finished q.stage ≡ b → ◌≡◌ {A = ℕ} (cond (not (is_finished q.stage)) 1 0) (cond (not b) 1 0)
+counts : (q : DiskRequest) (b : Bool) → is_finished q.stage ≡ b → ◌≡◌ {A = ℕ} (cond (not (is_finished q.stage)) 1 0) (cond (not b) 1 0)
 counts q b e = ap (λ (c : Bool). cond (not c) 1 0) e
 
-holds : (q : Asked) (b : Bool) → is_finished q.stage ≡ b → frames_held q ≡ (if b then 0 else job_frames q.job)
+holds : (q : DiskRequest) (b : Bool) → is_finished q.stage ≡ b → frames_held q ≡ (if b then 0 else job_frames q.job)
 holds q b e = ap (λ (c : Bool). if c then 0 else job_frames q.job) e
 
 -- another number's request is set anew
-others : (asked : List Asked) (n : ℕ) (y : Asked) (r : Request) → 1 ≤ n → r.number ≢ n → IsAsked asked r → IsAsked (slice_set asked (n - 1) y) r
+others : (asked : List DiskRequest) (n : ℕ) (y : DiskRequest) (r : Request) → 1 ≤ n → r.number ≢ n → IsAsked asked r → IsAsked (slice_set asked (n - 1) y) r
 others asked n y r some apart is =
     let positive = is.positive in
     record { x = is.x; at = get_set_other asked (n - 1) (r.number - 1) y (λ same. apart (omega arith)) ∙ is.at; positive = is.positive; unended = is.unended; job = is.job; shaped = is.shaped; pooled = is.pooled }
@@ -75,13 +75,13 @@ differs requests e i r once at = λ same.
     omega arith
 
 -- the ending one is told a sector more, and isn't done yet
-pub told_set : (asked : List Asked) (requests : List Request) (e : Ending) (pool : List Bool) (y : Asked) → AreAsked asked requests (Some e) pool → is_finished y.stage ≡ false → y.job ≡ submitted_job e.request.transfer e.request.sector e.request.count
+pub told_set : (asked : List DiskRequest) (requests : List Request) (e : Ending) (pool : List Bool) (y : DiskRequest) → AreAsked asked requests (Some e) pool → is_finished y.stage ≡ false → y.job ≡ submitted_job e.request.transfer e.request.sector e.request.count
     → AreAsked (slice_set asked (e.request.number - 1) y) requests (Some e) pool
 told_set asked requests e pool y h unended job = record {
   each = λ i r at. others asked e.request.number y r is.positive (differs requests e i r h.once at) (h.each i r at);
   last = λ f same. subst (λ (g : Ending). IsAsked (slice_set asked (e.request.number - 1) y) g.request) (same_Some e f same) own;
   once = h.once;
-  opened = (let now = count_set (λ (q : Asked). not (is_finished q.stage)) asked (e.request.number - 1) is.x y is.at in let was = h.opened in let one = counts is.x false is.unended in let two = counts y false unended in omega arith);
+  opened = (let now = count_set (λ (q : DiskRequest). not (is_finished q.stage)) asked (e.request.number - 1) is.x y is.at in let was = h.opened in let one = counts is.x false is.unended in let two = counts y false unended in omega arith);
   held = (let now = sum_set frames_held asked (e.request.number - 1) is.x y is.at in let was = h.held in let one = holds is.x false is.unended in let two = holds y false unended in let same : job_frames y.job ≡ job_frames is.x.job = ap job_frames (job ∙ sym is.job) in omega arith);
   pooled = h.pooled;
 }
@@ -93,13 +93,13 @@ told_set asked requests e pool y h unended job = record {
     own = record { x = y; at = get_set_here asked (e.request.number - 1) is.x y is.at; positive = is.positive; unended = unended; job = job; shaped = is.shaped; pooled = is.pooled }
 
 -- it is done, and its frames are free
-pub ended_set : (asked : List Asked) (requests : List Request) (e : Ending) (pool : List Bool) (y : Asked) → AreAsked asked requests (Some e) pool → is_finished y.stage ≡ true
+pub ended_set : (asked : List DiskRequest) (requests : List Request) (e : Ending) (pool : List Bool) (y : DiskRequest) → AreAsked asked requests (Some e) pool → is_finished y.stage ≡ true
     → AreAsked (slice_set asked (e.request.number - 1) y) requests None (with_all_free pool e.request.frames.items)
 ended_set asked requests e pool y h done = record {
   each = λ i r at. others asked e.request.number y r is.positive (differs requests e i r h.once at) (h.each i r at);
   last = λ f same. absurd (none-some f same);
   once = λ n. let few = h.once n in omega arith;
-  opened = (let now = count_set (λ (q : Asked). not (is_finished q.stage)) asked (e.request.number - 1) is.x y is.at in let was = h.opened in let one = counts is.x false is.unended in let two = counts y true done in omega arith);
+  opened = (let now = count_set (λ (q : DiskRequest). not (is_finished q.stage)) asked (e.request.number - 1) is.x y is.at in let was = h.opened in let one = counts is.x false is.unended in let two = counts y true done in omega arith);
   held = (let now = sum_set frames_held asked (e.request.number - 1) is.x y is.at in let was = h.held in let one = holds is.x false is.unended in let two = holds y true done in let own = its_frames asked e.request is in omega arith);
   pooled = pooled_free pool requests e is.pooled h.pooled;
 }
@@ -108,7 +108,7 @@ ended_set asked requests e pool y h done = record {
     is = h.last e refl
 
 -- a response is taken: its request ends
-pub asked_taken : (asked : List Asked) (requests : List Request) (pool : List Bool) (place : ℕ) (r : Request) (e : Ending) → slice_get requests place ≡ Some r → e.request ≡ r → AreAsked asked requests None pool
+pub asked_taken : (asked : List DiskRequest) (requests : List Request) (pool : List Bool) (place : ℕ) (r : Request) (e : Ending) → slice_get requests place ≡ Some r → e.request ≡ r → AreAsked asked requests None pool
     → AreAsked asked (remove requests place) (Some e) pool
 asked_taken asked requests pool place r e at same h = record {
   each = λ i q is. let was = removed_was requests place i q is in h.each was.0 q was.2;
@@ -129,13 +129,13 @@ none_freed pool [] none = refl
 none_freed pool (f ∷ frames) none = absurd (omega arith)
 
 -- a request that was accepted is open, under the next number
-pub asked_more : (asked : List Asked) (requests : List Request) (ending : Option Ending) (pool taken : List Bool) (r : Request) (q : Asked) → r.number ≡ length asked + 1 → q.job ≡ submitted_job r.transfer r.sector r.count → is_finished q.stage ≡ false → IsCounted r.transfer r.count
+pub asked_more : (asked : List DiskRequest) (requests : List Request) (ending : Option Ending) (pool taken : List Bool) (r : Request) (q : DiskRequest) → r.number ≡ length asked + 1 → q.job ≡ submitted_job r.transfer r.sector r.count → is_finished q.stage ≡ false → IsCounted r.transfer r.count
     → taking (frames_for r.count + pages_for r.count) pool [] ≡ Some (r.frames.items, taken) → AreAsked asked requests ending pool → AreAsked (asked ++ q ∷ []) (requests ++ r ∷ []) ending taken
 asked_more asked requests ending pool taken r q number job unended counted frames h = record {
   each = λ i p e. elim (push_was requests r i p e) [ inl was ↦ grown p (h.each i p was) | inr new ↦ subst (IsAsked (asked ++ q ∷ [])) (sym new.1) own ];
   last = λ e same. grown e.request (h.last e same);
   once = λ n. by_number n (r.number == n) refl;
-  opened = (let was = h.opened in let now = sum_by_push (λ (p : Asked). cond (not (is_finished p.stage)) 1 0) asked q in let one = counts q false unended in let more = longer requests r in omega arith);
+  opened = (let was = h.opened in let now = sum_by_push (λ (p : DiskRequest). cond (not (is_finished p.stage)) 1 0) asked q in let one = counts q false unended in let more = longer requests r in omega arith);
   held = (let was = h.held in let now = sum_by_push frames_held asked q in let one = holds q false unended in let own_frames = its_frames (asked ++ q ∷ []) r own in let more = sum_by_push frames_of requests r in omega arith);
   pooled = more_pooled.0;
 }
@@ -178,7 +178,7 @@ asked_more asked requests ending pool taken r q number job unended counted frame
         omega arith
 
 -- after a suspend one that was ending waits again
-pub asked_back : (asked : List Asked) (requests after : List Request) (e : Ending) (pool : List Bool) → IsPutBack requests after e.request → AreAsked asked requests (Some e) pool → AreAsked asked after None pool
+pub asked_back : (asked : List DiskRequest) (requests after : List Request) (e : Ending) (pool : List Bool) → IsPutBack requests after e.request → AreAsked asked requests (Some e) pool → AreAsked asked after None pool
 asked_back asked requests after e pool put h = record {
   each = λ i r at. elim (back_was requests after e.request put i r at) [ inl same ↦ subst (IsAsked asked) (sym same) (h.last e refl) | inr one ↦ h.each one.0 r one.1 ];
   last = λ f same. absurd (none-some f same);

@@ -4,13 +4,13 @@ use Rattle.std.specs.Prelude.{Option, Some, None, fold, length}
 use Rattle.line_text.proofs.Both.{both_true}
 use Rattle.blk_base.specs.Options.{Options}
 use Rattle.schedule_text.specs.declared.line.Line.TheVariants as lines
-use Rattle.plain_disk.specs.declared.request.Request.{Request as Asked}
+use Rattle.plain_disk.specs.declared.request.DiskRequest.{DiskRequest}
 use Rattle.plain_disk.specs.declared.sight.Sight.{Sight}
 use Rattle.plain_disk.specs.Refusal.{seen}
 use Rattle.blk_front.specs.declared.request.Request.{Request}
 use Rattle.blk_front.specs.declared.stage.Ending.{Ending}
-use Rattle.blk_front.specs.declared.stage.Stage.{Stage}
-use Rattle.blk_front.specs.declared.stage.Stage.TheVariants as stage
+use Rattle.blk_front.specs.declared.stage.FrontStage.{FrontStage}
+use Rattle.blk_front.specs.declared.stage.FrontStage.TheVariants as stage
 use Rattle.blk_front.specs.declared.state.FrontState.{FrontState}
 use Rattle.blk_front.specs.declared.state.FrontState.TheVariants as state
 use Rattle.blk_front.specs.declared.state.Offers.{Offers}
@@ -35,12 +35,12 @@ IsMeant config v (state.Agreed order) = order ≡ v.shape.order
 IsMeant config v (state.Connected offers) = AreOffered config.read_only config.indirect offers
 IsMeant config v s = Unit {0}
 
-module _ (config : Options) (s : Sight) (asked : List Asked) (v : View) where
-  abbrev StandsAt : Stage → Type 0
+module _ (config : Options) (s : Sight) (asked : List DiskRequest) (v : View) where
+  abbrev StandsAt : FrontStage → Type 0
   StandsAt t = Stands config (share_of v) (is_ready t) (is_broken t) (ending_at t v.ending) s asked
 
   -- it is connected
-  connects : (offers : Offers) (t : Stage) → AreOffered config.read_only config.indirect offers → is_initialised t ≡ true → StandsAt t → Stands config (record (share_of v) { offers = offers }) true false None (seen s lines.Ready) asked
+  connects : (offers : Offers) (t : FrontStage) → AreOffered config.read_only config.indirect offers → is_initialised t ≡ true → StandsAt t → Stands config (record (share_of v) { offers = offers }) true false None (seen s lines.Ready) asked
   connects offers stage.Initialised are is h = record {
     options = h.options;
     closing = h.closing;
@@ -56,7 +56,7 @@ module _ (config : Options) (s : Sight) (asked : List Asked) (v : View) where
   connects offers t are is h = absurd (true≢false (sym is))
 
   -- it begins to close
-  closes : (t : Stage) → StandsAt t → Stands config (record (share_of v) { closing = true }) (is_ready t) (is_broken t) (ending_at t v.ending) (seen s lines.Closing) asked
+  closes : (t : FrontStage) → StandsAt t → Stands config (record (share_of v) { closing = true }) (is_ready t) (is_broken t) (ending_at t v.ending) (seen s lines.Closing) asked
   closes t h = record {
     options = h.options;
     closing = refl;
@@ -85,12 +85,12 @@ module _ (config : Options) (s : Sight) (asked : List Asked) (v : View) where
     are = h.are;
   }
 
-  made : (t : Stage) → is_made t ≡ true → v.closing ≡ true → StandsAt t → Stands config (share_of v) false false None s asked
+  made : (t : FrontStage) → is_made t ≡ true → v.closing ≡ true → StandsAt t → Stands config (share_of v) false false None s asked
   made stage.Initialised is closing h = leaves false closing h
   made stage.Loop is closing h = leaves true closing h
   made t is closing h = absurd (true≢false (sym is))
 
-  bare : (t : Stage) → is_bare t ≡ true → v.closing ≡ true → StandsAt t → Stands config (share_of v) false false None s asked
+  bare : (t : FrontStage) → is_bare t ≡ true → v.closing ≡ true → StandsAt t → Stands config (share_of v) false false None s asked
   bare (stage.RingWord k) is closing h = leaves false closing h
   bare stage.Left is closing h = leaves false closing h
   bare t is closing h = absurd (true≢false (sym is))
@@ -123,7 +123,7 @@ module _ (config : Options) (s : Sight) (asked : List Asked) (v : View) where
     are = λ whole. all;
   }
 
-  abbrev Resumes : Stage → Type 0
+  abbrev Resumes : FrontStage → Type 0
   Resumes t =
       Stands config (record (share_of v) { offers = no_offers; requests = requests_after t v.ending v.requests }) (is_ready (stage_after t)) (is_broken (stage_after t)) (ending_at (stage_after t) (ending_after t v.ending)) (seen s lines.Epoch) asked
       × IsHeldAt (stage_after t) (ending_after t v.ending)
@@ -137,7 +137,7 @@ module _ (config : Options) (s : Sight) (asked : List Asked) (v : View) where
   put_back : (e : Ending) → v.ending ≡ Some e → Stands config (share_of v) true false v.ending s asked → Stands config (record (share_of v) { offers = no_offers; requests = with_ending v.ending v.requests }) false false None (seen s lines.Epoch) asked
   put_back e here h = subst (λ (o : Option Ending). Stands config (record (share_of v) { offers = no_offers; requests = with_ending o v.requests }) false false None (seen s lines.Epoch) asked) (sym here) (back e here h)
 
-  opened : (t : Stage) → is_open t ≡ true → StandsAt t → IsHeldAt t v.ending → Resumes t
+  opened : (t : FrontStage) → is_open t ≡ true → StandsAt t → IsHeldAt t v.ending → Resumes t
   opened stage.Closed stays h held = absurd (true≢false (sym stays))
   opened (stage.Broken word) stays h held = absurd (true≢false (sym stays))
   opened (stage.GrantRead place) stays h held = (put_back held.0 held.1 h, tt)
@@ -147,7 +147,7 @@ module _ (config : Options) (s : Sight) (asked : List Asked) (v : View) where
   opened t stays h held = (resumes (is_ready t) None None v.requests h (h.are refl), tt)
 
   -- a closed or broken front stays as it is
-  unready : (t : Stage) → is_open t ≡ false → is_ready t ≡ false
+  unready : (t : FrontStage) → is_open t ≡ false → is_ready t ≡ false
   unready stage.Closed over = refl
   unready (stage.Broken word) over = refl
   unready t over = absurd (true≢false over)

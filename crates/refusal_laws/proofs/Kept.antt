@@ -9,7 +9,7 @@ use Rattle.schedule_text.specs.declared.line.Refusal.{Refusal}
 use Rattle.schedule_text.specs.declared.line.Line.{Line}
 use Rattle.schedule_text.specs.declared.line.Line.TheVariants as lines
 use Rattle.schedule_text.specs.Recorder.{recorded, kept_of}
-use Rattle.plain_disk.specs.declared.request.Request.{Request as Asked}
+use Rattle.plain_disk.specs.declared.request.DiskRequest.{DiskRequest}
 use Rattle.plain_disk.specs.declared.sight.Sight.{Sight}
 use Rattle.plain_disk.specs.Refusal.{nothing_seen, seen, refusal_at}
 use Rattle.report_rules.proofs.Obeys.{obeys_none, obeys_more}
@@ -24,7 +24,7 @@ kept_seen Lines (lines.Move move ∷ ls) s = kept_seen Lines ls s
 kept_seen Moves (lines.Move move ∷ ls) s = kept_seen Moves ls s
 kept_seen detail (line ∷ ls) s = kept_seen detail ls (seen s line)
 
-kept_asked : (detail : Detail) (ls : List Line) (asked : List Asked) → fold asked_step asked (kept_of detail ls) ≡ fold asked_step asked ls
+kept_asked : (detail : Detail) (ls : List Line) (asked : List DiskRequest) → fold asked_step asked (kept_of detail ls) ≡ fold asked_step asked ls
 kept_asked detail [] asked = refl
 kept_asked detail (lines.Begin config other ∷ ls) asked = kept_asked detail ls asked
 kept_asked Lines (lines.Move move ∷ ls) asked = kept_asked Lines ls asked
@@ -44,7 +44,7 @@ kept_count detail (line ∷ ls) = counted line (kept_of detail ls) ∙ (ap (λ (
 kept_rule : (detail : Detail) (before : List Line) (job : Job) → ruled_of (kept_of detail before) job ≡ ruled_of before job
 kept_rule detail before job =
     ap (λ (s : Sight). refusal_at s s.config (asked_by (kept_of detail before)) job) (kept_seen detail before nothing_seen)
-    ∙ ap (λ (asked : List Asked). let s : Sight = fold seen nothing_seen before in refusal_at s s.config asked job) (kept_asked detail before [])
+    ∙ ap (λ (asked : List DiskRequest). let s : Sight = fold seen nothing_seen before in refusal_at s s.config asked job) (kept_asked detail before [])
 
 some_kept : (jobs : List Job) (detail : Detail) (before : List Line) (refusal : Refusal) → IsRuledAt jobs before (lines.Refuse refusal) → IsRuledAt jobs (kept_of detail before) (lines.Refuse refusal)
 some_kept jobs detail before refusal is = rw (kept_count detail before) (by_job (slice_get jobs (answer_count before)) is)

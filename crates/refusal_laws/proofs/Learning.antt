@@ -13,8 +13,8 @@ use Rattle.xenbus_state.specs.declared.keys.BackKey.TheVariants as key
 use Rattle.xenbus_state.specs.declared.offer.Features.{Features}
 use Rattle.xenbus_state.specs.declared.state.BusState.{BusState}
 use Rattle.xenbus_state.specs.declared.state.BusState.TheVariants as state
-use Rattle.xenbus_state.specs.declared.stage.FrontStage.{FrontStage}
-use Rattle.xenbus_state.specs.declared.stage.FrontStage.TheVariants as stage
+use Rattle.xenbus_state.specs.declared.stage.FrontBusStage.{FrontBusStage}
+use Rattle.xenbus_state.specs.declared.stage.FrontBusStage.TheVariants as stage
 use Rattle.xenbus_state.specs.declared.table.FrontAction.{FrontAction}
 use Rattle.xenbus_state.specs.declared.table.FrontAction.TheVariants as action
 use Rattle.xenbus_state.specs.declared.front.FrontBusAsk.{FrontBusAsk}
@@ -60,7 +60,7 @@ KnowsBefore key.FeatureMaxIndirectSegments r f = (r.barrier ≡ f.barrier) × (r
 KnowsBefore k r f = AreKnown r f
 
 -- all are known once the ring is made, and while there is a port
-abbrev pub KnowsAt : (f : Features) → FrontStage → (r : Features) → (port : Option ℕ) → Type 0
+abbrev pub KnowsAt : (f : Features) → FrontBusStage → (r : Features) → (port : Option ℕ) → Type 0
 KnowsAt f (stage.ReadFeature k) r port = KnowsBefore k r f
 KnowsAt f (stage.RingWord word) r port = AreKnown r f
 KnowsAt f (stage.Grant page) r port = AreKnown r f
@@ -77,11 +77,11 @@ IsShown f key.FeatureMaxIndirectSegments n = n ≡ Some f.indirect
 IsShown f k n = Unit {0}
 
 -- what the front reads is what the back's key says
-abbrev pub ReadsAt : Features → FrontStage → FrontAnswer → Type 0
+abbrev pub ReadsAt : Features → FrontBusStage → FrontAnswer → Type 0
 ReadsAt f (stage.ReadFeature k) (answer.Key text) = IsShown f k (count_read text)
 ReadsAt f d x = Unit {0}
 
-reads_done : (f : Features) (d : FrontStage) → ReadsAt f d answer.Done
+reads_done : (f : Features) (d : FrontBusStage) → ReadsAt f d answer.Done
 reads_done f (stage.ReadFeature k) = tt
 reads_done f d = tt
 
@@ -125,7 +125,7 @@ module _ (f : Features) where
   written_knows state.Closed r port is = is
   written_knows s r port is = is
 
-  either_knows : (b : Bool) (d g : FrontStage) (r : Features) (port : Option ℕ) → KnowsAt f d r port → KnowsAt f g r port → KnowsAt f (if b then d else g) r port
+  either_knows : (b : Bool) (d g : FrontBusStage) (r : Features) (port : Option ℕ) → KnowsAt f d r port → KnowsAt f g r port → KnowsAt f (if b then d else g) r port
   either_knows true d g r port p q = p
   either_knows false d g r port p q = q
 
@@ -137,7 +137,7 @@ module _ (f : Features) where
   grants_know None r port is = is
   grants_know (Some n) r port is = is
 
-  after_knows : (d : FrontStage) (v : FrontView) → KnowsAt f d v.features v.port → KnowsAt f (after d v) v.features v.port
+  after_knows : (d : FrontBusStage) (v : FrontView) → KnowsAt f d v.features v.port → KnowsAt f (after d v) v.features v.port
   after_knows stage.Start v is = is
   after_knows (stage.RingWord word) v is = either_knows (word == 15) (stage.Grant 0) (stage.RingWord (word + 1)) v.features v.port is is
   after_knows (stage.Grant page) v is = either_knows (nat_lt (page + 1) (pages_of v)) (stage.Grant (page + 1)) stage.NewPort v.features v.port is is
@@ -146,7 +146,7 @@ module _ (f : Features) where
   after_knows stage.EndOtherGrants v is = grants_know v.port v.features v.port is
   after_knows d v is = is
 
-  step_knows : (d : FrontStage) (v : FrontView) (idle : Bool) (x : FrontAnswer) → ReadsAt f d x → KnowsAt f d v.features v.port → Knows (step_at d (at d v) idle x)
+  step_knows : (d : FrontBusStage) (v : FrontView) (idle : Bool) (x : FrontAnswer) → ReadsAt f d x → KnowsAt f d v.features v.port → Knows (step_at d (at d v) idle x)
   step_knows stage.Rest v idle (answer.Watched path) reads is = is
   step_knows stage.ReadState v idle (answer.Key text) reads is = acted_knows (front_action v.state v.closing idle (state_read text)) (at stage.ReadState v) is
   step_knows (stage.ReadFeature k) v idle (answer.Key text) reads is = feature_knows k (count_read text) (at (stage.ReadFeature k) v) reads is
@@ -168,7 +168,7 @@ module _ (f : Features) where
 
   pub due_knows : (v : FrontView) (idle : Bool) → Knows v → KnowsAt f (due v idle) v.features v.port
   due_knows v idle is =
-      due_cases (λ (d : FrontStage). KnowsAt f d v.features v.port) v idle is (λ here closing is_idle. closing_knows v.state v (subst (λ (d : FrontStage). KnowsAt f d v.features v.port) here is))
+      due_cases (λ (d : FrontBusStage). KnowsAt f d v.features v.port) v idle is (λ here closing is_idle. closing_knows v.state v (subst (λ (d : FrontBusStage). KnowsAt f d v.features v.port) here is))
 
   settled_knows : (b : FrontBusAsk) (u : FrontView) (idle : Bool) → Knows u → Knows (settled_at b idle u)
   settled_knows ask.EndOtherGrants u idle is = step_knows (due u idle) u idle answer.Done (reads_done f (due u idle)) (due_knows u idle is)
@@ -187,7 +187,7 @@ module _ (f : Features) where
   pub suspended_knows : (v : FrontView) → Knows v → Knows (suspended v)
   suspended_knows v is = by_stage v.stage
     where
-      by_stage : (d : FrontStage) → Knows (suspended_at d v)
+      by_stage : (d : FrontBusStage) → Knows (suspended_at d v)
       by_stage stage.Closed = is
       by_stage (stage.Broken word) = is
       by_stage d = λ some. absurd (true≢false (sym some))
@@ -203,7 +203,7 @@ not_closing state.Closing v k e = never_closing v.gone v.port k e
 not_closing own v k e = cc
 
 due_feature : (v : FrontView) (idle : Bool) (k : BackKey) → due v idle ≡ stage.ReadFeature k → v.stage ≡ stage.ReadFeature k
-due_feature v idle = due_cases (λ (d : FrontStage). (k : BackKey) → d ≡ stage.ReadFeature k → v.stage ≡ stage.ReadFeature k) v idle (λ k e. e) (λ here closing is_idle k e. absurd (not_closing v.state v k e))
+due_feature v idle = due_cases (λ (d : FrontBusStage). (k : BackKey) → d ≡ stage.ReadFeature k → v.stage ≡ stage.ReadFeature k) v idle (λ k e. e) (λ here closing is_idle k e. absurd (not_closing v.state v k e))
 
 -- and that says what it said when all was said
 shown_is : (w : World) (k : BackKey) (text : Option (List ℕ)) → w.back.features.indirect ≤ 960 → IsServiceSaid (λ (j : BackKey). SaysKey w.rings.under.keys w.back.features w.back.disk j) → key_of w.rings.under.keys.keys (path_under end.Back (back_name k)) ≡ text
@@ -214,7 +214,7 @@ shown_is w key.FeatureDiscard text few said told = flag_shown text w.back.featur
 shown_is w key.FeatureMaxIndirectSegments text few said told = count_shown text w.back.features.indirect (omega arith) (sym told ∙ said.indirect)
 shown_is w k text few said told = tt
 
-reads_key : (w : World) (a : FrontAct) (d : FrontStage) → IsFit w → due w.front (front_view.is_unoccupied w.rings.front) ≡ d → front_act w.rings.under (front.key_ask (ask_of w.front (front_view.is_unoccupied w.rings.front))) ≡ Some a → ReadsAt w.back.features d a.answer
+reads_key : (w : World) (a : FrontAct) (d : FrontBusStage) → IsFit w → due w.front (front_view.is_unoccupied w.rings.front) ≡ d → front_act w.rings.under (front.key_ask (ask_of w.front (front_view.is_unoccupied w.rings.front))) ≡ Some a → ReadsAt w.back.features d a.answer
 reads_key w a (stage.ReadFeature k) fit is e = by_answer a.answer refl
   where
     offers : ReadsOffer (λ (j : BackKey). SaysKey w.rings.under.keys w.back.features w.back.disk j) (stage.ReadFeature k)
@@ -223,7 +223,7 @@ reads_key w a (stage.ReadFeature k) fit is e = by_answer a.answer refl
     told : (text : Option (List ℕ)) → a.answer ≡ answer.Key text → key_of w.rings.under.keys.keys (path_under end.Back (back_name k)) ≡ text
     told text same =
         of_front (λ (y : FrontAct). y.answer ≡ answer.Key text → key_of w.rings.under.keys.keys (path_under end.Back (back_name k)) ≡ text) _ a (λ same. cc)
-        (ap (λ (g : FrontStage). front_act w.rings.under (front.key_ask (ask_at g w.front))) (sym is) ∙ e) same
+        (ap (λ (g : FrontBusStage). front_act w.rings.under (front.key_ask (ask_at g w.front))) (sym is) ∙ e) same
 
     by_answer : (x : FrontAnswer) → a.answer ≡ x → ReadsAt w.back.features (stage.ReadFeature k) x
     by_answer (answer.Key text) same = shown_is w k text fit.limited offers.1 (told text same)
@@ -231,14 +231,14 @@ reads_key w a (stage.ReadFeature k) fit is e = by_answer a.answer refl
 reads_key w a d fit is e = tt
 
 -- one that doesn't speak reads none
-unspoken : (f : Features) (d : FrontStage) (v : FrontView) (x : FrontAnswer) → front.speaks (ask_at d v) ≡ false → ReadsAt f d x
+unspoken : (f : Features) (d : FrontBusStage) (v : FrontView) (x : FrontAnswer) → front.speaks (ask_at d v) ≡ false → ReadsAt f d x
 unspoken f (stage.ReadFeature k) v x quiet = absurd (true≢false quiet)
 unspoken f d v x quiet = tt
 
 reads_none : (w : World) (x : FrontAnswer) → IsFit w → front.speaks (front_asks w) ≡ false → ReadsAt w.back.features (due w.front (front_view.is_unoccupied w.rings.front)) x
 reads_none w x fit =
     asks_cases (λ (b : FrontBusAsk). front.speaks b ≡ false → ReadsAt w.back.features (due w.front (front_view.is_unoccupied w.rings.front)) x) w
-    (λ left quiet. subst (λ (d : FrontStage). ReadsAt w.back.features (due_at d w.front (front_view.is_unoccupied w.rings.front)) x) (sym (left_starts w.front.stage w.front w.rings.front.stage fit.front left)) tt)
+    (λ left quiet. subst (λ (d : FrontBusStage). ReadsAt w.back.features (due_at d w.front (front_view.is_unoccupied w.rings.front)) x) (sym (left_starts w.front.stage w.front w.rings.front.stage fit.front left)) tt)
     (λ none quiet. unspoken w.back.features (due w.front (front_view.is_unoccupied w.rings.front)) w.front x quiet)
 
 -- so it knows it after each of its moves

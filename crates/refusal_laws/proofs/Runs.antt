@@ -9,7 +9,7 @@ use Rattle.blk_base.specs.declared.config.Job.{Job}
 use Rattle.schedule_text.specs.declared.line.Detail.{Detail}
 use Rattle.schedule_text.specs.declared.line.Line.{Line}
 use Rattle.schedule_text.specs.declared.line.Line.TheVariants as lines
-use Rattle.plain_disk.specs.declared.request.Request.{Request as Asked}
+use Rattle.plain_disk.specs.declared.request.DiskRequest.{DiskRequest}
 use Rattle.plain_disk.specs.declared.sight.Sight.{Sight}
 use Rattle.plain_disk.specs.Refusal.{nothing_seen, seen}
 use Rattle.report_rules.proofs.Obeys.{obeys_none, obeys_more}
@@ -71,7 +71,7 @@ count_more before ls = sum_by-append (λ (l : Line). cond (answers_submission l)
 -- one that says nothing of the front, and of no request either
 record IsAsideLine (line : Line) : Type 0 where
   seen_same : (s : Sight) → seen s line ≡ s
-  asked_same : (asked : List Asked) → asked_step asked line ≡ asked
+  asked_same : (asked : List DiskRequest) → asked_step asked line ≡ asked
   unanswered : answers_submission line ≡ false
 
 abbrev AreAside : List Line → Type 0
@@ -81,7 +81,7 @@ aside_seen : (ls : List Line) (s : Sight) → AreAside ls → fold seen s ls ≡
 aside_seen [] s all = refl
 aside_seen (line ∷ ls) s all = aside_seen ls (seen s line) all.1 ∙ all.0.seen_same s
 
-aside_asked : (ls : List Line) (asked : List Asked) → AreAside ls → fold asked_step asked ls ≡ asked
+aside_asked : (ls : List Line) (asked : List DiskRequest) → AreAside ls → fold asked_step asked ls ≡ asked
 aside_asked [] asked all = refl
 aside_asked (line ∷ ls) asked all = aside_asked ls (asked_step asked line) all.1 ∙ all.0.asked_same asked
 

@@ -17,8 +17,8 @@ use Rattle.blk_back.specs.declared.told.Halt.{Halt}
 use Rattle.xenbus_state.specs.declared.offer.Features.{Features}
 use Rattle.xenbus_state.specs.declared.state.BusState.{BusState}
 use Rattle.xenbus_state.specs.declared.state.BusState.TheVariants as state
-use Rattle.xenbus_state.specs.declared.stage.FrontStage.{FrontStage}
-use Rattle.xenbus_state.specs.declared.stage.FrontStage.TheVariants as stage
+use Rattle.xenbus_state.specs.declared.stage.FrontBusStage.{FrontBusStage}
+use Rattle.xenbus_state.specs.declared.stage.FrontBusStage.TheVariants as stage
 use Rattle.xenbus_state.specs.declared.front.FrontBusAsk.{FrontBusAsk}
 use Rattle.xenbus_state.specs.declared.front.FrontBusAsk.TheVariants as front_ask
 use Rattle.xenbus_state.specs.declared.front.FrontNews.{FrontNews}
@@ -73,7 +73,7 @@ closes_not state.Closing v e = not_connecting v.gone v.port e
 closes_not own v e = cc
 
 due_connects : (v : FrontView) (idle : Bool) → due v idle ≡ stage.WriteState state.Connected → v.stage ≡ stage.WriteState state.Connected
-due_connects v idle = due_cases (λ (d : FrontStage). d ≡ stage.WriteState state.Connected → v.stage ≡ stage.WriteState state.Connected) v idle (λ e. e) (λ here closing is_idle e. absurd (closes_not v.state v e))
+due_connects v idle = due_cases (λ (d : FrontBusStage). d ≡ stage.WriteState state.Connected → v.stage ≡ stage.WriteState state.Connected) v idle (λ e. e) (λ here closing is_idle e. absurd (closes_not v.state v e))
 
 ready_done : (v : FrontView) (idle : Bool) (x : FrontAnswer) → news_at (stage.WriteState state.Connected) v idle x ≡ Some news.Ready → x ≡ answer.Done
 ready_done v idle answer.Done e = refl
@@ -98,16 +98,16 @@ module _ (config : Options) (w : World) (h : Serves config w) where
       here = subst (IsNewsAt (due w.front idle)) e (news_is w.front idle a.answer)
 
       done : a.answer ≡ answer.Done
-      done = ready_done (at (due w.front idle) w.front) idle a.answer (subst (λ (d : FrontStage). news_at d (at (due w.front idle) w.front) idle a.answer ≡ Some news.Ready) here e)
+      done = ready_done (at (due w.front idle) w.front) idle a.answer (subst (λ (d : FrontBusStage). news_at d (at (due w.front idle) w.front) idle a.answer ≡ Some news.Ready) here e)
 
       same : (front_step.bus_after (frontend_of w) a.answer).features ≡ w.front.features
       same = ap (λ (x : FrontAnswer). (front_step.bus_after (frontend_of w) x).features) done ∙ features_told w.front idle
 
       goes : FrontGoesWith (stage.WriteState state.Connected) w.front w.rings.front.stage
-      goes = subst (λ (d : FrontStage). FrontGoesWith d w.front w.rings.front.stage) (due_connects w.front idle here) fit.front
+      goes = subst (λ (d : FrontBusStage). FrontGoesWith d w.front w.rings.front.stage) (due_connects w.front idle here) fit.front
 
       known : AreKnown w.front.features w.back.features
-      known = subst (λ (d : FrontStage). KnowsAt w.back.features d w.front.features w.front.port) here (due_knows w.back.features w.front idle h.knows) goes.2
+      known = subst (λ (d : FrontBusStage). KnowsAt w.back.features d w.front.features w.front.port) here (due_knows w.back.features w.front idle h.knows) goes.2
 
   due_know : (b : FrontBusAsk) (order : ℕ) → AllByRecursion (IsKnowing config) (front_step.states_due b order)
   due_know (front_ask.WriteRingWord word) order = (tt, tt)

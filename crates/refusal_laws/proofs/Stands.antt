@@ -7,9 +7,9 @@ use Rattle.blk_base.specs.declared.config.Job.{Job}
 use Rattle.blk_base.specs.declared.operation.Status.{Status}
 use Rattle.blk_base.specs.declared.operation.Status.TheVariants as status
 use Rattle.schedule_text.specs.declared.line.Line.TheVariants as lines
-use Rattle.plain_disk.specs.declared.request.Stage.{Stage as AskedStage}
-use Rattle.plain_disk.specs.declared.request.Stage.TheVariants.{Telling, Finished}
-use Rattle.plain_disk.specs.declared.request.Request.{Request as Asked}
+use Rattle.plain_disk.specs.declared.request.RequestStage.{RequestStage}
+use Rattle.plain_disk.specs.declared.request.RequestStage.TheVariants.{Telling, Finished}
+use Rattle.plain_disk.specs.declared.request.DiskRequest.{DiskRequest}
 use Rattle.plain_disk.specs.declared.sight.Sight.{Sight}
 use Rattle.plain_disk.specs.Request.{is_finished}
 use Rattle.plain_disk.specs.Disk.{request_of}
@@ -20,8 +20,8 @@ use Rattle.blk_front.specs.declared.request.Transfer.{Transfer}
 use Rattle.blk_front.specs.declared.request.Transfer.TheVariants as transfer
 use Rattle.blk_front.specs.Request.{has_data, words_in}
 use Rattle.blk_front.specs.declared.stage.Ending.{Ending}
-use Rattle.blk_front.specs.declared.stage.Stage.{Stage}
-use Rattle.blk_front.specs.declared.stage.Stage.TheVariants as stage
+use Rattle.blk_front.specs.declared.stage.FrontStage.{FrontStage}
+use Rattle.blk_front.specs.declared.stage.FrontStage.TheVariants as stage
 use Rattle.blk_front.specs.declared.state.Offers.{Offers}
 use Rattle.blk_front.specs.Pool.{with_all_free}
 use Rattle.blk_front.specs.View.{View}
@@ -47,7 +47,7 @@ abbrev pub share_of : View → Share
 share_of v = record { closing = v.closing; sectors = v.sectors; read_only = v.read_only; offers = v.offers; order = v.shape.order; last = v.last; requests = v.requests; pool = v.pool }
 
 -- the lines say whether the front is ready, unless it closes, and whether it closes or is broken; it has the options' disk and ring; once ready it knows what its back serves; and the requests that the lines leave open are its own, until it is broken
-pub record Stands (config : Options) (k : Share) (ready broken : Bool) (ending : Option Ending) (s : Sight) (asked : List Asked) : Type 0 where
+pub record Stands (config : Options) (k : Share) (ready broken : Bool) (ending : Option Ending) (s : Sight) (asked : List DiskRequest) : Type 0 where
   pub options : s.config ≡ Some config
   pub closing : s.closing ≡ k.closing
   pub broken_is : s.broken ≡ broken
@@ -63,14 +63,14 @@ pub record Stands (config : Options) (k : Share) (ready broken : Bool) (ending :
 abbrev pub IsTelling : ℕ → Option Ending → Type 0
 IsTelling n ending = (e : Ending) × (ending ≡ Some e) × (n < words_in e.request) × (e.request.transfer ≡ transfer.Read)
 
-abbrev pub IsHeldAt : Stage → Option Ending → Type 0
+abbrev pub IsHeldAt : FrontStage → Option Ending → Type 0
 IsHeldAt (stage.GrantRead place) ending = (e : Ending) × (ending ≡ Some e)
 IsHeldAt (stage.GrantEnd place before) ending = (e : Ending) × (ending ≡ Some e)
 IsHeldAt (stage.ReadData n) ending = IsTelling n ending
 IsHeldAt (stage.LeftData n) ending = IsTelling n ending
 IsHeldAt s ending = Unit {0}
 
-abbrev pub Keeps : Options → View → Sight → List Asked → Type 0
+abbrev pub Keeps : Options → View → Sight → List DiskRequest → Type 0
 Keeps config v s asked = Stands config (share_of v) (is_ready v.stage) (is_broken v.stage) (ending_at v.stage v.ending) s asked × IsHeldAt v.stage v.ending
 
 -- a line that breaks the front
@@ -78,7 +78,7 @@ unready : (connected : Bool) → false ≡ (connected && not true)
 unready true = refl
 unready false = refl
 
-pub breaks : (config : Options) (k : Share) (ready broken : Bool) (ending : Option Ending) (s : Sight) (asked : List Asked) (word : ℕ) → Stands config k ready broken ending s asked → Stands config k false true None (seen s (lines.Broken word)) asked
+pub breaks : (config : Options) (k : Share) (ready broken : Bool) (ending : Option Ending) (s : Sight) (asked : List DiskRequest) (word : ℕ) → Stands config k ready broken ending s asked → Stands config k false true None (seen s (lines.Broken word)) asked
 breaks config k ready broken ending s asked word h = record {
   options = h.options;
   closing = h.closing;
@@ -93,7 +93,7 @@ breaks config k ready broken ending s asked word h = record {
 }
 
 -- other requests are the front's, by as many as were given a number
-pub with_asked : (config : Options) (k : Share) (ready : Bool) (ending after : Option Ending) (s : Sight) (asked now : List Asked) (requests : List Request) (pool : List Bool)
+pub with_asked : (config : Options) (k : Share) (ready : Bool) (ending after : Option Ending) (s : Sight) (asked now : List DiskRequest) (requests : List Request) (pool : List Bool)
     → Stands config k ready false ending s asked → length now ≡ length asked → AreAsked now requests after pool → Stands config (record k { requests = requests; pool = pool }) ready false after s now
 with_asked config k ready ending after s asked now requests pool h long all = record {
   options = h.options;
@@ -109,19 +109,19 @@ with_asked config k ready ending after s asked now requests pool h long all = re
 }
 
 -- a line that takes the ending request a step
-stepped : (asked : List Asked) (n : ℕ) (x : Asked) (to : Job → AskedStage) → 1 ≤ n → slice_get asked (n - 1) ≡ Some x → at_stage asked n to (request_of asked n) ≡ slice_set asked (n - 1) (record x { stage = to x.job })
+stepped : (asked : List DiskRequest) (n : ℕ) (x : DiskRequest) (to : Job → RequestStage) → 1 ≤ n → slice_get asked (n - 1) ≡ Some x → at_stage asked n to (request_of asked n) ≡ slice_set asked (n - 1) (record x { stage = to x.job })
 stepped asked n x to some at =
     let other : (n == 0) ≡ false = grind (arith, nat_tests) in
     rw (other, at) refl
 
-module _ (config : Options) (k : Share) (ready : Bool) (e : Ending) (s : Sight) (asked : List Asked) (to : Job → AskedStage) (h : Stands config k ready false (Some e) s asked) where
+module _ (config : Options) (k : Share) (ready : Bool) (e : Ending) (s : Sight) (asked : List DiskRequest) (to : Job → RequestStage) (h : Stands config k ready false (Some e) s asked) where
   all : AreAsked asked k.requests (Some e) k.pool
   all = h.are refl
 
   is : IsAsked asked e.request
   is = all.last e refl
 
-  abbrev y : Asked
+  abbrev y : DiskRequest
   y = record is.x { stage = to is.x.job }
 
   now : at_stage asked e.request.number to (request_of asked e.request.number) ≡ slice_set asked (e.request.number - 1) y
@@ -131,14 +131,14 @@ module _ (config : Options) (k : Share) (ready : Bool) (e : Ending) (s : Sight) 
   pub line_ends : is_finished (to (submitted_job e.request.transfer e.request.sector e.request.count)) ≡ true
       → Stands config (record k { pool = with_all_free k.pool e.request.frames.items }) ready false None s (at_stage asked e.request.number to (request_of asked e.request.number))
   line_ends done =
-      subst (λ (l : List Asked). Stands config (record k { pool = with_all_free k.pool e.request.frames.items }) ready false None s l) (sym now)
+      subst (λ (l : List DiskRequest). Stands config (record k { pool = with_all_free k.pool e.request.frames.items }) ready false None s l) (sym now)
       (with_asked config k ready (Some e) None s asked (slice_set asked (e.request.number - 1) y) k.requests (with_all_free k.pool e.request.frames.items) h (length-set asked (e.request.number - 1) y)
       (ended_set asked k.requests e k.pool y all (ap (λ (job : Job). is_finished (to job)) is.job ∙ done)))
 
   -- or not yet
   pub line_tells : is_finished (to (submitted_job e.request.transfer e.request.sector e.request.count)) ≡ false → Stands config k ready false (Some e) s (at_stage asked e.request.number to (request_of asked e.request.number))
   line_tells undone =
-      subst (λ (l : List Asked). Stands config k ready false (Some e) s l) (sym now)
+      subst (λ (l : List DiskRequest). Stands config k ready false (Some e) s l) (sym now)
       (with_asked config k ready (Some e) (Some e) s asked (slice_set asked (e.request.number - 1) y) k.requests k.pool h (length-set asked (e.request.number - 1) y)
       (told_set asked k.requests e k.pool y all (ap (λ (job : Job). is_finished (to job)) is.job ∙ undone) is.job))
 

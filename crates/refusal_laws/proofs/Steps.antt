@@ -13,7 +13,7 @@ use Rattle.ring_words.specs.Shape.{entry_words_of}
 use Rattle.blk_layout.specs.declared.response.Response.{Response}
 use Rattle.blk_layout.specs.Response.{response_of}
 use Rattle.schedule_text.specs.declared.line.Line.TheVariants as lines
-use Rattle.plain_disk.specs.declared.request.Request.{Request as Asked}
+use Rattle.plain_disk.specs.declared.request.DiskRequest.{DiskRequest}
 use Rattle.plain_disk.specs.declared.sight.Sight.{Sight}
 use Rattle.plain_disk.specs.Request.{is_finished}
 use Rattle.plain_disk.specs.Step.{told_stage, next_stage}
@@ -23,8 +23,8 @@ use Rattle.blk_front.specs.declared.request.Transfer.{Transfer}
 use Rattle.blk_front.specs.declared.request.Transfer.TheVariants as transfer
 use Rattle.blk_front.specs.Request.{has_data, words_in, is_moving, is_indirect, naming_words, IsShaped}
 use Rattle.blk_front.specs.declared.stage.Ending.{Ending}
-use Rattle.blk_front.specs.declared.stage.Stage.{Stage}
-use Rattle.blk_front.specs.declared.stage.Stage.TheVariants as stage
+use Rattle.blk_front.specs.declared.stage.FrontStage.{FrontStage}
+use Rattle.blk_front.specs.declared.stage.FrontStage.TheVariants as stage
 use Rattle.blk_front.specs.declared.told.Told.TheVariants as told
 use Rattle.blk_front.specs.View.{View, next_request}
 use Rattle.blk_front.specs.Submit.{is_ready}
@@ -69,7 +69,7 @@ undata r answer shaped none = by_data (has_data r.transfer answer) refl
         let frames = shaped.frames in
         absurd (omega arith)
 
-module _ (config : Options) (s : Sight) (asked : List Asked) (v : View) (untold : v.told ≡ None) (keeps : Keeps config v s asked) where
+module _ (config : Options) (s : Sight) (asked : List DiskRequest) (v : View) (untold : v.told ≡ None) (keeps : Keeps config v s asked) where
   abbrev pub Becomes : View → Type 0
   Becomes x = Keeps config x (fold seen s (front_lines x.told)) (fold asked_step asked (front_lines x.told))
 
@@ -79,7 +79,7 @@ module _ (config : Options) (s : Sight) (asked : List Asked) (v : View) (untold 
   quiet : (x : View) → x.told ≡ None → Keeps config x s asked → Becomes x
   quiet x none is = rw none is
 
-  to : (t : Stage) → Stands config (share_of v) (is_ready t) (is_broken t) (ending_at t v.ending) s asked → IsHeldAt t v.ending → Becomes (at t v)
+  to : (t : FrontStage) → Stands config (share_of v) (is_ready t) (is_broken t) (ending_at t v.ending) s asked → IsHeldAt t v.ending → Becomes (at t v)
   to t h held = quiet (at t v) untold (h, held)
 
   stays : Becomes v
@@ -89,7 +89,7 @@ module _ (config : Options) (s : Sight) (asked : List Asked) (v : View) (untold 
   either true x y p q = p
   either false x y p q = q
 
-  either_to : (b : Bool) (t u : Stage) → Becomes (at t v) → Becomes (at u v) → Becomes (at (if b then t else u) v)
+  either_to : (b : Bool) (t u : FrontStage) → Becomes (at t v) → Becomes (at u v) → Becomes (at (if b then t else u) v)
   either_to true t u p q = p
   either_to false t u p q = q
 
@@ -183,7 +183,7 @@ module _ (config : Options) (s : Sight) (asked : List Asked) (v : View) (untold 
 
   -- a word of its data is read: the last one of a sector tells that, and the last one of all ends it
   module _ (e : Ending) (here : v.ending ≡ Some e) (n : ℕ) (read : e.request.transfer ≡ transfer.Read) (words : List ℕ) where
-    abbrev line_asked : List Asked
+    abbrev line_asked : List DiskRequest
     line_asked = asked_step asked (lines.Data e.request.number (n / 128) words)
 
     next_read : is_finished (next_stage (submitted_job e.request.transfer e.request.sector e.request.count) (n / 128)) ≡ not (nat_lt (n / 128 + 1) e.request.count)
@@ -231,7 +231,7 @@ module _ (config : Options) (s : Sight) (asked : List Asked) (v : View) (untold 
     left_goes within h true more = left_on (n % 128 == 127) refl more h (e, here, grind (arith, nat_tests), read)
     left_goes within h false less = subst (λ (b : Bool). Becomes (at (stage.RingWord 0) (finished e (sector b)))) (sym (is_last within less)) (data_last false within less h, tt)
 
-  by_stage : (t : Stage) (answer : FrontAnswer) → Stands config (share_of v) (is_ready t) (is_broken t) (ending_at t v.ending) s asked → IsHeldAt t v.ending → Becomes (step_at t v answer)
+  by_stage : (t : FrontStage) (answer : FrontAnswer) → Stands config (share_of v) (is_ready t) (is_broken t) (ending_at t v.ending) s asked → IsHeldAt t v.ending → Becomes (step_at t v answer)
   by_stage (stage.RingWord k) answer h held = either_to (k == 15) (stage.RingFrame 0) (stage.RingWord (k + 1)) (to (stage.RingFrame 0) h tt) (to (stage.RingWord (k + 1)) h tt)
   by_stage (stage.RingFrame page) answer h held = to (stage.RingFence page) h tt
   by_stage (stage.RingFence page) answer h held = to (stage.RingFlags page) h tt

@@ -7,7 +7,7 @@ use Rattle.blk_base.specs.declared.config.Job.{Job}
 use Rattle.blk_base.specs.declared.config.Job.TheVariants as jobs
 use Rattle.schedule_text.specs.declared.line.Refusal.{Refusal as RefusalWord}
 use Rattle.schedule_text.specs.declared.line.Refusal.TheVariants as words
-use Rattle.plain_disk.specs.declared.request.Request.{Request as Asked}
+use Rattle.plain_disk.specs.declared.request.DiskRequest.{DiskRequest}
 use Rattle.plain_disk.specs.declared.sight.Sight.{Sight}
 use Rattle.plain_disk.specs.Request.{opened}
 use Rattle.plain_disk.specs.Refusal.{refusal_by, refusal_at}
@@ -15,8 +15,8 @@ use Rattle.ring_words.specs.Shape.{entries_of}
 use Rattle.blk_front.specs.declared.request.Transfer.TheVariants as transfer
 use Rattle.blk_front.specs.declared.request.Wish.{Wish}
 use Rattle.blk_front.specs.declared.stage.Ending.{Ending}
-use Rattle.blk_front.specs.declared.stage.Stage.{Stage}
-use Rattle.blk_front.specs.declared.stage.Stage.TheVariants as stage
+use Rattle.blk_front.specs.declared.stage.FrontStage.{FrontStage}
+use Rattle.blk_front.specs.declared.stage.FrontStage.TheVariants as stage
 use Rattle.blk_front.specs.declared.state.Offers.{Offers}
 use Rattle.blk_front.specs.declared.told.Refusal.{Refusal}
 use Rattle.blk_front.specs.declared.told.Refusal.TheVariants as refusal
@@ -51,18 +51,18 @@ unready_answer v one false true rest = refl
 unready_answer v one false false rest = refl
 
 -- as many requests end as the front's stage says
-as_many : (t : Stage) (ending : Option Ending) → IsHeldAt t ending → count_of (ending_at t ending) ≡ ending_of t
+as_many : (t : FrontStage) (ending : Option Ending) → IsHeldAt t ending → count_of (ending_at t ending) ≡ ending_of t
 as_many (stage.GrantRead place) ending held = rw held.1 refl
 as_many (stage.GrantEnd place before) ending held = rw held.1 refl
 as_many (stage.ReadData n) ending held = rw held.1 refl
 as_many (stage.LeftData n) ending held = rw held.1 refl
 as_many t ending held = refl
 
-ready_whole : (t : Stage) → is_ready t ≡ true → is_broken t ≡ false
+ready_whole : (t : FrontStage) → is_ready t ≡ true → is_broken t ≡ false
 ready_whole (stage.Broken word) ready = absurd (true≢false (sym ready))
 ready_whole t ready = refl
 
-module _ (config : Options) (narrow : config.indirect ≤ 960) (s : Sight) (asked : List Asked) (v : View) (keeps : Keeps config v s asked) where
+module _ (config : Options) (narrow : config.indirect ≤ 960) (s : Sight) (asked : List DiskRequest) (v : View) (keeps : Keeps config v s asked) where
   h : Stands config (share_of v) (is_ready v.stage) (is_broken v.stage) (ending_at v.stage v.ending) s asked
   h = keeps.0
 
@@ -141,7 +141,7 @@ wish_is offers jobs.Flush wish some e = subst (IsOf offers jobs.Flush) (offered_
 wish_is offers (jobs.Discard sector count) wish some e = subst (IsOf offers (jobs.Discard sector count)) (offered_wish offers.discard _ wish e) (λ short. (refl, moves_none (transfer.Discard count) refl))
 
 -- an accepted request is open, under the front's next number
-pub submit_goes : (config : Options) (s : Sight) (asked : List Asked) (v : View) (job : Job) → IsServable job → Keeps config v s asked → (let y : Result ℕ Refusal × View = submit_of v job in Keeps config y.1 s (fold asked_step asked (submit_line job y.0 ∷ [])))
+pub submit_goes : (config : Options) (s : Sight) (asked : List DiskRequest) (v : View) (job : Job) → IsServable job → Keeps config v s asked → (let y : Result ℕ Refusal × View = submit_of v job in Keeps config y.1 s (fold asked_step asked (submit_line job y.0 ∷ [])))
 submit_goes config s asked v job some keeps =
     submit_parts (λ (y : Result ℕ Refusal × View). Keeps config y.1 s (fold asked_step asked (submit_line job y.0 ∷ []))) v job (λ r. keeps) (λ wish taken ready asks short frames. (goes wish taken ready frames (wish_is v.offers job wish some asks short), keeps.1))
   where

@@ -5,8 +5,8 @@ use Rattle.blk_base.specs.declared.config.Job.{Job}
 use Rattle.schedule_text.specs.declared.line.Refusal.{Refusal}
 use Rattle.schedule_text.specs.declared.line.Line.{Line}
 use Rattle.schedule_text.specs.declared.line.Line.TheVariants as lines
-use Rattle.plain_disk.specs.declared.request.Stage.{Stage}
-use Rattle.plain_disk.specs.declared.request.Request.{Request}
+use Rattle.plain_disk.specs.declared.request.RequestStage.{RequestStage}
+use Rattle.plain_disk.specs.declared.request.DiskRequest.{DiskRequest}
 use Rattle.plain_disk.specs.Request.{opened}
 use Rattle.plain_disk.specs.Disk.{request_of}
 use Rattle.plain_disk.specs.Step.{with_request, told_stage, next_stage}
@@ -15,18 +15,18 @@ use Rattle.report_rules.specs.Obeys.{Obeys}
 use Rattle.pipeline_laws.specs.Submissions.{answer_count}
 
 -- the requests with this one at the stage that its job gives; where there is none of that number nothing changes
-abbrev pub at_stage : List Request → ℕ → (Job → Stage) → Option Request → List Request
+abbrev pub at_stage : List DiskRequest → ℕ → (Job → RequestStage) → Option DiskRequest → List DiskRequest
 at_stage requests id stage None = requests
 at_stage requests id stage (Some r) = with_request requests id (record r { stage = stage r.job })
 
 -- the requests after a line, number 1 first: a submission opens the next one, and its answer ends it, but of a read that went well its last sector does
-abbrev pub asked_step : List Request → Line → List Request
+abbrev pub asked_step : List DiskRequest → Line → List DiskRequest
 asked_step requests (lines.Submit id job) = requests ++ opened job ∷ []
 asked_step requests (lines.Answer id status) = at_stage requests id (λ (job : Job). told_stage job status) (request_of requests id)
 asked_step requests (lines.Data id index words) = at_stage requests id (λ (job : Job). next_stage job index) (request_of requests id)
 asked_step requests line = requests
 
-abbrev pub asked_by : List Line → List Request
+abbrev pub asked_by : List Line → List DiskRequest
 asked_by before = fold asked_step [] before
 
 -- the refusal of a submission after these lines, none where it is accepted

@@ -14,8 +14,8 @@ use Rattle.schedule_text.specs.declared.line.Line.TheVariants as lines
 use Rattle.hypervisor.specs.Act.{FrontAct}
 use Rattle.blk_front.specs.declared.told.Told.{Told}
 use Rattle.blk_front.specs.declared.told.Told.TheVariants as told
-use Rattle.blk_front.specs.declared.stage.Stage.{Stage}
-use Rattle.blk_front.specs.declared.stage.Stage.TheVariants as stage
+use Rattle.blk_front.specs.declared.stage.FrontStage.{FrontStage}
+use Rattle.blk_front.specs.declared.stage.FrontStage.TheVariants as stage
 use Rattle.blk_front.specs.declared.state.FrontState.{FrontState}
 use Rattle.blk_front.specs.declared.state.FrontState.TheVariants as state
 use Rattle.blk_front.specs.View.{View}
@@ -89,7 +89,7 @@ same_counts start v v' before ls none same h =
     (subst (λ (c : ℕ). CountsAt start (told_in before) v.start c v'.stage) (sym same.cons) (subst (CountsAt start (told_in before) v.start v.ring.indices.cons) (sym same.stage) h)))
 
 -- a front that is led into a state took no response either: it ends no grant of a request's, and isn't broken
-whole_counts : (start n begins cons : ℕ) (s : Stage) → (is_made s || is_bare s) ≡ true → CountsAt start n begins cons s → cons ≡ wrapped start n
+whole_counts : (start n begins cons : ℕ) (s : FrontStage) → (is_made s || is_bare s) ≡ true → CountsAt start n begins cons s → cons ≡ wrapped start n
 whole_counts start n begins cons (stage.RingWord k) at_rest h = h.0
 whole_counts start n begins cons (stage.LeftData k) at_rest h = h.0
 whole_counts start n begins cons (stage.GrantRead place) at_rest h = absurd (cc)
@@ -98,7 +98,7 @@ whole_counts start n begins cons (stage.Broken word) at_rest h = absurd (cc)
 whole_counts start n begins cons s at_rest h = h
 
 -- the states that change the stage, but for a broken one, are entered from such a stage, and an order is agreed before the ring is begun
-abbrev LedFrom : FrontState → Stage → Type 0
+abbrev LedFrom : FrontState → FrontStage → Type 0
 LedFrom (state.Agreed order) s = is_unmade s ≡ true
 LedFrom state.Closing s = Unit {0}
 LedFrom (state.Broken word) s = Unit {0}
@@ -112,7 +112,7 @@ led_from (state.Agreed order) v may = unmade (is_unmade v.stage) (nat_le order v
     unmade false b c e = e
 led_from (state.Connected offers) v may = waiting v.stage may
   where
-    waiting : (s : Stage) → is_initialised s ≡ true → (is_made s || is_bare s) ≡ true
+    waiting : (s : FrontStage) → is_initialised s ≡ true → (is_made s || is_bare s) ≡ true
     waiting stage.Initialised may = refl
     waiting s may = absurd (cc)
 led_from state.Closing v may = tt
@@ -131,7 +131,7 @@ led_from state.Closed v may = bare (is_through v) (is_made v.stage) (is_bare v.s
 led_from (state.Broken word) v may = tt
 
 -- there the ring begins anew at its first index
-begun_anew : (start n begins cons : ℕ) (s : Stage) → is_unmade s ≡ true → CountsAt start n begins cons s → CountsAt start n begins begins s
+begun_anew : (start n begins cons : ℕ) (s : FrontStage) → is_unmade s ≡ true → CountsAt start n begins cons s → CountsAt start n begins begins s
 begun_anew start n begins cons (stage.RingWord k) unmade h = (h.1 ∙ h.0, refl)
 begun_anew start n begins cons s unmade h = absurd (cc)
 
@@ -144,7 +144,7 @@ entered_count start n state.Closed v from h = whole_counts start n v.start v.rin
 entered_count start n (state.Broken word) v from h = tt
 
 -- a front that was closed or broken before this epoch: no line of it says `ready`
-record WasOver (before : List Line) (s : Stage) : Type 0 where
+record WasOver (before : List Line) (s : FrontStage) : Type 0 where
   over : is_open s ≡ false
   unready : list_any says_ready (this_epoch before) ≡ false
 
@@ -160,7 +160,7 @@ CountsTo start before w = IsCountedFor start before w.front
 counts_on : (start : ℕ) (before ls : List Line) (v : View) → AreWithin ls → CountsIn start (this_epoch before ++ ls) v → CountsIn start (this_epoch (before ++ ls)) v
 counts_on start before ls v all h = subst (λ (xs : List Line). CountsIn start xs v) (sym (epoch_on ls before all)) h
 
-past_on : (before ls : List Line) (s s' : Stage) → AreWithin ls → list_any says_ready ls ≡ false → is_open s' ≡ false → WasOver before s → WasOver (before ++ ls) s'
+past_on : (before ls : List Line) (s s' : FrontStage) → AreWithin ls → list_any says_ready ls ≡ false → is_open s' ≡ false → WasOver before s → WasOver (before ++ ls) s'
 past_on before ls s s' all none over past = record {
   over = over;
   unready =
@@ -220,7 +220,7 @@ enters_counts start s v before was =
     by_counts may (inr past) = absurd (true≢false (sym (enters_open s v may) ∙ past.over))
 
 -- a suspend: an open front begins its ring anew, and has told nothing in this epoch
-anew_counts : (start begins : ℕ) (s : Stage) → start < 2 ^ 32 → begins ≡ start → CountsAt start 0 begins begins (stage_after s)
+anew_counts : (start begins : ℕ) (s : FrontStage) → start < 2 ^ 32 → begins ≡ start → CountsAt start 0 begins begins (stage_after s)
 anew_counts start begins (stage.ReadData n) fits same = (omega arith, refl)
 anew_counts start begins s fits same = (omega arith, refl)
 

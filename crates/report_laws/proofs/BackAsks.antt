@@ -13,14 +13,14 @@ use Rattle.blk_base.specs.declared.moves.BackMover.TheVariants.{Back, Job}
 use Rattle.ring_words.specs.Ring.{requests_of}
 use Rattle.blk_layout.specs.Response.{response_words_of}
 use Rattle.blk_layout.specs.declared.segment.Segment.{Segment}
-use Rattle.back_jobs.specs.declared.stage.Stage.{Stage as JobStage}
-use Rattle.back_jobs.specs.declared.stage.Stage.TheVariants as job
-use Rattle.back_jobs.specs.Task as task
-use Rattle.back_jobs.specs.Task.{Work, map_ask, page_ask}
+use Rattle.back_jobs.specs.declared.stage.JobStage.{JobStage}
+use Rattle.back_jobs.specs.declared.stage.JobStage.TheVariants as job
+use Rattle.back_jobs.specs.Work as task
+use Rattle.back_jobs.specs.Work.{Work, map_ask, page_ask}
 use Rattle.back_jobs.specs.Jobs.{place_of, work_at, waits, asked, ask_job}
 use Rattle.blk_back.specs.declared.stage.Reply.{Reply}
-use Rattle.blk_back.specs.declared.stage.Stage.{Stage}
-use Rattle.blk_back.specs.declared.stage.Stage.TheVariants as stage
+use Rattle.blk_back.specs.declared.stage.BackStage.{BackStage}
+use Rattle.blk_back.specs.declared.stage.BackStage.TheVariants as stage
 use Rattle.blk_back.specs.View.{View, page_of, slot_page, slot_word}
 use Rattle.blk_back.specs.Ask.{ask_at, ask_of, loop_ask, unmap_ask, next_reply, response_word}
 use Rattle.blk_back.specs.Step.{job_ask_of}
@@ -52,7 +52,7 @@ loop_fits : (v : View) (next : Option Reply) → IsNext next → BackFits Back (
 loop_fits v (Some r) is = reply_fits r 0 is
 loop_fits v None is = unvalued v.ring.asleep (requests_of v.ring.indices v.ring.seen == 0) (page_of v 0) (slot_page v v.ring.indices.cons 0) 0 (slot_word v.shape v.ring.indices.cons 0)
 
-back_at : (s : Stage) (v : View) → HasWords s → AreSaid v.grefs v.ring.port → IsNext (next_reply v) → BackFits Back (ask_at s v)
+back_at : (s : BackStage) (v : View) → HasWords s → AreSaid v.grefs v.ring.port → IsNext (next_reply v) → BackFits Back (ask_at s v)
 back_at stage.MapRing v words said next = index_fits v.grefs (length v.pages) said.0
 back_at stage.Bind v words said next = said.1
 back_at stage.Loop v words said next = loop_fits v (next_reply v) next

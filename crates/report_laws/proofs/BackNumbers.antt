@@ -27,14 +27,14 @@ use Rattle.segment_list.specs.Segments.{IsSound, fails_test, length_of, sectors_
 use Rattle.segment_list.specs.Verdict.{verdict_of}
 use Rattle.schedule_text.specs.declared.line.Line.TheVariants as lines
 use Rattle.schedule_text.specs.Range.{AreOptions}
-use Rattle.back_jobs.specs.declared.stage.Stage.{Stage as JobStage}
-use Rattle.back_jobs.specs.declared.stage.Stage.TheVariants as job
-use Rattle.back_jobs.specs.Task as task
-use Rattle.back_jobs.specs.Task.{Work, sector_stage, next_sector, next_segment, counted, first_of, last_of, rest_of, is_copied_out, copied, passes, judged, page_done, id_of, response_op, ended, frameless, moving, paging, served, begun}
+use Rattle.back_jobs.specs.declared.stage.JobStage.{JobStage}
+use Rattle.back_jobs.specs.declared.stage.JobStage.TheVariants as job
+use Rattle.back_jobs.specs.Work as task
+use Rattle.back_jobs.specs.Work.{Work, sector_stage, next_sector, next_segment, counted, first_of, last_of, rest_of, is_copied_out, copied, passes, judged, page_done, id_of, response_op, ended, frameless, moving, paging, served, begun}
 use Rattle.back_jobs.specs.Jobs.{place_of, work_at, work_of, told_at, removed_at, after_mapping, first_mapping, mapping_at, is_done, response_of, response_at, effect_at, effect_of}
 use Rattle.blk_back.specs.declared.stage.Reply.{Reply}
-use Rattle.blk_back.specs.declared.stage.Stage.{Stage}
-use Rattle.blk_back.specs.declared.stage.Stage.TheVariants as stage
+use Rattle.blk_back.specs.declared.stage.BackStage.{BackStage}
+use Rattle.blk_back.specs.declared.stage.BackStage.TheVariants as stage
 use Rattle.blk_back.specs.declared.told.BackTold.{BackTold}
 use Rattle.blk_back.specs.declared.told.BackTold.TheVariants as told
 use Rattle.blk_back.specs.declared.told.Halt.{Halt}
@@ -320,7 +320,7 @@ later_works (t ∷ works) all = let rest = All-tail IsWork t works all in by_han
 abbrev pub IsReply : Reply → Type 0
 IsReply r = (r.id < 2 ^ 64) × (r.op < 2 ^ 8)
 
-abbrev pub HasWords : Stage → Type 0
+abbrev pub HasWords : BackStage → Type 0
 HasWords (stage.ReplyHigh r) = IsReply r
 HasWords (stage.ReplyLast r) = IsReply r
 HasWords (stage.Producer r) = IsReply r
@@ -446,7 +446,7 @@ bound_words [] = tt
 bound_words (page ∷ pages) = tt
 
 -- an answer of the back's ask
-step_fits : (most : ℕ) (s : Stage) (v : View) (a : BackAnswer) → v.fetched + 1 ≤ most → most < 2 ^ 64 → HasWords s → IsFit most v → BackTells a → IsFit most (step_at s v a)
+step_fits : (most : ℕ) (s : BackStage) (v : View) (a : BackAnswer) → v.fetched + 1 ≤ most → most < 2 ^ 64 → HasWords s → IsFit most v → BackTells a → IsFit most (step_at s v a)
 step_fits most stage.MapRing v (answer.Mapped m) more low h f small = (f.0, on (nat_lt (length v.pages + 1) (length v.grefs)), f.2)
   where
     on : (b : Bool) → HasWords (if b then stage.MapRing else stage.Bind)

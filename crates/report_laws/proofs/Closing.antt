@@ -8,8 +8,8 @@ use Rattle.blk_base.specs.declared.ask.FrontAnswer.TheVariants as answer
 use Rattle.ring_words.specs.Ring.{responses_of}
 use Rattle.blk_layout.specs.declared.response.Response.{Response}
 use Rattle.blk_layout.specs.Response.{response_of}
-use Rattle.blk_front.specs.declared.stage.Stage.{Stage}
-use Rattle.blk_front.specs.declared.stage.Stage.TheVariants as stage
+use Rattle.blk_front.specs.declared.stage.FrontStage.{FrontStage}
+use Rattle.blk_front.specs.declared.stage.FrontStage.TheVariants as stage
 use Rattle.blk_front.specs.declared.stage.Ending.{Ending}
 use Rattle.blk_front.specs.declared.request.Request.{Request}
 use Rattle.blk_front.specs.declared.request.Transfer.{Transfer}
@@ -87,7 +87,7 @@ left_keeps v (Some e) n word =
     either (nat_lt (n + 1) (words_in e.request)) v _ _ told told
 
 -- a step of the front leaves whether it closes
-step_keeps : (s : Stage) (v : View) (a : FrontAnswer) → Keeps v (step_at s v a)
+step_keeps : (s : FrontStage) (v : View) (a : FrontAnswer) → Keeps v (step_at s v a)
 step_keeps stage.Loop v a = loop_keeps v (next_request v) a
 step_keeps (stage.GrantFlags place) v a = granted_keeps v (next_request v) place
 step_keeps (stage.ResponseLast low high) v (answer.Word last) = response_keeps v (response_of (low ∷ high ∷ last ∷ [])) low (issued v (low + high * 2 ^ 32))

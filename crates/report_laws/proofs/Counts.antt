@@ -13,8 +13,8 @@ use Rattle.blk_front.specs.declared.request.Transfer.{Transfer}
 use Rattle.blk_front.specs.declared.request.Transfer.TheVariants as transfer
 use Rattle.blk_front.specs.declared.stage.Ending.{Ending}
 use Rattle.blk_front.specs.Request.{has_data, words_in, is_indirect, naming_words}
-use Rattle.blk_front.specs.declared.stage.Stage.{Stage}
-use Rattle.blk_front.specs.declared.stage.Stage.TheVariants as stage
+use Rattle.blk_front.specs.declared.stage.FrontStage.{FrontStage}
+use Rattle.blk_front.specs.declared.stage.FrontStage.TheVariants as stage
 use Rattle.blk_front.specs.declared.told.Told.{Told}
 use Rattle.blk_front.specs.declared.told.Told.TheVariants as told
 use Rattle.blk_front.specs.View.{View, next_request}
@@ -23,7 +23,7 @@ use Rattle.machine_pipeline.proofs.Flow.{wrapped}
 use Rattle.machine_pipeline.proofs.Wrapped.{next_wrapped}
 
 -- the consumer of responses, by how many answers were told, and the ring's first index while the ring isn't made; nothing is said of a front that broke
-abbrev pub CountsAt : (start answers begins cons : ℕ) → Stage → Type 0
+abbrev pub CountsAt : (start answers begins cons : ℕ) → FrontStage → Type 0
 CountsAt start answers begins cons (stage.RingWord k) = (cons ≡ wrapped start answers) × (begins ≡ cons)
 CountsAt start answers begins cons (stage.LeftData n) = (cons ≡ wrapped start answers) × (begins ≡ cons)
 CountsAt start answers begins cons (stage.GrantRead place) = cons ≡ wrapped start (answers + 1)
@@ -39,14 +39,14 @@ with_told answers t = answers
 abbrev pub Counts : (start answers : ℕ) → View → Type 0
 Counts start answers v = CountsAt start (with_told answers v.told) v.start v.ring.indices.cons v.stage
 
-untold : (start answers begins cons : ℕ) (t : Option Told) (s : Stage) → t ≡ None → CountsAt start answers begins cons s → CountsAt start (with_told answers t) begins cons s
+untold : (start answers begins cons : ℕ) (t : Option Told) (s : FrontStage) → t ≡ None → CountsAt start answers begins cons s → CountsAt start (with_told answers t) begins cons s
 untold start answers begins cons t s e h = subst (λ (x : Option Told). CountsAt start (with_told answers x) begins cons s) (sym e) h
 
 either : (start answers : ℕ) (b : Bool) (x y : View) → Counts start answers x → Counts start answers y → Counts start answers (if b then x else y)
 either start answers true x y p q = p
 either start answers false x y p q = q
 
-either_stage : (start answers begins cons : ℕ) (b : Bool) (s s' : Stage) → CountsAt start answers begins cons s → CountsAt start answers begins cons s' → CountsAt start answers begins cons (if b then s else s')
+either_stage : (start answers begins cons : ℕ) (b : Bool) (s s' : FrontStage) → CountsAt start answers begins cons s → CountsAt start answers begins cons s' → CountsAt start answers begins cons (if b then s else s')
 either_stage start answers begins cons true s s' p q = p
 either_stage start answers begins cons false s s' p q = q
 
@@ -91,7 +91,7 @@ revoked_counts start answers v (Some x) place before e s h =
     (untold start answers v.start v.ring.indices.cons v.told (stage.GrantRead (place + 1)) e h) (ended_counts start answers v x h)
 
 -- a sector that is told is no answer
-told_counts : (start answers : ℕ) (v : View) (x : Ending) (n : ℕ) (words : List ℕ) (s : Stage) → v.told ≡ None → CountsAt start answers v.start v.ring.indices.cons s → (let y : View = sector_told x n words v in CountsAt start (with_told answers y.told) y.start y.ring.indices.cons s)
+told_counts : (start answers : ℕ) (v : View) (x : Ending) (n : ℕ) (words : List ℕ) (s : FrontStage) → v.told ≡ None → CountsAt start answers v.start v.ring.indices.cons s → (let y : View = sector_told x n words v in CountsAt start (with_told answers y.told) y.start y.ring.indices.cons s)
 told_counts start answers v x n words s e h = by_last (n % 128 == 127)
   where
     by_last : (b : Bool) → (let y : View = (if b then record v { words = words; told = Some (told.Sector x.request.number (n / 128) words) } else record v { words = words }) in CountsAt start (with_told answers y.told) y.start y.ring.indices.cons s)
@@ -128,7 +128,7 @@ response_counts start answers v (Ok response) low (Some found) e h =
     either start answers (length found.1.frames.items == 0) (answered (freed v found.0) found.1 response.status) (revokes (freed v found.0) found.1 response.status)
     next (untold start answers v.start (next_of v.ring.indices.cons) v.told (stage.GrantRead 0) e next)
 
-pub front_counts : (start answers : ℕ) (s : Stage) (v : View) (a : FrontAnswer) → v.told ≡ None → v.stage ≡ s → CountsAt start answers v.start v.ring.indices.cons s → Counts start answers (step_at s v a)
+pub front_counts : (start answers : ℕ) (s : FrontStage) (v : View) (a : FrontAnswer) → v.told ≡ None → v.stage ≡ s → CountsAt start answers v.start v.ring.indices.cons s → Counts start answers (step_at s v a)
 front_counts start answers (stage.RingWord k) v a e same h =
     untold start answers v.start v.ring.indices.cons v.told (if k == 15 then stage.RingFrame 0 else stage.RingWord (k + 1)) e (either_stage start answers v.start v.ring.indices.cons (k == 15) (stage.RingFrame 0) (stage.RingWord (k + 1)) h.0 h)
 front_counts start answers (stage.RingFrame page) v a e same h = untold start answers v.start v.ring.indices.cons v.told (stage.RingFence page) e h

@@ -8,8 +8,8 @@ use Rattle.hypervisor.specs.Hypervisor.{Hypervisor}
 use Rattle.blk_front.specs.declared.request.Request.{Request}
 use Rattle.blk_front.specs.declared.request.Transfer.{Transfer}
 use Rattle.blk_front.specs.declared.request.Transfer.TheVariants as transfer
-use Rattle.blk_front.specs.declared.stage.Stage.{Stage}
-use Rattle.blk_front.specs.declared.stage.Stage.TheVariants as stage
+use Rattle.blk_front.specs.declared.stage.FrontStage.{FrontStage}
+use Rattle.blk_front.specs.declared.stage.FrontStage.TheVariants as stage
 use Rattle.blk_front.specs.declared.stage.Ending.{Ending}
 use Rattle.blk_front.specs.Request.{filling_at, frames_for, grant_flags, is_indirect, segment_at, naming_at}
 use Rattle.blk_layout.specs.Written.{segment_words_of}
@@ -92,7 +92,7 @@ loop_fits h v (Some r) shared f e within =
     issue_fits h v r r.transfer (next_holds (λ (x : Request). All (λ (frame : ℕ). frame < 1018) x.frames.items) v r shared e) (issued_entry v r f.0.asked shared e) within
 loop_fits h v None shared f e within = unvalued h (v.ring.asleep || is_through v) (responses_of v.ring.indices v.ring.seen == 0) ring_frame 2 (slot_frame v.shape v.ring.indices.cons 0) (slot_word v.shape v.ring.indices.cons 0)
 
-asks_at : (h : Hypervisor) (s : Stage) (v : View) → AreShared v.requests → IsPorted s h.channels → StaysInMemory (ask_at s v) → HasWords s → IsFit v → FrontFits h (ask_at s v)
+asks_at : (h : Hypervisor) (s : FrontStage) (v : View) → AreShared v.requests → IsPorted s h.channels → StaysInMemory (ask_at s v) → HasWords s → IsFit v → FrontFits h (ask_at s v)
 asks_at h (stage.RingWord k) v shared ported within words f = fresh_fits v.start k f.0.begins
 asks_at h (stage.RingFrame page) v shared ported within words f = let framed = within.0 in omega arith
 asks_at h (stage.RingFlags page) v shared ported within words f = omega arith

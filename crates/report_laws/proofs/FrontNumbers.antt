@@ -31,8 +31,8 @@ use Rattle.blk_front.specs.declared.request.Request.{Request}
 use Rattle.blk_front.specs.declared.request.Wish.{Wish}
 use Rattle.blk_front.specs.declared.request.Transfer.{Transfer}
 use Rattle.blk_front.specs.declared.request.Transfer.TheVariants as transfer
-use Rattle.blk_front.specs.declared.stage.Stage.{Stage}
-use Rattle.blk_front.specs.declared.stage.Stage.TheVariants as stage
+use Rattle.blk_front.specs.declared.stage.FrontStage.{FrontStage}
+use Rattle.blk_front.specs.declared.stage.FrontStage.TheVariants as stage
 use Rattle.blk_front.specs.declared.stage.Ending.{Ending}
 use Rattle.blk_front.specs.declared.told.Told.{Told}
 use Rattle.blk_front.specs.declared.told.Told.TheVariants as told
@@ -197,7 +197,7 @@ pub record AreNumbers (sectors start last : ℕ) (requests : List Request) (endi
   pub read : IsSector words
 
 -- the words that a stage carries have 32 bits, and the word of data that is read is one of 7680 sectors
-abbrev pub HasWords : Stage → Type 0
+abbrev pub HasWords : FrontStage → Type 0
 HasWords (stage.ResponseHigh low) = low < 2 ^ 32
 HasWords (stage.ResponseLast low high) = low < 2 ^ 32
 HasWords (stage.GrantEnd place before) = before < 2 ^ 32
@@ -234,7 +234,7 @@ either : (b : Bool) (x y : View) → (b ≡ true → IsFit x) → (b ≡ false �
 either true x y p q = p refl
 either false x y p q = q refl
 
-either_stage : (b : Bool) (x y : Stage) → HasWords x → HasWords y → HasWords (if b then x else y)
+either_stage : (b : Bool) (x y : FrontStage) → HasWords x → HasWords y → HasWords (if b then x else y)
 either_stage true x y p q = p
 either_stage false x y p q = q
 
@@ -269,7 +269,7 @@ issued_entry v r asked shared e =
     let number = is.number in
     entry_words v.shape.abi r.transfer r (omega arith) is.sector is.few is.named (next_holds (λ (x : Request). All (λ (frame : ℕ). frame < 1018) x.frames.items) v r shared e)
 
-entered_fits : (v : View) (r : Request) (s : Stage) → HasWords s → AllByRecursion (λ (n : ℕ). n < 2 ^ 32) (entry_of v.shape.abi r) → IsFit v → IsFit (entered v r s)
+entered_fits : (v : View) (r : Request) (s : FrontStage) → HasWords s → AllByRecursion (λ (n : ℕ). n < 2 ^ 32) (entry_of v.shape.abi r) → IsFit v → IsFit (entered v r s)
 entered_fits v r s words entry f = let k = f.0 in (record { begins = k.begins; sized = k.sized; given = k.given; asked = k.asked; ends = k.ends; written = entry; read = k.read }, words, f.2)
 
 granted_fits : (v : View) (r : Option Request) (place : ℕ) → ((x : Request) → r ≡ Some x → AllByRecursion (λ (n : ℕ). n < 2 ^ 32) (entry_of v.shape.abi x)) → IsFit v → IsFit (granted r place v)
@@ -371,7 +371,7 @@ left_fits v (Some e) n word below small is f =
     (λ more. (y.0, still_below n e.request.count is.few more, y.2)) (λ last. (ending_now None tt y.0, tt, y.2))
 
 -- an answer of the front's ask
-step_fits : (s : Stage) (v : View) (x : FrontAnswer) → AreShared v.requests → HasWords s → IsFit v → FrontTells x → IsFit (step_at s v x)
+step_fits : (s : FrontStage) (v : View) (x : FrontAnswer) → AreShared v.requests → HasWords s → IsFit v → FrontTells x → IsFit (step_at s v x)
 step_fits (stage.RingWord k) v x shared h f small = (f.0, either_stage (k == 15) (stage.RingFrame 0) (stage.RingWord (k + 1)) tt tt, f.2)
 step_fits (stage.RingFrame page) v x shared h f small = (f.0, tt, f.2)
 step_fits (stage.RingFence page) v x shared h f small = (f.0, tt, f.2)
@@ -414,12 +414,12 @@ some_asked : (ending : Option Ending) → IsAskedEnding ending → IfSome ending
 some_asked None is = tt
 some_asked (Some e) is = is
 
-after_asked : (s : Stage) (ending : Option Ending) → IsAskedEnding ending → IsAskedEnding (ending_after s ending)
+after_asked : (s : FrontStage) (ending : Option Ending) → IsAskedEnding ending → IsAskedEnding (ending_after s ending)
 after_asked (stage.GrantRead place) ending is = tt
 after_asked (stage.GrantEnd place before) ending is = tt
 after_asked s ending is = is
 
-after_words : (s : Stage) → HasWords s → HasWords (stage_after s)
+after_words : (s : FrontStage) → HasWords s → HasWords (stage_after s)
 after_words (stage.ReadData n) words = words
 after_words (stage.LeftData n) words = words
 after_words s words = tt

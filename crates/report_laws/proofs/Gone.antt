@@ -10,8 +10,8 @@ use Rattle.schedule_text.specs.declared.line.Detail.{Detail}
 use Rattle.schedule_text.specs.declared.line.Line.{Line}
 use Rattle.schedule_text.specs.declared.line.Line.TheVariants as lines
 use Rattle.hypervisor.specs.Act.{FrontAct}
-use Rattle.blk_front.specs.declared.stage.Stage.{Stage}
-use Rattle.blk_front.specs.declared.stage.Stage.TheVariants as stage
+use Rattle.blk_front.specs.declared.stage.FrontStage.{FrontStage}
+use Rattle.blk_front.specs.declared.stage.FrontStage.TheVariants as stage
 use Rattle.blk_front.specs.declared.state.FrontState.{FrontState}
 use Rattle.blk_front.specs.declared.state.FrontState.TheVariants as state
 use Rattle.blk_front.specs.View.{View}
@@ -55,8 +55,8 @@ front_over w before (Some a) safe was = by_step (front_steps w.front.stage w.fro
     by_step : Steps w.front.stage x → list_any says_over (before ++ lines.Move a.shown ∷ front_lines x.told) ≡ not (is_open x.stage)
     by_step (inl stays) = more before (lines.Move a.shown ∷ front_lines x.told) (not (is_open w.front.stage)) false was stays.silent ∙ (or_none (not (is_open w.front.stage)) ∙ ap not (sym (same_open x.stage w.front.stage stays.same)))
     by_step (inr (inl makes)) =
-        let was_open : not (is_open w.front.stage) ≡ false = ap (λ (s : Stage). not (is_open s)) makes.was in
-        let is_so : not (is_open x.stage) ≡ false = ap (λ (s : Stage). not (is_open s)) makes.is in
+        let was_open : not (is_open w.front.stage) ≡ false = ap (λ (s : FrontStage). not (is_open s)) makes.was in
+        let is_so : not (is_open x.stage) ≡ false = ap (λ (s : FrontStage). not (is_open s)) makes.is in
         more before (lines.Move a.shown ∷ front_lines x.told) false false (was ∙ was_open) makes.silent ∙ sym is_so
     by_step (inr (inr breaks)) = more before (lines.Move a.shown ∷ front_lines x.told) (not (is_open w.front.stage)) true was breaks.said ∙ (or-true (not (is_open w.front.stage)) ∙ sym (ap not breaks.over))
 
@@ -88,7 +88,7 @@ one_over w before Suspends safe was =
 one_over w before h safe was =
     let is : LeavesFront w (happens w h) (lines_at w h) = leaves_front w h tt in
     more before (lines_at w h) (not (is_open w.front.stage)) false was (aside_silent (lines_at w h) is.lines)
-    ∙ (or_none (not (is_open w.front.stage)) ∙ ap (λ (s : Stage). not (is_open s)) (sym is.front.stage))
+    ∙ (or_none (not (is_open w.front.stage)) ∙ ap (λ (s : FrontStage). not (is_open s)) (sym is.front.stage))
 
 all_over : (history : List Happening) (w : World) (before : List Line) → IsSafe w → IsToldOver before w → IsToldOver (before ++ lines_of history w) (after history w)
 all_over [] w before safe was = no_more before w was

@@ -11,8 +11,8 @@ use Rattle.ring_words.specs.Ring.{responses_of, notifies}
 use Rattle.ring_words.specs.Shape.{entry_words_of}
 use Rattle.blk_layout.specs.declared.response.Response.{Response}
 use Rattle.blk_layout.specs.Response.{response_of}
-use Rattle.blk_front.specs.declared.stage.Stage.{Stage}
-use Rattle.blk_front.specs.declared.stage.Stage.TheVariants as stage
+use Rattle.blk_front.specs.declared.stage.FrontStage.{FrontStage}
+use Rattle.blk_front.specs.declared.stage.FrontStage.TheVariants as stage
 use Rattle.blk_front.specs.declared.stage.Ending.{Ending}
 use Rattle.blk_front.specs.declared.request.Request.{Request}
 use Rattle.blk_front.specs.declared.request.Transfer.{Transfer}
@@ -32,7 +32,7 @@ use Rattle.report_laws.proofs.Announced.{IsAnnounced, all_said}
 use Rattle.report_laws.proofs.Submitted.{submit_cases}
 
 -- it reads data of no request
-abbrev pub lacks : Stage → Option Ending → Bool
+abbrev pub lacks : FrontStage → Option Ending → Bool
 lacks (stage.ReadData n) None = true
 lacks (stage.LeftData n) None = true
 lacks s ending = false
@@ -44,7 +44,7 @@ either : (b : Bool) (x y : View) → Holds x → Holds y → Holds (if b then x 
 either true x y p q = p
 either false x y p q = q
 
-either_stage : (b : Bool) (s s' : Stage) (ending : Option Ending) → lacks s ending ≡ false → lacks s' ending ≡ false → lacks (if b then s else s') ending ≡ false
+either_stage : (b : Bool) (s s' : FrontStage) (ending : Option Ending) → lacks s ending ≡ false → lacks s' ending ≡ false → lacks (if b then s else s') ending ≡ false
 either_stage true s s' ending p q = p
 either_stage false s s' ending p q = q
 
@@ -113,7 +113,7 @@ left_holds v (Some e) n word is h =
     let words = slice_set v.words (n % 128) word in
     either (nat_lt (n + 1) (words_in e.request)) (at (stage.LeftData (n + 1)) (sector_told e n words v)) (at (stage.RingWord 0) (finished e (sector_told e n words v))) (ap (lacks (stage.LeftData (n + 1))) (told_ending v e n words ∙ is)) refl
 
-step_holds : (s : Stage) (v : View) (a : FrontAnswer) → Holds v → Holds (step_at s v a)
+step_holds : (s : FrontStage) (v : View) (a : FrontAnswer) → Holds v → Holds (step_at s v a)
 step_holds (stage.RingWord k) v a h = either_stage (k == 15) (stage.RingFrame 0) (stage.RingWord (k + 1)) v.ending refl refl
 step_holds (stage.RingFrame page) v a h = refl
 step_holds (stage.RingFence page) v a h = refl
@@ -154,7 +154,7 @@ entered_holds state.Closed v h = refl
 entered_holds (state.Broken word) v h = refl
 
 -- a suspend leaves the data that are in hand
-after_holds : (s : Stage) (ending : Option Ending) → lacks s ending ≡ false → lacks (stage_after s) (ending_after s ending) ≡ false
+after_holds : (s : FrontStage) (ending : Option Ending) → lacks s ending ≡ false → lacks (stage_after s) (ending_after s ending) ≡ false
 after_holds (stage.ReadData n) None h = absurd (true≢false h)
 after_holds (stage.LeftData n) None h = absurd (true≢false h)
 after_holds s ending h = refl

@@ -14,8 +14,8 @@ use Rattle.ring_words.specs.Shape.{Shape, entry_words_of}
 use Rattle.ring_words.specs.Ring.{requests_of, overruns}
 use Rattle.blk_back.specs.declared.stage.Reply.{Reply}
 use Rattle.blk_front.specs.Ask as front_ask
-use Rattle.blk_back.specs.declared.stage.Stage.{Stage}
-use Rattle.blk_back.specs.declared.stage.Stage.TheVariants as stage
+use Rattle.blk_back.specs.declared.stage.BackStage.{BackStage}
+use Rattle.blk_back.specs.declared.stage.BackStage.TheVariants as stage
 use Rattle.blk_back.specs.declared.told.Halt.{Halt}
 use Rattle.blk_back.specs.View.{View}
 use Rattle.blk_back.specs.Ask as back_ask
@@ -55,7 +55,7 @@ loop_few v None (answer.Word word) =
 loop_few v None answer.Event = omega arith
 loop_few v None x = omega arith
 
-step_few : (s : Stage) (v : View) (x : BackAnswer) → (step_at s v x).fetched ≤ v.fetched + 1
+step_few : (s : BackStage) (v : View) (x : BackAnswer) → (step_at s v x).fetched ≤ v.fetched + 1
 step_few stage.MapRing v (answer.Mapped m) = omega arith
 step_few stage.MapRing v (answer.MapRefused status) = omega arith
 step_few stage.Bind v answer.Done = omega arith

@@ -13,8 +13,8 @@ use Rattle.blk_front.specs.declared.request.Request.{Request}
 use Rattle.blk_front.specs.declared.request.Transfer.{Transfer}
 use Rattle.blk_front.specs.declared.request.Transfer.TheVariants as transfer
 use Rattle.blk_front.specs.declared.stage.Ending.{Ending}
-use Rattle.blk_front.specs.declared.stage.Stage.{Stage}
-use Rattle.blk_front.specs.declared.stage.Stage.TheVariants as stage
+use Rattle.blk_front.specs.declared.stage.FrontStage.{FrontStage}
+use Rattle.blk_front.specs.declared.stage.FrontStage.TheVariants as stage
 use Rattle.blk_front.specs.declared.state.FrontState.{FrontState}
 use Rattle.blk_front.specs.declared.state.FrontState.TheVariants as state
 use Rattle.blk_front.specs.declared.told.Told.TheVariants as told
@@ -29,7 +29,7 @@ use Rattle.split_model.specs.Shown.{front_lines}
 use Rattle.report_laws.specs.Ready.{says_over}
 
 -- it makes its ring and its port, waits to be connected, is connected, leaves, or is closed or broken
-abbrev pub phase : Stage → ℕ
+abbrev pub phase : FrontStage → ℕ
 phase (stage.LeftData n) = 0
 phase (stage.RingWord k) = 0
 phase (stage.RingFrame page) = 0
@@ -45,46 +45,46 @@ phase stage.Closed = 4
 phase (stage.Broken word) = 4
 phase s = 2
 
-pub open_phase : (s : Stage) → is_open s ≡ not (phase s == 4)
+pub open_phase : (s : FrontStage) → is_open s ≡ not (phase s == 4)
 open_phase stage.Closed = refl
 open_phase s = refl
 
-pub ready_phase : (s : Stage) → is_ready s ≡ (phase s == 2)
+pub ready_phase : (s : FrontStage) → is_ready s ≡ (phase s == 2)
 ready_phase (stage.RingWord k) = refl
 ready_phase s = refl
 
-pub initialised_phase : (s : Stage) → is_initialised s ≡ (phase s == 1)
+pub initialised_phase : (s : FrontStage) → is_initialised s ≡ (phase s == 1)
 initialised_phase stage.Initialised = refl
 initialised_phase s = refl
 
 -- so in one part of it all of these are the same
-pub same_open : (s s' : Stage) → phase s ≡ phase s' → is_open s ≡ is_open s'
+pub same_open : (s s' : FrontStage) → phase s ≡ phase s' → is_open s ≡ is_open s'
 same_open s s' same = open_phase s ∙ (ap (λ (n : ℕ). not (n == 4)) same ∙ sym (open_phase s'))
 
-pub same_ready : (s s' : Stage) → phase s ≡ phase s' → is_ready s ≡ is_ready s'
+pub same_ready : (s s' : FrontStage) → phase s ≡ phase s' → is_ready s ≡ is_ready s'
 same_ready s s' same = ready_phase s ∙ (ap (λ (n : ℕ). n == 2) same ∙ sym (ready_phase s'))
 
-pub same_initialised : (s s' : Stage) → phase s ≡ phase s' → is_initialised s ≡ is_initialised s'
+pub same_initialised : (s s' : FrontStage) → phase s ≡ phase s' → is_initialised s ≡ is_initialised s'
 same_initialised s s' same = initialised_phase s ∙ (ap (λ (n : ℕ). n == 1) same ∙ sym (initialised_phase s'))
 
 -- one that is over is neither connected nor waits to be, and makes no port
-pub over_unready : (s : Stage) → is_open s ≡ false → is_ready s ≡ false
+pub over_unready : (s : FrontStage) → is_open s ≡ false → is_ready s ≡ false
 over_unready stage.Closed e = refl
 over_unready (stage.Broken word) e = refl
 over_unready s e = absurd (true≢false e)
 
-pub over_unwaiting : (s : Stage) → is_open s ≡ false → is_initialised s ≡ false
+pub over_unwaiting : (s : FrontStage) → is_open s ≡ false → is_initialised s ≡ false
 over_unwaiting stage.Closed e = refl
 over_unwaiting (stage.Broken word) e = refl
 over_unwaiting s e = absurd (true≢false e)
 
 -- nor does it enter any state
-over_unmade : (s : Stage) → is_open s ≡ false → is_unmade s ≡ false
+over_unmade : (s : FrontStage) → is_open s ≡ false → is_unmade s ≡ false
 over_unmade stage.Closed e = refl
 over_unmade (stage.Broken word) e = refl
 over_unmade s e = absurd (true≢false e)
 
-over_at_rest : (s : Stage) → is_open s ≡ false → (is_made s ≡ false) × (is_bare s ≡ false)
+over_at_rest : (s : FrontStage) → is_open s ≡ false → (is_made s ≡ false) × (is_bare s ≡ false)
 over_at_rest stage.Closed e = (refl, refl)
 over_at_rest (stage.Broken word) e = (refl, refl)
 over_at_rest s e = absurd (true≢false e)
@@ -118,7 +118,7 @@ enters_open s v may = by_test (is_open v.stage) refl
     by_test false e = absurd (over_enters s v e may)
 
 -- a suspend of an open front has it begin anew
-pub anew_phase : (s : Stage) → phase (stage_after s) ≡ 0
+pub anew_phase : (s : FrontStage) → phase (stage_after s) ≡ 0
 anew_phase (stage.ReadData n) = refl
 anew_phase s = refl
 
@@ -126,11 +126,11 @@ anew_phase s = refl
 abbrev pub IsSilent : View → Type 0
 IsSilent x = list_any says_over (front_lines x.told) ≡ false
 
-pub record Stays (s : Stage) (x : View) : Type 0 where
+pub record Stays (s : FrontStage) (x : View) : Type 0 where
   pub same : phase x.stage ≡ phase s
   pub silent : IsSilent x
 
-pub record Makes (s : Stage) (x : View) : Type 0 where
+pub record Makes (s : FrontStage) (x : View) : Type 0 where
   pub was : s ≡ stage.NewPort
   pub is : x.stage ≡ stage.Initialised
   pub silent : IsSilent x
@@ -139,30 +139,30 @@ pub record Breaks (x : View) : Type 0 where
   pub over : is_open x.stage ≡ false
   pub said : list_any says_over (front_lines x.told) ≡ true
 
-abbrev pub Steps : Stage → View → Type 0
+abbrev pub Steps : FrontStage → View → Type 0
 Steps s x = Stays s x ⊎ (Makes s x ⊎ Breaks x)
 
 silent_of : (x : View) → x.told ≡ None → IsSilent x
 silent_of x none = ap (λ t. list_any says_over (front_lines t)) none
 
-stays : (s : Stage) (x : View) → phase x.stage ≡ phase s → x.told ≡ None → Steps s x
+stays : (s : FrontStage) (x : View) → phase x.stage ≡ phase s → x.told ≡ None → Steps s x
 stays s x same none = inl (record { same = same; silent = silent_of x none })
 
-speaks : (s : Stage) (x : View) → phase x.stage ≡ phase s → IsSilent x → Steps s x
+speaks : (s : FrontStage) (x : View) → phase x.stage ≡ phase s → IsSilent x → Steps s x
 speaks s x same silent = inl (record { same = same; silent = silent })
 
-breaks : (s : Stage) (word : ℕ) (v : View) → Steps s (broken word v)
+breaks : (s : FrontStage) (word : ℕ) (v : View) → Steps s (broken word v)
 breaks s word v = inr (inr (record { over = refl; said = refl }))
 
-either : (s : Stage) (b : Bool) (x y : View) → Steps s x → Steps s y → Steps s (if b then x else y)
+either : (s : FrontStage) (b : Bool) (x y : View) → Steps s x → Steps s y → Steps s (if b then x else y)
 either s true x y p q = p
 either s false x y p q = q
 
-either_phase : (b : Bool) (s s' : Stage) (n : ℕ) → phase s ≡ n → phase s' ≡ n → phase (if b then s else s') ≡ n
+either_phase : (b : Bool) (s s' : FrontStage) (n : ℕ) → phase s ≡ n → phase s' ≡ n → phase (if b then s else s') ≡ n
 either_phase true s s' n p q = p
 either_phase false s s' n p q = q
 
-looked_steps : (s : Stage) (v : View) (word : ℕ) (otherwise : View) → phase s ≡ 2 → v.told ≡ None → Steps s otherwise → Steps s (looked v word otherwise)
+looked_steps : (s : FrontStage) (v : View) (word : ℕ) (otherwise : View) → phase s ≡ 2 → v.told ≡ None → Steps s otherwise → Steps s (looked v word otherwise)
 looked_steps s v word otherwise on e p =
     either s (nat_lt (distance_of v.ring.indices.cons v.ring.indices.prod) (distance_of v.ring.indices.cons word)) (broken word v) (if word == v.ring.indices.cons then otherwise else record v { ring = record v.ring { seen = word }; stage = stage.Loop }) (breaks s word v)
     (either s (word == v.ring.indices.cons) otherwise (record v { ring = record v.ring { seen = word }; stage = stage.Loop }) p (stays s (record v { ring = record v.ring { seen = word }; stage = stage.Loop }) (sym on) e))
@@ -198,14 +198,14 @@ granted_steps v (Some r) place e here =
     either (stage.GrantFlags place) (nat_lt (place + 1) (length r.frames.items)) (at (stage.GrantFrame (place + 1)) v) (entered v r (stage.Slot 0))
     (stays (stage.GrantFlags place) (at (stage.GrantFrame (place + 1)) v) refl e) (stays (stage.GrantFlags place) (entered v r (stage.Slot 0)) refl e)
 
-response_steps : (s : Stage) (v : View) (response : Result Response ℕ) (low : ℕ) (found : Option (ℕ × Request)) → phase s ≡ 2 → v.told ≡ None → Steps s (response_at v response low found)
+response_steps : (s : FrontStage) (v : View) (response : Result Response ℕ) (low : ℕ) (found : Option (ℕ × Request)) → phase s ≡ 2 → v.told ≡ None → Steps s (response_at v response low found)
 response_steps s v response low None on e = breaks s low v
 response_steps s v (Err word) low (Some found) on e = breaks s word v
 response_steps s v (Ok response) low (Some found) on e =
     either s (length found.1.frames.items == 0) (answered (freed v found.0) found.1 response.status) (revokes (freed v found.0) found.1 response.status)
     (speaks s (answered (freed v found.0) found.1 response.status) (sym on) refl) (stays s (revokes (freed v found.0) found.1 response.status) (sym on) e)
 
-revoked_steps : (s : Stage) (v : View) (ending : Option Ending) (place : ℕ) → phase s ≡ 2 → v.told ≡ None → v.stage ≡ s → Steps s (revoked ending place v)
+revoked_steps : (s : FrontStage) (v : View) (ending : Option Ending) (place : ℕ) → phase s ≡ 2 → v.told ≡ None → v.stage ≡ s → Steps s (revoked ending place v)
 revoked_steps s v None place on e here = stays s v (ap phase here) e
 revoked_steps s v (Some x) place on e here =
     either s (nat_lt (place + 1) (length x.request.frames.items)) (at (stage.GrantRead (place + 1)) v) (ended x v) (stays s (at (stage.GrantRead (place + 1)) v) (sym on) e)
@@ -237,7 +237,7 @@ left_steps v (Some x) n word e here =
     either (stage.LeftData n) (nat_lt (n + 1) (words_in x.request)) (at (stage.LeftData (n + 1)) y) (at (stage.RingWord 0) (finished x y))
     (speaks (stage.LeftData n) (at (stage.LeftData (n + 1)) y) refl (sector_silent v x n words e)) (speaks (stage.LeftData n) (at (stage.RingWord 0) (finished x y)) refl (sector_silent v x n words e))
 
-pub front_steps : (s : Stage) (v : View) (a : FrontAnswer) → v.told ≡ None → v.stage ≡ s → Steps s (step_at s v a)
+pub front_steps : (s : FrontStage) (v : View) (a : FrontAnswer) → v.told ≡ None → v.stage ≡ s → Steps s (step_at s v a)
 front_steps (stage.RingWord k) v a e here =
     stays (stage.RingWord k) (at (if k == 15 then stage.RingFrame 0 else stage.RingWord (k + 1)) v) (either_phase (k == 15) (stage.RingFrame 0) (stage.RingWord (k + 1)) 0 refl refl) e
 front_steps (stage.RingFrame page) v a e here = stays (stage.RingFrame page) (at (stage.RingFence page) v) refl e

@@ -12,8 +12,8 @@ use Rattle.event_channel.specs.declared.channels.PortState.{PortState}
 use Rattle.event_channel.specs.declared.channels.PortState.TheVariants.{Unbound}
 use Rattle.hypervisor.specs.Hypervisor.{Hypervisor}
 use Rattle.hypervisor.specs.Act.{FrontAct, front_act}
-use Rattle.blk_front.specs.declared.stage.Stage.{Stage}
-use Rattle.blk_front.specs.declared.stage.Stage.TheVariants as stage
+use Rattle.blk_front.specs.declared.stage.FrontStage.{FrontStage}
+use Rattle.blk_front.specs.declared.stage.FrontStage.TheVariants as stage
 use Rattle.blk_front.specs.declared.state.FrontState.{FrontState}
 use Rattle.blk_front.specs.declared.state.FrontState.TheVariants as state
 use Rattle.blk_front.specs.Ask as ask
@@ -95,7 +95,7 @@ front_port w before (Some a) e safe grown was = by_step (front_steps w.front.sta
     by_step : Steps w.front.stage x → HasPort (before ++ front_shows w (Some a)) (front_after w (Some a))
     by_step (inl stays) = stays_so (λ t. sym (same_initialised x.stage w.front.stage stays.same) ∙ t)
     by_step (inr (inl makes)) =
-        let made : 1 ≤ ports_of a.under = makes_one w.under a (subst (λ (s : Stage). front_act w.under (ask.ask_at s w.front) ≡ Some a) makes.was e) in
+        let made : 1 ≤ ports_of a.under = makes_one w.under a (subst (λ (s : FrontStage). front_act w.under (ask.ask_at s w.front) ≡ Some a) makes.was e) in
         record { waiting = λ t. made; ready = λ t. made }
     by_step (inr (inr breaks)) = stays_so (λ t. absurd (true≢false (sym t ∙ over_unwaiting x.stage breaks.over)))
 

@@ -9,8 +9,8 @@ use Rattle.schedule_text.specs.declared.line.Line.TheVariants as lines
 use Rattle.xen_pages.specs.Pages.{word_of}
 use Rattle.report_rules.specs.Ring.{start_told, start_of}
 use Rattle.report_rules.specs.Value.{value_before}
-use Rattle.blk_front.specs.declared.stage.Stage.{Stage}
-use Rattle.blk_front.specs.declared.stage.Stage.TheVariants as stage
+use Rattle.blk_front.specs.declared.stage.FrontStage.{FrontStage}
+use Rattle.blk_front.specs.declared.stage.FrontStage.TheVariants as stage
 use Rattle.split_model.specs.World as world
 use Rattle.split_model.specs.World.{World, is_quiet}
 use Rattle.split_model.specs.Happening.{Happening, after, lines_of}
@@ -47,7 +47,7 @@ report_start : (config : Options) (detail : Detail) (history : List Happening) �
 report_start config detail history = same_start config.start (lines_of history (world.start_of config)) (all_later history (world.start_of config))
 
 -- a front in its loop, or closed, took as many responses as it told answers in this epoch
-taken_at : (start n begins cons : ℕ) (s : Stage) → (s ≡ stage.Loop) ⊎ (s ≡ stage.Closed) → CountsAt start n begins cons s → cons ≡ wrapped start n
+taken_at : (start n begins cons : ℕ) (s : FrontStage) → (s ≡ stage.Loop) ⊎ (s ≡ stage.Closed) → CountsAt start n begins cons s → cons ≡ wrapped start n
 taken_at start n begins cons s (inl looping) h = subst (CountsAt start n begins cons) looping h
 taken_at start n begins cons s (inr closed) h = subst (CountsAt start n begins cons) closed h
 

@@ -9,8 +9,8 @@ use Rattle.schedule_text.specs.declared.line.Line.TheVariants as lines
 use Rattle.schedule_text.specs.Recorder.{recorded}
 use Rattle.hypervisor.specs.Act.{FrontAct}
 use Rattle.blk_front.specs.declared.stage.Ending.{Ending}
-use Rattle.blk_front.specs.declared.stage.Stage.{Stage}
-use Rattle.blk_front.specs.declared.stage.Stage.TheVariants as stage
+use Rattle.blk_front.specs.declared.stage.FrontStage.{FrontStage}
+use Rattle.blk_front.specs.declared.stage.FrontStage.TheVariants as stage
 use Rattle.blk_front.specs.declared.state.FrontState.{FrontState}
 use Rattle.blk_front.specs.declared.state.FrontState.TheVariants as state
 use Rattle.blk_front.specs.View.{View}
@@ -100,7 +100,7 @@ reads_on : (ending : Option Ending) (n : ℕ) → lacks (stage.LeftData n) endin
 reads_on None n held waits = true≢false held
 reads_on (Some e) n held waits = true≢false (sym waits)
 
-idle_settled : (s : Stage) (v : View) → lacks s v.ending ≡ false → (not (is_led s) && is_wait (ask.ask_at s v)) ≡ true → (is_ready s ≡ true) ⊎ (is_open s ≡ false)
+idle_settled : (s : FrontStage) (v : View) → lacks s v.ending ≡ false → (not (is_led s) && is_wait (ask.ask_at s v)) ≡ true → (is_ready s ≡ true) ⊎ (is_open s ≡ false)
 idle_settled (stage.RingWord k) v held t = absurd (true≢false (sym t))
 idle_settled (stage.RingFrame page) v held t = absurd (true≢false (sym t))
 idle_settled (stage.RingFence page) v held t = absurd (true≢false (sym t))

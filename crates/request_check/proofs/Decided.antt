@@ -9,10 +9,10 @@ use Rattle.blk_base.specs.declared.operation.Status.{Status}
 use Rattle.blk_base.specs.declared.operation.Status.TheVariants as status
 use Rattle.schedule_text.specs.declared.line.Line.{Line}
 use Rattle.schedule_text.specs.declared.line.Line.TheVariants as lines
-use Rattle.plain_disk.specs.declared.request.Request.{Request}
+use Rattle.plain_disk.specs.declared.request.DiskRequest.{DiskRequest}
 use Rattle.plain_disk.specs.declared.request.Place.{Place}
-use Rattle.plain_disk.specs.declared.request.Stage.{Stage}
-use Rattle.plain_disk.specs.declared.request.Stage.TheVariants as stages
+use Rattle.plain_disk.specs.declared.request.RequestStage.{RequestStage}
+use Rattle.plain_disk.specs.declared.request.RequestStage.TheVariants as stages
 use Rattle.plain_disk.specs.Request.{is_read, is_write, is_flush, is_discard, is_ordered, is_barrier, is_open, is_finished, is_settled, are_settled, may_serve, sector_of}
 use Rattle.plain_disk.specs.Disk.{Disk, request_of}
 use Rattle.plain_disk.specs.Step.{is_in_order, may_hold, place_words, may_reply, is_status, is_next, are_noted}
@@ -31,30 +31,30 @@ and_false : (b : Bool) → (b && false) ≡ false
 and_false true = refl
 and_false false = refl
 
-told_of : (o : Option Request) (r : Request) (p : Progress) (done : List Place) (id : ℕ) → o ≡ Some r → IsTold o p done id → is_open r.stage ≡ true → SameDoings p r done id
-told_of o r p done id found t = subst (λ (x : Option Request). IsTold x p done id) found t
+told_of : (o : Option DiskRequest) (r : DiskRequest) (p : Progress) (done : List Place) (id : ℕ) → o ≡ Some r → IsTold o p done id → is_open r.stage ≡ true → SameDoings p r done id
+told_of o r p done id found t = subst (λ (x : Option DiskRequest). IsTold x p done id) found t
 
 -- ---- one request
-serve_same : (r : Request) (p : Progress) (done : List Place) (id index : ℕ) (notes : List (ℕ × List ℕ)) → (is_open r.stage ≡ true → SameDoings p r done id) → may_serve_now (open_as id r notes) p index ≡ may_serve done id r index
+serve_same : (r : DiskRequest) (p : Progress) (done : List Place) (id index : ℕ) (notes : List (ℕ × List ℕ)) → (is_open r.stage ≡ true → SameDoings p r done id) → may_serve_now (open_as id r notes) p index ≡ may_serve done id r index
 serve_same r p done id index notes told = by_stage (is_open r.stage) refl
   where
     by_stage : (b : Bool) → is_open r.stage ≡ b → may_serve_now (open_as id r notes) p index ≡ may_serve done id r index
     by_stage true is = let t : SameDoings p r done id = told is in rw (t.faulted, t.reply, t.places index) refl
     by_stage false is = rw is refl
 
-settled_same : (r : Request) (p : Progress) (done : List Place) (id : ℕ) (notes : List (ℕ × List ℕ)) → (is_open r.stage ≡ true → SameDoings p r done id) → is_settled_now (open_as id r notes) p ≡ is_settled done id r
+settled_same : (r : DiskRequest) (p : Progress) (done : List Place) (id : ℕ) (notes : List (ℕ × List ℕ)) → (is_open r.stage ≡ true → SameDoings p r done id) → is_settled_now (open_as id r notes) p ≡ is_settled done id r
 settled_same r p done id notes told = by_stage (is_open r.stage) refl
   where
     by_stage : (b : Bool) → is_open r.stage ≡ b → is_settled_now (open_as id r notes) p ≡ is_settled done id r
     by_stage true is = let t : SameDoings p r done id = told is in rw (t.faulted, t.reply, t.count) refl
     by_stage false is = rw is refl
 
-say_same : (d : Disk) (r : Request) (p : Progress) (id : ℕ) (notes : List (ℕ × List ℕ)) (s : Status) → SameDoings p r d.done id → may_say (open_as id r notes) p s ≡ may_reply d id r s
+say_same : (d : Disk) (r : DiskRequest) (p : Progress) (id : ℕ) (notes : List (ℕ × List ℕ)) (s : Status) → SameDoings p r d.done id → may_say (open_as id r notes) p s ≡ may_reply d id r s
 say_same d r p id notes status.Okay t = rw t.count refl
 say_same d r p id notes status.Error t = t.faulted
 say_same d r p id notes status.Unsupported t = refl
 
-reply_same : (d : Disk) (r : Request) (p : Progress) (id : ℕ) (notes : List (ℕ × List ℕ)) (s : Status) → (is_open r.stage ≡ true → SameDoings p r d.done id)
+reply_same : (d : Disk) (r : DiskRequest) (p : Progress) (id : ℕ) (notes : List (ℕ × List ℕ)) (s : Status) → (is_open r.stage ≡ true → SameDoings p r d.done id)
     → (is_open r.stage && is_none p.reply && may_say (open_as id r notes) p s) ≡ (is_open r.stage && is_none r.reply && may_reply d id r s)
 reply_same d r p id notes s told = by_stage (is_open r.stage) refl
   where
@@ -62,7 +62,7 @@ reply_same d r p id notes s told = by_stage (is_open r.stage) refl
     by_stage true is = let t : SameDoings p r d.done id = told is in rw (say_same d r p id notes s t, t.reply) refl
     by_stage false is = rw is refl
 
-answer_same : (r : Request) (p : Progress) (done : List Place) (id : ℕ) (s : Status) → (is_open r.stage ≡ true → SameDoings p r done id) → (is_open r.stage && is_status p.reply s) ≡ (is_open r.stage && is_status r.reply s)
+answer_same : (r : DiskRequest) (p : Progress) (done : List Place) (id : ℕ) (s : Status) → (is_open r.stage ≡ true → SameDoings p r done id) → (is_open r.stage && is_status p.reply s) ≡ (is_open r.stage && is_status r.reply s)
 answer_same r p done id s told = by_stage (is_open r.stage) refl
   where
     by_stage : (b : Bool) → is_open r.stage ≡ b → (is_open r.stage && is_status p.reply s) ≡ (is_open r.stage && is_status r.reply s)
@@ -70,23 +70,23 @@ answer_same r p done id s told = by_stage (is_open r.stage) refl
     by_stage false is = rw is refl
 
 -- a finished request serves nothing, and nothing of it is told
-shut_serves : (r : Request) (done : List Place) (id index : ℕ) → is_finished r.stage ≡ true → may_serve done id r index ≡ false
+shut_serves : (r : DiskRequest) (done : List Place) (id index : ℕ) → is_finished r.stage ≡ true → may_serve done id r index ≡ false
 shut_serves r done id index is = rw (closed r.stage is) refl
 
-shut_next : (s : Stage) (index : ℕ) → is_finished s ≡ true → is_next s index ≡ false
+shut_next : (s : RequestStage) (index : ℕ) → is_finished s ≡ true → is_next s index ≡ false
 shut_next stages.Open index is = refl
 shut_next (stages.Telling n) index is = absurd (cc)
 shut_next stages.Finished index is = refl
 
 module _ (g : Notes) (s : State) (d : Disk) (f : Follows g s d) where
-  told_now : (id : ℕ) (r : Request) → request_of d.requests id ≡ Some r → is_open r.stage ≡ true → SameDoings (progress_of s.progress id) r d.done id
+  told_now : (id : ℕ) (r : DiskRequest) → request_of d.requests id ≡ Some r → is_open r.stage ≡ true → SameDoings (progress_of s.progress id) r d.done id
   told_now id r found = told_of (request_of d.requests id) r (progress_of s.progress id) d.done id found (f.doings id)
 
   kept_of : (id : ℕ) → open_of s.requests id ≡ open_in (g id) id (request_of d.requests id)
   kept_of id = rw f.requests (open_request g d.requests id)
 
   -- ---- effects and services
-  end_by : (kind : Job → Bool) (id index : ℕ) (o : Option Request) → request_of d.requests id ≡ o → may_end_now kind s id index (open_in (g id) id o) ≡ may_end kind d id index o
+  end_by : (kind : Job → Bool) (id index : ℕ) (o : Option DiskRequest) → request_of d.requests id ≡ o → may_end_now kind s id index (open_in (g id) id o) ≡ may_end kind d id index o
   end_by kind id index None found = refl
   end_by kind id index (Some r) found = by_stage (is_finished r.stage) refl
     where
@@ -97,11 +97,11 @@ module _ (g : Notes) (s : State) (d : Disk) (f : Follows g s d) where
   end_same : (kind : Job → Bool) (id index : ℕ) → may_end_now kind s id index (open_of s.requests id) ≡ may_end kind d id index (request_of d.requests id)
   end_same kind id index = ap (may_end_now kind s id index) (kept_of id) ∙ end_by kind id index (request_of d.requests id) refl
 
-  fill_is : (id index : ℕ) (o : Option Request) → may_end is_write d id index o ≡ may_fill d id index o
+  fill_is : (id index : ℕ) (o : Option DiskRequest) → may_end is_write d id index o ≡ may_fill d id index o
   fill_is id index None = refl
   fill_is id index (Some r) = refl
 
-  show_by : (id index : ℕ) (words : List ℕ) (o : Option Request) → request_of d.requests id ≡ o → may_show_now s id index words (open_in (g id) id o) ≡ may_show d id index words o
+  show_by : (id index : ℕ) (words : List ℕ) (o : Option DiskRequest) → request_of d.requests id ≡ o → may_show_now s id index words (open_in (g id) id o) ≡ may_show d id index words o
   show_by id index words None found = refl
   show_by id index words (Some r) found = by_stage (is_finished r.stage) refl
     where
@@ -151,7 +151,7 @@ module _ (g : Notes) (s : State) (d : Disk) (f : Follows g s d) where
   shut_turn true b = refl
   shut_turn false b = refl
 
-  turn_by : (kind : Job → Bool) (id : ℕ) (o : Option Request) → request_of d.requests id ≡ o → is_in_turn kind s id (open_in (g id) id o) ≡ is_ordered_so kind d id o
+  turn_by : (kind : Job → Bool) (id : ℕ) (o : Option DiskRequest) → request_of d.requests id ≡ o → is_in_turn kind s id (open_in (g id) id o) ≡ is_ordered_so kind d id o
   turn_by kind id None found = refl
   turn_by kind id (Some r) found = by_stage (is_finished r.stage) refl
     where
@@ -169,7 +169,7 @@ module _ (g : Notes) (s : State) (d : Disk) (f : Follows g s d) where
   barrier_same line = refl
 
   -- ---- replies and answers
-  reply_by : (id : ℕ) (said : Status) (o : Option Request) → request_of d.requests id ≡ o → may_reply_now s id said (open_in (g id) id o) ≡ may_be_replied d id said o
+  reply_by : (id : ℕ) (said : Status) (o : Option DiskRequest) → request_of d.requests id ≡ o → may_reply_now s id said (open_in (g id) id o) ≡ may_be_replied d id said o
   reply_by id said None found = refl
   reply_by id said (Some r) found = by_stage (is_finished r.stage) refl
     where
@@ -181,7 +181,7 @@ module _ (g : Notes) (s : State) (d : Disk) (f : Follows g s d) where
   reply_decided (lines.Reply id said) = ap (may_reply_now s id said) (kept_of id) ∙ reply_by id said (request_of d.requests id) refl
   reply_decided line = refl
 
-  answer_by : (id : ℕ) (said : Status) (o : Option Request) → request_of d.requests id ≡ o → may_answer_now s id said (open_in (g id) id o) ≡ may_be_answered said o
+  answer_by : (id : ℕ) (said : Status) (o : Option DiskRequest) → request_of d.requests id ≡ o → may_answer_now s id said (open_in (g id) id o) ≡ may_be_answered said o
   answer_by id said None found = refl
   answer_by id said (Some r) found = by_stage (is_finished r.stage) refl
     where
@@ -194,7 +194,7 @@ module _ (g : Notes) (s : State) (d : Disk) (f : Follows g s d) where
   answer_decided line = refl
 
   -- ---- data, and quiet
-  tell_by : (id index : ℕ) (words : List ℕ) (o : Option Request) → request_of d.requests id ≡ o → may_tell_now index words (open_in (g id) id o) ≡ may_be_told d id index words o
+  tell_by : (id index : ℕ) (words : List ℕ) (o : Option DiskRequest) → request_of d.requests id ≡ o → may_tell_now index words (open_in (g id) id o) ≡ may_be_told d id index words o
   tell_by id index words None found = refl
   tell_by id index words (Some r) found = by_stage (is_finished r.stage) refl
     where

@@ -8,10 +8,10 @@ use Rattle.std.proofs.lemmas.Bool.{cases_eq}
 use Rattle.std.proofs.lemmas.Option.{none-some}
 use Rattle.blk_base.specs.declared.config.Job.{Job}
 use Rattle.schedule_text.specs.declared.line.Line.{Line}
-use Rattle.plain_disk.specs.declared.request.Request.{Request}
+use Rattle.plain_disk.specs.declared.request.DiskRequest.{DiskRequest}
 use Rattle.plain_disk.specs.declared.request.Written.{Written}
-use Rattle.plain_disk.specs.declared.request.Stage.{Stage}
-use Rattle.plain_disk.specs.declared.request.Stage.TheVariants as stages
+use Rattle.plain_disk.specs.declared.request.RequestStage.{RequestStage}
+use Rattle.plain_disk.specs.declared.request.RequestStage.TheVariants as stages
 use Rattle.plain_disk.specs.Request.{is_open, is_finished, is_done}
 use Rattle.plain_disk.specs.Disk.{Disk, disk_of, request_of, noted_at}
 use Rattle.plain_disk.specs.Step.{place, with_request}
@@ -75,22 +75,22 @@ front_kept g s d line f = record {
 }
 
 -- what is kept of an unfinished request
-pub open_found : (g : Notes) (s : State) (d : Disk) (id : ℕ) (r : Request) → Follows g s d → request_of d.requests id ≡ Some r → is_finished r.stage ≡ false → open_of s.requests id ≡ Some (open_as id r (g id))
+pub open_found : (g : Notes) (s : State) (d : Disk) (id : ℕ) (r : DiskRequest) → Follows g s d → request_of d.requests id ≡ Some r → is_finished r.stage ≡ false → open_of s.requests id ≡ Some (open_as id r (g id))
 open_found g s d id r f found waits = rw f.requests (open_request g d.requests id ∙ rw found (rw waits refl))
 
-pub not_none : (o : Option Request) (r : Request) → o ≡ Some r → o ≡ None → ⊥
+pub not_none : (o : Option DiskRequest) (r : DiskRequest) → o ≡ Some r → o ≡ None → ⊥
 not_none o r some none = none-some r (sym none ∙ some)
 
-pub unfinished : (s : Stage) → is_open s ≡ true → is_finished s ≡ false
+pub unfinished : (s : RequestStage) → is_open s ≡ true → is_finished s ≡ false
 unfinished stages.Open is = refl
 unfinished (stages.Telling n) is = refl
 unfinished stages.Finished is = absurd (cc)
 
-told_at : (d : Disk) (o : Option Request) (r : Request) (p : Progress) (id : ℕ) → o ≡ Some r → IsTold o p d.done id → is_open r.stage ≡ true → SameDoings p r d.done id
-told_at d o r p id found t = subst (λ (x : Option Request). IsTold x p d.done id) found t
+told_at : (d : Disk) (o : Option DiskRequest) (r : DiskRequest) (p : Progress) (id : ℕ) → o ≡ Some r → IsTold o p d.done id → is_open r.stage ≡ true → SameDoings p r d.done id
+told_at d o r p id found t = subst (λ (x : Option DiskRequest). IsTold x p d.done id) found t
 
 -- ---- a place was done
-pub place_kept : (g : Notes) (s : State) (d : Disk) (id index : ℕ) (r : Request) (sectors : Known) (written : List Written) → Follows g s d → request_of d.requests id ≡ Some r
+pub place_kept : (g : Notes) (s : State) (d : Disk) (id index : ℕ) (r : DiskRequest) (sectors : Known) (written : List Written) → Follows g s d → request_of d.requests id ≡ Some r
     → is_open r.stage ≡ true → is_done d.done id index ≡ false → SameWords sectors d.first written
     → Follows g (record (with_progress s (with_done index) id) { sectors = sectors }) (record d { done = d.done ++ place id index ∷ []; written = written })
 place_kept g s d id index r sectors written f found waits new words = record {
@@ -120,7 +120,7 @@ place_kept g s d id index r sectors written f found waits new words = record {
     elsewhere k far = rw (changed_other (with_done index) s.progress id k far) (told_elsewhere (request_of d.requests k) (progress_of s.progress k) d.done id index k far (f.doings k))
 
 -- ---- a request's fault or reply
-pub change_kept : (g : Notes) (s : State) (d : Disk) (id : ℕ) (r new : Request) (change : Progress → Progress) (sectors : Known) (written : List Written) → Follows g s d → request_of d.requests id ≡ Some r
+pub change_kept : (g : Notes) (s : State) (d : Disk) (id : ℕ) (r new : DiskRequest) (change : Progress → Progress) (sectors : Known) (written : List Written) → Follows g s d → request_of d.requests id ≡ Some r
     → is_open r.stage ≡ true → new.job ≡ r.job → new.stage ≡ r.stage
     → (SameDoings (progress_of s.progress id) r d.done id → SameDoings (change (progress_of s.progress id)) new d.done id)
     → SameWords sectors d.first written
@@ -158,10 +158,10 @@ change_kept g s d id r new change sectors written f found waits job stage told w
     elsewhere k far = rw (request_other d.requests id k r new found far, changed_other change s.progress id k far) (f.doings k)
 
 -- ---- a request was told further
-abbrev staged : Request → Stage → Request
+abbrev staged : DiskRequest → RequestStage → DiskRequest
 staged r stage = record r { stage = stage }
 
-told_further : (g : Notes) (s : State) (d : Disk) (id : ℕ) (r : Request) (stage : Stage) → Follows g s d → request_of d.requests id ≡ Some r → is_finished r.stage ≡ false → is_open stage ≡ false → is_finished stage ≡ false
+told_further : (g : Notes) (s : State) (d : Disk) (id : ℕ) (r : DiskRequest) (stage : RequestStage) → Follows g s d → request_of d.requests id ≡ Some r → is_finished r.stage ≡ false → is_open stage ≡ false → is_finished stage ≡ false
     → Follows g (with_open s id (record (open_as id r (g id)) { stage = stage })) (record d { requests = with_request d.requests id (staged r stage) })
 told_further g s d id r stage f found waits told still = record {
   submitted = f.submitted ∙ sym (length_request d.requests id (staged r stage));
@@ -192,7 +192,7 @@ told_further g s d id r stage f found waits told still = record {
     elsewhere : (k : ℕ) → (k ≡ id → ⊥) → IsTold (request_of (with_request d.requests id (staged r stage)) k) (progress_of s.progress k) d.done k
     elsewhere k far = rw (request_other d.requests id k r (staged r stage) found far) (f.doings k)
 
-told_last : (g : Notes) (s : State) (d : Disk) (id : ℕ) (r : Request) (stage : Stage) → Follows g s d → request_of d.requests id ≡ Some r → is_finished r.stage ≡ false → is_open stage ≡ false → is_finished stage ≡ true
+told_last : (g : Notes) (s : State) (d : Disk) (id : ℕ) (r : DiskRequest) (stage : RequestStage) → Follows g s d → request_of d.requests id ≡ Some r → is_finished r.stage ≡ false → is_open stage ≡ false → is_finished stage ≡ true
     → Follows g (without s id r.job) (record d { requests = with_request d.requests id (staged r stage) })
 told_last g s d id r stage f found waits told ends = record {
   submitted = f.submitted ∙ sym (length_request d.requests id (staged r stage));
@@ -224,7 +224,7 @@ told_last g s d id r stage f found waits told ends = record {
     elsewhere : (k : ℕ) → (k ≡ id → ⊥) → IsTold (request_of (with_request d.requests id (staged r stage)) k) (progress_of (remove_entry (is_at (nat_cmp id)) s.progress) k) d.done k
     elsewhere k far = rw (request_other d.requests id k r (staged r stage) found far, forgotten_other s.progress id k far) (f.doings k)
 
-pub told_kept : (g : Notes) (s : State) (d : Disk) (id : ℕ) (r : Request) (stage : Stage) → Follows g s d → request_of d.requests id ≡ Some r → is_finished r.stage ≡ false → is_open stage ≡ false
+pub told_kept : (g : Notes) (s : State) (d : Disk) (id : ℕ) (r : DiskRequest) (stage : RequestStage) → Follows g s d → request_of d.requests id ≡ Some r → is_finished r.stage ≡ false → is_open stage ≡ false
     → Follows g (told_to s id (open_as id r (g id)) stage) (record d { requests = with_request d.requests id (staged r stage) })
 told_kept g s d id r stage f found waits told = by_end (is_finished stage) refl
   where

@@ -6,8 +6,8 @@ use Rattle.std.specs.List.{list_any}
 use Rattle.blk_base.specs.declared.operation.Status.{Status}
 use Rattle.schedule_text.specs.declared.line.Line.{Line}
 use Rattle.schedule_text.specs.declared.line.Line.TheVariants as lines
-use Rattle.plain_disk.specs.declared.request.Request.{Request}
-use Rattle.plain_disk.specs.declared.request.Stage.{Stage}
+use Rattle.plain_disk.specs.declared.request.DiskRequest.{DiskRequest}
+use Rattle.plain_disk.specs.declared.request.RequestStage.{RequestStage}
 use Rattle.plain_disk.specs.declared.sight.Sight.{Sight}
 use Rattle.plain_disk.specs.Request.{is_finished}
 use Rattle.plain_disk.specs.Step.{told_stage, next_stage}
@@ -21,7 +21,7 @@ use Rattle.request_check.specs.Verdicts.{allows_state}
 abbrev IsSameFront : State → State → Type 0
 IsSameFront s t = (s.sight ≡ t.sight) × (s.closed ≡ t.closed)
 
-by_end : (s : State) (id : ℕ) (o : Open) (stage : Stage) (b : Bool) → is_finished stage ≡ b → IsSameFront (told_to s id o stage) s
+by_end : (s : State) (id : ℕ) (o : Open) (stage : RequestStage) (b : Bool) → is_finished stage ≡ b → IsSameFront (told_to s id o stage) s
 by_end s id o stage true is = rw is (refl, refl)
 by_end s id o stage false is = rw is (refl, refl)
 
@@ -93,7 +93,7 @@ sight_seen before = sight_from before start
 pub closed_seen : (before : List Line) → (state_after before).closed ≡ list_any is_closed_line before
 closed_seen before = closed_from before start
 
-pub same_verdict : (s : State) (requests : List Request) (line : Line) → (line ≡ lines.Closed → ⊥) → allows_state s line ≡ keeps_state s.sight s.closed requests line
+pub same_verdict : (s : State) (requests : List DiskRequest) (line : Line) → (line ≡ lines.Closed → ⊥) → allows_state s line ≡ keeps_state s.sight s.closed requests line
 same_verdict s requests lines.Closed other = absurd (other refl)
 same_verdict s requests lines.Ready other = refl
 same_verdict s requests lines.Closing other = refl

@@ -8,10 +8,10 @@ use Rattle.blk_base.specs.declared.config.Job.TheVariants as jobs
 use Rattle.blk_base.specs.declared.operation.Status.{Status}
 use Rattle.schedule_text.specs.declared.line.Line.{Line}
 use Rattle.schedule_text.specs.declared.line.Line.TheVariants as lines
-use Rattle.plain_disk.specs.declared.request.Request.{Request}
+use Rattle.plain_disk.specs.declared.request.DiskRequest.{DiskRequest}
 use Rattle.plain_disk.specs.declared.request.Place.{Place}
-use Rattle.plain_disk.specs.declared.request.Stage.{Stage}
-use Rattle.plain_disk.specs.declared.request.Stage.TheVariants as stages
+use Rattle.plain_disk.specs.declared.request.RequestStage.{RequestStage}
+use Rattle.plain_disk.specs.declared.request.RequestStage.TheVariants as stages
 use Rattle.plain_disk.specs.Request as requests
 use Rattle.plain_disk.specs.Request.{is_read, is_write, is_flush, is_discard, is_ordered, is_open, is_finished, is_done, may_serve, places_of, filling}
 use Rattle.plain_disk.specs.Disk.{Disk, request_of, noted_at}
@@ -57,7 +57,7 @@ open_undone true true false e n h = absurd (cc)
 open_undone true false c e n h = absurd (cc)
 open_undone false b c e n h = absurd (cc)
 
-serves : (done : List Place) (id : ℕ) (r : Request) (index : ℕ) → may_serve done id r index ≡ true → (is_open r.stage ≡ true) × (is_done done id index ≡ false)
+serves : (done : List Place) (id : ℕ) (r : DiskRequest) (index : ℕ) → may_serve done id r index ≡ true → (is_open r.stage ≡ true) × (is_done done id index ≡ false)
 serves done id r index h = open_undone (is_open r.stage) (is_none r.reply) (not r.faulted) (nat_lt index (places_of r.job)) (is_done done id index) h
 
 zeros_left : (job : Job) → is_discard job ≡ true → Some (filling job 0) ≡ words_left (discarded job false)
@@ -71,14 +71,14 @@ moved : (g : Notes) (s : State) (d e : Disk) → d ≡ e → Follows g s d → H
 moved g s d e same f = (g, subst (λ (x : Disk). Follows g s x) same f)
 
 module _ (g : Notes) (s : State) (d e : Disk) (f : Follows g s d) where
-  on_effect : (id index : ℕ) (o : Option Request) → request_of d.requests id ≡ o → effect_of d id index o ≡ Some e → HasFollowed (filled s id index (open_of s.requests id)) e
+  on_effect : (id index : ℕ) (o : Option DiskRequest) → request_of d.requests id ≡ o → effect_of d id index o ≡ Some e → HasFollowed (filled s id index (open_of s.requests id)) e
   on_effect id index None found is = absurd (none-some e is)
   on_effect id index (Some r) found is =
       let both = cond_some (is_write r.job && may_serve d.done id r index && is_in_order d id r) (served d (place id index) (one_sector r.job index (Some (filling r.job index)))) e is in
       let at = serves d.done id r index (middle_of (is_write r.job) (may_serve d.done id r index) (is_in_order d id r) both.0) in
       rw (open_found g s d id r f found (unfinished r.stage at.0)) (moved g _ _ e both.1 (place_kept g s d id index r _ _ f found at.0 at.1 (same_single s.sectors d.first d.written r.job index (Some (filling r.job index)) f.sectors)))
 
-  on_read : (id index : ℕ) (words : List ℕ) (o : Option Request) → request_of d.requests id ≡ o → read_of d id index words o ≡ Some e → HasFollowed (shown s id index words (open_of s.requests id)) e
+  on_read : (id index : ℕ) (words : List ℕ) (o : Option DiskRequest) → request_of d.requests id ≡ o → read_of d id index words o ≡ Some e → HasFollowed (shown s id index words (open_of s.requests id)) e
   on_read id index words None found is = absurd (none-some e is)
   on_read id index words (Some r) found is =
       let both = cond_some (is_read r.job && may_serve d.done id r index && may_hold (place_words d.first d.written r.job index) words)
@@ -86,14 +86,14 @@ module _ (g : Notes) (s : State) (d e : Disk) (f : Follows g s d) where
       let at = serves d.done id r index (middle_of (is_read r.job) (may_serve d.done id r index) (may_hold (place_words d.first d.written r.job index) words) both.0) in
       rw (open_found g s d id r f found (unfinished r.stage at.0)) (moved (put g id (with_entry (g id) index words)) _ _ e both.1 (show_kept g s d id index words r _ _ f found at.0 at.1 (same_single s.sectors d.first d.written r.job index (Some words) f.sectors)))
 
-  on_flush : (id : ℕ) (o : Option Request) → request_of d.requests id ≡ o → flushed_of d id o ≡ Some e → HasFollowed (flushed s id (open_of s.requests id)) e
+  on_flush : (id : ℕ) (o : Option DiskRequest) → request_of d.requests id ≡ o → flushed_of d id o ≡ Some e → HasFollowed (flushed s id (open_of s.requests id)) e
   on_flush id None found is = absurd (none-some e is)
   on_flush id (Some r) found is =
       let both = cond_some (is_flush r.job && may_serve d.done id r 0) (record d { done = d.done ++ place id 0 ∷ [] }) e is in
       let at = serves d.done id r 0 (second_of (is_flush r.job) _ both.0) in
       rw (open_found g s d id r f found (unfinished r.stage at.0)) (moved g _ _ e both.1 (place_kept g s d id 0 r s.sectors d.written f found at.0 at.1 f.sectors))
 
-  on_trim : (id : ℕ) (o : Option Request) → request_of d.requests id ≡ o → trimmed_of d id o ≡ Some e → HasFollowed (trimmed s id (open_of s.requests id)) e
+  on_trim : (id : ℕ) (o : Option DiskRequest) → request_of d.requests id ≡ o → trimmed_of d id o ≡ Some e → HasFollowed (trimmed s id (open_of s.requests id)) e
   on_trim id None found is = absurd (none-some e is)
   on_trim id (Some r) found is =
       let both = cond_some (is_discard r.job && may_serve d.done id r 0 && is_in_order d id r) (served d (place id 0) (all_sectors r.job (Some (filling r.job 0)))) e is in
@@ -108,7 +108,7 @@ module _ (g : Notes) (s : State) (d e : Disk) (f : Follows g s d) where
       by_kind false is true so = rw (is, so) (same_range s.sectors d.first d.written job true None refl f.sectors)
       by_kind false is false so = rw (is, so) f.sectors
 
-  on_fault : (id index : ℕ) (o : Option Request) → request_of d.requests id ≡ o → fault_of d id index o ≡ Some e → HasFollowed (failed s id index (open_of s.requests id)) e
+  on_fault : (id index : ℕ) (o : Option DiskRequest) → request_of d.requests id ≡ o → fault_of d id index o ≡ Some e → HasFollowed (failed s id index (open_of s.requests id)) e
   on_fault id index None found is = absurd (none-some e is)
   on_fault id index (Some r) found is =
       let both = cond_some (may_serve d.done id r index && (not (is_ordered r.job) || is_in_order d id r)) (record d { requests = with_request d.requests id (record r { faulted = true }); written = lost_of d.written r.job index }) e is in
@@ -116,7 +116,7 @@ module _ (g : Notes) (s : State) (d e : Disk) (f : Follows g s d) where
       rw (open_found g s d id r f found (unfinished r.stage at.0)) (moved g _ _ e both.1 (change_kept g s d id r (record r { faulted = true }) with_fault (lost s.sectors r.job index) (lost_of d.written r.job index) f found at.0 refl refl
       (λ t. record { faulted = refl; reply = t.reply; places = t.places; count = t.count }) (lost_words r.job index)))
 
-  on_reply : (id : ℕ) (status : Status) (o : Option Request) → request_of d.requests id ≡ o → replied_of d id status o ≡ Some e → HasFollowed (replied s id status (open_of s.requests id)) e
+  on_reply : (id : ℕ) (status : Status) (o : Option DiskRequest) → request_of d.requests id ≡ o → replied_of d id status o ≡ Some e → HasFollowed (replied s id status (open_of s.requests id)) e
   on_reply id status None found is = absurd (none-some e is)
   on_reply id status (Some r) found is =
       let both = cond_some (is_open r.stage && is_none r.reply && may_reply d id r status) (record d { requests = with_request d.requests id (record r { reply = Some status }) }) e is in
@@ -138,19 +138,19 @@ module _ (g : Notes) (s : State) (d e : Disk) (f : Follows g s d) where
       by_place true is = rw is refl
       by_place false is = rw is refl
 
-  told_next : (stage : Stage) (index : ℕ) → is_next stage index ≡ true → is_finished stage ≡ false
+  told_next : (stage : RequestStage) (index : ℕ) → is_next stage index ≡ true → is_finished stage ≡ false
   told_next stages.Open index is = absurd (cc)
   told_next (stages.Telling n) index is = refl
   told_next stages.Finished index is = absurd (cc)
 
-  on_answer : (id : ℕ) (status : Status) (o : Option Request) → request_of d.requests id ≡ o → answered_of d id status o ≡ Some e → HasFollowed (answered s id status (open_of s.requests id)) e
+  on_answer : (id : ℕ) (status : Status) (o : Option DiskRequest) → request_of d.requests id ≡ o → answered_of d id status o ≡ Some e → HasFollowed (answered s id status (open_of s.requests id)) e
   on_answer id status None found is = absurd (none-some e is)
   on_answer id status (Some r) found is =
       let both = cond_some (is_open r.stage && is_status r.reply status) (record d { requests = with_request d.requests id (record r { stage = told_stage r.job status }) }) e is in
       let waits : is_finished r.stage ≡ false = unfinished r.stage (first_of (is_open r.stage) _ both.0) in
       rw (open_found g s d id r f found waits) (moved g _ _ e both.1 (told_kept g s d id r (told_stage r.job status) f found waits (shut_told r.job status)))
 
-  on_data : (id index : ℕ) (words : List ℕ) (o : Option Request) → request_of d.requests id ≡ o → data_of d id index words o ≡ Some e → HasFollowed (told s id index (open_of s.requests id)) e
+  on_data : (id index : ℕ) (words : List ℕ) (o : Option DiskRequest) → request_of d.requests id ≡ o → data_of d id index words o ≡ Some e → HasFollowed (told s id index (open_of s.requests id)) e
   on_data id index words None found is = absurd (none-some e is)
   on_data id index words (Some r) found is =
       let both = cond_some (is_next r.stage index && are_noted (noted_at d.noted id index) words) (record d { requests = with_request d.requests id (record r { stage = next_stage r.job index }) }) e is in

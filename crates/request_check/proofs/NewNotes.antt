@@ -9,7 +9,7 @@ use Rattle.std.proofs.lemmas.Bool.Decides.{nat_tests}
 use Rattle.std.proofs.lemmas.List.{length-append}
 use Rattle.std.proofs.lemmas.List.Sums.{fold-append}
 use Rattle.blk_base.specs.declared.config.Job.{Job}
-use Rattle.plain_disk.specs.declared.request.Request.{Request}
+use Rattle.plain_disk.specs.declared.request.DiskRequest.{DiskRequest}
 use Rattle.plain_disk.specs.declared.request.Noted.{Noted}
 use Rattle.plain_disk.specs.declared.request.Written.{Written}
 use Rattle.plain_disk.specs.Request as requests
@@ -59,7 +59,7 @@ noted_other_place noted id index words j far = noted_more noted id index words i
 noted_here : (noted : List Noted) (id index : ℕ) (words : List ℕ) → noted_at (noted ++ record { id = id; index = index; words = words } ∷ []) id index ≡ Some words
 noted_here noted id index words = noted_more noted id index words id index ∙ rw (is_same id, is_same index) refl
 
-pub show_kept : (g : Notes) (s : State) (d : Disk) (id index : ℕ) (words : List ℕ) (r : Request) (sectors : Known) (written : List Written) → Follows g s d → request_of d.requests id ≡ Some r
+pub show_kept : (g : Notes) (s : State) (d : Disk) (id index : ℕ) (words : List ℕ) (r : DiskRequest) (sectors : Known) (written : List Written) → Follows g s d → request_of d.requests id ≡ Some r
     → is_open r.stage ≡ true → is_done d.done id index ≡ false → SameWords sectors d.first written
     → Follows (put g id (with_entry (g id) index words)) (record (with_open (with_progress s (with_done index) id) id (with_note (open_as id r (g id)) index words)) { sectors = sectors })
     (record d { done = d.done ++ place id index ∷ []; written = written; noted = d.noted ++ record { id = id; index = index; words = words } ∷ [] })
@@ -84,7 +84,7 @@ show_kept g s d id index words r sectors written f found waits new known =
         let still : is_finished r.stage ≡ false = unfinished r.stage waits in
         let set : opens (put g id (with_entry (g id) index words)) 1 (with_request d.requests id r) ≡ set_value (is_at (nat_cmp id)) (opens g 1 d.requests) (open_as id r (put g id (with_entry (g id) index words) id)) =
         opens_set g (put g id (with_entry (g id) index words)) d.requests id r r found still still (λ k far. put_other g id (with_entry (g id) index words) k far) in
-        rw f.requests (sym (ap (λ (rs : List Request). opens (put g id (with_entry (g id) index words)) 1 rs) (sym (request_stays d.requests id r found)) ∙ set
+        rw f.requests (sym (ap (λ (rs : List DiskRequest). opens (put g id (with_entry (g id) index words)) 1 rs) (sym (request_stays d.requests id r found)) ∙ set
         ∙ ap (λ (notes : List (ℕ × List ℕ)). set_value (is_at (nat_cmp id)) (opens g 1 d.requests) (open_as id r notes)) (put_same g id (with_entry (g id) index words))))
 
     place_by : (j : ℕ) → entry_at (with_entry (g id) index words) j ≡ noted_at (d.noted ++ record { id = id; index = index; words = words } ∷ []) id j
@@ -156,7 +156,7 @@ submit_kept g s d job f left room = record {
     new_noted : (k j : ℕ) → k ≡ length d.requests + 1 → entry_at (put g (length d.requests + 1) [] k) j ≡ noted_at d.noted k j
     new_noted k j here = rw here (rw (put_same g (length d.requests + 1) []) (sym (f.unnoted (length d.requests + 1) (request_past d.requests) j)))
 
-    none_before : (o : Option Request) → o ≡ None → IsTold o (progress_of s.progress (length d.requests + 1)) d.done (length d.requests + 1) → NoDoings (progress_of s.progress (length d.requests + 1)) d.done (length d.requests + 1)
+    none_before : (o : Option DiskRequest) → o ≡ None → IsTold o (progress_of s.progress (length d.requests + 1)) d.done (length d.requests + 1) → NoDoings (progress_of s.progress (length d.requests + 1)) d.done (length d.requests + 1)
     none_before None is t = t
     none_before (Some r) is t = absurd (cc)
 
@@ -171,7 +171,7 @@ submit_kept g s d job f left room = record {
         }))
 
 -- ---- a new epoch
-none_mapped : (o : Option Request) → option_map reopened o ≡ None → o ≡ None
+none_mapped : (o : Option DiskRequest) → option_map reopened o ≡ None → o ≡ None
 none_mapped None none = refl
 none_mapped (Some r) none = absurd (cc)
 
@@ -190,7 +190,7 @@ epoch_kept g s d f = record {
   sectors = f.sectors;
 }
   where
-    anew : (o : Option Request) (k : ℕ) → IsTold (option_map reopened o) nothing_done [] k
+    anew : (o : Option DiskRequest) (k : ℕ) → IsTold (option_map reopened o) nothing_done [] k
     anew None k = record { nothing = refl; places = λ index. refl; count = refl }
     anew (Some r) k = λ o.
         (let waits : is_open r.stage ≡ true = ap is_open (sym (reopened_stage r)) ∙ o in

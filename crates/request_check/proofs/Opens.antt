@@ -6,7 +6,7 @@ use Rattle.std.specs.Map.{lookup, set_value, remove_entry}
 use Rattle.std.specs.BTreeMap.{is_at, insert_entry}
 use Rattle.std.specs.Ordering.{nat_cmp}
 use Rattle.std.proofs.lemmas.Bool.Decides.{nat_tests}
-use Rattle.plain_disk.specs.declared.request.Request.{Request}
+use Rattle.plain_disk.specs.declared.request.DiskRequest.{DiskRequest}
 use Rattle.plain_disk.specs.Request.{is_open, is_finished}
 use Rattle.plain_disk.specs.Step.{reopened}
 use Rattle.request_check.specs.State.{Open}
@@ -17,23 +17,23 @@ abbrev pub Notes : Type 0
 Notes = ℕ → List (ℕ × List ℕ)
 
 -- a request as the state keeps it
-abbrev pub open_as : ℕ → Request → List (ℕ × List ℕ) → Open
+abbrev pub open_as : ℕ → DiskRequest → List (ℕ × List ℕ) → Open
 open_as id r noted = record { number = id; job = r.job; stage = r.stage; noted = noted }
 
 -- those that aren't finished, from the number n on
-abbrev pub opens : Notes → ℕ → List Request → List (ℕ × Open)
+abbrev pub opens : Notes → ℕ → List DiskRequest → List (ℕ × Open)
 opens g n [] = []
 opens g n (r ∷ rs) = if is_finished r.stage then opens g (n + 1) rs else (n, open_as n r (g n)) ∷ opens g (n + 1) rs
 
 -- what is kept of a request, if there is one
-abbrev pub open_in : List (ℕ × List ℕ) → ℕ → Option Request → Option Open
+abbrev pub open_in : List (ℕ × List ℕ) → ℕ → Option DiskRequest → Option Open
 open_in noted id None = None
 open_in noted id (Some r) = if is_finished r.stage then None else Some (open_as id r noted)
 
 apart_below : (k n : ℕ) → k < n → k ≡ n → ⊥
 apart_below k n below same = absurd (omega arith)
 
-pub none_below : (g : Notes) (rs : List Request) (k n : ℕ) → k < n → lookup (is_at (nat_cmp k)) (opens g n rs) ≡ None
+pub none_below : (g : Notes) (rs : List DiskRequest) (k n : ℕ) → k < n → lookup (is_at (nat_cmp k)) (opens g n rs) ≡ None
 none_below g [] k n below = refl
 none_below g (r ∷ rs) k n below = by_stage (is_finished r.stage) refl (none_below g rs k (n + 1) (omega arith))
   where
@@ -41,7 +41,7 @@ none_below g (r ∷ rs) k n below = by_stage (is_finished r.stage) refl (none_be
     by_stage true is rest = rw is rest
     by_stage false is rest = rw is (rw (at_other k n (apart_below k n below)) rest)
 
-pub lookup_opens : (g : Notes) (rs : List Request) (n i : ℕ) → lookup (is_at (nat_cmp (n + i))) (opens g n rs) ≡ open_in (g (n + i)) (n + i) (slice_get rs i)
+pub lookup_opens : (g : Notes) (rs : List DiskRequest) (n i : ℕ) → lookup (is_at (nat_cmp (n + i))) (opens g n rs) ≡ open_in (g (n + i)) (n + i) (slice_get rs i)
 lookup_opens g [] n i = refl
 lookup_opens g (r ∷ rs) n zero =
     let same : n + zero ≡ n = omega arith in
@@ -62,7 +62,7 @@ lookup_opens g (r ∷ rs) n (suc i) =
     by_stage false is rest = rw is (rw (at_other ((n + 1) + i) n far) rest)
 
 -- only what the numbers from n on have counts
-pub same_notes : (g h : Notes) (rs : List Request) (n : ℕ) → ((k : ℕ) → n ≤ k → k < n + length rs → h k ≡ g k) → opens h n rs ≡ opens g n rs
+pub same_notes : (g h : Notes) (rs : List DiskRequest) (n : ℕ) → ((k : ℕ) → n ≤ k → k < n + length rs → h k ≡ g k) → opens h n rs ≡ opens g n rs
 same_notes g h [] n same = refl
 same_notes g h (r ∷ rs) n same = by_stage (is_finished r.stage) refl (same_notes g h rs (n + 1) (λ k low high. same k (omega arith) (omega arith)))
   where
@@ -73,7 +73,7 @@ same_notes g h (r ∷ rs) n same = by_stage (is_finished r.stage) refl (same_not
         rw is (rw (here, rest) refl)
 
 -- a request that stays unfinished changes
-pub set_open : (g h : Notes) (rs : List Request) (n i : ℕ) (r new : Request) → slice_get rs i ≡ Some r → is_finished r.stage ≡ false → is_finished new.stage ≡ false
+pub set_open : (g h : Notes) (rs : List DiskRequest) (n i : ℕ) (r new : DiskRequest) → slice_get rs i ≡ Some r → is_finished r.stage ≡ false → is_finished new.stage ≡ false
     → ((k : ℕ) → (k ≡ n + i → ⊥) → h k ≡ g k) → opens h n (slice_set rs i new) ≡ set_value (is_at (nat_cmp (n + i))) (opens g n rs) (open_as (n + i) new (h (n + i)))
 set_open g h [] n i r new found waits still same = absurd (cc)
 set_open g h (x ∷ rs) n zero r new found waits still same =
@@ -95,7 +95,7 @@ set_open g h (x ∷ rs) n (suc i) r new found waits still same =
     by_stage false is here rest = rw is (rw (at_other ((n + 1) + i) n far) (rw (here, rest) refl))
 
 -- a request gets finished
-pub remove_open : (g : Notes) (rs : List Request) (n i : ℕ) (r new : Request) → slice_get rs i ≡ Some r → is_finished r.stage ≡ false → is_finished new.stage ≡ true
+pub remove_open : (g : Notes) (rs : List DiskRequest) (n i : ℕ) (r new : DiskRequest) → slice_get rs i ≡ Some r → is_finished r.stage ≡ false → is_finished new.stage ≡ true
     → opens g n (slice_set rs i new) ≡ remove_entry (is_at (nat_cmp (n + i))) (opens g n rs)
 remove_open g [] n i r new found waits ends = absurd (cc)
 remove_open g (x ∷ rs) n zero r new found waits ends =
@@ -115,33 +115,33 @@ remove_open g (x ∷ rs) n (suc i) r new found waits ends =
     by_stage false is rest = rw is (rw (at_other ((n + 1) + i) n far) (rw rest refl))
 
 -- a request stays as it was kept
-pub stay_open : (g : Notes) (rs : List Request) (n i : ℕ) (r new : Request) → slice_get rs i ≡ Some r → new.job ≡ r.job → new.stage ≡ r.stage → opens g n (slice_set rs i new) ≡ opens g n rs
+pub stay_open : (g : Notes) (rs : List DiskRequest) (n i : ℕ) (r new : DiskRequest) → slice_get rs i ≡ Some r → new.job ≡ r.job → new.stage ≡ r.stage → opens g n (slice_set rs i new) ≡ opens g n rs
 stay_open g [] n i r new found job stage = refl
 stay_open g (x ∷ rs) n zero r new found job stage =
     let is : x ≡ r = cc in
     rw (is, job, stage) refl
 stay_open g (x ∷ rs) n (suc i) r new found job stage = rw (stay_open g rs (n + 1) i r new found job stage) refl
 
-pub reopened_job : (r : Request) → (reopened r).job ≡ r.job
+pub reopened_job : (r : DiskRequest) → (reopened r).job ≡ r.job
 reopened_job r = by_stage (is_open r.stage) refl
   where
     by_stage : (b : Bool) → is_open r.stage ≡ b → (reopened r).job ≡ r.job
     by_stage true is = rw is refl
     by_stage false is = rw is refl
 
-pub reopened_stage : (r : Request) → (reopened r).stage ≡ r.stage
+pub reopened_stage : (r : DiskRequest) → (reopened r).stage ≡ r.stage
 reopened_stage r = by_stage (is_open r.stage) refl
   where
     by_stage : (b : Bool) → is_open r.stage ≡ b → (reopened r).stage ≡ r.stage
     by_stage true is = rw is refl
     by_stage false is = rw is refl
 
-pub reopen_opens : (g : Notes) (rs : List Request) (n : ℕ) → opens g n (map reopened rs) ≡ opens g n rs
+pub reopen_opens : (g : Notes) (rs : List DiskRequest) (n : ℕ) → opens g n (map reopened rs) ≡ opens g n rs
 reopen_opens g [] n = refl
 reopen_opens g (r ∷ rs) n = rw (reopened_stage r, reopened_job r, reopen_opens g rs (n + 1)) refl
 
 -- a request more
-pub one_more_open : (g : Notes) (rs : List Request) (n : ℕ) (r : Request) → is_finished r.stage ≡ false → opens g n (rs ++ r ∷ []) ≡ insert_entry nat_cmp (opens g n rs) (n + length rs) (open_as (n + length rs) r (g (n + length rs)))
+pub one_more_open : (g : Notes) (rs : List DiskRequest) (n : ℕ) (r : DiskRequest) → is_finished r.stage ≡ false → opens g n (rs ++ r ∷ []) ≡ insert_entry nat_cmp (opens g n rs) (n + length rs) (open_as (n + length rs) r (g (n + length rs)))
 one_more_open g [] n r waits =
     let at : n + 0 ≡ n = omega arith in
     rw (at, waits) refl

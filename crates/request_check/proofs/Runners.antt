@@ -8,7 +8,7 @@ use Rattle.schedule_text.specs.declared.line.Refusal.TheVariants as refusal
 use Rattle.schedule_text.specs.declared.line.Line.{Line}
 use Rattle.schedule_text.specs.declared.line.Line.TheVariants as lines
 use Rattle.report_rules.specs.Obeys.{Obeys}
-use Rattle.plain_disk.specs.declared.request.Request.{Request}
+use Rattle.plain_disk.specs.declared.request.DiskRequest.{DiskRequest}
 use Rattle.plain_disk.specs.declared.sight.Sight.{Sight}
 use Rattle.plain_disk.specs.Disk.{Disk, disk_of}
 use Rattle.plain_disk.specs.Step.{step, after}
@@ -64,7 +64,7 @@ first_last false false true false false false false false false lacks h = (refl,
     not_so false e = refl
 
 -- what passes the limits has a number left, and its frames
-fits_by : (s : Sight) (c : Option Options) (requests : List Request) (job : Job) → refusal_at s c requests job ≡ None → ((length requests == 4294967295) ≡ false) × (lacks_frames requests job ≡ false)
+fits_by : (s : Sight) (c : Option Options) (requests : List DiskRequest) (job : Job) → refusal_at s c requests job ≡ None → ((length requests == 4294967295) ≡ false) × (lacks_frames requests job ≡ false)
 fits_by s None requests job none = absurd (cc)
 fits_by s (Some o) requests job none =
     first_last (length requests == 4294967295) s.closing s.connected s.broken (is_unsupported o job) (is_refused_write o job) (is_past_end o job) (is_long o job) (is_full o requests) (lacks_frames requests job)

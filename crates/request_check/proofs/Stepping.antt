@@ -6,7 +6,7 @@ use Rattle.std.proofs.lemmas.Bool.Decides.{nat_tests}
 use Rattle.blk_base.specs.declared.operation.Status.{Status}
 use Rattle.schedule_text.specs.declared.line.Line.{Line}
 use Rattle.schedule_text.specs.declared.line.Line.TheVariants as lines
-use Rattle.plain_disk.specs.declared.request.Request.{Request}
+use Rattle.plain_disk.specs.declared.request.DiskRequest.{DiskRequest}
 use Rattle.plain_disk.specs.declared.request.Place.{Place}
 use Rattle.plain_disk.specs.Request.{is_write, is_flush, is_discard, is_ordered, is_open, is_done, may_serve, places_of}
 use Rattle.plain_disk.specs.Disk.{Disk, request_of}
@@ -31,7 +31,7 @@ first_of : (a b c d e : Bool) → (a && b && c && d && e) ≡ true → a ≡ tru
 first_of true b c d e h = refl
 first_of false b c d e h = absurd (cc)
 
-open_served : (done : List Place) (id : ℕ) (r : Request) (index : ℕ) → may_serve done id r index ≡ true → is_open r.stage ≡ true
+open_served : (done : List Place) (id : ℕ) (r : DiskRequest) (index : ℕ) → may_serve done id r index ≡ true → is_open r.stage ≡ true
 open_served done id r index h = first_of (is_open r.stage) (is_none r.reply) (not r.faulted) (nat_lt index (places_of r.job)) (not (is_done done id index)) h
 
 -- served, and in order where it is served
@@ -72,35 +72,35 @@ fault_order true true true false h = refl
 fault_order true true false waits h = absurd (cc)
 fault_order true false order waits h = absurd (cc)
 
-effect_on : (d : Disk) (id index : ℕ) (o : Option Request) → may_fill d id index o ≡ true → is_ordered_so is_write d id o ≡ true → (e : Disk) × (effect_of d id index o ≡ Some e)
+effect_on : (d : Disk) (id index : ℕ) (o : Option DiskRequest) → may_fill d id index o ≡ true → is_ordered_so is_write d id o ≡ true → (e : Disk) × (effect_of d id index o ≡ Some e)
 effect_on d id index None h b = absurd (cc)
 effect_on d id index (Some r) h b = chosen _ _ (all_three (is_write r.job) (may_serve d.done id r index) (is_in_order d id r) (is_open r.stage) (open_served d.done id r index) h b)
 
-read_on : (d : Disk) (id index : ℕ) (words : List ℕ) (o : Option Request) → may_show d id index words o ≡ true → (e : Disk) × (read_of d id index words o ≡ Some e)
+read_on : (d : Disk) (id index : ℕ) (words : List ℕ) (o : Option DiskRequest) → may_show d id index words o ≡ true → (e : Disk) × (read_of d id index words o ≡ Some e)
 read_on d id index words None h = absurd (cc)
 read_on d id index words (Some r) h = chosen _ _ h
 
-flush_on : (d : Disk) (id : ℕ) (o : Option Request) → may_end is_flush d id 0 o ≡ true → (e : Disk) × (flushed_of d id o ≡ Some e)
+flush_on : (d : Disk) (id : ℕ) (o : Option DiskRequest) → may_end is_flush d id 0 o ≡ true → (e : Disk) × (flushed_of d id o ≡ Some e)
 flush_on d id None h = absurd (cc)
 flush_on d id (Some r) h = chosen _ _ h
 
-trim_on : (d : Disk) (id : ℕ) (o : Option Request) → may_end is_discard d id 0 o ≡ true → is_ordered_so is_discard d id o ≡ true → (e : Disk) × (trimmed_of d id o ≡ Some e)
+trim_on : (d : Disk) (id : ℕ) (o : Option DiskRequest) → may_end is_discard d id 0 o ≡ true → is_ordered_so is_discard d id o ≡ true → (e : Disk) × (trimmed_of d id o ≡ Some e)
 trim_on d id None h b = absurd (cc)
 trim_on d id (Some r) h b = chosen _ _ (all_three (is_discard r.job) (may_serve d.done id r 0) (is_in_order d id r) (is_open r.stage) (open_served d.done id r 0) h b)
 
-fault_on : (d : Disk) (id index : ℕ) (o : Option Request) → may_end is_any d id index o ≡ true → is_ordered_so is_ordered d id o ≡ true → (e : Disk) × (fault_of d id index o ≡ Some e)
+fault_on : (d : Disk) (id index : ℕ) (o : Option DiskRequest) → may_end is_any d id index o ≡ true → is_ordered_so is_ordered d id o ≡ true → (e : Disk) × (fault_of d id index o ≡ Some e)
 fault_on d id index None h b = absurd (cc)
 fault_on d id index (Some r) h b = chosen _ _ (fault_both (is_ordered r.job) (may_serve d.done id r index) (is_in_order d id r) (is_open r.stage) (open_served d.done id r index) h b)
 
-reply_on : (d : Disk) (id : ℕ) (status : Status) (o : Option Request) → may_be_replied d id status o ≡ true → (e : Disk) × (replied_of d id status o ≡ Some e)
+reply_on : (d : Disk) (id : ℕ) (status : Status) (o : Option DiskRequest) → may_be_replied d id status o ≡ true → (e : Disk) × (replied_of d id status o ≡ Some e)
 reply_on d id status None h = absurd (cc)
 reply_on d id status (Some r) h = chosen _ _ h
 
-answer_on : (d : Disk) (id : ℕ) (status : Status) (o : Option Request) → may_be_answered status o ≡ true → (e : Disk) × (answered_of d id status o ≡ Some e)
+answer_on : (d : Disk) (id : ℕ) (status : Status) (o : Option DiskRequest) → may_be_answered status o ≡ true → (e : Disk) × (answered_of d id status o ≡ Some e)
 answer_on d id status None h = absurd (cc)
 answer_on d id status (Some r) h = chosen _ _ h
 
-data_on : (d : Disk) (id index : ℕ) (words : List ℕ) (o : Option Request) → may_be_told d id index words o ≡ true → (e : Disk) × (data_of d id index words o ≡ Some e)
+data_on : (d : Disk) (id index : ℕ) (words : List ℕ) (o : Option DiskRequest) → may_be_told d id index words o ≡ true → (e : Disk) × (data_of d id index words o ≡ Some e)
 data_on d id index words None h = absurd (cc)
 data_on d id index words (Some r) h = chosen _ _ h
 
@@ -127,41 +127,41 @@ steps_on d (lines.Data id index words) k n = data_on d id index words (request_o
 steps_on d lines.Quiet k n = chosen _ _ k.quiet
 steps_on d line k n = (_, refl)
 
-effect_kept : (d e : Disk) (id index : ℕ) (o : Option Request) → effect_of d id index o ≡ Some e → (may_fill d id index o ≡ true) × (is_ordered_so is_write d id o ≡ true)
+effect_kept : (d e : Disk) (id index : ℕ) (o : Option DiskRequest) → effect_of d id index o ≡ Some e → (may_fill d id index o ≡ true) × (is_ordered_so is_write d id o ≡ true)
 effect_kept d e id index None h = absurd (none-some e h)
 effect_kept d e id index (Some r) h =
     let all : (is_write r.job && may_serve d.done id r index && is_in_order d id r) ≡ true = was_chosen _ _ e h in
     (two_of (is_write r.job) (may_serve d.done id r index) (is_in_order d id r) all, third_of (is_write r.job) (may_serve d.done id r index) (is_in_order d id r) (is_open r.stage) all)
 
-read_kept : (d e : Disk) (id index : ℕ) (words : List ℕ) (o : Option Request) → read_of d id index words o ≡ Some e → may_show d id index words o ≡ true
+read_kept : (d e : Disk) (id index : ℕ) (words : List ℕ) (o : Option DiskRequest) → read_of d id index words o ≡ Some e → may_show d id index words o ≡ true
 read_kept d e id index words None h = absurd (none-some e h)
 read_kept d e id index words (Some r) h = was_chosen _ _ e h
 
-flush_kept : (d e : Disk) (id : ℕ) (o : Option Request) → flushed_of d id o ≡ Some e → may_end is_flush d id 0 o ≡ true
+flush_kept : (d e : Disk) (id : ℕ) (o : Option DiskRequest) → flushed_of d id o ≡ Some e → may_end is_flush d id 0 o ≡ true
 flush_kept d e id None h = absurd (none-some e h)
 flush_kept d e id (Some r) h = was_chosen _ _ e h
 
-trim_kept : (d e : Disk) (id : ℕ) (o : Option Request) → trimmed_of d id o ≡ Some e → (may_end is_discard d id 0 o ≡ true) × (is_ordered_so is_discard d id o ≡ true)
+trim_kept : (d e : Disk) (id : ℕ) (o : Option DiskRequest) → trimmed_of d id o ≡ Some e → (may_end is_discard d id 0 o ≡ true) × (is_ordered_so is_discard d id o ≡ true)
 trim_kept d e id None h = absurd (none-some e h)
 trim_kept d e id (Some r) h =
     let all : (is_discard r.job && may_serve d.done id r 0 && is_in_order d id r) ≡ true = was_chosen _ _ e h in
     (two_of (is_discard r.job) (may_serve d.done id r 0) (is_in_order d id r) all, third_of (is_discard r.job) (may_serve d.done id r 0) (is_in_order d id r) (is_open r.stage) all)
 
-fault_kept : (d e : Disk) (id index : ℕ) (o : Option Request) → fault_of d id index o ≡ Some e → (may_end is_any d id index o ≡ true) × (is_ordered_so is_ordered d id o ≡ true)
+fault_kept : (d e : Disk) (id index : ℕ) (o : Option DiskRequest) → fault_of d id index o ≡ Some e → (may_end is_any d id index o ≡ true) × (is_ordered_so is_ordered d id o ≡ true)
 fault_kept d e id index None h = absurd (none-some e h)
 fault_kept d e id index (Some r) h =
     let all : (may_serve d.done id r index && (not (is_ordered r.job) || is_in_order d id r)) ≡ true = was_chosen _ _ e h in
     (one_of (may_serve d.done id r index) (not (is_ordered r.job) || is_in_order d id r) all, fault_order (is_ordered r.job) (may_serve d.done id r index) (is_in_order d id r) (is_open r.stage) all)
 
-reply_kept : (d e : Disk) (id : ℕ) (status : Status) (o : Option Request) → replied_of d id status o ≡ Some e → may_be_replied d id status o ≡ true
+reply_kept : (d e : Disk) (id : ℕ) (status : Status) (o : Option DiskRequest) → replied_of d id status o ≡ Some e → may_be_replied d id status o ≡ true
 reply_kept d e id status None h = absurd (none-some e h)
 reply_kept d e id status (Some r) h = was_chosen _ _ e h
 
-answer_kept : (d e : Disk) (id : ℕ) (status : Status) (o : Option Request) → answered_of d id status o ≡ Some e → may_be_answered status o ≡ true
+answer_kept : (d e : Disk) (id : ℕ) (status : Status) (o : Option DiskRequest) → answered_of d id status o ≡ Some e → may_be_answered status o ≡ true
 answer_kept d e id status None h = absurd (none-some e h)
 answer_kept d e id status (Some r) h = was_chosen _ _ e h
 
-data_kept : (d e : Disk) (id index : ℕ) (words : List ℕ) (o : Option Request) → data_of d id index words o ≡ Some e → may_be_told d id index words o ≡ true
+data_kept : (d e : Disk) (id index : ℕ) (words : List ℕ) (o : Option DiskRequest) → data_of d id index words o ≡ Some e → may_be_told d id index words o ≡ true
 data_kept d e id index words None h = absurd (none-some e h)
 data_kept d e id index words (Some r) h = was_chosen _ _ e h
 

@@ -8,7 +8,7 @@ use Rattle.std.proofs.lemmas.Bool.{cases_eq}
 use Rattle.std.proofs.lemmas.Bool.Decides.{nat_tests}
 use Rattle.std.proofs.lemmas.List.Folds.{list_any-append}
 use Rattle.std.proofs.lemmas.List.Sums.{sum_by-append}
-use Rattle.plain_disk.specs.declared.request.Request.{Request}
+use Rattle.plain_disk.specs.declared.request.DiskRequest.{DiskRequest}
 use Rattle.plain_disk.specs.declared.request.Place.{Place}
 use Rattle.plain_disk.specs.Request.{is_open, is_done, done_count}
 use Rattle.plain_disk.specs.Step.{place}
@@ -72,7 +72,7 @@ count_here : (done : List Place) (id index : ℕ) → done_count (done ++ place 
 count_here done id index = count_more done id index id ∙ rw (is_same id) refl
 
 -- what the state keeps of an open request is what the disk has of it
-pub record SameDoings (p : Progress) (r : Request) (done : List Place) (id : ℕ) : Type 0 where
+pub record SameDoings (p : Progress) (r : DiskRequest) (done : List Place) (id : ℕ) : Type 0 where
   pub faulted : p.faulted ≡ r.faulted
   pub reply : p.reply ≡ r.reply
   pub places : (index : ℕ) → is_place_done p index ≡ is_done done id index
@@ -84,11 +84,11 @@ pub record NoDoings (p : Progress) (done : List Place) (id : ℕ) : Type 0 where
   pub places : (index : ℕ) → is_done done id index ≡ false
   pub count : done_count done id ≡ 0
 
-abbrev pub IsTold : Option Request → Progress → List Place → ℕ → Type 0
+abbrev pub IsTold : Option DiskRequest → Progress → List Place → ℕ → Type 0
 IsTold None p done id = NoDoings p done id
 IsTold (Some r) p done id = is_open r.stage ≡ true → SameDoings p r done id
 
-pub told_elsewhere : (o : Option Request) (p : Progress) (done : List Place) (id index k : ℕ) → (k ≡ id → ⊥) → IsTold o p done k → IsTold o p (done ++ place id index ∷ []) k
+pub told_elsewhere : (o : Option DiskRequest) (p : Progress) (done : List Place) (id index k : ℕ) → (k ≡ id → ⊥) → IsTold o p done k → IsTold o p (done ++ place id index ∷ []) k
 told_elsewhere None p done id index k far t = record {
   nothing = t.nothing;
   places = λ j. done_elsewhere done id index k j far ∙ t.places j;
@@ -112,7 +112,7 @@ place_by p done id index j same = ⊎_elim (λ here. at_it here) (λ far. elsewh
     elsewhere : (j ≡ index → ⊥) → is_place_done (with_done index p) j ≡ is_done (done ++ place id index ∷ []) id j
     elsewhere far = any_other p.done index j far ∙ same ∙ sym (done_other_place done id index j far)
 
-pub told_done : (p : Progress) (r : Request) (done : List Place) (id index : ℕ) → is_done done id index ≡ false → SameDoings p r done id → SameDoings (with_done index p) r (done ++ place id index ∷ []) id
+pub told_done : (p : Progress) (r : DiskRequest) (done : List Place) (id index : ℕ) → is_done done id index ≡ false → SameDoings p r done id → SameDoings (with_done index p) r (done ++ place id index ∷ []) id
 told_done p r done id index new s =
     let one : length (with_done index p).done ≡ length p.done + 1 = length_inserted p.done index (s.places index ∙ new) in
     record {

@@ -11,7 +11,7 @@ use Rattle.schedule_text.specs.declared.line.Refusal.{Refusal}
 use Rattle.schedule_text.specs.declared.line.Refusal.TheVariants as refusal
 use Rattle.schedule_text.specs.declared.line.Line.{Line}
 use Rattle.schedule_text.specs.declared.line.Line.TheVariants as lines
-use Rattle.plain_disk.specs.declared.request.Request.{Request}
+use Rattle.plain_disk.specs.declared.request.DiskRequest.{DiskRequest}
 use Rattle.plain_disk.specs.Disk.{Disk}
 use Rattle.plain_disk.specs.Refusal.{frames_of, is_unsupported, is_refused_write, is_past_end, is_long, refusal_by, refusal_at}
 use Rattle.request_check.specs.Rules.{CanBeAsked, IsRefuseAt}
@@ -176,7 +176,7 @@ back s o w is = back_by s o is.0 w is.1 (picked w (s.submitted == 4294967295) s.
 
 -- ---- the rule
 -- there is a submission that is refused so, by what is known of the lines before
-abbrev IsRefusedAt : State → Option Options → List Request → Refusal → Type 0
+abbrev IsRefusedAt : State → Option Options → List DiskRequest → Refusal → Type 0
 IsRefusedAt s c rs w = (job : Job) × CanBeAsked job × (refusal_at s.sight c rs job ≡ Some w)
 
 module _ (g : Notes) (s : State) (d : Disk) (f : Follows g s d) where

@@ -8,7 +8,7 @@ use Rattle.schedule_text.specs.declared.line.Halt.{Halt}
 use Rattle.schedule_text.specs.declared.line.Halt.TheVariants as halts
 use Rattle.schedule_text.specs.declared.line.Line.{Line}
 use Rattle.schedule_text.specs.declared.line.Line.TheVariants as lines
-use Rattle.plain_disk.specs.declared.request.Request.{Request}
+use Rattle.plain_disk.specs.declared.request.DiskRequest.{DiskRequest}
 use Rattle.plain_disk.specs.declared.sight.Sight.{Sight}
 use Rattle.plain_disk.specs.Request.{is_read, is_write, is_flush, is_discard, is_ordered, is_open, is_finished, may_serve}
 use Rattle.plain_disk.specs.Disk.{Disk, disk_of, request_of, noted_at}
@@ -33,11 +33,11 @@ is_gone (halts.Gone state) = true
 is_gone (halts.Unplugged state) = true
 is_gone halt = false
 
-abbrev pub are_finished : List Request → Bool
-are_finished requests = list_all (λ (r : Request). is_finished r.stage) requests
+abbrev pub are_finished : List DiskRequest → Bool
+are_finished requests = list_all (λ (r : DiskRequest). is_finished r.stage) requests
 
 -- whether the front, of which this was seen, and that was closed before or not, may tell its state so: it is ready once in an epoch, unless it is closed or broken; it begins to close once; it is closed only after that, and with no request unfinished; no word breaks it, and the rounds suffice
-abbrev pub keeps_state : Sight → Bool → List Request → Line → Bool
+abbrev pub keeps_state : Sight → Bool → List DiskRequest → Line → Bool
 keeps_state s closed requests lines.Ready = not closed && not s.broken && not s.connected
 keeps_state s closed requests lines.Closing = not s.closing
 keeps_state s closed requests lines.Closed = s.closing && are_finished requests
@@ -68,12 +68,12 @@ IsRefuseAt before (lines.Refuse refusal) = (job : Job) × CanBeAsked job × (ref
 IsRefuseAt before line = Unit {0}
 
 -- a sector of a write or barrier may be filled now
-abbrev pub may_fill : Disk → ℕ → ℕ → Option Request → Bool
+abbrev pub may_fill : Disk → ℕ → ℕ → Option DiskRequest → Bool
 may_fill d id index None = false
 may_fill d id index (Some r) = is_write r.job && may_serve d.done id r index
 
 -- a sector of a read may show these words now
-abbrev pub may_show : Disk → ℕ → ℕ → List ℕ → Option Request → Bool
+abbrev pub may_show : Disk → ℕ → ℕ → List ℕ → Option DiskRequest → Bool
 may_show d id index words None = false
 may_show d id index words (Some r) = is_read r.job && may_serve d.done id r index && may_hold (place_words d.first d.written r.job index) words
 
@@ -87,7 +87,7 @@ abbrev pub IsEffectRuleAt : List Line → Line → Type 0
 IsEffectRuleAt = OnDisk keeps_effect
 
 -- an operation of this kind that waits for its answer is in the order that the barriers want
-abbrev pub is_ordered_so : (Job → Bool) → Disk → ℕ → Option Request → Bool
+abbrev pub is_ordered_so : (Job → Bool) → Disk → ℕ → Option DiskRequest → Bool
 is_ordered_so is_kind d id None = true
 is_ordered_so is_kind d id (Some r) = not (is_kind r.job && is_open r.stage) || is_in_order d id r
 
@@ -102,7 +102,7 @@ abbrev pub IsBarrierAt : List Line → Line → Type 0
 IsBarrierAt = OnDisk keeps_barrier
 
 -- a place of a request of this kind may be served now
-abbrev pub may_end : (Job → Bool) → Disk → ℕ → ℕ → Option Request → Bool
+abbrev pub may_end : (Job → Bool) → Disk → ℕ → ℕ → Option DiskRequest → Bool
 may_end is_kind d id index None = false
 may_end is_kind d id index (Some r) = is_kind r.job && may_serve d.done id r index
 
@@ -119,7 +119,7 @@ keeps_service d line = true
 abbrev pub IsServiceAt : List Line → Line → Type 0
 IsServiceAt = OnDisk keeps_service
 
-abbrev pub may_be_replied : Disk → ℕ → Status → Option Request → Bool
+abbrev pub may_be_replied : Disk → ℕ → Status → Option DiskRequest → Bool
 may_be_replied d id status None = false
 may_be_replied d id status (Some r) = is_open r.stage && is_none r.reply && may_reply d id r status
 
@@ -131,7 +131,7 @@ keeps_reply d line = true
 abbrev pub IsReplyRuleAt : List Line → Line → Type 0
 IsReplyRuleAt = OnDisk keeps_reply
 
-abbrev pub may_be_answered : Status → Option Request → Bool
+abbrev pub may_be_answered : Status → Option DiskRequest → Bool
 may_be_answered status None = false
 may_be_answered status (Some r) = is_open r.stage && is_status r.reply status
 
@@ -143,7 +143,7 @@ keeps_answer d line = true
 abbrev pub IsAnswerAt : List Line → Line → Type 0
 IsAnswerAt = OnDisk keeps_answer
 
-abbrev pub may_be_told : Disk → ℕ → ℕ → List ℕ → Option Request → Bool
+abbrev pub may_be_told : Disk → ℕ → ℕ → List ℕ → Option DiskRequest → Bool
 may_be_told d id index words None = false
 may_be_told d id index words (Some r) = is_next r.stage index && are_noted (noted_at d.noted id index) words
 

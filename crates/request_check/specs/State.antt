@@ -7,8 +7,8 @@ use Rattle.blk_base.specs.declared.config.Job.{Job}
 use Rattle.blk_base.specs.declared.operation.Status.{Status}
 use Rattle.schedule_text.specs.declared.line.Line.{Line}
 use Rattle.schedule_text.specs.declared.line.Line.TheVariants as lines
-use Rattle.plain_disk.specs.declared.request.Stage.{Stage}
-use Rattle.plain_disk.specs.declared.request.Stage.TheVariants as stages
+use Rattle.plain_disk.specs.declared.request.RequestStage.{RequestStage}
+use Rattle.plain_disk.specs.declared.request.RequestStage.TheVariants as stages
 use Rattle.plain_disk.specs.declared.sight.Sight.{Sight}
 use Rattle.plain_disk.specs.Request.{is_write, is_barrier, is_discard, is_finished, sector_of, count_of, filling}
 use Rattle.plain_disk.specs.Step.{told_stage, next_stage}
@@ -24,7 +24,7 @@ use Rattle.request_check.specs.Progress.{Progress, changed, with_done, with_faul
 pub record Open : Type 0 where
   pub number : ℕ
   pub job : Job
-  pub stage : Stage
+  pub stage : RequestStage
   pub noted : List (ℕ × List ℕ)
 
 -- what was seen of the front, whether it was closed, the last number, the frames that unfinished requests hold, how many of them are barriers, these requests, what was done of them in this epoch, and what sectors hold
@@ -123,10 +123,10 @@ without s id job = record s {
 }
 
 -- a request was told further
-abbrev pub told_to : State → ℕ → Open → Stage → State
+abbrev pub told_to : State → ℕ → Open → RequestStage → State
 told_to s id o stage = if is_finished stage then without s id o.job else with_open s id (record o { stage = stage })
 
-abbrev pub told_by : State → ℕ → Stage → Option Open → State
+abbrev pub told_by : State → ℕ → RequestStage → Option Open → State
 told_by s id stage None = s
 told_by s id stage (Some o) = told_to s id o stage
 

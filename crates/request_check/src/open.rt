@@ -5,7 +5,7 @@ ghost use Rattle.request_check.specs.Entries.{entry_at};
 ghost use Rattle.request_check.specs.State.{opened, with_note, with_old_note};
 
 use blk_base::{Job, OutOfMemory, SectorWords};
-use plain_disk::Stage;
+use plain_disk::RequestStage;
 use std::alloc::Global;
 use std::collections::BTreeMap;
 use std::marker::Model;
@@ -16,7 +16,7 @@ use std::marker::Model;
 pub struct OpenRequest {
     number: u64,
     job: Job,
-    stage: Stage,
+    stage: RequestStage,
     noted: BTreeMap<u32, SectorWords>,
 }
 
@@ -36,7 +36,7 @@ impl OpenRequest {
         OpenRequest {
             number,
             job,
-            stage: Stage::Open,
+            stage: RequestStage::Open,
             noted: BTreeMap::new(alloc),
         }
     }
@@ -56,7 +56,7 @@ impl OpenRequest {
     }
 
     /// How far it is told.
-    pub fn stage(&self) -> Stage
+    pub fn stage(&self) -> RequestStage
         ensures { result ≡ self.now.stage }
     {
         self.stage
@@ -101,7 +101,7 @@ impl OpenRequest {
     }
 
     /// Takes in how far it is told.
-    pub fn tell(&mut self, stage: Stage)
+    pub fn tell(&mut self, stage: RequestStage)
         ensures { self.new ≡ record self.old { stage = stage } }
     {
         self.stage = stage;

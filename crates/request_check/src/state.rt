@@ -7,7 +7,7 @@ use crate::open::OpenRequest;
 use crate::progress::EpochDoings;
 use crate::words::KnownWords;
 use blk_base::{Job, OutOfMemory, Status};
-use plain_disk::{Sight, Stage, frames_of, is_barrier, is_finished, next_stage, told_stage};
+use plain_disk::{RequestStage, Sight, frames_of, is_barrier, is_finished, next_stage, told_stage};
 use schedule_text::Line;
 use std::alloc::Global;
 use std::collections::BTreeMap;
@@ -106,7 +106,7 @@ impl RequestCheck {
     }
 
     // Takes in how far a request is told.
-    fn tell(&mut self, id: u64, stage: Stage)
+    fn tell(&mut self, id: u64, stage: RequestStage)
         ensures { self.new ≡ told_by self.old id stage (open_of self.old.requests id) }
     {
         let Some(job) = self.job_of(id) else {

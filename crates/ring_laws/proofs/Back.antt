@@ -27,8 +27,8 @@ use Rattle.schedule_text.specs.declared.line.Line.TheVariants as lines
 use Rattle.report_rules.specs.declared.standing.Standing.{Standing}
 use Rattle.blk_back.specs.declared.told.Halt.{Halt}
 use Rattle.blk_back.specs.declared.told.Halt.TheVariants as halt
-use Rattle.blk_back.specs.declared.stage.Stage.{Stage}
-use Rattle.blk_back.specs.declared.stage.Stage.TheVariants as stage
+use Rattle.blk_back.specs.declared.stage.BackStage.{BackStage}
+use Rattle.blk_back.specs.declared.stage.BackStage.TheVariants as stage
 use Rattle.blk_back.specs.View.{View, page_of, slot_page, slot_word}
 use Rattle.blk_back.specs.Ask.{next_gref}
 use Rattle.blk_back.specs.Step.{unbound, bound, looked, loop_word, fetched, step_at}
@@ -44,7 +44,7 @@ use Rattle.ring_laws.proofs.Serving.{served_line, go_on, serve_other, serve_entr
 use Rattle.ring_laws.proofs.Looking.{looked_goes, seen_producer}
 
 -- an act, and what its answer makes of a back at a stage
-abbrev pub Goes : ℕ → List ℕ → List Line → Stage → View → BackAct → Type 0
+abbrev pub Goes : ℕ → List ℕ → List Line → BackStage → View → BackAct → Type 0
 Goes start values before s v a = BackGoes start values before v (step_at s v a.answer) a.answer a.shown
 
 -- the back halts, for another reason than an overrun

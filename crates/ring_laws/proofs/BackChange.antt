@@ -22,14 +22,14 @@ use Rattle.schedule_text.specs.declared.line.Line.{Line}
 use Rattle.report_rules.specs.Ring.{ring_shape}
 use Rattle.schedule_text.specs.declared.line.Line.TheVariants as lines
 use Rattle.blk_layout.specs.Entry.{request_of}
-use Rattle.back_jobs.specs.Task.{Work}
+use Rattle.back_jobs.specs.Work.{Work}
 use Rattle.back_jobs.specs.Jobs.{removed_at, is_done, start_job}
 use Rattle.blk_back.specs.declared.told.BackTold.{BackTold}
 use Rattle.blk_back.specs.declared.told.BackTold.TheVariants as told
 use Rattle.blk_back.specs.declared.told.Halt.{Halt}
 use Rattle.blk_back.specs.declared.stage.Reply.{Reply}
-use Rattle.blk_back.specs.declared.stage.Stage.{Stage}
-use Rattle.blk_back.specs.declared.stage.Stage.TheVariants as stage
+use Rattle.blk_back.specs.declared.stage.BackStage.{BackStage}
+use Rattle.blk_back.specs.declared.stage.BackStage.TheVariants as stage
 use Rattle.blk_back.specs.View.{View}
 use Rattle.blk_back.specs.Ask.{ask_at, loop_ask, unmap_ask, next_gref, next_reply}
 use Rattle.blk_back.specs.Step.{at, mapped, unmapped_bound, unmapped_unbound, overrun, looked, loop_step, fetched, fetch_step, next_number, replied, step_at}
@@ -71,7 +71,7 @@ either : (words : ℕ) (old : View) (b : Bool) (x y : View) → Changed words ol
 either words old true x y p q = p
 either words old false x y p q = q
 
-either_stage : (words : ℕ) (old : View) (b : Bool) (p q : Stage) → IsBackTold old.told → Changed words old (at (if b then p else q) old)
+either_stage : (words : ℕ) (old : View) (b : Bool) (p q : BackStage) → IsBackTold old.told → Changed words old (at (if b then p else q) old)
 either_stage words old b p q t = changed words old (at (if b then p else q) old) refl refl refl t (λ r. r)
 
 looked_change : (words : ℕ) (v : View) (word : ℕ) (otherwise : View) → IsBackTold v.told → Changed words v otherwise → Changed words v (looked v word otherwise)
@@ -98,7 +98,7 @@ fetch_change words v k word some t =
 begun_words : (k : ℕ) (x : Sight) (v : View) → 1 ≤ k → Serves k x v → 1 ≤ length x.values
 begun_words k x v some s = let long = s.long in let words = s.words in omega arith
 
-pub change_at : (s : Stage) (v : View) (x : Sight) (a : BackAnswer) → KnowsAt s x v → IsBackTold v.told → Changed (length x.values) v (step_at s v a)
+pub change_at : (s : BackStage) (v : View) (x : Sight) (a : BackAnswer) → KnowsAt s x v → IsBackTold v.told → Changed (length x.values) v (step_at s v a)
 change_at stage.MapRing v x (answers.Mapped m) k t = changed (length x.values) v (mapped m v) refl refl refl t (λ r. r)
 change_at stage.MapRing v x (answers.MapRefused status) k t = changed (length x.values) v _ refl refl refl t (λ r. absurd (cc))
 change_at stage.Bind v x answers.Done k t = changed (length x.values) v (at stage.Loop v) refl refl refl t (λ r. r)
@@ -186,7 +186,7 @@ loop_reads before h ready v o a None false false p q goes shape e = of_back (Loo
 runs : (halted : Option Halt) → halted ≡ None → not (is_some halted) ≡ true
 runs halted none = ap (λ (h : Option Halt). not (is_some h)) none
 
-pub back_reads : (before : List Line) (h : Hypervisor) (s : Stage) (v : View) (o : Outcome) (a : BackAct) (x : Sight) → KnowsAt s x v → Shows before x → back_act h back.Back (ask_at s v) o ≡ Some a → Looks before (is_ready s v.halted) v a
+pub back_reads : (before : List Line) (h : Hypervisor) (s : BackStage) (v : View) (o : Outcome) (a : BackAct) (x : Sight) → KnowsAt s x v → Shows before x → back_act h back.Back (ask_at s v) o ≡ Some a → Looks before (is_ready s v.halted) v a
 back_reads before h stage.InitWait v o a x k shows e = back_wait (Looks before (is_ready stage.InitWait v.halted) v) h back.Back a (blindly before v.shape.abi _ refl) (λ path. blindly before v.shape.abi _ refl) e
 back_reads before h stage.MapRing v o a x k shows e = of_back (Looks before (is_ready stage.MapRing v.halted) v) _ a (map_reads before h (is_ready stage.MapRing v.halted) v x (next_gref v) ReadWrite (verdict_at h.pages (next_gref v) ReadWrite) k.waits.untouched shows) e
 back_reads before h stage.Bind v o a x k shows e = of_back (Looks before (is_ready stage.Bind v.halted) v) _ a (bind_reads before h (is_ready stage.Bind v.halted) v v.ring.port (state_of h.channels v.ring.port)) e

@@ -21,12 +21,12 @@ use Rattle.segment_list.specs.declared.verdict.Verdict.TheVariants as verdict
 use Rattle.segment_list.specs.Verdict.{verdict_of}
 use Rattle.report_rules.specs.Standing.{this_epoch}
 use Rattle.report_rules.specs.Job.{entry_values}
-use Rattle.back_jobs.specs.declared.stage.Stage.TheVariants as job_stage
-use Rattle.back_jobs.specs.Task.{Work, begun, moving, paging, ended, frameless}
+use Rattle.back_jobs.specs.declared.stage.JobStage.TheVariants as job_stage
+use Rattle.back_jobs.specs.Work.{Work, begun, moving, paging, ended, frameless}
 use Rattle.back_jobs.specs.Jobs.{is_done}
 use Rattle.blk_back.specs.declared.told.BackTold.{BackTold}
 use Rattle.blk_back.specs.declared.told.Halt.{Halt}
-use Rattle.blk_back.specs.declared.stage.Stage.{Stage}
+use Rattle.blk_back.specs.declared.stage.BackStage.{BackStage}
 use Rattle.blk_back.specs.View.{View, info_of as back_info}
 use Rattle.blk_back.specs.Ask.{ask_of}
 use Rattle.blk_back.specs.Step.{next_number, step_of}
@@ -107,7 +107,7 @@ changed_jobs config x y epoch now old new room (replies works fetched) shape inf
     same_jobs terms y.values y.values now now old.fetched new.fetched _ new.jobs.works refl refl (sym fetched) (sym works) (jobs_removed terms y.values now old.fetched old.jobs.works (position (λ (t : Work). is_done t) old.jobs.works) jobs)
 changed_jobs config x y epoch now old new room (halts over fetched) shape info small running knows few more unseen jobs = absurd (cc)
 changed_jobs config x y epoch now old new room (fetches works fetched at_loop some) shape info small running knows few more unseen jobs =
-    let serves : Serves 0 y new = subst (λ (s : Stage). KnowsAt s y new) at_loop knows in
+    let serves : Serves 0 y new = subst (λ (s : BackStage). KnowsAt s y new) at_loop knows in
     let last : IsLast old.shape.abi y.values new.ring.entry new.fetched = subst (λ (s : Shape). IsLast s.abi y.values new.ring.entry new.fetched) shape (last_entry y new serves few) in
     same_jobs (terms_of config old) y.values y.values now now new.fetched new.fetched _ new.jobs.works refl refl refl (sym works)
     (fetched_jobs (terms_of config old) y.values now old new.ring.entry new.fetched old.jobs.info room refl info small fetched last (last.some (omega arith)) (unseen (old.fetched + 1) (omega arith)) jobs)
@@ -118,7 +118,7 @@ grows x y old new (kept works fetched) small knows few more = omega arith
 grows x y old new (replies works fetched) small knows few more = omega arith
 grows x y old new (halts over fetched) small knows few more = omega arith
 grows x y old new (fetches works fetched at_loop some) small knows few more =
-    let serves : Serves 0 y new = subst (λ (s : Stage). KnowsAt s y new) at_loop knows in
+    let serves : Serves 0 y new = subst (λ (s : BackStage). KnowsAt s y new) at_loop knows in
     let last : IsLast new.shape.abi y.values new.ring.entry new.fetched = last_entry y new serves few in
     let runs : is_some new.halted ≡ false = ap (λ (h : Option Halt). is_some h) serves.running in
     above old.fetched new.fetched (small runs) fetched (last.some (omega arith))

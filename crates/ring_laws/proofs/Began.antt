@@ -34,9 +34,9 @@ use Rattle.report_rules.specs.Work.{pages_of, planned_tasks, served_tasks, settl
 use Rattle.report_rules.specs.Job.{words_of_job, id_of}
 use Rattle.report_rules.specs.Walk.{walk_of}
 use Rattle.report_rules.specs.Reply.{end_of}
-use Rattle.back_jobs.specs.declared.stage.Stage.{Stage}
-use Rattle.back_jobs.specs.declared.stage.Stage.TheVariants as stage
-use Rattle.back_jobs.specs.Task.{Work, id_of as job_id, response_op, begun, served, moving, paging, ended, frameless}
+use Rattle.back_jobs.specs.declared.stage.JobStage.{JobStage}
+use Rattle.back_jobs.specs.declared.stage.JobStage.TheVariants as stage
+use Rattle.back_jobs.specs.Work.{Work, id_of as job_id, response_op, begun, served, moving, paging, ended, frameless}
 use Rattle.blk_back.specs.View.{info_of as back_info}
 use Rattle.ring_laws.proofs.JobLines.{is_of, read_by, read_aside, walk_aside, moves_aside, failed_skip}
 use Rattle.report_rules.proofs.Copied.{no_segments}
@@ -67,7 +67,7 @@ settled_of : (request : RawRequest) (info : DiskInfo) (words : List ℕ) (work :
 settled_of request info words work served id op p = record { tasks = λ later. p.tasks (words ++ later); verdict = λ later. p.verdict (words ++ later) }
 
 -- the job is in its work, it is done, or it copies the segments of its request
-pub data HasCome (request : RawRequest) (info : DiskInfo) (served : Status) (work : List Task) (k : ℕ) (epoch : List Line) (s : Stage) (t : Work) : Type 0 where
+pub data HasCome (request : RawRequest) (info : DiskInfo) (served : Status) (work : List Task) (k : ℕ) (epoch : List Line) (s : JobStage) (t : Work) : Type 0 where
   serves : IsSettled request info (read_by k epoch) work served → served ≡ Okay → IsAt work k epoch s t → HasCome request info served work k epoch s t
   over : (status : Status) → s ≡ stage.Done status → ending work k epoch served ≡ Some status → HasCome request info served work k epoch s t
   reads : IsCopying request info k epoch s t → HasCome request info served work k epoch s t
@@ -253,7 +253,7 @@ trim_plan flag device id sector count info plan e =
 alone : (k : ℕ) (epoch : List Line) (task : Task) → list_any (is_of k) epoch ≡ false → Alone (task ∷ []) k epoch task 0
 alone k epoch task none = record { is = refl; came = walk_aside (task ∷ []) k [] epoch none; once = refl; counted = moves_aside k [] epoch none; whole = failed_skip k epoch none }
 
-calls : (terms : Terms) (k size sector : ℕ) (request : RawRequest) (values : List ℕ) (epoch : List Line) (task : Task) (s : Stage) → IsFresh terms.abi k request values epoch → IsPlan request (back_info terms.config) (task ∷ []) Okay (job_id request) (response_op request)
+calls : (terms : Terms) (k size sector : ℕ) (request : RawRequest) (values : List ℕ) (epoch : List Line) (task : Task) (s : JobStage) → IsFresh terms.abi k request values epoch → IsPlan request (back_info terms.config) (task ∷ []) Okay (job_id request) (response_op request)
     → IsAt (task ∷ []) k epoch s (frameless k request size sector s) → IsJobOf terms values epoch (frameless k request size sector s)
 calls terms k size sector request values epoch task s fresh plan at =
     let all : IsPlan (request_at terms.abi values k) (back_info terms.config) (task ∷ []) Okay (job_id request) (response_op request) = subst (λ (r : RawRequest). IsPlan r (back_info terms.config) (task ∷ []) Okay (job_id request) (response_op request)) fresh.is plan in

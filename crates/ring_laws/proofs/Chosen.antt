@@ -11,8 +11,8 @@ use Rattle.report_rules.specs.Standing.{this_epoch}
 use Rattle.report_rules.specs.Made.{left_to}
 use Rattle.report_rules.specs.Reply.{response_due, is_one_of, most_jobs, lines_before, answered_in}
 use Rattle.blk_back.specs.declared.stage.Reply.{Reply}
-use Rattle.blk_back.specs.declared.stage.Stage.{Stage}
-use Rattle.blk_back.specs.declared.stage.Stage.TheVariants as stage
+use Rattle.blk_back.specs.declared.stage.BackStage.{BackStage}
+use Rattle.blk_back.specs.declared.stage.BackStage.TheVariants as stage
 use Rattle.ring_laws.proofs.Lists.{all_both, all_more}
 use Rattle.ring_laws.proofs.JobLines.{IsAside}
 use Rattle.ring_laws.proofs.Bystanders.{if_some}
@@ -30,7 +30,7 @@ words_in m = let a : Answered = m.answer in response_words_of a.response
 abbrev pub IsDueTo : List Line → Matched → Type 0
 IsDueTo before m = response_due before m.chosen ≡ Some (words_in m)
 
-pub record IsChosen (before : List Line) (s : Stage) (answered : List Answered) : Type 0 where
+pub record IsChosen (before : List Line) (s : BackStage) (answered : List Answered) : Type 0 where
   pub matched : List Matched
   pub chosen : answered_in before ≡ map chosen_of matched
   pub answers : map answer_of matched ≡ answered
@@ -66,28 +66,28 @@ fresh : (before : List Line) (k : ℕ) (words : List ℕ) → response_due (line
 fresh before k words due = sym (ap (λ (ls : List Line). response_due ls k) (lines_none before)) ∙ due
 
 -- where no word is under way
-none_long : (s : Stage) → under_way s ≡ [] → length (under_way s) ≡ 0
+none_long : (s : BackStage) → under_way s ≡ [] → length (under_way s) ≡ 0
 none_long s none = ap (λ (ws : List ℕ). length ws) none
 
-no_row : (s : Stage) → under_way s ≡ [] → (P : Reply → Type 0) → IfSome (row_at s) P
+no_row : (s : BackStage) → under_way s ≡ [] → (P : Reply → Type 0) → IfSome (row_at s) P
 no_row (stage.ReplyHigh r) none P = absurd (cc)
 no_row (stage.ReplyLast r) none P = absurd (cc)
 no_row (stage.Producer r) none P = absurd (cc)
 no_row s none P = tt
 
-rests_all : (before : List Line) (t : Stage) → under_way t ≡ [] → (k : ℕ) (words : List ℕ) → response_due (lines_before before (length (under_way t))) k ≡ Some words → response_due before k ≡ Some words
+rests_all : (before : List Line) (t : BackStage) → under_way t ≡ [] → (k : ℕ) (words : List ℕ) → response_due (lines_before before (length (under_way t))) k ≡ Some words → response_due before k ≡ Some words
 rests_all before t none k words due = fresh before k words (sym (ap (λ (n : ℕ). response_due (lines_before before n) k) (none_long t none)) ∙ due)
 
 -- no job was answered yet
-pub new_chosen : (before : List Line) (s : Stage) → under_way s ≡ [] → answered_in before ≡ [] → IsChosen before s []
+pub new_chosen : (before : List Line) (s : BackStage) → under_way s ≡ [] → answered_in before ≡ [] → IsChosen before s []
 new_chosen before s none unanswered = record { matched = []; chosen = unanswered; answers = refl; due = tt; stays = rests_all before s none; row = no_row s none _ }
 
 -- of a stage at which no word is under way the lines alone count
-pub chosen_stage : (before : List Line) (s t : Stage) (answered : List Answered) → under_way t ≡ [] → IsChosen before s answered → IsChosen before t answered
+pub chosen_stage : (before : List Line) (s t : BackStage) (answered : List Answered) → under_way t ≡ [] → IsChosen before s answered → IsChosen before t answered
 chosen_stage before s t answered none c = record { matched = c.matched; chosen = c.chosen; answers = c.answers; due = c.due; stays = rests_all before t none; row = no_row t none _ }
 
 -- lines of others
-pub chosen_aside : (own : Bool) (before ys : List Line) (s : Stage) (answered : List Answered) → AllPass own ys → IsOn before ys → AreIdle before ys → IsChosen before s answered → IsChosen (before ++ ys) s answered
+pub chosen_aside : (own : Bool) (before ys : List Line) (s : BackStage) (answered : List Answered) → AllPass own ys → IsOn before ys → AreIdle before ys → IsChosen before s answered → IsChosen (before ++ ys) s answered
 chosen_aside own before ys s answered all on idle c = record {
   matched = c.matched;
   chosen = told ∙ c.chosen;
@@ -100,26 +100,26 @@ chosen_aside own before ys s answered all on idle c = record {
     told : answered_in (before ++ ys) ≡ answered_in before
     told = answered_aside own ys before all
 
-    stays_in : (s : Stage) → ((k : ℕ) (words : List ℕ) → response_due (lines_before before (length (under_way s))) k ≡ Some words → response_due before k ≡ Some words)
+    stays_in : (s : BackStage) → ((k : ℕ) (words : List ℕ) → response_due (lines_before before (length (under_way s))) k ≡ Some words → response_due before k ≡ Some words)
         → (k : ℕ) (words : List ℕ) → response_due (lines_before (before ++ ys) (length (under_way s))) k ≡ Some words → response_due (before ++ ys) k ≡ Some words
     stays_in (stage.ReplyHigh r) stays = still before ys 1 1 on idle (lines_aside own ys before 1 all (omega arith)) stays
     stays_in (stage.ReplyLast r) stays = still before ys 2 2 on idle (lines_aside own ys before 2 all (omega arith)) stays
     stays_in (stage.Producer r) stays = still before ys 3 3 on idle (lines_aside own ys before 3 all (omega arith)) stays
     stays_in s stays = fresh (before ++ ys)
 
-    row_in : (s : Stage) → ((k : ℕ) (words : List ℕ) → response_due (lines_before before (length (under_way s))) k ≡ Some words → response_due before k ≡ Some words)
+    row_in : (s : BackStage) → ((k : ℕ) (words : List ℕ) → response_due (lines_before before (length (under_way s))) k ≡ Some words → response_due before k ≡ Some words)
         → IfSome (row_at s) (λ (r : Reply). Candidate before (length (under_way s)) (response_in r)) → IfSome (row_at s) (λ (r : Reply). Candidate (before ++ ys) (length (under_way s)) (response_in r))
     row_in (stage.ReplyHigh r) stays row = kept before ys 1 1 (response_in r) on idle (lines_aside own ys before 1 all (omega arith)) told stays row
     row_in (stage.ReplyLast r) stays row = kept before ys 2 2 (response_in r) on idle (lines_aside own ys before 2 all (omega arith)) told stays row
     row_in (stage.Producer r) stays row = kept before ys 3 3 (response_in r) on idle (lines_aside own ys before 3 all (omega arith)) told stays row
     row_in s stays row = tt
 
-same_answers : (s : Stage) (answered : List Answered) (k prod : ℕ) → under_way s ≡ [] → answered_then s answered k prod ≡ answered
+same_answers : (s : BackStage) (answered : List Answered) (k prod : ℕ) → under_way s ≡ [] → answered_then s answered k prod ≡ answered
 same_answers (stage.Producer r) answered k prod none = absurd (cc)
 same_answers s answered k prod none = refl
 
 -- lines of the back
-pub chosen_goes : (before ys : List Line) (s t : Stage) (answered : List Answered) (k prod : ℕ) → RowGoes before ys s t → IsOn before ys → AreIdle before ys → IsChosen before s answered → IsChosen (before ++ ys) t (answered_then s answered k prod)
+pub chosen_goes : (before ys : List Line) (s t : BackStage) (answered : List Answered) (k prod : ℕ) → RowGoes before ys s t → IsOn before ys → AreIdle before ys → IsChosen before s answered → IsChosen (before ++ ys) t (answered_then s answered k prod)
 chosen_goes before ys s t answered k prod (rests none quiet told) on idle c = record {
   matched = c.matched;
   chosen = told ∙ c.chosen;
@@ -141,12 +141,12 @@ chosen_goes before ys s t answered k prod (grows r cand at long rows told same) 
 chosen_goes before ys s t answered k prod (ends r chosen is quiet due told) on idle c =
     let a : Answered = record { job = k; response = response_in r; producer = next_of prod } in
     let m : Matched = record { chosen = chosen; answer = record { job = k; response = response_in r; producer = next_of prod } } in
-    let long : length (under_way s) ≡ 3 = ap (λ (q : Stage). length (under_way q)) is in
+    let long : length (under_way s) ≡ 3 = ap (λ (q : BackStage). length (under_way q)) is in
     let was : response_due before chosen ≡ Some (response_words_of (response_in r)) = c.stays chosen (response_words_of (response_in r)) (ap (λ (n : ℕ). response_due (lines_before before n) chosen) long ∙ due) in
     record {
       matched = c.matched ++ m ∷ [];
       chosen = told ∙ (ap (λ (js : List ℕ). js ++ chosen ∷ []) c.chosen ∙ sym (map-append chosen_of c.matched (m ∷ [])));
-      answers = map-append answer_of c.matched (m ∷ []) ∙ (ap (λ (l : List Answered). l ++ a ∷ []) c.answers ∙ sym (ap (λ (q : Stage). answered_then q answered k prod) is));
+      answers = map-append answer_of c.matched (m ∷ []) ∙ (ap (λ (l : List Answered). l ++ a ∷ []) c.answers ∙ sym (ap (λ (q : BackStage). answered_then q answered k prod) is));
       due = all_both (IsDueTo (before ++ ys)) c.matched (m ∷ []) (all_due before ys c.matched on idle c.due) (due_aside before ys chosen (response_words_of (response_in r)) on (idle chosen (response_words_of (response_in r)) was) was, tt);
       stays = rests_all (before ++ ys) t quiet;
       row = no_row t quiet _;

@@ -16,9 +16,9 @@ use Rattle.report_rules.specs.declared.work.Task.{Task}
 use Rattle.report_rules.specs.Work.{pages_of, planned_tasks, served_tasks, settled, are_read, indirect_tasks, work_tasks, work_verdict}
 use Rattle.report_rules.specs.Walk.{spot, walk_of}
 use Rattle.report_rules.specs.Steps.{failed_in}
-use Rattle.back_jobs.specs.declared.stage.Stage.{Stage}
-use Rattle.back_jobs.specs.declared.stage.Stage.TheVariants as stage
-use Rattle.back_jobs.specs.Task.{Work, is_copied_out}
+use Rattle.back_jobs.specs.declared.stage.JobStage.{JobStage}
+use Rattle.back_jobs.specs.declared.stage.JobStage.TheVariants as stage
+use Rattle.back_jobs.specs.Work.{Work, is_copied_out}
 use Rattle.ring_laws.proofs.JobLines.{is_disk_of, IsAside, read_by, read_aside, walk_aside, moves_aside, failed_aside}
 use Rattle.ring_laws.proofs.Places.{tasks_of}
 
@@ -94,7 +94,7 @@ pub record LeavesPage (request : RawRequest) (info : DiskInfo) (k : ℕ) (epoch 
   pub most : length t.rest ≤ t.named
   pub out : is_copied_out t t.rest ≡ true
 
-abbrev pub IsCopying : RawRequest → DiskInfo → ℕ → List Line → Stage → Work → Type 0
+abbrev pub IsCopying : RawRequest → DiskInfo → ℕ → List Line → JobStage → Work → Type 0
 IsCopying request info k epoch stage.MapPage t = MapsPage request info k epoch t
 IsCopying request info k epoch (stage.PageReference m) t = InPage request info k epoch t m []
 IsCopying request info k epoch (stage.PageSectors m gref) t = InPage request info k epoch t m (gref ∷ [])
@@ -127,7 +127,7 @@ in_aside request info k epoch ys t m held aside p = record {
   more = p.more;
 }
 
-pub copying_aside : (request : RawRequest) (info : DiskInfo) (k : ℕ) (epoch ys : List Line) (s : Stage) (t : Work) → IsAside k ys → IsCopying request info k epoch s t → IsCopying request info k (epoch ++ ys) s t
+pub copying_aside : (request : RawRequest) (info : DiskInfo) (k : ℕ) (epoch ys : List Line) (s : JobStage) (t : Work) → IsAside k ys → IsCopying request info k epoch s t → IsCopying request info k (epoch ++ ys) s t
 copying_aside request info k epoch ys stage.MapPage t aside p = record { pages = p.pages; page = p.page; copies = copies_aside request info k epoch ys t p.pages p.page p.page 0 None [] aside p.copies; at = p.at; more = p.more }
 copying_aside request info k epoch ys (stage.PageReference m) t aside p = in_aside request info k epoch ys t m [] aside p
 copying_aside request info k epoch ys (stage.PageSectors m gref) t aside p = in_aside request info k epoch ys t m (gref ∷ []) aside p

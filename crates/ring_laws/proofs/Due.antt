@@ -6,8 +6,8 @@ use Rattle.blk_base.specs.declared.operation.Status.{Status}
 use Rattle.blk_layout.specs.declared.response.Response.{Response}
 use Rattle.blk_layout.specs.Response.{response_words_of}
 use Rattle.blk_back.specs.declared.stage.Reply.{Reply}
-use Rattle.blk_back.specs.declared.stage.Stage.TheVariants as stage
-use Rattle.blk_back.specs.declared.stage.Stage.{Stage}
+use Rattle.blk_back.specs.declared.stage.BackStage.TheVariants as stage
+use Rattle.blk_back.specs.declared.stage.BackStage.{BackStage}
 use Rattle.blk_back.specs.Ask.{next_reply, response_word}
 use Rattle.blk_back.specs.View.{View, info_of as back_info}
 use Rattle.schedule_text.specs.declared.line.Line.{Line}
@@ -50,7 +50,7 @@ rows_of [] = []
 rows_of (a ∷ answered) = response_words_of a.response ++ a.producer ∷ rows_of answered
 
 -- the words of a reply under way that are written, by the stage of the back
-abbrev pub under_way : Stage → List ℕ
+abbrev pub under_way : BackStage → List ℕ
 under_way (stage.ReplyHigh r) = response_word r 0 ∷ []
 under_way (stage.ReplyLast r) = response_word r 0 ∷ response_word r 1 ∷ []
 under_way (stage.Producer r) = response_word r 0 ∷ response_word r 1 ∷ response_word r 2 ∷ []
@@ -61,7 +61,7 @@ abbrev pub next_word : Option Reply → Option (Reply × ℕ)
 next_word None = None
 next_word (Some r) = Some (r, 0)
 
-abbrev pub replying : Stage → View → Option (Reply × ℕ)
+abbrev pub replying : BackStage → View → Option (Reply × ℕ)
 replying stage.Loop v = next_word (next_reply v)
 replying (stage.ReplyHigh r) v = Some (r, 1)
 replying (stage.ReplyLast r) v = Some (r, 2)
@@ -78,14 +78,14 @@ pub record Candidate (before : List Line) (n : ℕ) (r : Response) : Type 0 wher
   pub left : left_to job (this_epoch before) ≡ []
 
 -- the reply under way, by the stage of the back
-abbrev pub row_at : Stage → Option Reply
+abbrev pub row_at : BackStage → Option Reply
 row_at (stage.ReplyHigh r) = Some r
 row_at (stage.ReplyLast r) = Some r
 row_at (stage.Producer r) = Some r
 row_at s = None
 
 -- the replies after a move: one more where the producer is raised, to job k
-abbrev pub answered_then : Stage → List Answered → ℕ → ℕ → List Answered
+abbrev pub answered_then : BackStage → List Answered → ℕ → ℕ → List Answered
 answered_then (stage.Producer r) answered k prod = answered ++ record { job = k; response = response_in r; producer = next_of prod } ∷ []
 answered_then s answered k prod = answered
 
@@ -96,7 +96,7 @@ abbrev pub jobs_of : List Answered → List ℕ
 jobs_of answered = map job_answered answered
 
 -- the lines obey the rule on replies, and tell these replies; none is left to be told
-pub record Writes (before : List Line) (s : Stage) (answered : List Answered) : Type 0 where
+pub record Writes (before : List Line) (s : BackStage) (answered : List Answered) : Type 0 where
   pub obeys : Obeys IsReplyAt before
   pub words : values_written before ≡ rows_of answered ++ under_way s
   pub pushed : reply_pushed before ≡ None

@@ -16,8 +16,8 @@ use Rattle.report_rules.specs.Reply.{value_written, answered_in, IsReplyAt}
 use Rattle.report_rules.proofs.Back.{standing_more}
 use Rattle.report_rules.proofs.Obeys.{obeys_more}
 use Rattle.report_rules.proofs.Prefixes.{fetched_more, answered_more}
-use Rattle.back_jobs.specs.Task.{Work}
-use Rattle.blk_back.specs.declared.stage.Stage.{Stage}
+use Rattle.back_jobs.specs.Work.{Work}
+use Rattle.blk_back.specs.declared.stage.BackStage.{BackStage}
 use Rattle.blk_back.specs.View as back
 use Rattle.blk_back.specs.View.{info_of as back_info}
 use Rattle.ring_laws.proofs.Anew.{epoch_begins}
@@ -76,7 +76,7 @@ pub epoch_made : (before : List Line) (old v : back.View) → Made before old �
 epoch_made before old v m none = new_made (before ++ lines.Epoch ∷ []) v (obeys_more IsMine before lines.Epoch m.obeys (record { unmap = tt; touch = tt })) none
 
 -- no word of a reply was written, and no job was answered
-pub epoch_writes : (before : List Line) (s t : Stage) (answered : List Answered) → under_way t ≡ [] → Writes before s answered → Writes (before ++ lines.Epoch ∷ []) t []
+pub epoch_writes : (before : List Line) (s t : BackStage) (answered : List Answered) → under_way t ≡ [] → Writes before s answered → Writes (before ++ lines.Epoch ∷ []) t []
 epoch_writes before s t answered none w = record {
   obeys = obeys_more IsReplyAt before lines.Epoch w.obeys (unwritten_at before lines.Epoch s answered w refl refl (λ own. absurd (cc)));
   words = ap (λ (ls : List Line). filter_map (value_written (before ++ lines.Epoch ∷ [])) ls) (epoch_begins before) ∙ sym none;

@@ -23,7 +23,7 @@ use Rattle.report_rules.specs.Published.{disk_of, is_persistent}
 use Rattle.report_rules.specs.Job.{when, entry_value, entry_values, words_of_job, is_fetched, entry_of, request_in, request_told, fetched_with, told_first, fetched_of}
 use Rattle.report_rules.proofs.Prefixes.{fetched_more}
 use Rattle.blk_back.specs.declared.told.Halt.{Halt}
-use Rattle.blk_back.specs.declared.stage.Stage.{Stage}
+use Rattle.blk_back.specs.declared.stage.BackStage.{BackStage}
 use Rattle.blk_back.specs.Ask.{is_led}
 use Rattle.blk_back.specs.View.{info_of as back_info}
 use Rattle.ring_laws.specs.Layout.{reads_protocol}
@@ -140,7 +140,7 @@ plain_on line plain none = record { same_epoch = plain_epoch line plain; start =
     starts n l e = refl
 
 -- the back took the terms of its front, and hasn't halted
-abbrev pub is_ready : Stage → Option Halt → Bool
+abbrev pub is_ready : BackStage → Option Halt → Bool
 is_ready s halted = not (is_led s) && not (is_some halted)
 
 -- a line of the back's reads words of entries from a ring of this layout, where it is ready, or none

@@ -3,8 +3,8 @@ use Rattle.std.proofs.Common.{◌≡◌, true, false, [], refl, ap, subst}
 use Rattle.std.specs.Prelude.{Some, None, is_some}
 use Rattle.schedule_text.specs.declared.line.Line.TheVariants as lines
 use Rattle.back_jobs.specs.Jobs.{first_mapping}
-use Rattle.blk_back.specs.declared.stage.Stage.{Stage}
-use Rattle.blk_back.specs.declared.stage.Stage.TheVariants as stage
+use Rattle.blk_back.specs.declared.stage.BackStage.{BackStage}
+use Rattle.blk_back.specs.declared.stage.BackStage.TheVariants as stage
 use Rattle.blk_back.specs.declared.told.Halt.{Halt}
 use Rattle.blk_back.specs.declared.told.Halt.TheVariants as halt
 use Rattle.blk_back.specs.View.{View}
@@ -61,12 +61,12 @@ stops_cases P why v x knows stops none = halts_for_cases P why v unmapped loopin
       knows = over;
     })
 
-    waits_at : (s : Stage) → is_unbound s ≡ true → KnowsAt s x v → v.halted ≡ None
+    waits_at : (s : BackStage) → is_unbound s ≡ true → KnowsAt s x v → v.halted ≡ None
     waits_at stage.InitWait is k = k.waits.running
     waits_at stage.MapRing is k = k.waits.running
     waits_at s is k = absurd (cc)
 
-    between_at : (s : Stage) → is_unbound s ≡ true → (is_between s ≡ true) × (under_way s ≡ [])
+    between_at : (s : BackStage) → is_unbound s ≡ true → (is_between s ≡ true) × (under_way s ≡ [])
     between_at stage.InitWait is = (refl, refl)
     between_at stage.MapRing is = (refl, refl)
     between_at s is = absurd (cc)
@@ -81,6 +81,6 @@ stops_cases P why v x knows stops none = halts_for_cases P why v unmapped loopin
     looping : may_halt why ≡ true → v.stage ≡ stage.Loop → P (abort (record v { halted = Some why }))
     looping may at =
         let new : View = abort (record v { halted = Some why }) in
-        let s : Serves 0 x v = subst (λ (t : Stage). KnowsAt t x v) at knows in
+        let s : Serves 0 x v = subst (λ (t : BackStage). KnowsAt t x v) at knows in
         at_rest new (ap is_between at) (ap under_way at) (giving_nothing (first_mapping v.jobs.works)) s.running refl refl refl refl refl may
         (giving_knows (first_mapping v.jobs.works) x new (record { over = refl; whole = served_whole x v s }))

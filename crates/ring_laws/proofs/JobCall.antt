@@ -14,8 +14,8 @@ use Rattle.report_rules.specs.Job.{is_job}
 use Rattle.report_rules.specs.Step.{stepper, is_refusal}
 use Rattle.report_rules.specs.Walk.{spot, step_at, is_step_at, advanced, walk_of}
 use Rattle.report_rules.specs.Steps.{is_fault, touched_by}
-use Rattle.back_jobs.specs.declared.stage.Stage.TheVariants as stage
-use Rattle.back_jobs.specs.Task.{Work}
+use Rattle.back_jobs.specs.declared.stage.JobStage.TheVariants as stage
+use Rattle.back_jobs.specs.Work.{Work}
 use Rattle.ring_laws.proofs.TaskSteps.{advances}
 use Rattle.ring_laws.proofs.JobLines.{is_of, is_disk_of, walk_own, failed_own, failed_then}
 use Rattle.ring_laws.proofs.Places.{Alone, one_done, failed_end}

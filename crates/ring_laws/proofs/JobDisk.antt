@@ -10,8 +10,8 @@ use Rattle.schedule_text.specs.declared.line.Line.TheVariants as lines
 use Rattle.report_rules.specs.declared.walk.Spot.{Spot}
 use Rattle.report_rules.specs.declared.work.Task.{Task}
 use Rattle.report_rules.specs.Walk.{advanced, walk_of}
-use Rattle.back_jobs.specs.declared.stage.Stage.TheVariants as stage
-use Rattle.back_jobs.specs.Task.{Work, step_at, last_of, rest_of, next_sector, counted}
+use Rattle.back_jobs.specs.declared.stage.JobStage.TheVariants as stage
+use Rattle.back_jobs.specs.Work.{Work, step_at, last_of, rest_of, next_sector, counted}
 use Rattle.ring_laws.proofs.JobLines.{is_disk_of, walk_own, moves_own, words_own, failed_own}
 use Rattle.ring_laws.proofs.Places.{Before, Within, IsAt, IsStepOn}
 use Rattle.ring_laws.proofs.Sectors.{sector_given, sector_taken, last_taken}

@@ -15,9 +15,9 @@ use Rattle.report_rules.specs.declared.work.Task.{Task}
 use Rattle.report_rules.specs.declared.work.Task.TheVariants as tasks
 use Rattle.report_rules.specs.Walk.{spot, advanced, walk_of}
 use Rattle.report_rules.specs.Steps.{failed_in, begins_with_fault}
-use Rattle.back_jobs.specs.declared.stage.Stage.{Stage}
-use Rattle.back_jobs.specs.declared.stage.Stage.TheVariants as stage
-use Rattle.back_jobs.specs.Task.{Work, rest_of, counted}
+use Rattle.back_jobs.specs.declared.stage.JobStage.{JobStage}
+use Rattle.back_jobs.specs.declared.stage.JobStage.TheVariants as stage
+use Rattle.back_jobs.specs.Work.{Work, rest_of, counted}
 use Rattle.ring_laws.proofs.JobLines.{is_of, is_disk_of, IsAside, walk_aside, walk_own, moves_aside, moves_own, moves_step, words_aside, failed_same, failed_aside, failed_own}
 use Rattle.ring_laws.proofs.Places.{tasks_of, Before, Within, Alone, IsAt, ending_aside, Passed, passed}
 
@@ -65,7 +65,7 @@ alone_aside work k epoch ys task moved aside w = record {
   whole = failed_aside k epoch ys aside w.whole;
 }
 
-pub at_aside : (work : List Task) (k : ℕ) (epoch ys : List Line) (s : Stage) (t : Work) → IsAside k ys → IsAt work k epoch s t → IsAt work k (epoch ++ ys) s t
+pub at_aside : (work : List Task) (k : ℕ) (epoch ys : List Line) (s : JobStage) (t : Work) → IsAside k ys → IsAt work k epoch s t → IsAt work k (epoch ++ ys) s t
 at_aside work k epoch ys stage.MapPage t aside at = absurd at
 at_aside work k epoch ys (stage.PageReference m) t aside at = absurd at
 at_aside work k epoch ys (stage.PageSectors m gref) t aside at = absurd at

@@ -16,9 +16,9 @@ use Rattle.schedule_text.specs.declared.line.Line.TheVariants as lines
 use Rattle.blk_layout.specs.declared.segment.Segment.{Segment}
 use Rattle.report_rules.specs.declared.work.Task.{Task}
 use Rattle.report_rules.specs.declared.work.Task.TheVariants as tasks
-use Rattle.back_jobs.specs.declared.stage.Stage.{Stage}
-use Rattle.back_jobs.specs.declared.stage.Stage.TheVariants as stage
-use Rattle.back_jobs.specs.Task.{Work, ask_at, step_at, map_ask, mode_of, first_of, rest_of, sector_stage, next_segment}
+use Rattle.back_jobs.specs.declared.stage.JobStage.{JobStage}
+use Rattle.back_jobs.specs.declared.stage.JobStage.TheVariants as stage
+use Rattle.back_jobs.specs.Work.{Work, ask_at, step_at, map_ask, mode_of, first_of, rest_of, sector_stage, next_segment}
 use Rattle.split_model.proofs.SafeActs.{of_back}
 use Rattle.ring_laws.proofs.JobLines.{IsAside, walk_own, failed_same, failed_own, failed_then}
 use Rattle.ring_laws.proofs.Places.{Before, Within, IsAt, all_done, refused_end, failed_end}
@@ -29,7 +29,7 @@ use Rattle.ring_laws.proofs.JobWords.{read_goes, write_goes}
 use Rattle.ring_laws.proofs.JobDisk.{take_goes, give_goes, disk_failed, take_step, give_step}
 use Rattle.ring_laws.proofs.JobCall.{flush_call, trim_call, call_done, call_broken}
 
-abbrev Goes : List Task → ℕ → List Line → Stage → Work → BackAct → Type 0
+abbrev Goes : List Task → ℕ → List Line → JobStage → Work → BackAct → Type 0
 Goes work k epoch s t a = JobGoes work k epoch a.shown (told_at s t a.answer) (step_at s t a.answer)
 
 -- the frame of the next segment is mapped, or refused
@@ -67,7 +67,7 @@ segment_at work k epoch t (s ∷ rest) b = (b, refl)
 unmap_aside : (k number : ℕ) → IsAside k (lines.Move (moves.Unmap (back.Job k) number) ∷ [])
 unmap_aside k number = record { none = refl; calm = refl; silent = refl }
 
-pub job_goes : (work : List Task) (k : ℕ) (epoch : List Line) (h : Hypervisor) (s : Stage) (t : Work) (o : Outcome) (a : BackAct)
+pub job_goes : (work : List Task) (k : ℕ) (epoch : List Line) (h : Hypervisor) (s : JobStage) (t : Work) (o : Outcome) (a : BackAct)
     → IsAt work k epoch s t → back_act h (back.Job k) (ask_at s t) o ≡ Some a → Goes work k epoch s t a
 job_goes work k epoch h stage.MapPage t o a at e = absurd at
 job_goes work k epoch h (stage.PageReference m) t o a at e = absurd at

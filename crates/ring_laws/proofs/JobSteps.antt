@@ -15,9 +15,9 @@ use Rattle.report_rules.specs.Step.{stepper}
 use Rattle.report_rules.specs.Walk.{walk_of, advanced}
 use Rattle.report_rules.specs.Steps.{failed_in, touched_by}
 use Rattle.report_rules.specs.Data.{words_from}
-use Rattle.back_jobs.specs.declared.stage.Stage.{Stage}
-use Rattle.back_jobs.specs.declared.stage.Stage.TheVariants as stage
-use Rattle.back_jobs.specs.Task.{Work, last_of, rest_of, sector_stage, next_sector}
+use Rattle.back_jobs.specs.declared.stage.JobStage.{JobStage}
+use Rattle.back_jobs.specs.declared.stage.JobStage.TheVariants as stage
+use Rattle.back_jobs.specs.Work.{Work, last_of, rest_of, sector_stage, next_sector}
 use Rattle.back_jobs.specs.Jobs.{effect_at}
 use Rattle.blk_back.specs.Step.{told_effect}
 use Rattle.split_model.specs.Shown.{back_lines}
@@ -42,7 +42,7 @@ pub record JobGoes (work : List Task) (k : ℕ) (epoch : List Line) (shown : Mov
   pub steps : StepsBy work k epoch shown
   pub at : IsAt work k (epoch ++ lines.Move shown ∷ told) new.stage new
 
-abbrev pub told_at : Stage → Work → BackAnswer → List Line
+abbrev pub told_at : JobStage → Work → BackAnswer → List Line
 told_at s t a = back_lines (told_effect (effect_at s t a)) a
 
 pub either : (P : Work → Type 0) (b : Bool) (x y : Work) → (b ≡ true → P x) → (b ≡ false → P y) → P (if b then x else y)

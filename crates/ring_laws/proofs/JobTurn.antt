@@ -32,9 +32,9 @@ use Rattle.report_rules.specs.Published.{info_of}
 use Rattle.report_rules.specs.declared.effect.DiskCall.TheVariants as calls
 use Rattle.report_rules.specs.Effect.{disk_move_shown}
 use Rattle.blk_back.specs.View.{info_of as back_info}
-use Rattle.back_jobs.specs.declared.stage.Stage.{Stage}
-use Rattle.back_jobs.specs.declared.stage.Stage.TheVariants as stage
-use Rattle.back_jobs.specs.Task.{Work, IsDoneStage, ask_at, step_at, map_ask, page_ask, passes, judged, page_done, first_of, mode_of, last_of, rest_of, next_sector, next_segment, counted, sector_stage}
+use Rattle.back_jobs.specs.declared.stage.JobStage.{JobStage}
+use Rattle.back_jobs.specs.declared.stage.JobStage.TheVariants as stage
+use Rattle.back_jobs.specs.Work.{Work, IsDoneStage, ask_at, step_at, map_ask, page_ask, passes, judged, page_done, first_of, mode_of, last_of, rest_of, next_sector, next_segment, counted, sector_stage}
 use Rattle.back_jobs.specs.Jobs.{asked, told_at as told_works}
 use Rattle.split_model.proofs.SafeActs.{of_back}
 use Rattle.ring_words.specs.Shape.{entry_words_of}
@@ -55,7 +55,7 @@ use Rattle.ring_laws.proofs.Fetched.{AreFetched, fetched_in, fetched_still, fetc
 use Rattle.ring_laws.proofs.JobRule.{own_rule, ToldBy, nothing, one, effect_done, effect_given, flush_done, trim_done, call_failed}
 
 -- what a job's move shows, and the lines after it
-pub record IsSpoken (epoch : List Line) (k : ℕ) (s : Stage) (t : Work) (a : BackAct) : Type 0 where
+pub record IsSpoken (epoch : List Line) (k : ℕ) (s : JobStage) (t : Work) (a : BackAct) : Type 0 where
   pub plain : is_plain (lines.Move a.shown) ≡ true
   pub told : ToldBy epoch a.shown k t.id t.moved (told_at s t a.answer)
 
@@ -67,7 +67,7 @@ map_asked : (epoch : List Line) (h : Hypervisor) (k : ℕ) (t : Work) (o : Outco
 map_asked epoch h k t o a [] e = absurd (none-some a e)
 map_asked epoch h k t o a (s ∷ more) e = of_back (IsSpoken epoch k stage.Map t) _ a (map_tells epoch h k t s (verdict_at h.pages s.gref (mode_of t.writes))) e
 
-job_tells : (work : List Task) (epoch : List Line) (h : Hypervisor) (k : ℕ) (s : Stage) (t : Work) (o : Outcome) (a : BackAct) → IsAt work k epoch s t → back_act h (back.Job k) (ask_at s t) o ≡ Some a → IsSpoken epoch k s t a
+job_tells : (work : List Task) (epoch : List Line) (h : Hypervisor) (k : ℕ) (s : JobStage) (t : Work) (o : Outcome) (a : BackAct) → IsAt work k epoch s t → back_act h (back.Job k) (ask_at s t) o ≡ Some a → IsSpoken epoch k s t a
 job_tells work epoch h k stage.MapPage t o a at e = absurd at
 job_tells work epoch h k (stage.PageReference m) t o a at e = absurd at
 job_tells work epoch h k (stage.PageSectors m gref) t o a at e = absurd at
@@ -116,7 +116,7 @@ page_asked : (epoch : List Line) (h : Hypervisor) (k : ℕ) (t : Work) (o : Outc
 page_asked epoch h k t o a [] e = absurd (none-some a e)
 page_asked epoch h k t o a (gref ∷ pages) e = of_back (IsSpoken epoch k stage.MapPage t) _ a (page_map_tells epoch h k t gref (verdict_at h.pages gref ReadOnly)) e
 
-page_tells : (request : RawRequest) (info : DiskInfo) (epoch : List Line) (h : Hypervisor) (k : ℕ) (s : Stage) (t : Work) (o : Outcome) (a : BackAct) → IsCopying request info k epoch s t → back_act h (back.Job k) (ask_at s t) o ≡ Some a → IsSpoken epoch k s t a
+page_tells : (request : RawRequest) (info : DiskInfo) (epoch : List Line) (h : Hypervisor) (k : ℕ) (s : JobStage) (t : Work) (o : Outcome) (a : BackAct) → IsCopying request info k epoch s t → back_act h (back.Job k) (ask_at s t) o ≡ Some a → IsSpoken epoch k s t a
 page_tells request info epoch h k stage.MapPage t o a p e = page_asked epoch h k t o a t.pages e
 page_tells request info epoch h k (stage.PageReference m) t o a p e = of_back (IsSpoken epoch k (stage.PageReference m) t) _ a (record { plain = refl; told = nothing refl refl }) e
 page_tells request info epoch h k (stage.PageSectors m gref) t o a p e = of_back (IsSpoken epoch k (stage.PageSectors m gref) t) _ a (record { plain = refl; told = nothing refl refl }) e
@@ -167,7 +167,7 @@ own_line : (terms : Terms) (before : List Line) (values : List ℕ) (k : ℕ) (s
 own_line terms before values k shown work quiet asked tasks plain (takes own steps) = own_rule terms before values k shown work quiet asked tasks plain own steps
 own_line terms before values k shown work quiet asked tasks plain (rests none) = bystander_rule before (lines.Move shown) quiet (record { plain = plain; unstepped = none })
 
-done_waits : (h : Hypervisor) (k : ℕ) (s : Stage) (t : Work) (o : Outcome) (a : BackAct) → back_act h (back.Job k) (ask_at s t) o ≡ Some a → IsDoneStage s → ⊥
+done_waits : (h : Hypervisor) (k : ℕ) (s : JobStage) (t : Work) (o : Outcome) (a : BackAct) → back_act h (back.Job k) (ask_at s t) o ≡ Some a → IsDoneStage s → ⊥
 done_waits h k (stage.Done status) t o a e done = none-some a e
 done_waits h k s t o a e done = done
 
@@ -194,7 +194,7 @@ judged_same t = either_same t (passes t) (record t { within = first_of t.rest; s
 page_same : (t : Work) → IsSame t (page_done t)
 page_same t = either_same t (length t.rest == t.named) (judged t) (record t { pages = drop 1 t.pages; stage = stage.MapPage }) (judged_same t) (record { number = refl; id = refl; op = refl })
 
-pub step_same : (s : Stage) (t : Work) (a : BackAnswer) → IsSame t (step_at s t a)
+pub step_same : (s : JobStage) (t : Work) (a : BackAnswer) → IsSame t (step_at s t a)
 step_same stage.MapPage t (answers.MapRefused status) = record { number = refl; id = refl; op = refl }
 step_same (stage.PageReference m) t (answers.Word word) = record { number = refl; id = refl; op = refl }
 step_same (stage.PageSectors m gref) t (answers.Word word) = record { number = refl; id = refl; op = refl }

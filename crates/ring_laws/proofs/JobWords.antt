@@ -12,8 +12,8 @@ use Rattle.schedule_text.specs.declared.line.Line.TheVariants as lines
 use Rattle.report_rules.specs.declared.walk.Spot.{Spot}
 use Rattle.report_rules.specs.declared.work.Task.{Task}
 use Rattle.report_rules.specs.Walk.{advanced, walk_of}
-use Rattle.back_jobs.specs.declared.stage.Stage.TheVariants as stage
-use Rattle.back_jobs.specs.Task.{Work, step_at, last_of, rest_of, next_sector}
+use Rattle.back_jobs.specs.declared.stage.JobStage.TheVariants as stage
+use Rattle.back_jobs.specs.Work.{Work, step_at, last_of, rest_of, next_sector}
 use Rattle.ring_laws.proofs.JobLines.{walk_own, moves_step, words_step, failed_own}
 use Rattle.ring_laws.proofs.Places.{Before, Within, IsAt}
 use Rattle.ring_laws.proofs.Sectors.{word_read, word_written, sector_filled, last_filled}

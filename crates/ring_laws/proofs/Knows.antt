@@ -11,11 +11,11 @@ use Rattle.ring_words.specs.Shape.{Shape, entries_of, entry_words_of}
 use Rattle.schedule_text.specs.declared.line.Line.{Line}
 use Rattle.schedule_text.specs.declared.line.Line.TheVariants as lines
 use Rattle.report_rules.specs.declared.standing.Standing.{Standing}
-use Rattle.back_jobs.specs.Jobs.{Held}
+use Rattle.back_jobs.specs.Jobs.{HeldJobs}
 use Rattle.blk_back.specs.declared.told.BackTold.{BackTold}
 use Rattle.blk_back.specs.declared.told.Halt.{Halt}
-use Rattle.blk_back.specs.declared.stage.Stage.{Stage}
-use Rattle.blk_back.specs.declared.stage.Stage.TheVariants as stage
+use Rattle.blk_back.specs.declared.stage.BackStage.{BackStage}
+use Rattle.blk_back.specs.declared.stage.BackStage.TheVariants as stage
 use Rattle.blk_back.specs.View.{View}
 use Rattle.split_model.specs.Keys.{is_between}
 use Rattle.split_model.specs.Shown.{back_lines, halt_lines, halt_line}
@@ -93,7 +93,7 @@ pub record IsOver (x : Sight) (halted : Option Halt) : Type 0 where
   pub over : is_some halted ≡ true
   pub whole : IsWhole x
 
-abbrev pub KnowsAt : Stage → Sight → View → Type 0
+abbrev pub KnowsAt : BackStage → Sight → View → Type 0
 KnowsAt stage.InitWait x v = Untold x v.ring.indices v.pages v.ring.seen v.halted v.fetched
 KnowsAt stage.MapRing x v = Maps x v.shape v.ring.indices v.grefs v.pages v.ring.seen v.halted v.fetched
 KnowsAt (stage.Fetch k) x v = (1 ≤ k) × Serves k x v
@@ -105,12 +105,12 @@ KnowsAt stage.Halted x v = IsOver x v.halted
 KnowsAt s x v = Serves 0 x v
 
 -- its jobs, what it tells and whether it sleeps are nothing to it
-pub knows_still : (s : Stage) (x : Sight) (v : View) (asleep : Bool) (jobs : Held) (told : Option BackTold) → KnowsAt s x v → KnowsAt s x (record v { ring = record v.ring { asleep = asleep }; jobs = jobs; told = told })
+pub knows_still : (s : BackStage) (x : Sight) (v : View) (asleep : Bool) (jobs : HeldJobs) (told : Option BackTold) → KnowsAt s x v → KnowsAt s x (record v { ring = record v.ring { asleep = asleep }; jobs = jobs; told = told })
 knows_still stage.InitWait x v asleep jobs told knows = knows
 knows_still s x v asleep jobs told knows = knows
 
 -- where no entry is being fetched the words of whole ones were read
-pub whole_words : (s : Stage) (x : Sight) (v : View) → is_between s ≡ true → KnowsAt s x v → IsWhole x
+pub whole_words : (s : BackStage) (x : Sight) (v : View) → is_between s ≡ true → KnowsAt s x v → IsWhole x
 whole_words stage.InitWait x v is knows = none_whole x knows.waits.words
 whole_words stage.MapRing x v is knows = none_whole x knows.waits.words
 whole_words (stage.Fetch k) x v is knows = absurd (cc)

@@ -18,7 +18,7 @@ use Rattle.report_rules.specs.Overrun.{overrun_of, overrun_by}
 use Rattle.back_jobs.specs.Jobs.{first_mapping}
 use Rattle.blk_back.specs.declared.told.Halt.{Halt}
 use Rattle.blk_back.specs.declared.told.Halt.TheVariants as halt
-use Rattle.blk_back.specs.declared.stage.Stage.TheVariants as stage
+use Rattle.blk_back.specs.declared.stage.BackStage.TheVariants as stage
 use Rattle.blk_back.specs.View.{View, page_of}
 use Rattle.blk_back.specs.Step.{unmapping_next, overrun, looked}
 use Rattle.ring_laws.proofs.Shows.{Sight, Shows, shows_other}

@@ -19,9 +19,9 @@ use Rattle.blk_layout.specs.declared.segment.Segment.{Segment}
 use Rattle.blk_layout.specs.Entry.{segment_of}
 use Rattle.report_rules.specs.Standing.{this_epoch}
 use Rattle.report_rules.specs.Made.{left_to}
-use Rattle.back_jobs.specs.declared.stage.Stage.{Stage}
-use Rattle.back_jobs.specs.declared.stage.Stage.TheVariants as stage
-use Rattle.back_jobs.specs.Task.{Work, ask_at, step_at, map_ask, page_ask, is_copied_out, passes, judged, page_done, first_of, mode_of, last_of, rest_of, sector_stage, next_sector, next_segment, counted}
+use Rattle.back_jobs.specs.declared.stage.JobStage.{JobStage}
+use Rattle.back_jobs.specs.declared.stage.JobStage.TheVariants as stage
+use Rattle.back_jobs.specs.Work.{Work, ask_at, step_at, map_ask, page_ask, is_copied_out, passes, judged, page_done, first_of, mode_of, last_of, rest_of, sector_stage, next_sector, next_segment, counted}
 use Rattle.back_jobs.specs.Jobs.{mapping_at, effect_at}
 use Rattle.blk_back.specs.Step.{told_effect}
 use Rattle.split_model.proofs.SafeActs.{of_back}
@@ -33,20 +33,20 @@ abbrev hand : Work → Option Mapping
 hand t = mapping_at t.stage
 
 -- a job's lines map and unmap nothing, or they are a map, or the unmap of what it has in its hand
-pub data Way (k : ℕ) (s : Stage) (ys : List Line) : Type 0 where
+pub data Way (k : ℕ) (s : JobStage) (ys : List Line) : Type 0 where
   quietly : AreQuiet ys → Way k s ys
   takes : (gref number frame : ℕ) (mode : Mode) → ys ≡ lines.Move (moves.Map (back.Job k) gref mode number frame) ∷ [] → Way k s ys
   gives : (m : Mapping) → mapping_at s ≡ Some m → ys ≡ lines.Move (moves.Unmap (back.Job k) m.number) ∷ [] → Way k s ys
 
-pub record Makes (before : List Line) (k : ℕ) (s : Stage) (t : Work) (a : BackAct) : Type 0 where
+pub record Makes (before : List Line) (k : ℕ) (s : JobStage) (t : Work) (a : BackAct) : Type 0 where
   pub hand : let n : Work = step_at s t a.answer in Holds (mapping_at n.stage) (left_to k (this_epoch before ++ lines.Move a.shown ∷ told_at s t a.answer))
   pub way : Way k s (lines.Move a.shown ∷ told_at s t a.answer)
   pub mine : IsMine before (lines.Move a.shown)
 
-told_quiet : (s : Stage) (t : Work) (a : BackAnswer) → AreQuiet (told_at s t a)
+told_quiet : (s : JobStage) (t : Work) (a : BackAnswer) → AreQuiet (told_at s t a)
 told_quiet s t a = calm_quiet (told_at s t a) (back_calm (told_effect (effect_at s t a)) a)
 
-either : (b : Bool) (x y : Stage) (m : Mapping) → mapping_at x ≡ Some m → mapping_at y ≡ Some m → mapping_at (if b then x else y) ≡ Some m
+either : (b : Bool) (x y : JobStage) (m : Mapping) → mapping_at x ≡ Some m → mapping_at y ≡ Some m → mapping_at (if b then x else y) ≡ Some m
 either true x y m p q = p
 either false x y m p q = q
 
@@ -66,7 +66,7 @@ segment_hand t [] = refl
 segment_hand t (s ∷ rest) = refl
 
 -- the hand keeps its mapping
-still : (before : List Line) (k : ℕ) (s : Stage) (t : Work) (a : BackAct) → hand (step_at s t a.answer) ≡ mapping_at s → IsQuiet (lines.Move a.shown) → IsMine before (lines.Move a.shown) → Holds (mapping_at s) (left_to k (this_epoch before)) → Makes before k s t a
+still : (before : List Line) (k : ℕ) (s : JobStage) (t : Work) (a : BackAct) → hand (step_at s t a.answer) ≡ mapping_at s → IsQuiet (lines.Move a.shown) → IsMine before (lines.Move a.shown) → Holds (mapping_at s) (left_to k (this_epoch before)) → Makes before k s t a
 still before k s t a same quiet mine old =
     let all : AreQuiet (lines.Move a.shown ∷ told_at s t a.answer) = (quiet, told_quiet s t a.answer) in
     record {
@@ -112,7 +112,7 @@ page_hand t =
     empty_either (length t.rest == t.named) (judged t) (record t { pages = drop 1 t.pages; stage = stage.MapPage })
     (empty_either (passes t) (record t { within = first_of t.rest; stage = stage.Map }) (record t { stage = stage.Done Error }) refl refl) refl
 
-pub job_makes : (before : List Line) (h : Hypervisor) (k : ℕ) (s : Stage) (t : Work) (o : Outcome) (a : BackAct) → Holds (mapping_at s) (left_to k (this_epoch before)) → back_act h (back.Job k) (ask_at s t) o ≡ Some a → Makes before k s t a
+pub job_makes : (before : List Line) (h : Hypervisor) (k : ℕ) (s : JobStage) (t : Work) (o : Outcome) (a : BackAct) → Holds (mapping_at s) (left_to k (this_epoch before)) → back_act h (back.Job k) (ask_at s t) o ≡ Some a → Makes before k s t a
 job_makes before h k stage.MapPage t o a old e = page_asked before h k t o a t.pages old e
 job_makes before h k (stage.PageReference m) t o a old e = of_back (Makes before k (stage.PageReference m) t) _ a (still before k (stage.PageReference m) t _ refl (record { same_epoch = refl; none_gone = λ n. refl; none_made = λ j. refl }) (record { unmap = tt; touch = holds_has k m (this_epoch before) old }) old) e
 job_makes before h k (stage.PageSectors m gref) t o a old e =

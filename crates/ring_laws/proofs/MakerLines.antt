@@ -17,8 +17,8 @@ use Rattle.schedule_text.specs.declared.line.Line.TheVariants as lines
 use Rattle.blk_back.specs.declared.told.BackTold.{BackTold}
 use Rattle.blk_back.specs.declared.told.Halt.{Halt}
 use Rattle.blk_back.specs.declared.stage.Reply.{Reply}
-use Rattle.blk_back.specs.declared.stage.Stage.{Stage}
-use Rattle.blk_back.specs.declared.stage.Stage.TheVariants as stage
+use Rattle.blk_back.specs.declared.stage.BackStage.{BackStage}
+use Rattle.blk_back.specs.declared.stage.BackStage.TheVariants as stage
 use Rattle.blk_back.specs.View.{View}
 use Rattle.blk_back.specs.Ask.{ask_at, loop_ask, index_ask, entry_ask, next_reply}
 use Rattle.split_model.specs.Happening.{BackMoves}
@@ -98,7 +98,7 @@ loop_asks v None = by_tests v.ring.asleep (requests_of v.ring.indices v.ring.see
     by_tests false true = refl
     by_tests false false = refl
 
-pub serving_asks : (s : Stage) (v : View) (x : Sight) → KnowsAt s x v → is_some v.halted ≡ false → is_unmap (ask_at s v) ≡ false
+pub serving_asks : (s : BackStage) (v : View) (x : Sight) → KnowsAt s x v → is_some v.halted ≡ false → is_unmap (ask_at s v) ≡ false
 serving_asks stage.Loop v x k runs = loop_asks v (next_reply v)
 serving_asks (stage.Abort m) v x k runs = absurd (let over = k.over in cc)
 serving_asks stage.UnmapRing v x k runs = absurd (let over = k.over in cc)

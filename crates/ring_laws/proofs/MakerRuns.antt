@@ -19,7 +19,7 @@ use Rattle.ring_laws.proofs.BackReads.{reads_of}
 use Rattle.ring_laws.specs.Unmaps.{AreUnmaps}
 use Rattle.ring_laws.specs.Own.{AreOwn}
 use Rattle.report_rules.proofs.Obeys.{obeys_none, obeys_more}
-use Rattle.back_jobs.specs.Task.{Work}
+use Rattle.back_jobs.specs.Work.{Work}
 use Rattle.back_jobs.specs.Jobs.{ask_job, place_of, work_of, waits, mapping_at}
 use Rattle.back_jobs.proofs.Hands.{IsAmong, place_among}
 use Rattle.blk_back.specs.Ask.{ask_of}

@@ -22,9 +22,9 @@ use Rattle.report_rules.specs.Obeys.{Obeys}
 use Rattle.report_rules.specs.Standing.{this_epoch, is_unmap_of, standing_after, numbered}
 use Rattle.report_rules.specs.Made.{left_to}
 use Rattle.report_rules.proofs.Obeys.{obeys_more}
-use Rattle.back_jobs.specs.declared.stage.Stage.{Stage}
-use Rattle.back_jobs.specs.declared.stage.Stage.TheVariants as stage
-use Rattle.back_jobs.specs.Task.{Work, step_of, begun, moving, paging, ended, frameless}
+use Rattle.back_jobs.specs.declared.stage.JobStage.{JobStage}
+use Rattle.back_jobs.specs.declared.stage.JobStage.TheVariants as stage
+use Rattle.back_jobs.specs.Work.{Work, step_of, begun, moving, paging, ended, frameless}
 use Rattle.back_jobs.specs.Jobs.{place_of, work_at, asked, told_at as told_works, effect_at, mapping_at, removed_at}
 use Rattle.back_jobs.proofs.Hands.{IsAmong, place_among}
 use Rattle.blk_back.specs.View.{View}
@@ -120,7 +120,7 @@ record AfterAll (before ys : List Line) (k : ℕ) : Type 0 where
   none : (n gref : ℕ) → IsSomeAnd (numbered n (standing_after (before ++ ys))) (λ (x : Standing). x.gref ≡ gref) → list_any (is_unmap_of n) ys ≡ false
   others : (j : ℕ) → j ≢ k → MakeNone j ys
 
-past : (before ys : List Line) (k : ℕ) (s : Stage) → Way k s ys → AfterAll before ys k
+past : (before ys : List Line) (k : ℕ) (s : JobStage) → Way k s ys → AfterAll before ys k
 past before ys k s (quietly quiet) = record {
   epoch = quiet_epoch before ys quiet;
   none = λ n gref stands. quiet_none n ys quiet;

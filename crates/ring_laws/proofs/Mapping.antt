@@ -15,7 +15,7 @@ use Rattle.report_rules.specs.declared.work.Task.{Task}
 use Rattle.report_rules.specs.declared.work.Task.TheVariants as tasks
 use Rattle.report_rules.specs.Step.{is_refusal}
 use Rattle.report_rules.specs.Walk.{spot, advanced, walk_of, is_step_at, step_at, mapping_after}
-use Rattle.back_jobs.specs.Task.{mode_of}
+use Rattle.back_jobs.specs.Work.{mode_of}
 use Rattle.ring_laws.proofs.JobLines.{walk_own, moves_step, failed_own}
 use Rattle.ring_laws.proofs.TaskSteps.{advances, IsPlace, store_more, load_more}
 use Rattle.ring_laws.proofs.Places.{tasks_of, Before, Within, store_at, load_at}

@@ -13,13 +13,13 @@ use Rattle.report_rules.specs.Job.{entry_values}
 use Rattle.report_rules.specs.Standing.{this_epoch}
 use Rattle.report_rules.specs.Made.{left_to}
 use Rattle.report_rules.specs.Reply.{response_due, is_one_of, most_jobs}
-use Rattle.back_jobs.specs.Task.{Work}
+use Rattle.back_jobs.specs.Work.{Work}
 use Rattle.back_jobs.proofs.Hands.{IsAmong, place_among}
 use Rattle.blk_back.specs.View.{View}
 use Rattle.blk_back.specs.Ask.{next_reply}
 use Rattle.blk_back.specs.declared.stage.Reply.{Reply}
-use Rattle.blk_back.specs.declared.stage.Stage.TheVariants as stage
-use Rattle.blk_back.specs.declared.stage.Stage.{Stage}
+use Rattle.blk_back.specs.declared.stage.BackStage.TheVariants as stage
+use Rattle.blk_back.specs.declared.stage.BackStage.{BackStage}
 use Rattle.ring_laws.proofs.Began.{Terms}
 use Rattle.ring_laws.proofs.Shows.{Sight}
 use Rattle.ring_laws.proofs.Knows.{KnowsAt}
@@ -78,7 +78,7 @@ none_chosen (m ∷ matched) k others = ap (λ (b : Bool). b || is_one_of k (map 
     other n differs = grind (arith, nat_tests)
 
 -- a reply that begins
-begun_has : (terms : Terms) (before : List Line) (values : List ℕ) (fetched : ℕ) (works : List Work) (answered : List Answered) (s : Stage) (r : Reply) → entry_values before ≡ values → AreFetched terms before → IsChosen before s answered → ((d : IsReplyOf works r) → IsOwed terms values (this_epoch before) (let t : Work = d.job in pending t.number r))
+begun_has : (terms : Terms) (before : List Line) (values : List ℕ) (fetched : ℕ) (works : List Work) (answered : List Answered) (s : BackStage) (r : Reply) → entry_values before ≡ values → AreFetched terms before → IsChosen before s answered → ((d : IsReplyOf works r) → IsOwed terms values (this_epoch before) (let t : Work = d.job in pending t.number r))
     → Owes terms values (this_epoch before) fetched works (answered ++ []) → IsReplyOf works r → Candidate before 0 (response_in r)
 begun_has terms before values fetched works answered s r same are c done o d =
     let job : Work = d.job in
@@ -108,13 +108,13 @@ begun_has terms before values fetched works answered s r same are c done o d =
 abbrev pub NextHas : List Line → Option (Reply × ℕ) → Type 0
 NextHas before next = IfSome next (λ (p : Reply × ℕ). Candidate before p.1 (response_in p.0))
 
-loop_has : (terms : Terms) (before : List Line) (x : Sight) (v : View) (answered : List Answered) (s : Stage) (next : Option Reply) → next_reply v ≡ next → entry_values before ≡ x.values → AreFetched terms before → IsChosen before s answered → ((r : Reply) (d : IsReplyOf v.jobs.works r) → IsOwed terms x.values (this_epoch before) (let t : Work = d.job in pending t.number r))
+loop_has : (terms : Terms) (before : List Line) (x : Sight) (v : View) (answered : List Answered) (s : BackStage) (next : Option Reply) → next_reply v ≡ next → entry_values before ≡ x.values → AreFetched terms before → IsChosen before s answered → ((r : Reply) (d : IsReplyOf v.jobs.works r) → IsOwed terms x.values (this_epoch before) (let t : Work = d.job in pending t.number r))
     → Owes terms x.values (this_epoch before) v.fetched v.jobs.works (answered ++ []) → NextHas before (next_word next)
 loop_has terms before x v answered s None e same are c done o = tt
 loop_has terms before x v answered s (Some r) e same are c done o = begun_has terms before x.values v.fetched v.jobs.works answered s r same are c (done r) o (done_found v.jobs.works r e)
 
 -- what is owed, as long as the back hasn't halted
-pub next_has : (terms : Terms) (before : List Line) (x : Sight) (s : Stage) (v : View) (answered : List Answered) (k : ℕ) → KnowsAt s x v → entry_values before ≡ x.values → AreFetched terms before → IsChosen before s answered
+pub next_has : (terms : Terms) (before : List Line) (x : Sight) (s : BackStage) (v : View) (answered : List Answered) (k : ℕ) → KnowsAt s x v → entry_values before ≡ x.values → AreFetched terms before → IsChosen before s answered
     → (v.halted ≡ None → (r : Reply) (d : IsReplyOf v.jobs.works r) → IsOwed terms x.values (this_epoch before) (let t : Work = d.job in pending t.number r))
     → (v.halted ≡ None → Owes terms x.values (this_epoch before) v.fetched v.jobs.works (answered ++ pending_at s k))
     → NextHas before (replying s v)

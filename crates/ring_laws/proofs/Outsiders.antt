@@ -26,8 +26,8 @@ use Rattle.report_rules.specs.Reply.{is_of_back, is_reply}
 use Rattle.blk_front.specs.View as front
 use Rattle.blk_front.specs.Ask as front_ask
 use Rattle.blk_front.specs.Step as front_step
-use Rattle.blk_back.specs.declared.stage.Stage.{Stage}
-use Rattle.blk_back.specs.declared.stage.Stage.TheVariants as stage
+use Rattle.blk_back.specs.declared.stage.BackStage.{BackStage}
+use Rattle.blk_back.specs.declared.stage.BackStage.TheVariants as stage
 use Rattle.blk_back.specs.Ask.{is_led}
 use Rattle.blk_back.specs.View.{View}
 use Rattle.split_model.specs.Keys.{KeyMove, Gets, mover_at, is_early, may_set, may_negotiate, is_between, key_lines, negotiated_lines}
@@ -51,7 +51,7 @@ use Rattle.ring_laws.proofs.MakerLines.{IsCalm, AreCalm, key_calm}
 use Rattle.ring_laws.proofs.Written.{Passes, AllPass, passes_other}
 
 -- the rules of the ring, of jobs, of replies and of what a job maps pass over it; one of the back's own comes between two entries and two replies, and names the layout only where the back waits for the terms of its front
-pub record IsOutsider (s : Stage) (line : Line) : Type 0 where
+pub record IsOutsider (s : BackStage) (line : Line) : Type 0 where
   pub other : is_other line ≡ true
   pub unnamed : is_led s ≡ false → reads_protocol line ≡ false
   pub foreign : is_between s ≡ false → is_of_back line ≡ false
@@ -61,11 +61,11 @@ pub record IsOutsider (s : Stage) (line : Line) : Type 0 where
   pub untold : is_reply line ≡ false
   pub calm : IsCalm line
 
-abbrev pub AreOutsiders : Stage → List Line → Type 0
+abbrev pub AreOutsiders : BackStage → List Line → Type 0
 AreOutsiders s ls = AllByRecursion (IsOutsider s) ls
 
 -- a line that tells of no move
-said : (s : Stage) (line : Line) → is_other line ≡ true → is_of_back line ≡ false → is_service line ≡ false → is_overrun line ≡ false → is_plain line ≡ true → stepper line ≡ None → is_reply line ≡ false → is_epoch line ≡ false → ((n : ℕ) → is_unmap_of n line ≡ false) → ((k : ℕ) → made_by k line ≡ None) → IsOpen line → IsOutsider s line
+said : (s : BackStage) (line : Line) → is_other line ≡ true → is_of_back line ≡ false → is_service line ≡ false → is_overrun line ≡ false → is_plain line ≡ true → stepper line ≡ None → is_reply line ≡ false → is_epoch line ≡ false → ((n : ℕ) → is_unmap_of n line ≡ false) → ((k : ℕ) → made_by k line ≡ None) → IsOpen line → IsOutsider s line
 said s line other foreign idle unhalting plain unstepped untold same gone made free = record {
   other = other;
   unnamed = λ led. foreign_abi line foreign;
@@ -94,7 +94,7 @@ IsSaid (Negotiates at move) line = ⊥
 IsSaid h line = IsBeside h
 
 -- none of these lines is one of the back's, of a job's or of an epoch
-outsider : (s : Stage) (h : Happening) (line : Line) → IsSaid h line → MayShow h line → IsOutsider s line
+outsider : (s : BackStage) (h : Happening) (line : Line) → IsSaid h line → MayShow h line → IsOutsider s line
 outsider s (Negotiates at move) line is shows = absurd is
 outsider s h (lines.Begin config detail) is shows = absurd (assumption)
 outsider s h (lines.Move shown) is shows = absurd (assumption)
@@ -108,17 +108,17 @@ outsider s h (lines.Reply id status) is shows = absurd (assumption)
 outsider s h (lines.Halt why) is shows = absurd (assumption)
 outsider s h line is shows = said s line refl refl refl refl refl refl refl refl (λ n. refl) (λ k. refl) (λ before. record { unmap = tt; touch = tt })
 
-pub said_outsiders : (s : Stage) (w : World) (h : Happening) → ((line : Line) → IsSaid h line) → AreOutsiders s (lines_at w h)
+pub said_outsiders : (s : BackStage) (w : World) (h : Happening) → ((line : Line) → IsSaid h line) → AreOutsiders s (lines_at w h)
 said_outsiders s w h is = lines_are (IsOutsider s) w h (λ line shows. outsider s h line (is line) shows)
 
 -- nor is a move of the front, and it leaves the back as it is
-front_outsider : (s : Stage) (h : Hypervisor) (ask : FrontAsk) (a : FrontAct) → front_act h ask ≡ Some a → IsOutsider s (lines.Move a.shown)
+front_outsider : (s : BackStage) (h : Hypervisor) (ask : FrontAsk) (a : FrontAct) → front_act h ask ≡ Some a → IsOutsider s (lines.Move a.shown)
 front_outsider s h ask a e = elim (front_acts h ask a e) as (λ asked x acts. IsOutsider s (lines.Move x.shown)) [
   | FrontFence ↦ said s _ refl refl refl refl refl refl refl refl (λ n. refl) (λ k. refl) (λ before. record { unmap = tt; touch = tt })
   | acts ↦ said s _ refl refl refl refl refl refl refl refl (λ n. refl) (λ k. refl) (λ before. record { unmap = tt; touch = tt })
 ]
 
-pub front_outsiders : (s : Stage) (w : World) (act : Option FrontAct) → front_turn w ≡ act → AreOutsiders s (front_shows w act)
+pub front_outsiders : (s : BackStage) (w : World) (act : Option FrontAct) → front_turn w ≡ act → AreOutsiders s (front_shows w act)
 front_outsiders s w None e = tt
 front_outsiders s w (Some a) e =
     (front_outsider s w.under (front_ask.ask_of w.front) a e, front_told_is (IsOutsider s) (outsider s FrontMoves) (let f : front.View = front_step.step_of w.front a.answer in f.told))
@@ -128,14 +128,14 @@ front_leaves P w None p = p
 front_leaves P w (Some a) p = p
 
 -- a move of an end on a key or a watch
-of_end : (s : Stage) (at : End) (m : Mover) → m ≡ mover_at at → (is_between s ≡ false → is_mover_back (mover_at at) ≡ false) → is_between s ≡ false → is_mover_back m ≡ false
+of_end : (s : BackStage) (at : End) (m : Mover) → m ≡ mover_at at → (is_between s ≡ false → is_mover_back (mover_at at) ≡ false) → is_between s ≡ false → is_mover_back m ≡ false
 of_end s at m same foreign none = ap is_mover_back same ∙ foreign none
 
 no_job : (at : End) (m : Mover) → m ≡ mover_at at → mover_job m ≡ None
 no_job end.Front m same = ap mover_job same
 no_job end.Back m same = ap mover_job same
 
-key_outsider : (s : Stage) (at : End) (shown : Move) → IsKeyMove (mover_at at) shown → (is_between s ≡ false → is_mover_back (mover_at at) ≡ false) → (is_led s ≡ false → reads_protocol (lines.Move shown) ≡ false) → is_plain (lines.Move shown) ≡ true → IsOutsider s (lines.Move shown)
+key_outsider : (s : BackStage) (at : End) (shown : Move) → IsKeyMove (mover_at at) shown → (is_between s ≡ false → is_mover_back (mover_at at) ≡ false) → (is_led s ≡ false → reads_protocol (lines.Move shown) ≡ false) → is_plain (lines.Move shown) ≡ true → IsOutsider s (lines.Move shown)
 key_outsider s at (moves.Watch m path) same foreign unnamed plain =
     record { other = refl; unnamed = unnamed; foreign = of_end s at m same foreign; idle = refl; unhalting = refl; by = record { plain = refl; unstepped = no_job at m same }; untold = refl; calm = key_calm (mover_at at) (moves.Watch m path) same }
 key_outsider s at (moves.Watched m path) same foreign unnamed plain =
@@ -147,12 +147,12 @@ key_outsider s at (moves.SetKey m path text) same foreign unnamed plain =
 key_outsider s at shown same foreign unnamed plain = absurd same
 
 -- a key is read that names no layout, or while the back waits for terms
-pub get_key : (s : Stage) (at : End) (path : List ℕ) (text : Option (List ℕ)) → (is_between s ≡ false → is_mover_back (mover_at at) ≡ false) → (is_led s ≡ false → reads_protocol (lines.Move (moves.GetKey (mover_at at) path text)) ≡ false) → IsOutsider s (lines.Move (moves.GetKey (mover_at at) path text))
+pub get_key : (s : BackStage) (at : End) (path : List ℕ) (text : Option (List ℕ)) → (is_between s ≡ false → is_mover_back (mover_at at) ≡ false) → (is_led s ≡ false → reads_protocol (lines.Move (moves.GetKey (mover_at at) path text)) ≡ false) → IsOutsider s (lines.Move (moves.GetKey (mover_at at) path text))
 get_key s end.Front path text foreign unnamed = key_outsider s end.Front (moves.GetKey mover.Front path text) refl foreign unnamed refl
 get_key s end.Back path text foreign unnamed = key_outsider s end.Back (moves.GetKey mover.Back path text) refl foreign unnamed refl
 
 -- what is set offers no persistent grants
-set_key : (s : Stage) (at : End) (path text : List ℕ) → (is_between s ≡ false → is_mover_back (mover_at at) ≡ false) → may_set at path text ≡ true → IsOutsider s (lines.Move (moves.SetKey (mover_at at) path text))
+set_key : (s : BackStage) (at : End) (path text : List ℕ) → (is_between s ≡ false → is_mover_back (mover_at at) ≡ false) → may_set at path text ≡ true → IsOutsider s (lines.Move (moves.SetKey (mover_at at) path text))
 set_key s end.Front path text foreign may = key_outsider s end.Front (moves.SetKey mover.Front path text) refl foreign (λ led. refl) refl
 set_key s end.Back path text foreign may = key_outsider s end.Back (moves.SetKey mover.Back path text) refl foreign (λ led. refl) (last (is_own_path end.Back path) (offers_no_grants path text) may)
   where
@@ -160,7 +160,7 @@ set_key s end.Back path text foreign may = key_outsider s end.Back (moves.SetKey
     last true b e = e
     last false b e = absurd (cc)
 
-end_outsiders : (s : Stage) (at : End) (move : KeyMove) (d : Directory) → (is_between s ≡ false → is_mover_back (mover_at at) ≡ false) → ((path : List ℕ) (text : Option (List ℕ)) → move ≡ Gets path → is_led s ≡ false → reads_protocol (lines.Move (moves.GetKey (mover_at at) path text)) ≡ false)
+end_outsiders : (s : BackStage) (at : End) (move : KeyMove) (d : Directory) → (is_between s ≡ false → is_mover_back (mover_at at) ≡ false) → ((path : List ℕ) (text : Option (List ℕ)) → move ≡ Gets path → is_led s ≡ false → reads_protocol (lines.Move (moves.GetKey (mover_at at) path text)) ≡ false)
     → AreOutsiders s (key_lines at move d)
 end_outsiders s at move d foreign unnamed =
     key_cases (λ keys shown. AreOutsiders s shown) at move d
@@ -177,7 +177,7 @@ not_early true false led e none = refl
 not_early false early led e none = absurd (cc)
 
 -- those of the back come only where they may
-pub keys_outsiders : (s : Stage) (at : End) (move : KeyMove) (d : Directory) → AreOutsiders s (negotiated_lines s at move d)
+pub keys_outsiders : (s : BackStage) (at : End) (move : KeyMove) (d : Directory) → AreOutsiders s (negotiated_lines s at move d)
 keys_outsiders s end.Front move d = end_outsiders s end.Front move d (λ own. refl) (λ path text same led. refl)
 keys_outsiders s end.Back move d = negotiated_cases (λ keys shown. AreOutsiders s shown) s end.Back move d does tt
   where
@@ -195,32 +195,32 @@ beside_outsiders w (Negotiates at move) beside = keys_outsiders w.back.stage at 
 beside_outsiders w FrontMoves beside = absurd beside
 beside_outsiders w h beside = said_outsiders w.back.stage w h (λ line. beside)
 
-pub outsiders_other : (s : Stage) (ls : List Line) → AreOutsiders s ls → AreOther ls
+pub outsiders_other : (s : BackStage) (ls : List Line) → AreOutsiders s ls → AreOther ls
 outsiders_other s ls all = all_more (IsOutsider s) (λ (l : Line). is_other l ≡ true) ls (λ l o. o.other) all
 
-pub outsiders_by : (s : Stage) (ls : List Line) → AreOutsiders s ls → AreBystanders ls
+pub outsiders_by : (s : BackStage) (ls : List Line) → AreOutsiders s ls → AreBystanders ls
 outsiders_by s ls all = all_more (IsOutsider s) IsBystander ls (λ l o. o.by) all
 
-pub outsiders_pass : (s : Stage) (ls : List Line) → AreOutsiders s ls → AllPass (is_between s) ls
+pub outsiders_pass : (s : BackStage) (ls : List Line) → AreOutsiders s ls → AllPass (is_between s) ls
 outsiders_pass s ls all = all_more (IsOutsider s) (Passes (is_between s)) ls (λ l o. passes_other (is_between s) l o.other o.untold o.foreign) all
 
-pub outsiders_calm : (s : Stage) (ls : List Line) → AreOutsiders s ls → AreCalm ls
+pub outsiders_calm : (s : BackStage) (ls : List Line) → AreOutsiders s ls → AreCalm ls
 outsiders_calm s ls all = all_more (IsOutsider s) IsCalm ls (λ l o. o.calm) all
 
 -- one of the back's own stands between two entries
-outsider_stretch : (s : Stage) (between : Bool) (before : List Line) (line : Line) (x : Sight) → is_between s ≡ between → (between ≡ true → IsWhole x) → IsOutsider s line → Shows before x → IsStretchAt before line
+outsider_stretch : (s : BackStage) (between : Bool) (before : List Line) (line : Line) (x : Sight) → is_between s ≡ between → (between ≡ true → IsWhole x) → IsOutsider s line → Shows before x → IsStretchAt before line
 outsider_stretch s true before line x is whole o shows = own_stretch before line x shows (whole refl) (untouched_word before line (other_touch line o.other)) (untouched_inside before line (other_touch line o.other))
 outsider_stretch s false before line x is whole o shows = foreign_stretch before line (o.foreign is) (untouched_word before line (other_touch line o.other))
 
 -- the layout that it may name is nothing to what the back knows
-named_knows : (s : Stage) (x : Sight) (v : View) (line : Line) → (is_led s ≡ false → reads_protocol line ≡ false) → KnowsAt s x v → KnowsAt s (record x { abi = abi_after x.abi line }) v
+named_knows : (s : BackStage) (x : Sight) (v : View) (line : Line) → (is_led s ≡ false → reads_protocol line ≡ false) → KnowsAt s x v → KnowsAt s (record x { abi = abi_after x.abi line }) v
 named_knows stage.InitWait x v line unnamed n =
     let w : Waits x v.ring.indices v.ring.seen v.halted v.fetched = n.waits in
     record { waits = record { running = w.running; untouched = w.untouched; begins = w.begins; replied = w.replied; produced = w.produced; words = w.words; values = w.values; numbered = w.numbered }; untold = n.untold; none = n.none }
 named_knows s x v line unnamed knows = subst (λ (abi : Option Abi). KnowsAt s (record x { abi = abi }) v) (sym (same_abi x.abi line (unnamed refl))) knows
 
 -- and it names one before a page of the ring is mapped
-named_first : (s : Stage) (before : List Line) (line : Line) (x : Sight) (v : View) → (is_led s ≡ false → reads_protocol line ≡ false) → Shows before x → KnowsAt s x v → IsNamedFirstAt before line
+named_first : (s : BackStage) (before : List Line) (line : Line) (x : Sight) (v : View) → (is_led s ≡ false → reads_protocol line ≡ false) → Shows before x → KnowsAt s x v → IsNamedFirstAt before line
 named_first stage.InitWait before line x v unnamed shows n = λ read. shows.pages ∙ n.untold
 named_first s before line x v unnamed shows knows = unnamed_first before line (unnamed refl)
 

@@ -27,9 +27,9 @@ use Rattle.report_rules.specs.Walk.{walk_of}
 use Rattle.report_rules.specs.Steps.{failed_in}
 use Rattle.report_rules.specs.Made.{made_by, left_to}
 use Rattle.report_rules.specs.Reply.{end_of, status_at_end, words_with, words_due, response_due}
-use Rattle.back_jobs.specs.declared.stage.Stage.{Stage}
-use Rattle.back_jobs.specs.declared.stage.Stage.TheVariants as stage
-use Rattle.back_jobs.specs.Task.{Work}
+use Rattle.back_jobs.specs.declared.stage.JobStage.{JobStage}
+use Rattle.back_jobs.specs.declared.stage.JobStage.TheVariants as stage
+use Rattle.back_jobs.specs.Work.{Work}
 use Rattle.blk_back.specs.View.{info_of as back_info}
 use Rattle.ring_laws.proofs.Lists.{either_false}
 use Rattle.ring_laws.proofs.JobLines.{is_of, IsAside, read_by, read_aside}
@@ -95,13 +95,13 @@ over_kept terms values more epoch ys k r aside o =
       left = left_aside k ys epoch aside.none o.left;
     }
 
-ended_as : (request : RawRequest) (info : DiskInfo) (served : Status) (work : List Task) (k : ℕ) (epoch : List Line) (s : Stage) (t : Work) (status : Status) → s ≡ stage.Done status → HasCome request info served work k epoch s t → ending work k epoch served ≡ Some status
-ended_as request info served work k epoch s t status done (serves settled okay at) = ap (λ (x : Status). ending work k epoch x) okay ∙ subst (λ (x : Stage). IsAt work k epoch x t) done at
+ended_as : (request : RawRequest) (info : DiskInfo) (served : Status) (work : List Task) (k : ℕ) (epoch : List Line) (s : JobStage) (t : Work) (status : Status) → s ≡ stage.Done status → HasCome request info served work k epoch s t → ending work k epoch served ≡ Some status
+ended_as request info served work k epoch s t status done (serves settled okay at) = ap (λ (x : Status). ending work k epoch x) okay ∙ subst (λ (x : JobStage). IsAt work k epoch x t) done at
 ended_as request info served work k epoch s t status done (over other was ends) = ends ∙ ap (λ (x : Status). Some x) (same_done (sym was ∙ done))
   where
     same_done : {a b : Status} → stage.Done a ≡ stage.Done b → a ≡ b
     same_done e = cc
-ended_as request info served work k epoch s t status done (reads copying) = absurd (subst (λ (x : Stage). IsCopying request info k epoch x t) done copying)
+ended_as request info served work k epoch s t status done (reads copying) = absurd (subst (λ (x : JobStage). IsCopying request info k epoch x t) done copying)
 
 -- a job that is done, and left no mapping
 pub over_of_done : (terms : Terms) (values : List ℕ) (epoch : List Line) (t : Work) (status : Status) → IsJobOf terms values epoch t → t.stage ≡ stage.Done status → left_to t.number epoch ≡ [] → IsWorkOver terms values epoch t.number (record { id = t.id; op = t.op; status = status })

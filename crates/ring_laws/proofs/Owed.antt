@@ -4,7 +4,7 @@ use Rattle.std.specs.Prelude.{Some, slice_get, slice_set}
 use Rattle.std.specs.List.{AllByRecursion}
 use Rattle.std.proofs.lemmas.List.{map-append}
 use Rattle.schedule_text.specs.declared.line.Line.{Line}
-use Rattle.back_jobs.specs.Task.{Work}
+use Rattle.back_jobs.specs.Work.{Work}
 use Rattle.back_jobs.proofs.Hands.{IsAmong, place_among}
 use Rattle.ring_laws.proofs.Began.{Terms, none_read}
 use Rattle.ring_laws.proofs.JobLines.{IsAside}

@@ -39,9 +39,9 @@ use Rattle.report_rules.specs.Step.{is_refusal}
 use Rattle.report_rules.specs.Walk.{spot, step_at, mapping_after, is_step_at, advanced, walk_of}
 use Rattle.report_rules.specs.Steps.{failed_in}
 use Rattle.report_rules.specs.Reply.{end_of}
-use Rattle.back_jobs.specs.declared.stage.Stage.{Stage}
-use Rattle.back_jobs.specs.declared.stage.Stage.TheVariants as stage
-use Rattle.back_jobs.specs.Task.{Work, ask_at, step_at as job_step_at, page_ask, page_word, is_copied_out, copied, judged, page_done, first_of}
+use Rattle.back_jobs.specs.declared.stage.JobStage.{JobStage}
+use Rattle.back_jobs.specs.declared.stage.JobStage.TheVariants as stage
+use Rattle.back_jobs.specs.Work.{Work, ask_at, step_at as job_step_at, page_ask, page_word, is_copied_out, copied, judged, page_done, first_of}
 use Rattle.split_model.proofs.SafeActs.{of_back}
 use Rattle.ring_laws.proofs.JobLines.{read_by, read_more, walk_own, moves_step, failed_own}
 use Rattle.ring_laws.proofs.TaskSteps.{advances}
@@ -63,12 +63,12 @@ pub record PageGoes (request : RawRequest) (info : DiskInfo) (k : ℕ) (epoch : 
   pub steps : StepsBy (pages_of t.named pages) k epoch shown
   pub comes : Comes request info k (epoch ++ lines.Move shown ∷ told) new
 
-pub record Goes (request : RawRequest) (info : DiskInfo) (k : ℕ) (epoch : List Line) (s : Stage) (t : Work) (a : BackAct) : Type 0 where
+pub record Goes (request : RawRequest) (info : DiskInfo) (k : ℕ) (epoch : List Line) (s : JobStage) (t : Work) (a : BackAct) : Type 0 where
   pub pages : List ℕ
   pub goes : PageGoes request info k epoch t pages a.shown (told_at s t a.answer) (job_step_at s t a.answer)
 
 -- the same request, whatever the job has copied
-same_request : (request : RawRequest) (info : DiskInfo) (t : Work) (rest : List Segment) (left pages : List ℕ) (s : Stage) → IsIndirect request info t pages → IsIndirect request info (record t { rest = rest; pages = left; stage = s }) pages
+same_request : (request : RawRequest) (info : DiskInfo) (t : Work) (rest : List Segment) (left pages : List ℕ) (s : JobStage) → IsIndirect request info t pages → IsIndirect request info (record t { rest = rest; pages = left; stage = s }) pages
 same_request request info t rest left pages s i = record { op = i.op; device = i.device; id = i.id; request_is = i.request_is; plan = i.plan; served = i.served; sector = i.sector; work = i.work; size = i.size; moved = i.moved; few = i.few }
 
 -- after a step that read nothing
@@ -271,7 +271,7 @@ sectors_goes request info k epoch t m gref frame value p = by_out (is_copied_out
         ap (λ (x : Option Spot). option_and_then (advanced false (pages_of t.named p.pages) shown) x) c.came
         ∙ advances (pages_of t.named p.pages) p.page (1 + (2 * (length t.rest - 512 * p.page) + 1)) (Some m.number) (tasks.Page p.gref (2 * min 512 (t.named - 512 * p.page))) shown last (page_task t.named p.pages p.page p.gref p.named (omega arith)) read next
 
-    copies : (s : Stage) (done place : ℕ) (mapping : Option ℕ) → option_and_then (advanced false (pages_of t.named p.pages) shown) (walk_of false (pages_of t.named p.pages) k epoch) ≡ Some (spot done place false mapping)
+    copies : (s : JobStage) (done place : ℕ) (mapping : Option ℕ) → option_and_then (advanced false (pages_of t.named p.pages) shown) (walk_of false (pages_of t.named p.pages) k epoch) ≡ Some (spot done place false mapping)
         → Copies request info k (epoch ++ lines.Move shown ∷ []) (record t { rest = t.rest ++ segment_of gref value ∷ []; stage = s }) p.pages p.page done place mapping []
     copies s done place mapping came = record {
       is = same_request request info t rest t.pages p.pages s c.is;
@@ -508,7 +508,7 @@ unmap_goes request info k epoch t m p = record { is = c.is; steps = rests refl; 
           more = more.1;
         })
 
-pub page_goes : (request : RawRequest) (info : DiskInfo) (k : ℕ) (epoch : List Line) (h : Hypervisor) (s : Stage) (t : Work) (o : Outcome) (a : BackAct) → IsCopying request info k epoch s t → back_act h (back.Job k) (ask_at s t) o ≡ Some a → Goes request info k epoch s t a
+pub page_goes : (request : RawRequest) (info : DiskInfo) (k : ℕ) (epoch : List Line) (h : Hypervisor) (s : JobStage) (t : Work) (o : Outcome) (a : BackAct) → IsCopying request info k epoch s t → back_act h (back.Job k) (ask_at s t) o ≡ Some a → Goes request info k epoch s t a
 page_goes request info k epoch h stage.MapPage t o a p e = map_asked request info k epoch h t o a t.pages refl p e
 page_goes request info k epoch h (stage.PageReference m) t o a p e = of_back (Goes request info k epoch (stage.PageReference m) t) _ a (record { pages = p.pages; goes = reference_goes request info k epoch t m (frame_of h.grants m) _ p }) e
 page_goes request info k epoch h (stage.PageSectors m gref) t o a p e = of_back (Goes request info k epoch (stage.PageSectors m gref) t) _ a (record { pages = p.pages; goes = sectors_goes request info k epoch t m gref (frame_of h.grants m) _ p }) e

@@ -19,9 +19,9 @@ use Rattle.report_rules.specs.Walk.{spot, advanced, walk_of}
 use Rattle.report_rules.specs.Steps.{failed_in, touched_by}
 use Rattle.report_rules.specs.Data.{words_from}
 use Rattle.report_rules.specs.Reply.{end_of}
-use Rattle.back_jobs.specs.declared.stage.Stage.{Stage}
-use Rattle.back_jobs.specs.declared.stage.Stage.TheVariants as stage
-use Rattle.back_jobs.specs.Task.{Work, first_of, rest_of}
+use Rattle.back_jobs.specs.declared.stage.JobStage.{JobStage}
+use Rattle.back_jobs.specs.declared.stage.JobStage.TheVariants as stage
+use Rattle.back_jobs.specs.Work.{Work, first_of, rest_of}
 use Rattle.ring_laws.proofs.JobLines.{is_disk_of, IsAside, walk_aside, failed_same}
 use Rattle.ring_laws.proofs.TaskSteps.{task_at}
 
@@ -72,7 +72,7 @@ abbrev pub ending : List Task → ℕ → List Line → Status → Option Status
 ending work k epoch served = end_of (failed_in k epoch) (length work) served (walk_of false work k epoch)
 
 -- how far a job is that copies no segments
-abbrev pub IsAt : List Task → ℕ → List Line → Stage → Work → Type 0
+abbrev pub IsAt : List Task → ℕ → List Line → JobStage → Work → Type 0
 IsAt work k epoch stage.MapPage t = ⊥
 IsAt work k epoch (stage.PageReference m) t = ⊥
 IsAt work k epoch (stage.PageSectors m gref) t = ⊥

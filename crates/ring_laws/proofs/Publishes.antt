@@ -25,8 +25,8 @@ use Rattle.report_rules.specs.Published.{info_of, no_disk, info_told, serving, i
 use Rattle.back_jobs.specs.Jobs.{ask_job}
 use Rattle.blk_front.specs.State.{is_open}
 use Rattle.blk_back.specs.declared.told.Halt.{Halt}
-use Rattle.blk_back.specs.declared.stage.Stage.{Stage}
-use Rattle.blk_back.specs.declared.stage.Stage.TheVariants as stage
+use Rattle.blk_back.specs.declared.stage.BackStage.{BackStage}
+use Rattle.blk_back.specs.declared.stage.BackStage.TheVariants as stage
 use Rattle.blk_back.specs.Ask.{is_led, ask_of}
 use Rattle.blk_back.specs.View as back
 use Rattle.blk_back.specs.View.{info_of as back_info}
@@ -139,7 +139,7 @@ line_serves before line same =
     ap (λ (ls : List Line). fold serving_after (serving false false false false) ls) (epoch_longer before line same)
     ∙ fold-append serving_after (serving false false false false) (this_epoch before) (line ∷ [])
 
-pub negotiated_serves : (s : Stage) (at : End) (move : KeyMove) (d : Directory) (before : List Line) → served_by before ≡ said_by d → served_by (before ++ negotiated_lines s at move d) ≡ said_by (negotiated s at move d)
+pub negotiated_serves : (s : BackStage) (at : End) (move : KeyMove) (d : Directory) (before : List Line) → served_by before ≡ said_by d → served_by (before ++ negotiated_lines s at move d) ≡ said_by (negotiated s at move d)
 negotiated_serves s at move d before told = negotiated_cases (λ keys shown. served_by (before ++ shown) ≡ said_by keys) s at move d (λ may. does) none
   where
     none : served_by (before ++ []) ≡ said_by d
@@ -160,7 +160,7 @@ negotiated_serves s at move d before told = negotiated_cases (λ keys shown. ser
         (λ path first. watched (taken (watches_of d at)) _ refl refl) none
 
 -- once the back is led no more, no feature's key is set
-negotiated_still : (s : Stage) (at : End) (move : KeyMove) (d : Directory) → is_led s ≡ false → said_by (negotiated s at move d) ≡ said_by d
+negotiated_still : (s : BackStage) (at : End) (move : KeyMove) (d : Directory) → is_led s ≡ false → said_by (negotiated s at move d) ≡ said_by d
 negotiated_still s at move d led = negotiated_cases (λ keys shown. said_by keys ≡ said_by d) s at move d does refl
   where
     unnamed_by : (who : End) (path text : List ℕ) → may_negotiate s who (Sets path text) ≡ true → may_set who path text ≡ true → names_feature path ≡ false
@@ -255,7 +255,7 @@ ready_runs false true e = absurd (cc)
 ready_runs false false e = (refl, refl)
 
 -- a move of its own leaves the back waiting for its front's terms
-still_led : (s : Stage) (v : back.View) (a : BackAnswer) → v.stage ≡ s → is_led s ≡ true → (let n : back.View = back_step.step_at s v a in is_led n.stage) ≡ true
+still_led : (s : BackStage) (v : back.View) (a : BackAnswer) → v.stage ≡ s → is_led s ≡ true → (let n : back.View = back_step.step_at s v a in is_led n.stage) ≡ true
 still_led stage.InitWait v a here led = ap is_led here
 still_led s v a here led = absurd (cc)
 

@@ -14,7 +14,7 @@ use Rattle.report_rules.specs.Job.{entry_values}
 use Rattle.report_rules.specs.Standing.{is_epoch, this_epoch}
 use Rattle.report_rules.specs.Reply.{answered_in, AreReplies}
 use Rattle.back_jobs.specs.Jobs.{ask_job, asked, place_of, work_of, waits, work_at, told_at as told_works}
-use Rattle.back_jobs.specs.Task.{Work, step_of}
+use Rattle.back_jobs.specs.Work.{Work, step_of}
 use Rattle.ring_words.specs.Shape.{Shape}
 use Rattle.blk_base.specs.declared.parts.End.TheVariants as end
 use Rattle.blk_back.specs.Step.{may_attach, attached}
@@ -22,8 +22,8 @@ use Rattle.blk_back.specs.Ask.{ask_of}
 use Rattle.blk_back.specs.View as back
 use Rattle.blk_back.specs.Step as back_step
 use Rattle.blk_back.specs.declared.stage.Reply.{Reply}
-use Rattle.blk_back.specs.declared.stage.Stage.TheVariants as stage
-use Rattle.blk_back.specs.declared.stage.Stage.{Stage}
+use Rattle.blk_back.specs.declared.stage.BackStage.TheVariants as stage
+use Rattle.blk_back.specs.declared.stage.BackStage.{BackStage}
 use Rattle.blk_back.specs.declared.told.Halt.{Halt}
 use Rattle.hypervisor.specs.Hypervisor.{Hypervisor}
 use Rattle.split_model.specs.World.{World, start_of, suspended}
@@ -133,7 +133,7 @@ finds_of config before ys more v new x shape knows all grown epoch runs t past m
 }
 
 -- the operation of the reply whose producer is written
-producer_op : (terms : Terms) (values : List ℕ) (epoch : List Line) (answered : List Answered) (k : ℕ) (s : Stage) (v : back.View) (x : Sight) → KnowsAt s x v → (v.halted ≡ None → Owes terms values epoch v.fetched v.jobs.works (answered ++ pending_at s k)) → (r : Reply) → s ≡ stage.Producer r → r.op < 2 ^ 8
+producer_op : (terms : Terms) (values : List ℕ) (epoch : List Line) (answered : List Answered) (k : ℕ) (s : BackStage) (v : back.View) (x : Sight) → KnowsAt s x v → (v.halted ≡ None → Owes terms values epoch v.fetched v.jobs.works (answered ++ pending_at s k)) → (r : Reply) → s ≡ stage.Producer r → r.op < 2 ^ 8
 producer_op terms values epoch answered k (stage.Producer p) v x knows owes r e =
     let o : Owes terms values epoch v.fetched v.jobs.works (answered ++ pending k p ∷ []) = owes knows.running in
     let last : IsOwed terms values epoch (pending k p) = (all_second (IsOwed terms values epoch) answered (pending k p ∷ []) o.each).0 in
@@ -222,7 +222,7 @@ outside_replies config w before ys all s r =
     let own : Bool = is_between w.back.stage in
     others config own before ys w.back (none_between w.back.stage) (outsiders_pass w.back.stage ys all) (outsiders_by w.back.stage ys all) (values_aside ys before (outsiders_other w.back.stage ys all)) s.tells r
   where
-    none_between : (s : Stage) → is_between s ≡ true → under_way s ≡ []
+    none_between : (s : BackStage) → is_between s ≡ true → under_way s ≡ []
     none_between (stage.ReplyHigh r) is = absurd (cc)
     none_between (stage.ReplyLast r) is = absurd (cc)
     none_between (stage.Producer r) is = absurd (cc)
@@ -253,7 +253,7 @@ halted_replies config w before why s r = stops_cases (λ (new : back.View). Repl
 
 -- a back that waits may read the key that names the layout
 layout_outsider : (w : World) → w.back.stage ≡ stage.InitWait → IsOutsider w.back.stage (lines.Move (layout_read w))
-layout_outsider w waits = subst (λ (s : Stage). IsOutsider s (lines.Move (layout_read w))) (sym waits) (get_key stage.InitWait end.Back layout_path (layout_text w) (λ own. absurd (cc)) (λ led. absurd (cc)))
+layout_outsider w waits = subst (λ (s : BackStage). IsOutsider s (lines.Move (layout_read w))) (sym waits) (get_key stage.InitWait end.Back layout_path (layout_text w) (λ own. absurd (cc)) (λ led. absurd (cc)))
 
 -- a back that takes terms has answered no job
 attached_replies : (config : Options) (w : World) (before : List Line) (shape : Shape) (grefs : List ℕ) (port : ℕ) → Stand config before w → Replies config before w.back
@@ -270,7 +270,7 @@ attached_replies config w before shape grefs port s r = attach_cases (λ (new : 
           job = told.job;
           writes = writes_stage _ w.back.stage stage.MapRing told.answered (ap under_way waits) told.writes;
           owes = λ runs. owes_anew (terms_of config w.back) _ _ _ w.back.fetched w.back.jobs.works (told.answered ++ []) (same ∙ unread config.start w before shape grefs s.ring may)
-              (subst (λ (q : Stage). Owes (terms_of config w.back) (entry_values (before ++ lines.Move (layout_read w) ∷ [])) (this_epoch (before ++ lines.Move (layout_read w) ∷ [])) w.back.fetched w.back.jobs.works (told.answered ++ pending_at q told.job)) waits (told.owes runs));
+              (subst (λ (q : BackStage). Owes (terms_of config w.back) (entry_values (before ++ lines.Move (layout_read w) ∷ [])) (this_epoch (before ++ lines.Move (layout_read w) ∷ [])) w.back.fetched w.back.jobs.works (told.answered ++ pending_at q told.job)) waits (told.owes runs));
           chosen = chosen_stage _ w.back.stage stage.MapRing told.answered refl told.chosen;
         }
 

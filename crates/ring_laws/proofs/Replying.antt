@@ -12,16 +12,16 @@ use Rattle.blk_base.specs.declared.ask.BackAnswer.{BackAnswer}
 use Rattle.blk_layout.specs.Entry.{request_of}
 use Rattle.schedule_text.specs.declared.line.Line.{Line}
 use Rattle.segment_list.specs.Verdict.{verdict_of}
-use Rattle.back_jobs.specs.Task.{Work, begun}
+use Rattle.back_jobs.specs.Work.{Work, begun}
 use Rattle.back_jobs.specs.Jobs.{is_done, response_of, response_at, work_at, removed_at}
-use Rattle.back_jobs.specs.declared.stage.Stage.TheVariants as job_stage
-use Rattle.back_jobs.specs.declared.stage.Stage.{Stage as JobStage}
+use Rattle.back_jobs.specs.declared.stage.JobStage.TheVariants as job_stage
+use Rattle.back_jobs.specs.declared.stage.JobStage.{JobStage}
 use Rattle.blk_back.specs.View.{View}
 use Rattle.blk_back.specs.Ask.{next_reply, reply_of}
 use Rattle.blk_back.specs.Step.{at, looked, loop_step, fetched, next_number, step_at}
 use Rattle.blk_back.specs.declared.stage.Reply.{Reply}
-use Rattle.blk_back.specs.declared.stage.Stage.TheVariants as stage
-use Rattle.blk_back.specs.declared.stage.Stage.{Stage}
+use Rattle.blk_back.specs.declared.stage.BackStage.TheVariants as stage
+use Rattle.blk_back.specs.declared.stage.BackStage.{BackStage}
 use Rattle.ring_words.specs.Ring.{requests_of, overruns, notifies}
 use Rattle.ring_laws.proofs.Knows.{KnowsAt}
 use Rattle.ring_laws.proofs.Shows.{Sight}
@@ -36,7 +36,7 @@ use Rattle.ring_laws.proofs.Owed.{IsOwed, Owes, owes_begun, owes_fetched}
 abbrev pub pending : ℕ → Reply → Answered
 pending k r = record { job = k; response = response_in r; producer = 0 }
 
-abbrev pub pending_at : Stage → ℕ → List Answered
+abbrev pub pending_at : BackStage → ℕ → List Answered
 pending_at (stage.ReplyHigh r) k = pending k r ∷ []
 pending_at (stage.ReplyLast r) k = pending k r ∷ []
 pending_at (stage.Producer r) k = pending k r ∷ []
@@ -135,8 +135,8 @@ replies terms values epoch answered v r a e finds o =
         owes_begun terms values epoch v.fetched v.jobs.works answered d.place d.job (pending t.number r) d.found refl (f.lower r d) (f.done r d) nothing
 
 -- the stage stays
-as_it_was : (terms : Terms) (values : List ℕ) (epoch : List Line) (answered : List Answered) (k : ℕ) (s : Stage) (v : View) → v.stage ≡ s → Owes terms values epoch v.fetched v.jobs.works (answered ++ pending_at s k) → Owes terms values epoch v.fetched v.jobs.works (answered ++ pending_at v.stage k)
-as_it_was terms values epoch answered k s v here o = subst (λ (q : Stage). Owes terms values epoch v.fetched v.jobs.works (answered ++ pending_at q k)) (sym here) o
+as_it_was : (terms : Terms) (values : List ℕ) (epoch : List Line) (answered : List Answered) (k : ℕ) (s : BackStage) (v : View) → v.stage ≡ s → Owes terms values epoch v.fetched v.jobs.works (answered ++ pending_at s k) → Owes terms values epoch v.fetched v.jobs.works (answered ++ pending_at v.stage k)
+as_it_was terms values epoch answered k s v here o = subst (λ (q : BackStage). Owes terms values epoch v.fetched v.jobs.works (answered ++ pending_at q k)) (sym here) o
 
 loop_owes : (terms : Terms) (values : List ℕ) (epoch : List Line) (answered : List Answered) (k : ℕ) (v : View) (next : Option Reply) (a : BackAnswer) → v.stage ≡ stage.Loop → next_reply v ≡ next → (is_some v.halted ≡ false → Finds terms values epoch v (loop_step v next a)) → IsResting terms values epoch answered v
     → OwesThen terms values epoch answered (loop_step v next a)
@@ -166,7 +166,7 @@ pushed terms values epoch answered k producer fetched works r o =
       low = subst (λ (ns : List ℕ). AllByRecursion (λ (n : ℕ). n ≤ fetched) ns) jobs o.low;
     }
 
-pub owes_at : (terms : Terms) (values : List ℕ) (epoch : List Line) (answered : List Answered) (k : ℕ) (s : Stage) (v : View) (x : Sight) (a : BackAnswer) → v.stage ≡ s → KnowsAt s x v → (is_some v.halted ≡ false → Finds terms values epoch v (step_at s v a))
+pub owes_at : (terms : Terms) (values : List ℕ) (epoch : List Line) (answered : List Answered) (k : ℕ) (s : BackStage) (v : View) (x : Sight) (a : BackAnswer) → v.stage ≡ s → KnowsAt s x v → (is_some v.halted ≡ false → Finds terms values epoch v (step_at s v a))
     → (is_some v.halted ≡ false → Owes terms values epoch v.fetched v.jobs.works (answered ++ pending_at s k)) → OwesThen terms values epoch (answered_then s answered k v.ring.indices.prod) (step_at s v a)
 owes_at terms values epoch answered k stage.MapRing v x (answers.Mapped m) here knows finds o = stays terms values epoch answered k _ (either_stage (nat_lt (length v.pages + 1) (length v.grefs)))
   where

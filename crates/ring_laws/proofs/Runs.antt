@@ -23,8 +23,8 @@ use Rattle.report_rules.specs.Overrun.{IsOverrunRule}
 use Rattle.report_rules.specs.Stretch.{AreStretches}
 use Rattle.back_jobs.specs.Jobs.{ask_job, complete_job}
 use Rattle.blk_back.specs.declared.told.Halt.{Halt}
-use Rattle.blk_back.specs.declared.stage.Stage.{Stage as BackStage}
-use Rattle.blk_back.specs.declared.stage.Stage.TheVariants as stage
+use Rattle.blk_back.specs.declared.stage.BackStage.{BackStage}
+use Rattle.blk_back.specs.declared.stage.BackStage.TheVariants as stage
 use Rattle.blk_back.specs.Step.{may_attach, attached}
 use Rattle.report_rules.specs.Job.{entry_values}
 use Rattle.blk_back.specs.View as back

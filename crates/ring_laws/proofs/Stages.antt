@@ -20,8 +20,8 @@ use Rattle.schedule_text.specs.declared.line.Line.{Line}
 use Rattle.schedule_text.specs.declared.line.Line.TheVariants as lines
 use Rattle.back_jobs.specs.Jobs.{first_mapping}
 use Rattle.blk_back.specs.declared.stage.Reply.{Reply}
-use Rattle.blk_back.specs.declared.stage.Stage.{Stage}
-use Rattle.blk_back.specs.declared.stage.Stage.TheVariants as stage
+use Rattle.blk_back.specs.declared.stage.BackStage.{BackStage}
+use Rattle.blk_back.specs.declared.stage.BackStage.TheVariants as stage
 use Rattle.blk_back.specs.View.{View, page_of, slot_page}
 use Rattle.blk_back.specs.Ask.{ask_at, loop_ask, index_ask, entry_ask, unmap_ask, next_gref, next_reply, response_word}
 use Rattle.blk_back.specs.Step.{at, abort, unmapped_bound, unmapped_unbound, other_pages, replied, loop_step}
@@ -96,7 +96,7 @@ send_knows : (b : Bool) (x : Sight) (v : View) → Serves 0 x v → Knows x (at 
 send_knows true x v k = k
 send_knows false x v k = k
 
-pub back_goes : (before : List Line) (h : Hypervisor) (s : Stage) (v : View) (o : Outcome) (a : BackAct) (x : Sight) → AreEarlier h.grants.made v.pages → KnowsAt s x v → Knows x v → Shows before x → ObeysRing before x.start (is_some v.halted) → v.told ≡ None
+pub back_goes : (before : List Line) (h : Hypervisor) (s : BackStage) (v : View) (o : Outcome) (a : BackAct) (x : Sight) → AreEarlier h.grants.made v.pages → KnowsAt s x v → Knows x v → Shows before x → ObeysRing before x.start (is_some v.halted) → v.told ≡ None
     → back_act h back.Back (ask_at s v) o ≡ Some a → Goes x.start x.values before s v a
 back_goes before h stage.InitWait v o a x earlier k kept shows stands told e = waits_goes before h v a x k kept shows stands told e
 back_goes before h stage.MapRing v o a x earlier k kept shows stands told e =

@@ -23,7 +23,7 @@ use Rattle.report_rules.specs.Ring.{page_made}
 use Rattle.report_rules.specs.Made.{made_by}
 use Rattle.report_rules.specs.Standing.{is_epoch, is_unmap_of, mapping_made, standing_after, numbered}
 use Rattle.report_rules.proofs.Back.{standing_more}
-use Rattle.back_jobs.specs.Task.{Work}
+use Rattle.back_jobs.specs.Work.{Work}
 use Rattle.back_jobs.specs.Jobs.{mapping_at}
 use Rattle.back_jobs.specs.Hands.{hand_of, hands_in}
 use Rattle.back_jobs.proofs.Hands.{among, named_in}

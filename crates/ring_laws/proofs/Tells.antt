@@ -8,9 +8,9 @@ use Rattle.schedule_text.specs.declared.line.Line.{Line}
 use Rattle.report_rules.specs.Standing.{this_epoch}
 use Rattle.report_rules.specs.Job.{entry_values}
 use Rattle.report_rules.specs.Effect.{disk_move_shown}
-use Rattle.back_jobs.specs.Task.{Work}
-use Rattle.blk_back.specs.declared.stage.Stage.{Stage}
-use Rattle.blk_back.specs.declared.stage.Stage.TheVariants as stage
+use Rattle.back_jobs.specs.Work.{Work}
+use Rattle.blk_back.specs.declared.stage.BackStage.{BackStage}
+use Rattle.blk_back.specs.declared.stage.BackStage.TheVariants as stage
 use Rattle.blk_back.specs.View.{View, info_of as back_info}
 use Rattle.ring_laws.proofs.Sight.{foreign_abi}
 use Rattle.ring_laws.proofs.Shows.{Sight, Shows, shows_other}
@@ -68,7 +68,7 @@ tells_aside config before ys v all same t =
     }
 
 -- the numbers so far are below 2 ^ 64
-pub small_number : (s : Stage) (v : View) (x : Sight) → KnowsAt s x v → is_some v.halted ≡ false → v.fetched < 2 ^ 64
+pub small_number : (s : BackStage) (v : View) (x : Sight) → KnowsAt s x v → is_some v.halted ≡ false → v.fetched < 2 ^ 64
 small_number s v x = by_stage s
   where
     of_rest : (n count : ℕ) → n ≡ count % 2 ^ 64 → n < 2 ^ 64
@@ -80,7 +80,7 @@ small_number s v x = by_stage s
     waits : Waits x v.ring.indices v.ring.seen v.halted v.fetched → v.fetched < 2 ^ 64
     waits w = let e = w.numbered in omega arith
 
-    by_stage : (s : Stage) → KnowsAt s x v → is_some v.halted ≡ false → v.fetched < 2 ^ 64
+    by_stage : (s : BackStage) → KnowsAt s x v → is_some v.halted ≡ false → v.fetched < 2 ^ 64
     by_stage stage.InitWait k r = waits k.waits
     by_stage stage.MapRing k r = waits k.waits
     by_stage (stage.Fetch n) k r = let s : Serves n x v = k.1 in of_rest v.fetched s.count s.numbered

@@ -12,8 +12,8 @@ use Rattle.blk_layout.specs.Entry.{request_of}
 use Rattle.segment_list.specs.declared.verdict.DiskInfo.{DiskInfo}
 use Rattle.report_rules.specs.declared.work.Task.{Task}
 use Rattle.report_rules.specs.Job.{words_of_job, id_of}
-use Rattle.back_jobs.specs.declared.stage.Stage.{Stage}
-use Rattle.back_jobs.specs.Task.{Work}
+use Rattle.back_jobs.specs.declared.stage.JobStage.{JobStage}
+use Rattle.back_jobs.specs.Work.{Work}
 use Rattle.back_jobs.specs.Jobs.{removed_at}
 use Rattle.back_jobs.proofs.Hands.{IsAmong, place_among}
 use Rattle.blk_back.specs.View.{info_of as back_info}
@@ -75,7 +75,7 @@ entry_kept abi values more k first read =
     let enough : entry_words_of abi ≤ length (drop ((k - 1) * entry_words_of abi) values) = omega arith in
     ap (λ (l : List ℕ). take size l) (drop-append-le ((k - 1) * size) values more from) ∙ take-append-le size (drop ((k - 1) * size) values) more enough
 
-come_aside : (request : RawRequest) (info : DiskInfo) (served : Status) (work : List Task) (k : ℕ) (epoch ys : List Line) (s : Stage) (t : Work) → IsAside k ys → HasCome request info served work k epoch s t → HasCome request info served work k (epoch ++ ys) s t
+come_aside : (request : RawRequest) (info : DiskInfo) (served : Status) (work : List Task) (k : ℕ) (epoch ys : List Line) (s : JobStage) (t : Work) → IsAside k ys → HasCome request info served work k epoch s t → HasCome request info served work k (epoch ++ ys) s t
 come_aside request info served work k epoch ys s t aside (serves settled okay at) =
     serves (subst (λ (words : List ℕ). IsSettled request info words work served) (sym (read_aside k epoch ys aside.none)) settled) okay (at_aside work k epoch ys s t aside at)
 come_aside request info served work k epoch ys s t aside (over status done ends) = over status done (ending_aside work k epoch ys served aside ∙ ends)

@@ -18,8 +18,8 @@ use Rattle.report_rules.specs.Standing.{this_epoch}
 use Rattle.report_rules.specs.Ring.{page_from, word_in, ring_pages}
 use Rattle.report_rules.specs.Reply.{is_event, value_written, values_written, within_reply, row_of, reply_pushed, ends_with_write, is_reply, is_of_back, IsReplyAt}
 use Rattle.report_rules.proofs.Obeys.{obeys_none, obeys_more}
-use Rattle.blk_back.specs.declared.stage.Stage.{Stage}
-use Rattle.blk_back.specs.declared.stage.Stage.TheVariants as stage
+use Rattle.blk_back.specs.declared.stage.BackStage.{BackStage}
+use Rattle.blk_back.specs.declared.stage.BackStage.TheVariants as stage
 use Rattle.ring_laws.proofs.Lists.{gathered_same, gathered_none, or_false}
 use Rattle.ring_laws.proofs.Sight.{is_touch, is_other, other_touch}
 use Rattle.ring_laws.proofs.Shows.{Sight, Shows, IsOnPages, other_on_pages, epoch_longer, pages_kept, touched_more}
@@ -81,11 +81,11 @@ pushes_none before line none =
     pushed_more before line ∙ ap (λ (v : Option ℕ). if is_some v && (within_reply longer == 0) then Some (row_of (values_written longer) (length (values_written longer) / 4 - 1)) else None) none
 
 -- between two replies
-pub between_replies : (before : List Line) (s : Stage) (answered : List Answered) → Writes before s answered → under_way s ≡ [] → within_reply before ≡ 0
+pub between_replies : (before : List Line) (s : BackStage) (answered : List Answered) → Writes before s answered → under_way s ≡ [] → within_reply before ≡ 0
 between_replies before s answered w none = within_is (values_written before) answered [] (w.words ∙ ap (λ (u : List ℕ). rows_of answered ++ u) none) (omega arith)
 
 -- the rule allows a line without a word of a reply that tells of none; a line of the back's own only between two replies
-pub unwritten_at : (before : List Line) (line : Line) (s : Stage) (answered : List Answered) → Writes before s answered → value_written before line ≡ None → is_reply line ≡ false → (is_of_back line ≡ true → under_way s ≡ []) → IsReplyAt before line
+pub unwritten_at : (before : List Line) (line : Line) (s : BackStage) (answered : List Answered) → Writes before s answered → value_written before line ≡ None → is_reply line ≡ false → (is_of_back line ≡ true → under_way s ≡ []) → IsReplyAt before line
 unwritten_at before line s answered w none untold own = record {
   next = if_none _ none;
   told = if_none _ w.pushed;
@@ -94,7 +94,7 @@ unwritten_at before line s answered w none untold own = record {
 }
 
 -- such a line leaves what was written
-pub writes_still : (before : List Line) (line : Line) (s : Stage) (answered : List Answered) → Writes before s answered → IsReplyAt before line → values_written (before ++ line ∷ []) ≡ values_written before → value_written (before ++ line ∷ []) line ≡ None → Writes (before ++ line ∷ []) s answered
+pub writes_still : (before : List Line) (line : Line) (s : BackStage) (answered : List Answered) → Writes before s answered → IsReplyAt before line → values_written (before ++ line ∷ []) ≡ values_written before → value_written (before ++ line ∷ []) line ≡ None → Writes (before ++ line ∷ []) s answered
 writes_still before line s answered w allowed still none = record {
   obeys = obeys_more IsReplyAt before line w.obeys allowed;
   words = still ∙ w.words;
@@ -115,25 +115,25 @@ passes_other own line other untold foreign = record { on = other_on_pages line o
 abbrev pub AllPass : Bool → List Line → Type 0
 AllPass own ls = AllByRecursion (Passes own) ls
 
-only_own : (own of_back : Bool) (s : Stage) → (own ≡ true → under_way s ≡ []) → (own ≡ false → of_back ≡ false) → of_back ≡ true → under_way s ≡ []
+only_own : (own of_back : Bool) (s : BackStage) → (own ≡ true → under_way s ≡ []) → (own ≡ false → of_back ≡ false) → of_back ≡ true → under_way s ≡ []
 only_own true of_back s none foreign is = none refl
 only_own false of_back s none foreign is = let other : of_back ≡ false = foreign refl in absurd (cc)
 
-pub writes_pass : (own : Bool) (before : List Line) (line : Line) (s : Stage) (answered : List Answered) → (own ≡ true → under_way s ≡ []) → Passes own line → Writes before s answered → Writes (before ++ line ∷ []) s answered
+pub writes_pass : (own : Bool) (before : List Line) (line : Line) (s : BackStage) (answered : List Answered) → (own ≡ true → under_way s ≡ []) → Passes own line → Writes before s answered → Writes (before ++ line ∷ []) s answered
 writes_pass own before line s answered none p w =
     writes_still before line s answered w
     (unwritten_at before line s answered w (p.unwritten before) p.untold (only_own own (is_of_back line) s none p.foreign))
     (written_still before line p.on (p.unwritten before))
     (p.unwritten (before ++ line ∷ []))
 
-pub writes_all : (own : Bool) (before ys : List Line) (s : Stage) (answered : List Answered) → (own ≡ true → under_way s ≡ []) → AllPass own ys → Writes before s answered → Writes (before ++ ys) s answered
+pub writes_all : (own : Bool) (before ys : List Line) (s : BackStage) (answered : List Answered) → (own ≡ true → under_way s ≡ []) → AllPass own ys → Writes before s answered → Writes (before ++ ys) s answered
 writes_all own before [] s answered none all w = subst (λ (ls : List Line). Writes ls s answered) (sym (append-nil before)) w
 writes_all own before (y ∷ ys) s answered none all w =
     subst (λ (ls : List Line). Writes ls s answered) (append_assoc before (y ∷ []) ys)
     (writes_all own (before ++ y ∷ []) ys s answered none all.1 (writes_pass own before y s answered none all.0 w))
 
 -- only what is under way counts of the stage
-pub writes_stage : (before : List Line) (s t : Stage) (answered : List Answered) → under_way s ≡ under_way t → Writes before s answered → Writes before t answered
+pub writes_stage : (before : List Line) (s t : BackStage) (answered : List Answered) → under_way s ≡ under_way t → Writes before s answered → Writes before t answered
 writes_stage before s t answered same w = record { obeys = w.obeys; words = w.words ∙ ap (λ (u : List ℕ). rows_of answered ++ u) same; pushed = w.pushed }
 
 -- the first line, and the last
@@ -144,5 +144,5 @@ start_writes config detail = record {
   pushed = refl;
 }
 
-pub end_writes : (before : List Line) (s : Stage) (answered : List Answered) → Writes before s answered → Obeys IsReplyAt (before ++ lines.End ∷ [])
+pub end_writes : (before : List Line) (s : BackStage) (answered : List Answered) → Writes before s answered → Obeys IsReplyAt (before ++ lines.End ∷ [])
 end_writes before s answered w = obeys_more IsReplyAt before lines.End w.obeys (unwritten_at before lines.End s answered w refl refl (λ own. absurd (cc)))

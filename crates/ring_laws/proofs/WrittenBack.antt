@@ -26,8 +26,8 @@ use Rattle.blk_layout.specs.Response.{response_words_of}
 use Rattle.report_rules.specs.Reply.{is_reply, row_of, are_alike, value_written, response_due, lines_before, answered_in}
 use Rattle.back_jobs.specs.Jobs.{first_mapping}
 use Rattle.blk_back.specs.declared.stage.Reply.{Reply}
-use Rattle.blk_back.specs.declared.stage.Stage.{Stage}
-use Rattle.blk_back.specs.declared.stage.Stage.TheVariants as stage
+use Rattle.blk_back.specs.declared.stage.BackStage.{BackStage}
+use Rattle.blk_back.specs.declared.stage.BackStage.TheVariants as stage
 use Rattle.blk_back.specs.declared.told.Halt.{Halt}
 use Rattle.blk_back.specs.View.{View, page_of, slot_page, slot_word}
 use Rattle.blk_back.proofs.Slots.{response_fits}
@@ -46,19 +46,19 @@ use Rattle.ring_laws.proofs.Written.{Passes, AllPass, passes_other, written_afte
 use Rattle.ring_laws.proofs.WrittenWord.{written_event, not_one, slot_writes, slot_lines, IsRaised, producer_writes}
 
 -- what the lines of a move make of the reply under way: none is, or one has a word more, or it is told
-pub data RowGoes (before ys : List Line) (s t : Stage) : Type 0 where
+pub data RowGoes (before ys : List Line) (s t : BackStage) : Type 0 where
   rests : under_way s ≡ [] → under_way t ≡ [] → answered_in (before ++ ys) ≡ answered_in before → RowGoes before ys s t
   grows : (r : Reply) → Candidate before (length (under_way s)) (response_in r) → row_at t ≡ Some r → length (under_way t) ≡ length (under_way s) + 1 → lines_before (before ++ ys) (length (under_way s) + 1) ≡ lines_before before (length (under_way s)) → answered_in (before ++ ys) ≡ answered_in before
       → ((answered : List Answered) (k prod : ℕ) → answered_then s answered k prod ≡ answered) → RowGoes before ys s t
   ends : (r : Reply) (chosen : ℕ) → s ≡ stage.Producer r → under_way t ≡ [] → response_due (lines_before before 3) chosen ≡ Some (response_words_of (response_in r)) → answered_in (before ++ ys) ≡ answered_in before ++ chosen ∷ [] → RowGoes before ys s t
 
 -- a move of the back, with the lines after it
-pub record MoveWrites (before : List Line) (answered : List Answered) (s : Stage) (old : View) (answer : BackAnswer) (shown : Move) (new : View) : Type 0 where
+pub record MoveWrites (before : List Line) (answered : List Answered) (s : BackStage) (old : View) (answer : BackAnswer) (shown : Move) (new : View) : Type 0 where
   pub writes : Writes (before ++ lines.Move shown ∷ (back_lines new.told answer ++ halt_lines old.halted new.halted)) new.stage answered
   pub row : RowGoes before (lines.Move shown ∷ (back_lines new.told answer ++ halt_lines old.halted new.halted)) s new.stage
 
 -- a move at which nothing is told and the back does not halt
-alone : (before : List Line) (answered : List Answered) (s : Stage) (old : View) (answer : BackAnswer) (shown : Move) (new : View) → new.told ≡ None → new.halted ≡ old.halted → Writes (before ++ lines.Move shown ∷ []) new.stage answered → RowGoes before (lines.Move shown ∷ []) s new.stage → MoveWrites before answered s old answer shown new
+alone : (before : List Line) (answered : List Answered) (s : BackStage) (old : View) (answer : BackAnswer) (shown : Move) (new : View) → new.told ≡ None → new.halted ≡ old.halted → Writes (before ++ lines.Move shown ∷ []) new.stage answered → RowGoes before (lines.Move shown ∷ []) s new.stage → MoveWrites before answered s old answer shown new
 alone before answered s old answer shown new told halted w row =
     let none : halt_lines old.halted new.halted ≡ [] = ap (λ (h : Option Halt). halt_lines old.halted h) halted ∙ unhalted old.halted in
     let all : back_lines new.told answer ++ halt_lines old.halted new.halted ≡ [] = untold new.told answer (halt_lines old.halted new.halted) told ∙ none in
@@ -76,7 +76,7 @@ halt_passes None (Some h) = (own_passes (lines.Halt (halt_line h)) refl refl, tt
 halt_passes (Some g) new = tt
 
 -- a move between two replies that writes no word of one; the back may halt
-quiet : (before : List Line) (answered : List Answered) (s : Stage) (old : View) (answer : BackAnswer) (shown : Move) (new : View) → Writes before s answered → under_way s ≡ [] → Passes true (lines.Move shown) → new.told ≡ None → under_way new.stage ≡ [] → MoveWrites before answered s old answer shown new
+quiet : (before : List Line) (answered : List Answered) (s : BackStage) (old : View) (answer : BackAnswer) (shown : Move) (new : View) → Writes before s answered → under_way s ≡ [] → Passes true (lines.Move shown) → new.told ≡ None → under_way new.stage ≡ [] → MoveWrites before answered s old answer shown new
 quiet before answered s old answer shown new w none p told still =
     let tail : AllPass true (back_lines new.told answer ++ halt_lines old.halted new.halted) = subst (λ (ls : List Line). AllPass true ls) (sym (untold new.told answer (halt_lines old.halted new.halted) told)) (halt_passes old.halted new.halted) in
     let ys : List Line = lines.Move shown ∷ (back_lines new.told answer ++ halt_lines old.halted new.halted) in
@@ -95,7 +95,7 @@ two_stages true = refl
 two_stages false = refl
 
 -- an act of a back at a stage
-abbrev BackWrites : List Line → Stage → List Answered → ℕ → View → BackAct → Type 0
+abbrev BackWrites : List Line → BackStage → List Answered → ℕ → View → BackAct → Type 0
 BackWrites before s answered k v a = MoveWrites before (answered_then s answered k v.ring.indices.prod) s v a.answer a.shown (step_at s v a.answer)
 
 -- and of one in its loop, by what it replies
@@ -119,7 +119,7 @@ map_writes : (before : List Line) (h : Hypervisor) (v : View) (x : Sight) (answe
 map_writes before h v x answered k (Ok frame) none shows told w =
     let line : Line = lines.Move (moves.Map back.Back (next_gref v) ReadWrite (h.grants.made + 1) frame) in
     let last : Bool = nat_lt (length v.pages + 1) (length v.grefs) in
-    let next : Stage = if last then stage.MapRing else stage.Bind in
+    let next : BackStage = if last then stage.MapRing else stage.Bind in
     alone before answered stage.MapRing v _ (moves.Map back.Back (next_gref v) ReadWrite (h.grants.made + 1) frame) (mapped (next_mapping h.grants (next_gref v) ReadWrite) v) told refl
     (writes_stage _ stage.MapRing next answered (sym (two_mappings last))
     (writes_still before line stage.MapRing answered w (unwritten_at before line stage.MapRing answered w refl refl (λ own. refl)) (written_map before (next_gref v) (h.grants.made + 1) frame ReadWrite x none shows) refl))
@@ -133,10 +133,10 @@ bind_writes before h v answered k port.Closed told w = quiet before answered sta
 bind_writes before h v answered k port.Bound told w = quiet before answered stage.Bind v _ (moves.BindRefused v.ring.port) _ w refl (own_passes (lines.Move (moves.BindRefused v.ring.port)) refl refl) told (unbound_nothing v.pages)
 
 -- a word is read, whatever the back makes of it
-read_writes : (before : List Line) (answered : List Answered) (s : Stage) (old : View) (answer : BackAnswer) (number frame word value : ℕ) (new : View) → Writes before s answered → under_way s ≡ [] → new.told ≡ None → under_way new.stage ≡ [] → MoveWrites before answered s old answer (moves.Read back.Back number frame word value) new
+read_writes : (before : List Line) (answered : List Answered) (s : BackStage) (old : View) (answer : BackAnswer) (number frame word value : ℕ) (new : View) → Writes before s answered → under_way s ≡ [] → new.told ≡ None → under_way new.stage ≡ [] → MoveWrites before answered s old answer (moves.Read back.Back number frame word value) new
 read_writes before answered s old answer number frame word value new w none told still = quiet before answered s old answer (moves.Read back.Back number frame word value) new w none (read_passes number frame word value) told still
 
-looked_writes : (before : List Line) (answered : List Answered) (s : Stage) (v otherwise : View) (answer : BackAnswer) (number frame place word : ℕ) → Writes before s answered → under_way s ≡ [] → v.told ≡ None → otherwise.told ≡ None → under_way otherwise.stage ≡ [] → MoveWrites before answered s v answer (moves.Read back.Back number frame place word) (looked v word otherwise)
+looked_writes : (before : List Line) (answered : List Answered) (s : BackStage) (v otherwise : View) (answer : BackAnswer) (number frame place word : ℕ) → Writes before s answered → under_way s ≡ [] → v.told ≡ None → otherwise.told ≡ None → under_way otherwise.stage ≡ [] → MoveWrites before answered s v answer (moves.Read back.Back number frame place word) (looked v word otherwise)
 looked_writes before answered s v otherwise answer number frame place word w none told other still =
     let P : View → Type 0 = λ (new : View). MoveWrites before answered s v answer (moves.Read back.Back number frame place word) new in
     either_view P (overruns v.ring.indices word) (overrun v word) _
@@ -158,11 +158,11 @@ fetch_writes before answered n v answer number frame place word w told =
     (read_writes before answered (stage.Fetch n) v answer number frame place word (record v { ring = record v.ring { entry = v.ring.entry ++ word ∷ [] }; stage = stage.Fetch (n + 1) }) w refl told refl)
 
 -- the back waits; its stage stays
-wait_writes : (before : List Line) (answered : List Answered) (s : Stage) (old new : View) (answer : BackAnswer) → Writes before s answered → under_way s ≡ [] → new.told ≡ None → under_way new.stage ≡ under_way s → MoveWrites before answered s old answer (moves.Event mover.Back) new
+wait_writes : (before : List Line) (answered : List Answered) (s : BackStage) (old new : View) (answer : BackAnswer) → Writes before s answered → under_way s ≡ [] → new.told ≡ None → under_way new.stage ≡ under_way s → MoveWrites before answered s old answer (moves.Event mover.Back) new
 wait_writes before answered s old new answer w none told same = quiet before answered s old answer (moves.Event mover.Back) new w none (own_passes (lines.Move (moves.Event mover.Back)) refl refl) told (same ∙ none)
 
 -- and so where it takes a watch
-watch_writes : (before : List Line) (answered : List Answered) (s : Stage) (old new : View) (answer : BackAnswer) (path : List ℕ) → Writes before s answered → under_way s ≡ [] → new.told ≡ None → under_way new.stage ≡ under_way s → MoveWrites before answered s old answer (moves.Watched mover.Back path) new
+watch_writes : (before : List Line) (answered : List Answered) (s : BackStage) (old new : View) (answer : BackAnswer) (path : List ℕ) → Writes before s answered → under_way s ≡ [] → new.told ≡ None → under_way new.stage ≡ under_way s → MoveWrites before answered s old answer (moves.Watched mover.Back path) new
 watch_writes before answered s old new answer path w none told same = quiet before answered s old answer (moves.Watched mover.Back path) new w none (own_passes (lines.Move (moves.Watched mover.Back path)) refl refl) told (same ∙ none)
 
 idle_writes : (before : List Line) (h : Hypervisor) (v : View) (o : Outcome) (a : BackAct) (answered : List Answered) (asleep none : Bool) → under_way v.stage ≡ [] → v.told ≡ None → Writes before stage.Loop answered
@@ -172,7 +172,7 @@ idle_writes before h v o a answered false true same told w e = of_back (Loops be
 idle_writes before h v o a answered false false same told w e = of_back (Loops before answered None v) _ a (loop_word_writes before answered v _ _ (frame_of h.grants (slot_page v v.ring.indices.cons 0)) (slot_word v.shape v.ring.indices.cons 0) _ w told) e
 
 -- a word of a response is written: the row has it
-slot_goes : (before : List Line) (x : Sight) (v : View) (frame i w : ℕ) (r : Reply) (s t : Stage) → Serves 0 x v → Shows before x → length (under_way s) < 3 → Candidate before (length (under_way s)) (response_in r) → row_at t ≡ Some r → length (under_way t) ≡ length (under_way s) + 1
+slot_goes : (before : List Line) (x : Sight) (v : View) (frame i w : ℕ) (r : Reply) (s t : BackStage) → Serves 0 x v → Shows before x → length (under_way s) < 3 → Candidate before (length (under_way s)) (response_in r) → row_at t ≡ Some r → length (under_way t) ≡ length (under_way s) + 1
     → ((answered : List Answered) (k p : ℕ) → answered_then s answered k p ≡ answered) → i < 3 → (let page : Mapping = slot_page v v.ring.indices.prod i in RowGoes before (lines.Move (moves.Write back.Back page.number frame (slot_word v.shape v.ring.indices.prod i) w) ∷ []) s t)
 slot_goes before x v frame i w r s t k shows small c at long same within =
     let page : Mapping = slot_page v v.ring.indices.prod i in
@@ -182,7 +182,7 @@ slot_goes before x v frame i w r s t k shows small c at long same within =
     (answered_one before line refl refl) same
 
 -- one of the three words, and the stage that follows
-word_writes : (before : List Line) (h : Hypervisor) (x : Sight) (v new : View) (answer : BackAnswer) (i : ℕ) (r : Reply) (s t : Stage) (answered : List Answered) → Serves 0 x v → Shows before x → new.told ≡ None → new.halted ≡ v.halted → new.stage ≡ t → Writes before s answered → length (under_way s) ≡ i → i < 3 → under_way s ++ response_word r i ∷ [] ≡ under_way t
+word_writes : (before : List Line) (h : Hypervisor) (x : Sight) (v new : View) (answer : BackAnswer) (i : ℕ) (r : Reply) (s t : BackStage) (answered : List Answered) → Serves 0 x v → Shows before x → new.told ≡ None → new.halted ≡ v.halted → new.stage ≡ t → Writes before s answered → length (under_way s) ≡ i → i < 3 → under_way s ++ response_word r i ∷ [] ≡ under_way t
     → ((words : List ℕ) → are_alike i (row_of (under_way s ++ response_word r i ∷ []) 0) words ≡ are_alike i (response_words_of (response_in r)) words) → Candidate before i (response_in r) → row_at t ≡ Some r → ((l : List Answered) (n m : ℕ) → answered_then s l n m ≡ l)
     → (let page : Mapping = slot_page v v.ring.indices.prod i in MoveWrites before answered s v answer (moves.Write back.Back page.number (frame_of h.grants page) (slot_word v.shape v.ring.indices.prod i) (response_word r i)) new)
 word_writes before h x v new answer i r s t answered k shows told halted here w long small same alike job at still =
@@ -190,8 +190,8 @@ word_writes before h x v new answer i r s t answered k shows told halted here w 
     let shown : Move = moves.Write back.Back page.number (frame_of h.grants page) (slot_word v.shape v.ring.indices.prod i) (response_word r i) in
     let longer : length (under_way t) ≡ length (under_way s) + 1 = ap (λ (u : List ℕ). length u) (sym same) ∙ length-append (under_way s) (response_word r i ∷ []) in
     alone before answered s v answer shown new told halted
-    (subst (λ (q : Stage). Writes (before ++ lines.Move shown ∷ []) q answered) (sym here) (slot_writes before x v (frame_of h.grants page) i (response_word r i) (response_in r) s t answered k shows w long small same alike job))
-    (subst (λ (q : Stage). RowGoes before (lines.Move shown ∷ []) s q) (sym here)
+    (subst (λ (q : BackStage). Writes (before ++ lines.Move shown ∷ []) q answered) (sym here) (slot_writes before x v (frame_of h.grants page) i (response_word r i) (response_in r) s t answered k shows w long small same alike job))
+    (subst (λ (q : BackStage). RowGoes before (lines.Move shown ∷ []) s q) (sym here)
     (slot_goes before x v (frame_of h.grants page) i (response_word r i) r s t k shows (omega arith) (subst (λ (n : ℕ). Candidate before n (response_in r)) (sym long) job) at longer still small))
 
 loop_writes : (before : List Line) (h : Hypervisor) (v : View) (o : Outcome) (a : BackAct) (x : Sight) (answered : List Answered) (r : Option Reply) → Serves 0 x v → Shows before x → under_way v.stage ≡ [] → v.told ≡ None → Writes before stage.Loop answered
@@ -226,13 +226,13 @@ raised_writes before x v frame k r answered s shows small w c =
     }
 
 -- the first page that is left is unmapped, or the back waits
-unmap_writes : (before : List Line) (h : Hypervisor) (s : Stage) (v new : View) (o : Outcome) (a : BackAct) (answered : List Answered) (pages : List Mapping) → Writes before s answered → under_way s ≡ [] → new.told ≡ None → under_way new.stage ≡ [] → back_act h back.Back (unmap_ask pages) o ≡ Some a → MoveWrites before answered s v a.answer a.shown new
+unmap_writes : (before : List Line) (h : Hypervisor) (s : BackStage) (v new : View) (o : Outcome) (a : BackAct) (answered : List Answered) (pages : List Mapping) → Writes before s answered → under_way s ≡ [] → new.told ≡ None → under_way new.stage ≡ [] → back_act h back.Back (unmap_ask pages) o ≡ Some a → MoveWrites before answered s v a.answer a.shown new
 unmap_writes before h s v new o a answered [] w none told still e =
     back_wait (λ (b : BackAct). MoveWrites before answered s v b.answer b.shown new) h back.Back a (wait_writes before answered s v new _ w none told (still ∙ sym none)) (λ path. watch_writes before answered s v new _ path w none told (still ∙ sym none)) e
 unmap_writes before h s v new o a answered (page ∷ pages) w none told still e =
     of_back (λ (b : BackAct). MoveWrites before answered s v b.answer b.shown new) _ a (quiet before answered s v _ (moves.Unmap back.Back page.number) new w none (own_passes (lines.Move (moves.Unmap back.Back page.number)) refl refl) told still) e
 
-writes_at : (before : List Line) (h : Hypervisor) (s : Stage) (v : View) (o : Outcome) (a : BackAct) (x : Sight) (answered : List Answered) (k : ℕ) → KnowsAt s x v → Shows before x → under_way v.stage ≡ under_way s → v.told ≡ None → Writes before s answered
+writes_at : (before : List Line) (h : Hypervisor) (s : BackStage) (v : View) (o : Outcome) (a : BackAct) (x : Sight) (answered : List Answered) (k : ℕ) → KnowsAt s x v → Shows before x → under_way v.stage ≡ under_way s → v.told ≡ None → Writes before s answered
     → IfSome (replying s v) (λ (p : Reply × ℕ). Candidate before p.1 (response_in p.0)) → ((r : Reply) → s ≡ stage.Producer r → r.op < 2 ^ 8)
     → back_act h back.Back (ask_at s v) o ≡ Some a → BackWrites before s answered k v a
 writes_at before h stage.InitWait v o a x answered k n shows same told w job small e =

@@ -12,7 +12,7 @@ use Rattle.schedule_text.specs.declared.line.Line.TheVariants as lines
 use Rattle.report_rules.specs.Reply.{is_reply}
 use Rattle.back_jobs.specs.declared.effect.Effect.{Effect}
 use Rattle.back_jobs.specs.declared.effect.Effect.TheVariants as effect
-use Rattle.blk_back.specs.declared.stage.Stage.{Stage}
+use Rattle.blk_back.specs.declared.stage.BackStage.{BackStage}
 use Rattle.blk_back.specs.declared.told.BackTold.TheVariants as back_told
 use Rattle.blk_back.specs.Step.{told_effect}
 use Rattle.split_model.specs.Shown.{back_lines, effect_line}
@@ -28,7 +28,7 @@ IsElse line = Passes false line
 abbrev pub AreElse : List Line → Type 0
 AreElse ls = AllPass false ls
 
-pub other_writes : (before ys : List Line) (s : Stage) (answered : List Answered) → AreElse ys → Writes before s answered → Writes (before ++ ys) s answered
+pub other_writes : (before ys : List Line) (s : BackStage) (answered : List Answered) → AreElse ys → Writes before s answered → Writes (before ++ ys) s answered
 other_writes before ys s answered all w = writes_all false before ys s answered (λ own. absurd (cc)) all w
 
 -- lines that the rules on the ring pass over, but for those of replies

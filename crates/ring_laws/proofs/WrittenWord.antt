@@ -21,8 +21,8 @@ use Rattle.report_rules.specs.Made.{left_to}
 use Rattle.report_rules.specs.Reply.{is_event, value_written, values_written, within_reply, row_of, are_alike, response_due, most_jobs, lines_before, answered_in, is_answer, next_place, is_next_value, reply_pushed, line_of, IsReplyAt}
 use Rattle.report_rules.proofs.Obeys.{obeys_more}
 use Rattle.blk_back.specs.declared.stage.Reply.{Reply}
-use Rattle.blk_back.specs.declared.stage.Stage.{Stage}
-use Rattle.blk_back.specs.declared.stage.Stage.TheVariants as stage
+use Rattle.blk_back.specs.declared.stage.BackStage.{BackStage}
+use Rattle.blk_back.specs.declared.stage.BackStage.TheVariants as stage
 use Rattle.blk_back.specs.View.{View, page_of, slot_page, slot_word}
 use Rattle.blk_back.proofs.Slots.{response_fits}
 use Rattle.ring_laws.proofs.Shows.{Sight, Shows, other_on_pages, epoch_longer}
@@ -117,7 +117,7 @@ amid before line answered u e small some =
     ∙ ap (λ (b : Bool). if b then pushed else None) (no_and (is_some (value_written longer line)))))
 
 -- one of the three words of a response
-pub slot_writes : (before : List Line) (x : Sight) (v : View) (frame i w : ℕ) (r : Response) (s t : Stage) (answered : List Answered) → Serves 0 x v → Shows before x → Writes before s answered
+pub slot_writes : (before : List Line) (x : Sight) (v : View) (frame i w : ℕ) (r : Response) (s t : BackStage) (answered : List Answered) → Serves 0 x v → Shows before x → Writes before s answered
     → length (under_way s) ≡ i → i < 3 → under_way s ++ w ∷ [] ≡ under_way t
     → ((words : List ℕ) → are_alike i (row_of (under_way s ++ w ∷ []) 0) words ≡ are_alike i (response_words_of r) words)
     → Candidate before i r → (let page : Mapping = slot_page v v.ring.indices.prod i in Writes (before ++ lines.Move (moves.Write back.Back page.number frame (slot_word v.shape v.ring.indices.prod i) w) ∷ []) t answered)

@@ -3,8 +3,8 @@
 use crate::expected::same;
 use blk_base::{Abi, Status};
 use blk_layout::{
-    DirectOp, IndirectOp, RawRequest, Request, Response, Segment, read_request, read_response,
-    read_segment, request_words, response_words, segment_words,
+    DirectOp, IndirectOp, RawRequest, Response, Segment, WrittenRequest, read_request,
+    read_response, read_segment, request_words, response_words, segment_words,
 };
 
 const NO_SEGMENT: Segment = Segment {
@@ -34,7 +34,7 @@ const SEGMENTS: [Segment; 11] = [
 
 #[test]
 fn a_write_has_these_words(rt: HostRuntime) {
-    let write = Request::Direct {
+    let write = WrittenRequest::Direct {
         op: DirectOp::Write,
         count: 1,
         device: 51712,
@@ -67,7 +67,7 @@ fn a_write_has_these_words(rt: HostRuntime) {
 #[test]
 fn three_requests_are_read_back(rt: HostRuntime) {
     for abi in [Abi::X64, Abi::X32] {
-        let discard = Request::Discard {
+        let discard = WrittenRequest::Discard {
             flag: 1,
             device: 7,
             id: 0x0123_4567_89ab_cdef,
@@ -87,7 +87,7 @@ fn three_requests_are_read_back(rt: HostRuntime) {
             },
         );
 
-        let indirect = Request::Indirect {
+        let indirect = WrittenRequest::Indirect {
             op: IndirectOp::Write,
             count: 513,
             device: 51712,
@@ -109,7 +109,7 @@ fn three_requests_are_read_back(rt: HostRuntime) {
             },
         );
 
-        let flush = Request::Direct {
+        let flush = WrittenRequest::Direct {
             op: DirectOp::Flush,
             count: 0,
             device: 51712,

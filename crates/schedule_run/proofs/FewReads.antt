@@ -28,7 +28,7 @@ use Rattle.split_model.specs.Shown.{front_lines, back_lines, halt_lines, state_l
 use Rattle.split_model.specs.Happening.{is_guest_word, word_lines, ring_lines, enter_lines, front_shows, back_shows, job_shows, front_turn, back_turn, job_turn, is_guest_key}
 use Rattle.split_model.specs.Happening as ring
 use Rattle.vbd_model.specs.Happening.{Happening, FrontMoves, BackMoves, JobMoves, Closes, does, front_key, back_key, entered_at, reasons_of, halted_at, front_enters, back_halts, back_negotiates, back_bus_after, attaches, closes_does, is_fronts_ring, is_backs_ring, happens, after, all_does}
-use Rattle.blk_back.specs.declared.stage.Stage.{Stage as BackStage}
+use Rattle.blk_back.specs.declared.stage.BackStage.{BackStage}
 use Rattle.split_model.specs.Keys.{KeyMove, negotiated_lines}
 use Rattle.vbd_model.specs.Kind.{AreOfAll, AreOfSoFar}
 use Rattle.split_model.proofs.Keys.{key_cases, negotiated_cases}
@@ -76,6 +76,7 @@ use Rattle.xenbus_state.specs.FrontView.{ring_order}
 use Rattle.vbd_model.specs.Mappings.{mappings_in}
 use Rattle.vbd_model.proofs.Mappings.{cost_of, ring_left}
 use Rattle.report_laws.proofs.Numbers.{HaveNumbers, fetches_at, fetched_happens}
+use Rattle.vbd_laws.proofs.FitChannels.{IsOfJob}
 use Rattle.ring_laws.proofs.BackReads.{reads_at, reads_of, reads_short}
 
 front_few : (told : Option Told) → length (front_lines told) ≤ 1
@@ -115,10 +116,6 @@ back_shows_few w (Some a) =
 
 abbrev IsNoRead : BackAct → Type 0
 IsNoRead a = reads_at (Move a.shown) ≡ 0
-
-abbrev IsOfJob : BackMover → Type 0
-IsOfJob back_mover.Back = ⊥
-IsOfJob (back_mover.Job k) = Unit {0}
 
 job_reads_none : (who : BackMover) (mapping frame word value : ℕ) → IsOfJob who → reads_at (Move (moves.Read who mapping frame word value)) ≡ 0
 job_reads_none back_mover.Back mapping frame word value job = absurd job
@@ -161,13 +158,13 @@ abbrev tally_of : List ring.Happening → ℕ
 tally_of hs = sum_by tally_at hs
 
 -- nor does anything but the moves of the ends
-abbrev IsNoMove : ring.Happening → Type 0
-IsNoMove ring.FrontMoves = ⊥
-IsNoMove ring.BackMoves = ⊥
-IsNoMove (ring.JobMoves number outcome) = ⊥
-IsNoMove h = Unit {0}
+abbrev MovesNoEnd : ring.Happening → Type 0
+MovesNoEnd ring.FrontMoves = ⊥
+MovesNoEnd ring.BackMoves = ⊥
+MovesNoEnd (ring.JobMoves number outcome) = ⊥
+MovesNoEnd h = Unit {0}
 
-unread : (h : ring.Happening) (line : Line) → IsNoMove h → MayShow h line → reads_at line ≡ 0
+unread : (h : ring.Happening) (line : Line) → MovesNoEnd h → MayShow h line → reads_at line ≡ 0
 unread ring.FrontMoves line other shows = absurd other
 unread ring.BackMoves line other shows = absurd other
 unread (ring.JobMoves number outcome) line other shows = absurd other

@@ -10,7 +10,7 @@ use Rattle.schedule_text.specs.declared.line.Line.TheVariants.{Begin, Submit, Re
 use Rattle.schedule_text.specs.declared.recorder.RecordStop.{RecordStop}
 use Rattle.schedule_text.specs.declared.recorder.RecordStop.TheVariants.{Failed, OutOfMemory}
 use Rattle.schedule_text.specs.declared.recorder.Tally.{Tally}
-use Rattle.schedule_text.specs.declared.recorder.Verdict.TheVariants as verdict
+use Rattle.schedule_text.specs.declared.recorder.RoundsEnd.TheVariants as verdict
 use Rattle.schedule_text.specs.Line.{text_of}
 
 -- a line as the report's text has it: its text and a line feed

@@ -18,7 +18,7 @@ pub enum RecordStop {
 
 /// How a schedule's rounds ended.
 #[derive(Clone, Copy, Debug, PartialEq, Eq)]
-pub enum Verdict {
+pub enum RoundsEnd {
     Quiet,
     Unsettled,
 }
@@ -31,7 +31,7 @@ pub struct Tally {
     pub refused: u64,
     pub effects: u64,
     pub answered: u64,
-    pub last: Option<Verdict>,
+    pub last: Option<RoundsEnd>,
 }
 
 /// What the line of a move is made of. Whoever hands it over makes no move of it: the recorder does,

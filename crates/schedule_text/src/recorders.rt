@@ -10,7 +10,7 @@ ghost use Rattle.schedule_text.specs.Recorders.{KeepsLine, WritesLine};
 
 use crate::accesses::write_access;
 use crate::line::{Detail, Line};
-use crate::recorder::{RecordStop, Recorder, Shown, Tally, Verdict};
+use crate::recorder::{RecordStop, Recorder, RoundsEnd, Shown, Tally};
 use crate::writing::{write_line, write_shown};
 use blk_base::{Access, Config};
 use blk_io::{Failed, Sink};
@@ -267,8 +267,8 @@ impl Tally {
                 self.effects = self.effects.saturating_add(1);
             }
             Line::Answer { .. } => self.answered = self.answered.saturating_add(1),
-            Line::Quiet => self.last = Some(Verdict::Quiet),
-            Line::Unsettled => self.last = Some(Verdict::Unsettled),
+            Line::Quiet => self.last = Some(RoundsEnd::Quiet),
+            Line::Unsettled => self.last = Some(RoundsEnd::Unsettled),
             _ => {}
         }
     }

@@ -16,8 +16,8 @@ use Rattle.ring_words.specs.Ring.{responses_of, notifies}
 use Rattle.ring_words.specs.Shape.{entries_of, entry_words_of}
 use Rattle.blk_layout.specs.declared.response.Response.{Response}
 use Rattle.blk_layout.specs.Response.{response_of}
-use Rattle.blk_front.specs.declared.stage.Stage.{Stage}
-use Rattle.blk_front.specs.declared.stage.Stage.TheVariants as stage
+use Rattle.blk_front.specs.declared.stage.FrontStage.{FrontStage}
+use Rattle.blk_front.specs.declared.stage.FrontStage.TheVariants as stage
 use Rattle.blk_front.specs.declared.stage.Ending.{Ending}
 use Rattle.blk_front.specs.declared.request.Request.{Request}
 use Rattle.blk_front.specs.declared.request.Transfer.{Transfer}
@@ -154,15 +154,15 @@ either : (b : Bool) (n : ℕ) (v x y : View) → Owed n v x → Owed n v y → O
 either true n v x y p q = p
 either false n v x y p q = q
 
-either_stage : (b : Bool) (x y : Stage) (n : ℕ) → ending_of x ≤ n → ending_of y ≤ n → ending_of (if b then x else y) ≤ n
+either_stage : (b : Bool) (x y : FrontStage) (n : ℕ) → ending_of x ≤ n → ending_of y ≤ n → ending_of (if b then x else y) ≤ n
 either_stage true x y n p q = p
 either_stage false x y n p q = q
 
 -- only its stage is another one
-goes_to : (n : ℕ) (v : View) (s : Stage) → ending_of s ≤ n → Owed n v (at s v)
+goes_to : (n : ℕ) (v : View) (s : FrontStage) → ending_of s ≤ n → Owed n v (at s v)
 goes_to n v s le = (refl, λ short. short, le, refl, omega arith)
 
-stays : (s : Stage) (v : View) → v.stage ≡ s → Owed (ending_of s) v v
+stays : (s : FrontStage) (v : View) → v.stage ≡ s → Owed (ending_of s) v v
 stays s v here = (refl, λ short. short, rw here (omega arith), refl, omega arith)
 
 looked_owed : (n : ℕ) (v : View) (word : ℕ) (otherwise : View) → Owed n v otherwise → Owed n v (looked v word otherwise)
@@ -238,7 +238,7 @@ told_pool v e n words = by_last (n % 128 == 127)
     by_last false = refl
 
 -- a word of its data was read: the next one is, or its frames are given back
-told_on : (v : View) (e : Ending) (n word : ℕ) (to : Stage) → ending_of to ≤ 1 → Owed 1 v (at to (sector_told e n (slice_set v.words (n % 128) word) v))
+told_on : (v : View) (e : Ending) (n word : ℕ) (to : FrontStage) → ending_of to ≤ 1 → Owed 1 v (at to (sector_told e n (slice_set v.words (n % 128) word) v))
 told_on v e n word to le =
     let words = slice_set v.words (n % 128) word in
     let requests = told_requests v e n words in
@@ -248,7 +248,7 @@ told_on v e n word to le =
     let still = ap ending_frames ending in
     (requests, λ short. subst IsShortEnding (sym ending) short, le, ap length pool, omega arith)
 
-told_whole : (v : View) (e : Ending) (n word : ℕ) (to : Stage) → ending_of to ≤ 1 → v.ending ≡ Some e → Owed 1 v (at to (finished e (sector_told e n (slice_set v.words (n % 128) word) v)))
+told_whole : (v : View) (e : Ending) (n word : ℕ) (to : FrontStage) → ending_of to ≤ 1 → v.ending ≡ Some e → Owed 1 v (at to (finished e (sector_told e n (slice_set v.words (n % 128) word) v)))
 told_whole v e n word to le same =
     let words = slice_set v.words (n % 128) word in
     let x = sector_told e n words v in
@@ -282,7 +282,7 @@ left_ring_owed : (v : View) (page : ℕ) → ending_of (ring_left v page) ≤ 0
 left_ring_owed v page = either_stage (nat_lt (page + 1) (2 ^ v.shape.order)) (stage.RingRead (page + 1)) stage.ClosePort 0 (omega arith) (omega arith)
 
 -- a step that takes no response
-step_owed : (s : Stage) (v : View) (x : FrontAnswer) → v.stage ≡ s → ((low high last : ℕ) → s ≡ stage.ResponseLast low high → x ≡ answer.Word last → ⊥) → Owed (ending_of s) v (step_at s v x)
+step_owed : (s : FrontStage) (v : View) (x : FrontAnswer) → v.stage ≡ s → ((low high last : ℕ) → s ≡ stage.ResponseLast low high → x ≡ answer.Word last → ⊥) → Owed (ending_of s) v (step_at s v x)
 step_owed (stage.RingWord k) v x here takes = (refl, λ short. short, either_stage (k == 15) (stage.RingFrame 0) (stage.RingWord (k + 1)) 0 (omega arith) (omega arith), refl, omega arith)
 step_owed (stage.RingFrame page) v x here takes = goes_to 0 v (stage.RingFence page) (omega arith)
 step_owed (stage.RingFence page) v x here takes = goes_to 0 v (stage.RingFlags page) (omega arith)
@@ -364,10 +364,10 @@ response_modest v (Ok response) low (Some found) is m = taken_modest v found.0 f
 pub step_modest : (v : View) (x : FrontAnswer) → IsModest v → IsModest (step_of v x)
 step_modest v x m = by_stage v.stage x refl
   where
-    narrow : (s : Stage) (a : FrontAnswer) → v.stage ≡ s → (step_at s v a).shape.order ≤ v.shape.order
+    narrow : (s : FrontStage) (a : FrontAnswer) → v.stage ≡ s → (step_at s v a).shape.order ≤ v.shape.order
     narrow s a here = let same = front_shape s v a in rw same (omega arith)
 
-    by_stage : (s : Stage) (a : FrontAnswer) → v.stage ≡ s → IsModest (step_at s v a)
+    by_stage : (s : FrontStage) (a : FrontAnswer) → v.stage ≡ s → IsModest (step_at s v a)
     by_stage (stage.ResponseLast low high) (answer.Word last) here =
         response_modest v (response_of (low ∷ high ∷ last ∷ [])) low (issued v (low + high * 2 ^ 32)) (λ f e. found_in v.requests _ f e) m
     by_stage s a here = owed_modest (ending_of s) v (step_at s v a) (rw here (omega arith)) (narrow s a here) (step_owed s v a here (λ low high last e f. absurd (cc))) m
@@ -400,7 +400,7 @@ with_ending_sum : (f : Request → ℕ) (of : Option Ending → ℕ) (ending : O
 with_ending_sum f of None l none some = refl
 with_ending_sum f of (Some e) l none some = let more = sum_by_number f e.request l in let its = some e in omega arith
 
-pub after_sum : (f : Request → ℕ) (of : Option Ending → ℕ) (s : Stage) (ending : Option Ending) (l : List Request) → of None ≡ 0 → ((e : Ending) → of (Some e) ≡ f e.request)
+pub after_sum : (f : Request → ℕ) (of : Option Ending → ℕ) (s : FrontStage) (ending : Option Ending) (l : List Request) → of None ≡ 0 → ((e : Ending) → of (Some e) ≡ f e.request)
     → sum_by f (requests_after s ending l) + of (ending_after s ending) ≡ sum_by f l + of ending
 after_sum f of (stage.GrantRead place) ending l none some = with_ending_sum f of ending l none some
 after_sum f of (stage.GrantEnd place before) ending l none some = with_ending_sum f of ending l none some

@@ -11,11 +11,11 @@ use Rattle.blk_base.specs.declared.ask.BackAnswer.TheVariants as answer
 use Rattle.blk_base.specs.declared.parts.Mapping.{Mapping}
 use Rattle.ring_words.specs.Shape.{Shape, entry_words_of}
 use Rattle.ring_words.specs.Ring.{next_of, requests_of, overruns, notifies}
-use Rattle.back_jobs.specs.Task.{Work}
+use Rattle.back_jobs.specs.Work.{Work}
 use Rattle.back_jobs.specs.Jobs.{is_done, removed_at, after_mapping, first_mapping, mapping_at, response_of, work_at, told_at, place_of, work_of}
 use Rattle.blk_back.specs.declared.stage.Reply.{Reply}
-use Rattle.blk_back.specs.declared.stage.Stage.{Stage}
-use Rattle.blk_back.specs.declared.stage.Stage.TheVariants as stage
+use Rattle.blk_back.specs.declared.stage.BackStage.{BackStage}
+use Rattle.blk_back.specs.declared.stage.BackStage.TheVariants as stage
 use Rattle.blk_back.specs.View.{View}
 use Rattle.blk_back.specs.declared.told.Halt.{Halt}
 use Rattle.blk_back.specs.declared.told.Halt.TheVariants as halt
@@ -25,7 +25,7 @@ use Rattle.split_model.proofs.States.{halts_cases}
 use Rattle.split_model.proofs.Shapes.{attaches_waiting, attaches_order, few_entries}
 
 -- the requests that were fetched and not replied to are at most 512, and jobs or the one that is being replied to are among them; a fetch has room for its job
-abbrev pub IsRoomAt : Stage → (works waiting : ℕ) → Type 0
+abbrev pub IsRoomAt : BackStage → (works waiting : ℕ) → Type 0
 IsRoomAt stage.InitWait works waiting = works ≡ 0
 IsRoomAt (stage.Fetch k) works waiting = (works ≤ waiting) × (waiting < 512)
 IsRoomAt (stage.ReplyHigh r) works waiting = (works + 1 ≤ waiting) × (waiting ≤ 512)
@@ -45,7 +45,7 @@ pub record HasRoom (v : View) : Type 0 where
   pub room : IsRoomAt v.stage (length v.jobs.works) (distance_of v.ring.indices.prod v.ring.indices.cons)
 
 -- at most 512 jobs are held
-room_few : (s : Stage) (works waiting : ℕ) → IsRoomAt s works waiting → works ≤ 512
+room_few : (s : BackStage) (works waiting : ℕ) → IsRoomAt s works waiting → works ≤ 512
 room_few stage.InitWait works waiting r = omega (arith, r)
 room_few (stage.Abort m) works waiting r = r
 room_few stage.UnmapRing works waiting r = r
@@ -68,7 +68,7 @@ one_nearer : (a b : ℕ) → a < 2 ^ 32 → b < 2 ^ 32 → 1 ≤ distance_of a b
 one_nearer a b low high some = omega (arith, low, high, some)
 
 -- only the stage is another one
-moves_on : (v : View) (s : Stage) → IsRoomAt s (length v.jobs.works) (distance_of v.ring.indices.prod v.ring.indices.cons) → HasRoom v → HasRoom (at s v)
+moves_on : (v : View) (s : BackStage) → IsRoomAt s (length v.jobs.works) (distance_of v.ring.indices.prod v.ring.indices.cons) → HasRoom v → HasRoom (at s v)
 moves_on v s r h = record { entries = h.entries; prod = h.prod; cons = h.cons; room = r }
 
 -- the jobs that are left after some are aborted
@@ -116,9 +116,9 @@ reply_fewer (t ∷ works) rep (Some n) p e =
     let shorter = length-remove (t ∷ works) n within in
     omega arith
 
-usual_at : (v : View) (s : Stage) → v.stage ≡ s → (IsRoomAt s (length v.jobs.works) (distance_of v.ring.indices.prod v.ring.indices.cons) → (length v.jobs.works ≤ distance_of v.ring.indices.prod v.ring.indices.cons) × (distance_of v.ring.indices.prod v.ring.indices.cons ≤ 512)) → HasRoom v → IsUsual v
+usual_at : (v : View) (s : BackStage) → v.stage ≡ s → (IsRoomAt s (length v.jobs.works) (distance_of v.ring.indices.prod v.ring.indices.cons) → (length v.jobs.works ≤ distance_of v.ring.indices.prod v.ring.indices.cons) × (distance_of v.ring.indices.prod v.ring.indices.cons ≤ 512)) → HasRoom v → IsUsual v
 usual_at v s here usual h =
-    let room = usual (subst (λ (x : Stage). IsRoomAt x (length v.jobs.works) (distance_of v.ring.indices.prod v.ring.indices.cons)) here h.room) in
+    let room = usual (subst (λ (x : BackStage). IsRoomAt x (length v.jobs.works) (distance_of v.ring.indices.prod v.ring.indices.cons)) here h.room) in
     (h.entries, h.prod, h.cons, room.0, room.1)
 
 loop_room : (v : View) (reply : Option Reply) (x : BackAnswer) → next_reply v ≡ reply → v.stage ≡ stage.Loop → IsUsual v → HasRoom (loop_step v reply x)
@@ -136,8 +136,8 @@ loop_room v None (answer.Word word) e here u = by_test (requests_of v.ring.indic
 loop_room v None x e here u = record { entries = u.0; prod = u.1; cons = u.2; room = rw here (u.3, u.4) }
 
 -- the room of a stage, from where it stands
-room_at : (v : View) (s : Stage) → v.stage ≡ s → HasRoom v → IsRoomAt s (length v.jobs.works) (distance_of v.ring.indices.prod v.ring.indices.cons)
-room_at v s here h = subst (λ (x : Stage). IsRoomAt x (length v.jobs.works) (distance_of v.ring.indices.prod v.ring.indices.cons)) here h.room
+room_at : (v : View) (s : BackStage) → v.stage ≡ s → HasRoom v → IsRoomAt s (length v.jobs.works) (distance_of v.ring.indices.prod v.ring.indices.cons)
+room_at v s here h = subst (λ (x : BackStage). IsRoomAt x (length v.jobs.works) (distance_of v.ring.indices.prod v.ring.indices.cons)) here h.room
 
 one_more : (v : View) (words : List ℕ) (waiting : ℕ) → length v.jobs.works ≤ waiting → distance_of v.ring.indices.prod (next_of v.ring.indices.cons) ≡ waiting + 1
     → length (fetched v words).jobs.works ≤ distance_of v.ring.indices.prod (next_of v.ring.indices.cons)
@@ -180,7 +180,7 @@ bound_room [] works waiting few = few
 bound_room (page ∷ pages) works waiting few = few
 
 -- whatever the back is told
-step_room : (s : Stage) (v : View) (x : BackAnswer) → v.stage ≡ s → HasRoom v → HasRoom (step_at s v x)
+step_room : (s : BackStage) (v : View) (x : BackAnswer) → v.stage ≡ s → HasRoom v → HasRoom (step_at s v x)
 step_room stage.MapRing v (answer.Mapped m) here h = mapped_room (nat_lt (length v.pages + 1) (length v.grefs))
   where
     mapped_room : (b : Bool) → HasRoom (record v { pages = v.pages ++ m ∷ []; stage = if b then stage.MapRing else stage.Bind })

@@ -9,8 +9,8 @@ use Rattle.event_channel.specs.Channels.{ChannelState, with_port, fresh_channels
 use Rattle.hypervisor.specs.Hypervisor.{Hypervisor}
 use Rattle.hypervisor.specs.Act.{FrontAct, BackAct, Outcome, Took, front_act}
 use Rattle.blk_base.specs.declared.moves.BackMover.TheVariants as back_mover
-use Rattle.blk_front.specs.declared.stage.Stage.{Stage}
-use Rattle.blk_front.specs.declared.stage.Stage.TheVariants as stage
+use Rattle.blk_front.specs.declared.stage.FrontStage.{FrontStage}
+use Rattle.blk_front.specs.declared.stage.FrontStage.TheVariants as stage
 use Rattle.blk_front.specs.declared.state.FrontState.{FrontState}
 use Rattle.blk_front.specs.declared.stage.Ending.{Ending}
 use Rattle.blk_front.specs.Ask.{ask_at, read_ask}
@@ -37,7 +37,7 @@ some_port : one_port.ports ≡ [] → ⊥
 some_port none = absurd (cc)
 
 -- in such an epoch none is to be made, if the stage fits it
-none_due : (s : Stage) → IsPorted s one_port → due_at s ≡ 0
+none_due : (s : FrontStage) → IsPorted s one_port → due_at s ≡ 0
 none_due (stage.LeftData n) none = absurd (some_port none.1)
 none_due (stage.RingWord k) none = absurd (some_port none.1)
 none_due (stage.RingFrame page) none = absurd (some_port none.1)
@@ -46,7 +46,7 @@ none_due (stage.RingFlags page) none = absurd (some_port none.1)
 none_due stage.NewPort none = absurd (some_port none.1)
 none_due s none = refl
 
-one_due : (s : Stage) → due_at s ≤ 1
+one_due : (s : FrontStage) → due_at s ≤ 1
 one_due (stage.LeftData n) = omega arith
 one_due s = omega arith
 
@@ -67,19 +67,19 @@ ports_front : (h : Hypervisor) (a : FrontAsk) (x : FrontAct) → front_act h a �
 ports_front h a x e = elim (front_acts h a x e) as (λ asked y acts. y.under.channels.made ≡ h.channels.made + asks_port asked) [ FrontPort ↦ omega arith | acts ↦ omega arith ]
 
 -- a step makes the port that is to be made, and no other
-step_due : (s : Stage) (v : View) (x : FrontAnswer) → v.stage ≡ s → asks_port (ask_at s v) + due_at (let f : View = step_of v x in f.stage) ≤ due_at s
+step_due : (s : FrontStage) (v : View) (x : FrontAnswer) → v.stage ≡ s → asks_port (ask_at s v) + due_at (let f : View = step_of v x in f.stage) ≤ due_at s
 step_due s v x here = by_stage s here (one_due _)
   where
-    next : Stage
+    next : FrontStage
     next = let f : View = step_of v x in f.stage
 
-    settled : (u : Stage) → v.stage ≡ u → IsUnported u one_port → due_at next ≡ 0
-    settled u at none = none_due next (step_fits v x one_port (subst (λ (t : Stage). IsUnported t one_port) (sym at) none)).0
+    settled : (u : FrontStage) → v.stage ≡ u → IsUnported u one_port → due_at next ≡ 0
+    settled u at none = none_due next (step_fits v x one_port (subst (λ (t : FrontStage). IsUnported t one_port) (sym at) none)).0
 
-    left : (u : Stage) → v.stage ≡ u → IsPorted u one_port → IsUnported u one_port → due_at u ≡ 0 → asks_port (ask_at u v) + due_at next ≤ due_at u
+    left : (u : FrontStage) → v.stage ≡ u → IsPorted u one_port → IsUnported u one_port → due_at u ≡ 0 → asks_port (ask_at u v) + due_at next ≤ due_at u
     left u at ported unported zero = let asked = no_port_asked (ask_at u v) (fronts_at one_port u v ported) in let later = settled u at unported in omega arith
 
-    by_stage : (u : Stage) → v.stage ≡ u → due_at next ≤ 1 → asks_port (ask_at u v) + due_at next ≤ due_at u
+    by_stage : (u : FrontStage) → v.stage ≡ u → due_at next ≤ 1 → asks_port (ask_at u v) + due_at next ≤ due_at u
     by_stage (stage.LeftData n) at few = let asked = reads_ask_none v.ending n in omega arith
     by_stage (stage.RingWord k) at few = omega arith
     by_stage (stage.RingFrame page) at few = omega arith
@@ -92,13 +92,13 @@ step_due s v x here = by_stage s here (one_due _)
 entered_due : (s : FrontState) (v : View) → due_at (let f : View = enters s v in f.stage) ≤ due_at v.stage
 entered_due s v = by_stage v.stage refl (one_due _)
   where
-    next : Stage
+    next : FrontStage
     next = let f : View = enters s v in f.stage
 
-    settled : (u : Stage) → v.stage ≡ u → IsPorted u one_port → due_at next ≡ 0
-    settled u at none = none_due next ((entered_kept s v).ported one_port (subst (λ (t : Stage). IsPorted t one_port) (sym at) none))
+    settled : (u : FrontStage) → v.stage ≡ u → IsPorted u one_port → due_at next ≡ 0
+    settled u at none = none_due next ((entered_kept s v).ported one_port (subst (λ (t : FrontStage). IsPorted t one_port) (sym at) none))
 
-    by_stage : (u : Stage) → v.stage ≡ u → due_at next ≤ 1 → due_at next ≤ due_at u
+    by_stage : (u : FrontStage) → v.stage ≡ u → due_at next ≤ 1 → due_at next ≤ due_at u
     by_stage (stage.LeftData n) at few = few
     by_stage (stage.RingWord k) at few = few
     by_stage (stage.RingFrame page) at few = few

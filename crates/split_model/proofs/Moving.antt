@@ -30,7 +30,7 @@ use Rattle.blk_back.specs.View as back
 use Rattle.blk_back.specs.Ask as back_ends
 use Rattle.blk_back.specs.Step as back_step
 use Rattle.blk_back.specs.Hands.{hands_of}
-use Rattle.back_jobs.specs.Task as task
+use Rattle.back_jobs.specs.Work as task
 use Rattle.back_jobs.specs.Hands.{Names}
 use Rattle.back_jobs.specs.Sound.{StaysInPageAndDisk}
 use Rattle.split_model.specs.World.{World, may_suspend, suspended}

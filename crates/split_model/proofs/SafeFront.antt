@@ -12,8 +12,8 @@ use Rattle.blk_layout.specs.Response.{response_of}
 use Rattle.event_channel.specs.Channels.{ChannelState, fresh_channels}
 use Rattle.hypervisor.specs.Hypervisor.{Hypervisor}
 use Rattle.hypervisor.specs.Act.{FrontAct, front_act}
-use Rattle.blk_front.specs.declared.stage.Stage.{Stage}
-use Rattle.blk_front.specs.declared.stage.Stage.TheVariants as stage
+use Rattle.blk_front.specs.declared.stage.FrontStage.{FrontStage}
+use Rattle.blk_front.specs.declared.stage.FrontStage.TheVariants as stage
 use Rattle.blk_front.specs.declared.stage.Ending.{Ending}
 use Rattle.blk_front.specs.declared.request.Request.{Request}
 use Rattle.blk_front.specs.declared.request.Transfer.{Transfer}
@@ -36,7 +36,7 @@ use Rattle.split_model.proofs.SafeActs.{of_front, front_wait}
 use Rattle.split_model.proofs.States.{enters_cases}
 
 -- there is no port yet, but where one is being made or was
-abbrev pub IsUnported : Stage → ChannelState → Type 0
+abbrev pub IsUnported : FrontStage → ChannelState → Type 0
 IsUnported stage.NewPort c = Unit {0}
 IsUnported s c = IsPorted s c
 
@@ -46,7 +46,7 @@ left_channels None n h a e none = front_wait (λ (x : FrontAct). HasNoPort x.und
 left_channels (Some ending) n h a e none = of_front (λ (x : FrontAct). HasNoPort x.under.channels) _ a none e
 
 -- before it makes its port the front leaves the ports as they are
-pub channels_front : (s : Stage) (v : View) (h : Hypervisor) (a : FrontAct) → front_act h (ask_at s v) ≡ Some a → IsPorted s h.channels → IsUnported s a.under.channels
+pub channels_front : (s : FrontStage) (v : View) (h : Hypervisor) (a : FrontAct) → front_act h (ask_at s v) ≡ Some a → IsPorted s h.channels → IsUnported s a.under.channels
 channels_front (stage.RingWord k) v h a e ported = of_front (λ (x : FrontAct). IsPorted stage.NewPort x.under.channels) _ a ported e
 channels_front (stage.RingFrame page) v h a e ported = of_front (λ (x : FrontAct). IsPorted stage.NewPort x.under.channels) _ a ported e
 channels_front (stage.RingFence page) v h a e ported = of_front (λ (x : FrontAct). IsPorted stage.NewPort x.under.channels) _ a ported e
@@ -62,11 +62,11 @@ either : (b : Bool) (x y v : View) (c : ChannelState) → Fits v c x → Fits v 
 either true x y v c p q = p
 either false x y v c p q = q
 
-either_stage : (b : Bool) (x y : Stage) (c : ChannelState) → IsPorted x c → IsPorted y c → IsPorted (if b then x else y) c
+either_stage : (b : Bool) (x y : FrontStage) (c : ChannelState) → IsPorted x c → IsPorted y c → IsPorted (if b then x else y) c
 either_stage true x y c p q = p
 either_stage false x y c p q = q
 
-stays : (s : Stage) (v : View) (c : ChannelState) → v.stage ≡ s → IsPorted s c → Fits v c v
+stays : (s : FrontStage) (v : View) (c : ChannelState) → v.stage ≡ s → IsPorted s c → Fits v c v
 stays s v c here ported = (rw here ported, refl, refl)
 
 looked_fits : (v : View) (word : ℕ) (otherwise : View) (c : ChannelState) → Fits v c otherwise → Fits v c (looked v word otherwise)
@@ -136,7 +136,7 @@ left_fits v (Some e) n word c here none =
     let same = told_leaves v e n (slice_set v.words (n % 128) word) in
     either (nat_lt (n + 1) (words_in e.request)) _ _ v c (none, same.0, same.1) (none, same.0, same.1)
 
-step_fits_at : (s : Stage) (v : View) (x : FrontAnswer) (c : ChannelState) → v.stage ≡ s → IsUnported s c → Fits v c (step_at s v x)
+step_fits_at : (s : FrontStage) (v : View) (x : FrontAnswer) (c : ChannelState) → v.stage ≡ s → IsUnported s c → Fits v c (step_at s v x)
 step_fits_at (stage.RingWord k) v x c here p = (either_stage (k == 15) (stage.RingFrame 0) (stage.RingWord (k + 1)) c p p, refl, refl)
 step_fits_at (stage.RingFrame page) v x c here p = (p, refl, refl)
 step_fits_at (stage.RingFence page) v x c here p = (p, refl, refl)
@@ -179,7 +179,7 @@ left_front v x = step_fits v x fresh_channels (unported v.stage)
     none : HasNoPort fresh_channels
     none = (omega arith, refl)
 
-    unported : (s : Stage) → IsUnported s fresh_channels
+    unported : (s : FrontStage) → IsUnported s fresh_channels
     unported (stage.LeftData n) = none
     unported (stage.RingWord k) = none
     unported (stage.RingFrame page) = none

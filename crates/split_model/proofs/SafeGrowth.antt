@@ -11,10 +11,10 @@ use Rattle.blk_base.specs.declared.operation.Status.TheVariants.{Error}
 use Rattle.blk_base.specs.declared.ask.BackAnswer.{BackAnswer}
 use Rattle.blk_base.specs.declared.ask.BackAnswer.TheVariants as answer
 use Rattle.blk_layout.specs.declared.segment.Segment.{Segment}
-use Rattle.back_jobs.specs.declared.stage.Stage.{Stage as JobStage}
-use Rattle.back_jobs.specs.declared.stage.Stage.TheVariants as job_stage
-use Rattle.back_jobs.specs.Task as task
-use Rattle.back_jobs.specs.Task.{Work}
+use Rattle.back_jobs.specs.declared.stage.JobStage.{JobStage}
+use Rattle.back_jobs.specs.declared.stage.JobStage.TheVariants as job_stage
+use Rattle.back_jobs.specs.Work as task
+use Rattle.back_jobs.specs.Work.{Work}
 use Rattle.back_jobs.specs.Jobs.{place_of, work_at, work_of, told_at, next_after}
 use Rattle.back_jobs.proofs.Hands.{place_among}
 use Rattle.blk_back.specs.View.{View}

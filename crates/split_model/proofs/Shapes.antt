@@ -12,8 +12,8 @@ use Rattle.blk_layout.specs.declared.response.Response.{Response}
 use Rattle.blk_layout.specs.Response.{response_of}
 use Rattle.ring_words.specs.Ring.{responses_of, requests_of, overruns}
 use Rattle.ring_words.specs.Shape.{Shape, entries_of, entry_words_of}
-use Rattle.blk_front.specs.declared.stage.Stage.{Stage}
-use Rattle.blk_front.specs.declared.stage.Stage.TheVariants as stage
+use Rattle.blk_front.specs.declared.stage.FrontStage.{FrontStage}
+use Rattle.blk_front.specs.declared.stage.FrontStage.TheVariants as stage
 use Rattle.blk_front.specs.declared.stage.Ending.{Ending}
 use Rattle.blk_front.specs.declared.state.FrontState.{FrontState}
 use Rattle.blk_front.specs.declared.state.FrontState.TheVariants as state
@@ -25,8 +25,8 @@ use Rattle.blk_front.specs.Request.{has_data, words_in}
 use Rattle.blk_front.specs.View.{View, next_request}
 use Rattle.blk_front.specs.Step.{at, broken, ring_left, looked, begun, granted, loop_step, issued, response_at, is_mapped, ended, revoked, sector_told, data_step, left_step, step_at, step_of}
 use Rattle.blk_front.specs.State.{is_unmade, may_enter, in_state}
-use Rattle.blk_back.specs.declared.stage.Stage.{Stage as BackStage}
-use Rattle.blk_back.specs.declared.stage.Stage.TheVariants as back_stage
+use Rattle.blk_back.specs.declared.stage.BackStage.{BackStage}
+use Rattle.blk_back.specs.declared.stage.BackStage.TheVariants as back_stage
 use Rattle.blk_back.specs.declared.stage.Reply.{Reply}
 use Rattle.blk_back.specs.View as back
 use Rattle.blk_back.specs.Ask.{is_led, next_reply}
@@ -83,7 +83,7 @@ left_shape : (v : View) (e : Option Ending) (n word : ℕ) → (left_step e n wo
 left_shape v None n word = refl
 left_shape v (Some e) n word = either (nat_lt (n + 1) (words_in e.request)) _ _ v.shape (told_shape v e n _) (told_shape v e n _)
 
-pub front_shape : (s : Stage) (v : View) (x : FrontAnswer) → (step_at s v x).shape ≡ v.shape
+pub front_shape : (s : FrontStage) (v : View) (x : FrontAnswer) → (step_at s v x).shape ≡ v.shape
 front_shape stage.Loop v x = loop_shape v (next_request v) x
 front_shape (stage.GrantFlags place) v x = granted_shape v (next_request v) place
 front_shape (stage.ResponseLast low high) v (answer.Word last) = response_shape v (response_of (low ∷ high ∷ last ∷ [])) low (issued v (low + high * 2 ^ 32))

@@ -14,8 +14,8 @@ use Rattle.key_directory.specs.Paths.{directory_of}
 use Rattle.key_directory.specs.Directory.{Directory, key_of, written, watches_of, with_watches}
 use Rattle.key_directory.specs.Watches.{with_watch, next_watch, taken}
 use Rattle.hypervisor.specs.Act.{is_own_path}
-use Rattle.blk_back.specs.declared.stage.Stage.{Stage}
-use Rattle.blk_back.specs.declared.stage.Stage.TheVariants as stage
+use Rattle.blk_back.specs.declared.stage.BackStage.{BackStage}
+use Rattle.blk_back.specs.declared.stage.BackStage.TheVariants as stage
 use Rattle.blk_back.specs.Ask.{is_led}
 use Rattle.segment_list.specs.declared.verdict.DiskInfo.{DiskInfo}
 use Rattle.report_rules.specs.declared.published.Serving.{Serving}
@@ -92,7 +92,7 @@ abbrev pub may_set : End → (path text : List ℕ) → Bool
 may_set at path text = is_own_path at path && (not (names_persistent path) || is_zero_text text)
 
 -- the back is between two entries and two replies, each up to the end of its push: within one it makes no other move
-abbrev pub is_between : Stage → Bool
+abbrev pub is_between : BackStage → Bool
 is_between (stage.Fetch k) = false
 is_between (stage.ReplyHigh r) = false
 is_between (stage.ReplyLast r) = false
@@ -109,7 +109,7 @@ is_early (Sets path text) = names_feature path
 is_early move = false
 
 -- an end may turn to its keys, as the back stands: the back sets the keys for its features, and reads the one for the layout, only while it waits for the terms of its front
-abbrev pub may_negotiate : Stage → End → KeyMove → Bool
+abbrev pub may_negotiate : BackStage → End → KeyMove → Bool
 may_negotiate s end.Front move = true
 may_negotiate s end.Back move = is_between s && (not (is_early move) || is_led s)
 
@@ -130,8 +130,8 @@ key_lines at (Watches path) d = Move (moves.Watch (mover_at at) path) ∷ []
 key_lines at TakesWatch d = watched_lines at (next_watch (watches_of d at))
 
 -- where the end may not turn to its keys nothing happens
-abbrev pub negotiated : Stage → End → KeyMove → Directory → Directory
+abbrev pub negotiated : BackStage → End → KeyMove → Directory → Directory
 negotiated s at move d = if may_negotiate s at move then keys_after at move d else d
 
-abbrev pub negotiated_lines : Stage → End → KeyMove → Directory → List Line
+abbrev pub negotiated_lines : BackStage → End → KeyMove → Directory → List Line
 negotiated_lines s at move d = if may_negotiate s at move then key_lines at move d else []

@@ -5,9 +5,9 @@ use Rattle.grant_table.specs.declared.held.Held.{Held}
 use Rattle.grant_table.specs.Table.{GrantTable, IsLive}
 use Rattle.grant_table.specs.Sound.{IsAscending}
 use Rattle.event_channel.specs.Channels.{ChannelState}
-use Rattle.blk_front.specs.declared.stage.Stage.{Stage}
-use Rattle.blk_front.specs.declared.stage.Stage.TheVariants as stage
-use Rattle.back_jobs.specs.Task.{Work}
+use Rattle.blk_front.specs.declared.stage.FrontStage.{FrontStage}
+use Rattle.blk_front.specs.declared.stage.FrontStage.TheVariants as stage
+use Rattle.back_jobs.specs.Work.{Work}
 use Rattle.blk_back.specs.View.{View}
 use Rattle.blk_back.specs.Hands.{hands_of}
 use Rattle.split_model.specs.World.{World}
@@ -25,7 +25,7 @@ abbrev pub HasNoPort : ChannelState → Type 0
 HasNoPort c = (c.made < 4294967295) × (c.ports ≡ [])
 
 -- before the front made its port in this epoch there is none
-abbrev pub IsPorted : Stage → ChannelState → Type 0
+abbrev pub IsPorted : FrontStage → ChannelState → Type 0
 IsPorted (stage.LeftData n) c = HasNoPort c
 IsPorted (stage.RingWord k) c = HasNoPort c
 IsPorted (stage.RingFrame page) c = HasNoPort c
@@ -35,7 +35,7 @@ IsPorted stage.NewPort c = HasNoPort c
 IsPorted s c = Unit {0}
 
 -- how many ports the front is still to make in this epoch
-abbrev pub due_at : Stage → ℕ
+abbrev pub due_at : FrontStage → ℕ
 due_at (stage.LeftData n) = 1
 due_at (stage.RingWord k) = 1
 due_at (stage.RingFrame page) = 1

@@ -8,8 +8,8 @@ use Rattle.ring_words.specs.Shape.{entry_words_of}
 use Rattle.ring_words.specs.Ring.{requests_of, overruns, notifies}
 use Rattle.back_jobs.specs.Jobs.{first_mapping}
 use Rattle.blk_back.specs.declared.stage.Reply.{Reply}
-use Rattle.blk_back.specs.declared.stage.Stage.{Stage}
-use Rattle.blk_back.specs.declared.stage.Stage.TheVariants as stage
+use Rattle.blk_back.specs.declared.stage.BackStage.{BackStage}
+use Rattle.blk_back.specs.declared.stage.BackStage.TheVariants as stage
 use Rattle.blk_back.specs.View as ring
 use Rattle.blk_back.specs.Ask.{next_reply}
 use Rattle.blk_back.specs.Step.{unmapping_next, unbound, bound, other_pages, overrun, looked, loop_step, fetched, step_at, step_of}
@@ -21,7 +21,7 @@ use Rattle.vbd_back.specs.View.{View}
 use Rattle.vbd_back.specs.Turn.{turn_at, turn_of}
 use Rattle.vbd_back.proofs.Turns.{waits}
 
-abbrev is_open : Stage → Bool
+abbrev is_open : BackStage → Bool
 is_open stage.InitWait = false
 is_open stage.MapRing = false
 is_open stage.Bind = false
@@ -31,7 +31,7 @@ either : (c : Bool) (x y : ring.View) → is_open x.stage ≡ true → is_open y
 either true x y p q = p
 either false x y p q = q
 
-either_stage : (c : Bool) (x y : Stage) → is_open x ≡ true → is_open y ≡ true → is_open (if c then x else y) ≡ true
+either_stage : (c : Bool) (x y : BackStage) → is_open x ≡ true → is_open y ≡ true → is_open (if c then x else y) ≡ true
 either_stage true x y p q = p
 either_stage false x y p q = q
 
@@ -61,7 +61,7 @@ loop_open v None (answer.Word word) h =
     refl
 loop_open v None given h = h
 
-opened : (s : Stage) (v : ring.View) (given : BackAnswer) → is_open v.stage ≡ true → is_open s ≡ true → is_open (step_at s v given).stage ≡ true
+opened : (s : BackStage) (v : ring.View) (given : BackAnswer) → is_open v.stage ≡ true → is_open s ≡ true → is_open (step_at s v given).stage ≡ true
 opened stage.InitWait v given o h = absurd (cc)
 opened stage.MapRing v given o h = absurd (cc)
 opened stage.Bind v given o h = absurd (cc)
@@ -78,13 +78,13 @@ opened stage.UnmapUnbound v given o h = unbound_open (other_pages v.pages)
 opened stage.Halted v given o h = o
 opened s v given o h = refl
 
-open_at : (s : Stage) → turn_at bus_ask.Wait s ≡ turn.Ring → is_open s ≡ true
+open_at : (s : BackStage) → turn_at bus_ask.Wait s ≡ turn.Ring → is_open s ≡ true
 open_at stage.InitWait t = absurd (cc)
 open_at stage.MapRing t = absurd (cc)
 open_at stage.Bind t = absurd (cc)
 open_at s t = refl
 
-turn_open : (s : Stage) → is_open s ≡ true → turn_at bus_ask.Wait s ≡ turn.Ring
+turn_open : (s : BackStage) → is_open s ≡ true → turn_at bus_ask.Wait s ≡ turn.Ring
 turn_open stage.InitWait o = absurd (cc)
 turn_open stage.MapRing o = absurd (cc)
 turn_open stage.Bind o = absurd (cc)
@@ -96,5 +96,5 @@ keeps_turn u v w given r known moved =
     let t : turn_of v ≡ turn.Ring = sym known ∙ r in
     let here : turn_at bus_ask.Wait v.ring.stage ≡ turn.Ring = ap (λ (a : BackBusAsk). turn_at a v.ring.stage) (sym (waits v t)) ∙ t in
     let o : is_open v.ring.stage ≡ true = open_at v.ring.stage here in
-    let later : Stage = (step_of v.ring given).stage in
+    let later : BackStage = (step_of v.ring given).stage in
     r ∙ sym (ap turn_of moved ∙ (ap (λ (a : BackBusAsk). turn_at a later) (waits v t) ∙ turn_open later (opened v.ring.stage v.ring given o o)))

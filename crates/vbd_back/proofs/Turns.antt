@@ -9,8 +9,8 @@ use Rattle.blk_base.specs.declared.ask.BackAnswer.TheVariants as answer
 use Rattle.ring_words.specs.Ring.{requests_of}
 use Rattle.back_jobs.specs.Hands.{HandsAfter}
 use Rattle.blk_back.specs.declared.stage.Reply.{Reply}
-use Rattle.blk_back.specs.declared.stage.Stage.{Stage}
-use Rattle.blk_back.specs.declared.stage.Stage.TheVariants as stage
+use Rattle.blk_back.specs.declared.stage.BackStage.{BackStage}
+use Rattle.blk_back.specs.declared.stage.BackStage.TheVariants as stage
 use Rattle.blk_back.specs.declared.told.Halt.{Halt}
 use Rattle.blk_back.specs.View as ring
 use Rattle.blk_back.specs.Ask as ring_ask
@@ -66,7 +66,7 @@ unmap_none : (pages : List Mapping) → names_none (ring_ask.unmap_ask pages) �
 unmap_none [] = refl
 unmap_none (page ∷ pages) = refl
 
-none_at : (s : Stage) (v : ring.View) → names_none (ring_ask.ask_at s v) ≡ true
+none_at : (s : BackStage) (v : ring.View) → names_none (ring_ask.ask_at s v) ≡ true
 none_at stage.Loop v = loop_none v (ring_ask.next_reply v)
 none_at stage.UnmapRing v = unmap_none v.pages
 none_at stage.UnmapUnbound v = unmap_none v.pages
@@ -87,7 +87,7 @@ ring_steps v x n m =
     ∙ ap (λ (b : Bool). ring_step b (bus_ask_of v) v x) m
 
 -- an answer to a move that the negotiation asked for is of the kind that it knows
-heard_at : (b : BackBusAsk) (s : Stage) (v : ring.View) (x : BackAnswer) → ring_moves b s ≡ true → ring_ask.IsAnswer (ring_ask.ask_at s v) x → IsHeard b x
+heard_at : (b : BackBusAsk) (s : BackStage) (v : ring.View) (x : BackAnswer) → ring_moves b s ≡ true → ring_ask.IsAnswer (ring_ask.ask_at s v) x → IsHeard b x
 heard_at (bus_ask.Map gref) stage.MapRing v (answer.Mapped m) r h = tt
 heard_at (bus_ask.Map gref) stage.MapRing v (answer.MapRefused status) r h = tt
 heard_at (bus_ask.Map gref) stage.MapRing v x r h = absurd h
@@ -105,18 +105,18 @@ pub heard : (b : BackBusAsk) (v : ring.View) (x : BackAnswer) → ring_moves b v
 heard b v x r h = heard_at b v.stage v x r h
 
 -- the ring's turn: the negotiation asks for nothing, and the port is bound
-waits_left : (a : BackBusAsk) (s : Stage) → turn_left a s ≡ turn.Ring → a ≡ bus_ask.Wait
+waits_left : (a : BackBusAsk) (s : BackStage) → turn_left a s ≡ turn.Ring → a ≡ bus_ask.Wait
 waits_left bus_ask.Wait s t = refl
 waits_left a s t = absurd (cc)
 
-waits_at : (b : Bool) (a : BackBusAsk) (s : Stage) → (if b then turn.Keys else turn_left a s) ≡ turn.Ring → a ≡ bus_ask.Wait
+waits_at : (b : Bool) (a : BackBusAsk) (s : BackStage) → (if b then turn.Keys else turn_left a s) ≡ turn.Ring → a ≡ bus_ask.Wait
 waits_at true a s t = absurd (cc)
 waits_at false a s t = waits_left a s t
 
 pub waits : (v : View) → turn_of v ≡ turn.Ring → bus_ask_of v ≡ bus_ask.Wait
 waits v t = waits_at (bus_moves (bus_ask_of v) v.ring.stage) (bus_ask_of v) v.ring.stage t
 
-moves_at : (s : Stage) → turn_left bus_ask.Wait s ≡ turn.Ring → ring_moves bus_ask.Wait s ≡ true
+moves_at : (s : BackStage) → turn_left bus_ask.Wait s ≡ turn.Ring → ring_moves bus_ask.Wait s ≡ true
 moves_at stage.InitWait t = absurd (cc)
 moves_at stage.MapRing t = absurd (cc)
 moves_at stage.Bind t = absurd (cc)

@@ -5,8 +5,8 @@ use Rattle.blk_base.specs.declared.ask.BackAsk.{BackAsk}
 use Rattle.blk_base.specs.declared.ask.BackAsk.TheVariants.{Wait, Watch, GetKey, SetKey}
 use Rattle.blk_base.specs.declared.ask.BackAnswer.{BackAnswer}
 use Rattle.blk_base.specs.declared.ask.BackAnswer.TheVariants as answer
-use Rattle.blk_back.specs.declared.stage.Stage.{Stage}
-use Rattle.blk_back.specs.declared.stage.Stage.TheVariants as stage
+use Rattle.blk_back.specs.declared.stage.BackStage.{BackStage}
+use Rattle.blk_back.specs.declared.stage.BackStage.TheVariants as stage
 use Rattle.blk_back.specs.Ask as ring
 use Rattle.xenbus_state.specs.declared.back.BackBusAsk.{BackBusAsk}
 use Rattle.xenbus_state.specs.declared.back.BackBusAsk.TheVariants as bus_ask
@@ -45,7 +45,7 @@ key_ask (bus_ask.SetKey key value) = SetKey (path_under Back (back_name key)) (t
 key_ask a = Wait
 
 -- the end of the ring is between two entries and two replies, each up to the end of its push: within one it makes no other move
-abbrev pub is_between : Stage → Bool
+abbrev pub is_between : BackStage → Bool
 is_between (stage.Fetch k) = false
 is_between (stage.ReplyHigh r) = false
 is_between (stage.ReplyLast r) = false
@@ -56,11 +56,11 @@ is_between stage.Send = false
 is_between s = true
 
 -- the negotiation has the move
-abbrev pub bus_moves : BackBusAsk → Stage → Bool
+abbrev pub bus_moves : BackBusAsk → BackStage → Bool
 bus_moves a s = speaks a && is_between s
 
 -- the end of the ring has the move: the negotiation asks for what it does next to map and bind or to unmap, or both are bound
-abbrev pub ring_moves : BackBusAsk → Stage → Bool
+abbrev pub ring_moves : BackBusAsk → BackStage → Bool
 ring_moves (bus_ask.Map gref) stage.MapRing = true
 ring_moves (bus_ask.Map gref) s = false
 ring_moves (bus_ask.Bind port) stage.Bind = true

@@ -3,14 +3,14 @@ use Rattle.std.specs.Prelude.{ℕ, Bool, true, false, Option, Some, None, if◌t
 use Rattle.blk_base.specs.declared.ask.BackAsk.{BackAsk}
 use Rattle.blk_base.specs.declared.ask.BackAnswer.{BackAnswer}
 use Rattle.blk_base.specs.declared.ask.BackAnswer.TheVariants as answer
-use Rattle.blk_back.specs.declared.stage.Stage.{Stage}
-use Rattle.blk_back.specs.declared.stage.Stage.TheVariants as stage
+use Rattle.blk_back.specs.declared.stage.BackStage.{BackStage}
+use Rattle.blk_back.specs.declared.stage.BackStage.TheVariants as stage
 use Rattle.blk_back.specs.declared.told.Halt.{Halt}
 use Rattle.blk_back.specs.declared.told.Halt.TheVariants as halt
 use Rattle.blk_back.specs.View as ring
 use Rattle.blk_back.specs.Step as step_ring
-use Rattle.xenbus_state.specs.declared.stage.BackStage.{BackStage}
-use Rattle.xenbus_state.specs.declared.stage.BackStage.TheVariants as bus_stage
+use Rattle.xenbus_state.specs.declared.stage.BackBusStage.{BackBusStage}
+use Rattle.xenbus_state.specs.declared.stage.BackBusStage.TheVariants as bus_stage
 use Rattle.xenbus_state.specs.declared.back.BackBusAsk.{BackBusAsk}
 use Rattle.xenbus_state.specs.declared.back.BackBusAsk.TheVariants as bus_ask
 use Rattle.xenbus_state.specs.declared.table.BackHalt.{BackHalt}
@@ -54,12 +54,12 @@ bus_halted None v = v
 bus_halted (Some why) v = stopped v
 
 -- a negotiation that has all other mappings unmapped goes on where the end of the ring has none to unmap
-abbrev pub settled_at : BackStage → Stage → BackView → BackView
+abbrev pub settled_at : BackBusStage → BackStage → BackView → BackView
 settled_at bus_stage.UnmapOthers (stage.Abort m) v = v
 settled_at bus_stage.UnmapOthers s v = bus.step_of v answer.Done
 settled_at b s v = v
 
-abbrev pub settled : Stage → BackView → BackView
+abbrev pub settled : BackStage → BackView → BackView
 settled s v = settled_at v.stage s v
 
 -- the negotiation was answered

@@ -8,7 +8,7 @@ ghost use Rattle.vbd_back.specs.Turn.{turn_of};
 ghost use Rattle.vbd_back.specs.Step.{ring_halt, spoken, ring_step, step_of, IsHeard, followed, waited, settled, caught_up};
 
 use crate::turn::Turn;
-use blk_back::{Back, Halt, Stage};
+use blk_back::{Back, BackStage, Halt};
 use blk_base::{BackAnswer, Endpoint, ShortText};
 use xenbus_state::{BackBus, BackBusAsk, BackHalt, FrontKey};
 
@@ -31,12 +31,18 @@ pub fn ring_moves(ring: &Back, bus: &BackBus) -> bool
     ensures { result ≡ ring_moves (bus_ask bus.now) ring.now.stage }
 {
     match (bus.ask(), ring.stage()) {
-        (BackBusAsk::Map(_), stage) => matches!(stage, Stage::MapRing),
-        (BackBusAsk::Bind(_), stage) => matches!(stage, Stage::Bind),
-        (BackBusAsk::UnmapOthers, stage) => matches!(stage, Stage::Abort(_)),
-        (BackBusAsk::Unmap(_), stage) => matches!(stage, Stage::UnmapRing | Stage::UnmapUnbound),
-        (BackBusAsk::ClosePort, stage) => matches!(stage, Stage::ClosePort),
-        (_, stage) => !matches!(stage, Stage::InitWait | Stage::MapRing | Stage::Bind),
+        (BackBusAsk::Map(_), stage) => matches!(stage, BackStage::MapRing),
+        (BackBusAsk::Bind(_), stage) => matches!(stage, BackStage::Bind),
+        (BackBusAsk::UnmapOthers, stage) => matches!(stage, BackStage::Abort(_)),
+        (BackBusAsk::Unmap(_), stage) => matches!(
+            stage,
+            BackStage::UnmapRing | BackStage::UnmapUnbound
+        ),
+        (BackBusAsk::ClosePort, stage) => matches!(stage, BackStage::ClosePort),
+        (_, stage) => !matches!(
+            stage,
+            BackStage::InitWait | BackStage::MapRing | BackStage::Bind
+        ),
     }
 }
 
@@ -124,11 +130,11 @@ pub fn catch_up(ring: &Back, bus: &mut BackBus)
 
 // A negotiation that has all other mappings unmapped goes on where there is none.
 #[tactic(auto, using(crate::proofs::Settling::settled_asked))]
-fn settle(bus: &mut BackBus, stage: Stage)
+fn settle(bus: &mut BackBus, stage: BackStage)
     ensures { bus.new ≡ settled stage bus.old }
 {
     match (bus.ask(), stage) {
-        (BackBusAsk::UnmapOthers, Stage::Abort(_)) => {}
+        (BackBusAsk::UnmapOthers, BackStage::Abort(_)) => {}
         (BackBusAsk::UnmapOthers, _) => {
             let _ = bus.complete(&BackAnswer::Done);
         }

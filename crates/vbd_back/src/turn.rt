@@ -4,7 +4,7 @@ ghost use Rattle.xenbus_state.specs.BackAsk.{ask_of};
 ghost use Rattle.vbd_back.specs.Ask.{speaks, is_between, bus_moves};
 ghost use Rattle.vbd_back.specs.Turn.{turn_at};
 
-use blk_back::{Back, Stage};
+use blk_back::{Back, BackStage};
 use xenbus_state::{BackBus, BackBusAsk};
 
 /// Whose turn it is.
@@ -28,14 +28,15 @@ pub fn turn_of(bus: &BackBus, ring: &Back) -> Turn
         return Turn::Keys;
     }
     match (ask, ring.stage()) {
-        (BackBusAsk::Wait, Stage::InitWait | Stage::MapRing | Stage::Bind) => Turn::Either,
+        (BackBusAsk::Wait, BackStage::InitWait | BackStage::MapRing | BackStage::Bind) =>
+            Turn::Either,
         (BackBusAsk::Wait, _) => Turn::Ring,
         _ => Turn::Either,
     }
 }
 
 // Whether the negotiation has the move where it asks for this.
-fn bus_moves(ask: &BackBusAsk, stage: Stage) -> bool
+fn bus_moves(ask: &BackBusAsk, stage: BackStage) -> bool
     ensures { result ≡ bus_moves ask.now stage }
 {
     speaks(ask) && is_between(stage)
@@ -56,17 +57,17 @@ fn speaks(ask: &BackBusAsk) -> bool
 }
 
 // Whether the ring's end is between two entries and two replies.
-fn is_between(stage: Stage) -> bool
+fn is_between(stage: BackStage) -> bool
     ensures { result ≡ is_between stage }
 {
     !matches!(
         stage,
-        Stage::Fetch(_)
-            | Stage::ReplyHigh(_)
-            | Stage::ReplyLast(_)
-            | Stage::Producer(_)
-            | Stage::ProducerFence(_)
-            | Stage::ResponseEvent(_)
-            | Stage::Send
+        BackStage::Fetch(_)
+            | BackStage::ReplyHigh(_)
+            | BackStage::ReplyLast(_)
+            | BackStage::Producer(_)
+            | BackStage::ProducerFence(_)
+            | BackStage::ResponseEvent(_)
+            | BackStage::Send
     )
 }

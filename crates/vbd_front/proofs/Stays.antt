@@ -13,8 +13,8 @@ use Rattle.blk_front.specs.declared.request.Transfer.{Transfer}
 use Rattle.blk_front.specs.declared.request.Transfer.TheVariants as transfer
 use Rattle.blk_front.specs.Request.{has_data, words_in, is_indirect, naming_words}
 use Rattle.blk_front.specs.declared.stage.Ending.{Ending}
-use Rattle.blk_front.specs.declared.stage.Stage.{Stage}
-use Rattle.blk_front.specs.declared.stage.Stage.TheVariants as stage
+use Rattle.blk_front.specs.declared.stage.FrontStage.{FrontStage}
+use Rattle.blk_front.specs.declared.stage.FrontStage.TheVariants as stage
 use Rattle.blk_front.specs.declared.told.Told.TheVariants as told
 use Rattle.blk_front.specs.View.{View, next_request}
 use Rattle.blk_front.specs.Submit.{is_connected}
@@ -27,7 +27,7 @@ either : (b : Bool) (x y : View) → IsMade x → IsMade y → IsMade (if b then
 either true x y p q = p
 either false x y p q = q
 
-staged : (b : Bool) (s s' : Stage) → is_connected s ≡ true → is_connected s' ≡ true → is_connected (if b then s else s') ≡ true
+staged : (b : Bool) (s s' : FrontStage) → is_connected s ≡ true → is_connected s' ≡ true → is_connected (if b then s else s') ≡ true
 staged true s s' p q = p
 staged false s s' p q = q
 
@@ -81,7 +81,7 @@ data_stays v (Some e) n word h =
     let after : View = sector_told e n (slice_set v.words (n % 128) word) v in
     either (nat_lt (n + 1) (words_in e.request)) (at (stage.ReadData (n + 1)) after) (finished e after) refl refl
 
-pub stays : (s : Stage) (v : View) (a : FrontAnswer) → IsMade v → is_connected s ≡ true → IsMade (step_at s v a)
+pub stays : (s : FrontStage) (v : View) (a : FrontAnswer) → IsMade v → is_connected s ≡ true → IsMade (step_at s v a)
 stays (stage.RingWord k) v a h c = absurd (cc)
 stays (stage.RingFrame page) v a h c = absurd (cc)
 stays (stage.RingFence page) v a h c = absurd (cc)

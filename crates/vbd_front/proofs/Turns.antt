@@ -10,16 +10,16 @@ use Rattle.blk_front.specs.declared.request.Request.{Request}
 use Rattle.blk_front.specs.declared.request.Transfer.{Transfer}
 use Rattle.blk_front.specs.declared.request.Transfer.TheVariants as transfer
 use Rattle.blk_front.specs.declared.stage.Ending.{Ending}
-use Rattle.blk_front.specs.declared.stage.Stage.{Stage}
-use Rattle.blk_front.specs.declared.stage.Stage.TheVariants as stage
+use Rattle.blk_front.specs.declared.stage.FrontStage.{FrontStage}
+use Rattle.blk_front.specs.declared.stage.FrontStage.TheVariants as stage
 use Rattle.blk_front.specs.Request.{is_indirect}
 use Rattle.blk_front.specs.View.{View as Ring, next_request, ring_frame, slot_frame, slot_word}
 use Rattle.blk_front.specs.Ask as ring
 use Rattle.blk_front.specs.Suspend.{is_left}
 use Rattle.blk_front.specs.Step as step_ring
 use Rattle.blk_front.specs.Submit.{is_connected, is_led, is_wait, is_idle}
-use Rattle.xenbus_state.specs.declared.stage.FrontStage.{FrontStage}
-use Rattle.xenbus_state.specs.declared.stage.FrontStage.TheVariants as bus_stage
+use Rattle.xenbus_state.specs.declared.stage.FrontBusStage.{FrontBusStage}
+use Rattle.xenbus_state.specs.declared.stage.FrontBusStage.TheVariants as bus_stage
 use Rattle.xenbus_state.specs.declared.front.FrontBusAsk.{FrontBusAsk}
 use Rattle.xenbus_state.specs.declared.front.FrontBusAsk.TheVariants as bus_ask
 use Rattle.xenbus_state.specs.FrontView.{FrontView}
@@ -104,7 +104,7 @@ loop_of_ring v None =
     let read = if responses_of v.ring.indices v.ring.seen == 0 then ask.Read ring_frame 2 else ask.Read (slot_frame v.shape v.ring.indices.cons 0) (slot_word v.shape v.ring.indices.cons 0) in
     either (v.ring.asleep || ring.is_through v) ask.Wait read tt (either (responses_of v.ring.indices v.ring.seen == 0) (ask.Read ring_frame 2) (ask.Read (slot_frame v.shape v.ring.indices.cons 0) (slot_word v.shape v.ring.indices.cons 0)) tt tt)
 
-of_ring : (s : Stage) (v : Ring) → IsOfRing (ring.ask_at s v)
+of_ring : (s : FrontStage) (v : Ring) → IsOfRing (ring.ask_at s v)
 of_ring stage.Loop v = loop_of_ring v (next_request v)
 of_ring (stage.Data n) v = data_of_ring (next_request v) n
 of_ring (stage.Pages n) v = page_of_ring (next_request v) n
@@ -126,7 +126,7 @@ pub ring_answers : (v : View) (x : FrontAnswer) → (turn_of v ≡ turn.Keys →
 ring_answers v x n m h = narrowed (ring.ask_of v.ring) x (of_ring v.ring.stage v.ring) (subst (λ a. IsAnswer a x) (ring_asks v n m) h)
 
 -- an answer to a move that the negotiation asked for is of the kind that it knows
-heard_at : (b : FrontBusAsk) (s : Stage) (v : Ring) (x : FrontAnswer) → ring_moves b s ≡ true → ring.IsAnswer (ring.ask_at s v) x → IsHeard b x
+heard_at : (b : FrontBusAsk) (s : FrontStage) (v : Ring) (x : FrontAnswer) → ring_moves b s ≡ true → ring.IsAnswer (ring.ask_at s v) x → IsHeard b x
 heard_at (bus_ask.WriteRingWord word) (stage.RingWord k) v answer.Done m h = tt
 heard_at (bus_ask.WriteRingWord word) (stage.RingWord k) v x m h = absurd h
 heard_at (bus_ask.WriteRingWord word) s v x m h = absurd (cc)
@@ -159,7 +159,7 @@ turn_is : (v : View) → turn_of v ≡ turn.Ring → (bus_ask_of v ≡ bus_ask.W
 turn_is v t = ring_turn (bus_ask_of v) v.bus.closing (is_connected v.ring.stage) t
 
 -- then the ring's end has the move
-connected_moves : (s : Stage) → is_connected s ≡ true → ring_moves bus_ask.Wait s ≡ true
+connected_moves : (s : FrontStage) → is_connected s ≡ true → ring_moves bus_ask.Wait s ≡ true
 connected_moves (stage.LeftData n) made = refl
 connected_moves s made = made
 
@@ -172,7 +172,7 @@ made_asks v t =
 left_asks : (v : View) → is_left v.ring.stage ≡ true → bus_ask_of v ≡ bus_ask.Wait
 left_asks v e = ap (λ (b : Bool). if b then bus_ask.Wait else bus.ask_of v.bus (is_unoccupied v.ring)) e
 
-left_moves_at : (s : Stage) → is_left s ≡ true → ring_moves bus_ask.Wait s ≡ true
+left_moves_at : (s : FrontStage) → is_left s ≡ true → ring_moves bus_ask.Wait s ≡ true
 left_moves_at (stage.LeftData n) e = refl
 left_moves_at s e = absurd (cc)
 
@@ -194,7 +194,7 @@ or_none : (b : Bool) → b ≡ b || false
 or_none true = refl
 or_none false = refl
 
-waits_at : (s : Stage) (v : Ring) → is_wait (ring.ask_at s v) ≡ (not (is_led s) && is_wait (ring.ask_at s v)) || is_led s
+waits_at : (s : FrontStage) (v : Ring) → is_wait (ring.ask_at s v) ≡ (not (is_led s) && is_wait (ring.ask_at s v)) || is_led s
 waits_at stage.Initialised v = refl
 waits_at stage.Left v = refl
 waits_at s v = or_none (is_wait (ring.ask_at s v))
@@ -223,7 +223,7 @@ made_steps v x t p =
     ∙ ap (λ (w : FrontView). record v { ring = r; bus = w }) (not_woken (is_broken r.stage) (is_unoccupied v.ring) v.bus x p))
 
 -- while data are in hand the ring's end reads a word of them, and the negotiation learns nothing
-left_plain : (s : Stage) (v : Ring) (x : FrontAnswer) → is_left s ≡ true → IsSome v.ending → ring.IsAnswer (ring.ask_at s v) x → is_plain x ≡ true
+left_plain : (s : FrontStage) (v : Ring) (x : FrontAnswer) → is_left s ≡ true → IsSome v.ending → ring.IsAnswer (ring.ask_at s v) x → is_plain x ≡ true
 left_plain (stage.LeftData n) v x e some h = by_read v.ending x some h
   where
     by_read : (ending : Option Ending) (x : FrontAnswer) → IsSome ending → ring.IsAnswer (ring.read_ask ending n) x → is_plain x ≡ true
@@ -244,7 +244,7 @@ left_steps v x e some h =
     ∙ ap (λ (w : FrontView). record v { ring = r; bus = w }) (not_woken (is_broken r.stage) (is_unoccupied v.ring) v.bus x (left_plain v.ring.stage v.ring x e some (left_answers v x e h))))
 
 -- what a negotiation that doesn't close asks is the same, whether a request is unfinished or not
-due_same : (s : FrontStage) (w : FrontView) (idle later : Bool) → w.closing ≡ false → bus.due_at s w idle ≡ bus.due_at s w later
+due_same : (s : FrontBusStage) (w : FrontView) (idle later : Bool) → w.closing ≡ false → bus.due_at s w idle ≡ bus.due_at s w later
 due_same bus_stage.Rest w idle later c = by_closing w.closing c
   where
     by_closing : (b : Bool) → b ≡ false → (if b && idle then bus.closing_stage w.state w else bus_stage.Rest) ≡ (if b && later then bus.closing_stage w.state w else bus_stage.Rest)
@@ -253,10 +253,10 @@ due_same bus_stage.Rest w idle later c = by_closing w.closing c
 due_same s w idle later c = refl
 
 busy_same : (v w : View) → v.bus.closing ≡ false → w.bus ≡ v.bus → bus.ask_of w.bus (is_unoccupied w.ring) ≡ bus.ask_of v.bus (is_unoccupied v.ring)
-busy_same v w c e = ap (λ (b : FrontView). bus.ask_of b (is_unoccupied w.ring)) e ∙ ap (λ (s : FrontStage). bus.ask_at s v.bus) (due_same v.bus.stage v.bus (is_unoccupied w.ring) (is_unoccupied v.ring) c)
+busy_same v w c e = ap (λ (b : FrontView). bus.ask_of b (is_unoccupied w.ring)) e ∙ ap (λ (s : FrontBusStage). bus.ask_at s v.bus) (due_same v.bus.stage v.bus (is_unoccupied w.ring) (is_unoccupied v.ring) c)
 
 -- no data are in hand where the ring is made, and the negotiation asks what it has to ask
-made_none : (s : Stage) → is_connected s ≡ true → is_left s ≡ false
+made_none : (s : FrontStage) → is_connected s ≡ true → is_left s ≡ false
 made_none (stage.LeftData n) made = absurd (cc)
 made_none s made = refl
 

@@ -5,8 +5,8 @@ use Rattle.blk_base.specs.declared.ask.FrontAsk.{FrontAsk}
 use Rattle.blk_base.specs.declared.ask.FrontAsk.TheVariants.{Wait, Watch, GetKey, SetKey}
 use Rattle.blk_base.specs.declared.ask.FrontAnswer.{FrontAnswer}
 use Rattle.blk_base.specs.declared.ask.FrontAnswer.TheVariants as answer
-use Rattle.blk_front.specs.declared.stage.Stage.{Stage}
-use Rattle.blk_front.specs.declared.stage.Stage.TheVariants as stage
+use Rattle.blk_front.specs.declared.stage.FrontStage.{FrontStage}
+use Rattle.blk_front.specs.declared.stage.FrontStage.TheVariants as stage
 use Rattle.blk_front.specs.Submit.{is_connected, is_wait}
 use Rattle.blk_front.specs.Suspend.{is_left}
 use Rattle.blk_front.specs.Ask as ring
@@ -48,7 +48,7 @@ key_ask (bus_ask.SetKey key value) = SetKey (path_under Front (front_name key)) 
 key_ask a = Wait
 
 -- the end of the ring has the move: the negotiation asks for what it does next to make the ring or to leave it, or the ring is made, or data are in hand
-abbrev pub ring_moves : FrontBusAsk → Stage → Bool
+abbrev pub ring_moves : FrontBusAsk → FrontStage → Bool
 ring_moves (bus_ask.WriteRingWord word) (stage.RingWord k) = true
 ring_moves (bus_ask.WriteRingWord word) s = false
 ring_moves (bus_ask.Grant page) (stage.RingFrame k) = true

@@ -2,8 +2,8 @@
 use Rattle.std.specs.Prelude.{ℕ, Bool, true, false, List, [], ◌∷◌, ◌++◌, Option, Some, None, if◌then◌else◌}
 use Rattle.blk_base.specs.declared.ask.FrontAnswer.{FrontAnswer}
 use Rattle.blk_base.specs.declared.ask.FrontAnswer.TheVariants as answer
-use Rattle.blk_front.specs.declared.stage.Stage.{Stage}
-use Rattle.blk_front.specs.declared.stage.Stage.TheVariants as stage
+use Rattle.blk_front.specs.declared.stage.FrontStage.{FrontStage}
+use Rattle.blk_front.specs.declared.stage.FrontStage.TheVariants as stage
 use Rattle.blk_front.specs.declared.state.FrontState.{FrontState}
 use Rattle.blk_front.specs.declared.state.FrontState.TheVariants as state
 use Rattle.blk_front.specs.declared.state.Offers.{Offers}
@@ -85,7 +85,7 @@ woken false idle v (answer.Watched path) = bus_told idle v (answer.Watched path)
 woken broken idle v a = v
 
 -- what the negotiation learns of a move of the ring's end to a later stage: what it asked for is done, the last of the moves at a page's grant; or a watch was taken
-abbrev pub followed : FrontBusAsk → (later : Stage) → (idle : Bool) → FrontView → FrontAnswer → FrontView
+abbrev pub followed : FrontBusAsk → (later : FrontStage) → (idle : Bool) → FrontView → FrontAnswer → FrontView
 followed (bus_ask.WriteRingWord word) later idle v a = bus_told idle v a
 followed (bus_ask.Grant page) (stage.RingFrame k) idle v a = bus_told idle v a
 followed (bus_ask.Grant page) stage.NewPort idle v a = bus_told idle v a

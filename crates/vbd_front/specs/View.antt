@@ -2,8 +2,8 @@
 use Rattle.std.specs.Prelude.{Bool, true, false, ◌&&◌, ◌==◌, Option, None}
 use Rattle.blk_base.specs.Options.{Options}
 use Rattle.blk_front.specs.View as ring
-use Rattle.blk_front.specs.declared.stage.Stage.{Stage}
-use Rattle.blk_front.specs.declared.stage.Stage.TheVariants as ring_stage
+use Rattle.blk_front.specs.declared.stage.FrontStage.{FrontStage}
+use Rattle.blk_front.specs.declared.stage.FrontStage.TheVariants as ring_stage
 use Rattle.blk_front.specs.Submit.{unfinished}
 use Rattle.xenbus_state.specs.FrontView as bus
 use Rattle.xenbus_state.specs.declared.front.FrontNews.{FrontNews}
@@ -25,7 +25,7 @@ abbrev pub heard : View → View
 heard v = let r : ring.View = v.ring in record v { ring = record r { told = None }; news = None }
 
 -- no step of a request or of the ring's loop is begun
-abbrev pub is_still : Stage → Bool
+abbrev pub is_still : FrontStage → Bool
 is_still (ring_stage.RingWord k) = true
 is_still ring_stage.Initialised = true
 is_still ring_stage.Loop = true
@@ -46,6 +46,6 @@ rests bus_ask.Wait = true
 rests ask = false
 
 -- a word that no honest back leaves was found
-abbrev pub is_broken : Stage → Bool
+abbrev pub is_broken : FrontStage → Bool
 is_broken (ring_stage.Broken word) = true
 is_broken s = false

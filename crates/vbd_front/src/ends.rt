@@ -14,7 +14,7 @@ ghost use Rattle.vbd_front.specs.Turn.{turn_of};
 use crate::news;
 use crate::turn::{self, Turn};
 use blk_base::{Config, Endpoint, FrontAnswer, FrontAsk, Job, OutOfMemory};
-use blk_front::{Front, Refusal, Stage, Told};
+use blk_front::{Front, FrontStage, Refusal, Told};
 use std::alloc::Global;
 use std::marker::Model;
 use xenbus_state::{FrontBus, FrontBusAsk, FrontNews};
@@ -54,7 +54,7 @@ impl Ends {
         ensures { result ≡ bus_ask_of self.now }
     {
         match self.ring.stage() {
-            Stage::LeftData(_) => FrontBusAsk::Wait,
+            FrontStage::LeftData(_) => FrontBusAsk::Wait,
             _ => self.bus.ask(self.is_unoccupied()),
         }
     }
@@ -78,22 +78,22 @@ impl Ends {
         ensures { result ≡ ring_moves (bus_ask_of self.now) self.now.ring.stage }
     {
         match (self.bus_ask(), self.ring.stage()) {
-            (FrontBusAsk::WriteRingWord(_), stage) => matches!(stage, Stage::RingWord(_)),
+            (FrontBusAsk::WriteRingWord(_), stage) => matches!(stage, FrontStage::RingWord(_)),
             (FrontBusAsk::Grant(_), stage) => {
                 matches!(
                     stage,
-                    Stage::RingFrame(_) | Stage::RingFence(_) | Stage::RingFlags(_)
+                    FrontStage::RingFrame(_) | FrontStage::RingFence(_) | FrontStage::RingFlags(_)
                 )
             }
-            (FrontBusAsk::NewPort, stage) => matches!(stage, Stage::NewPort),
+            (FrontBusAsk::NewPort, stage) => matches!(stage, FrontStage::NewPort),
             (FrontBusAsk::EndGrant(_), stage) => {
                 matches!(
                     stage,
-                    Stage::RingRead(_) | Stage::RingEnd(..) | Stage::Broken(_)
+                    FrontStage::RingRead(_) | FrontStage::RingEnd(..) | FrontStage::Broken(_)
                 )
             }
-            (FrontBusAsk::ClosePort, stage) => matches!(stage, Stage::ClosePort),
-            (FrontBusAsk::Wait, Stage::LeftData(_)) => true,
+            (FrontBusAsk::ClosePort, stage) => matches!(stage, FrontStage::ClosePort),
+            (FrontBusAsk::Wait, FrontStage::LeftData(_)) => true,
             _ => self.ring.is_connected(),
         }
     }
@@ -190,7 +190,10 @@ impl Ends {
     pub fn is_open(&self) -> bool
         ensures { result ≡ is_open self.now.ring.stage }
     {
-        !matches!(self.ring.stage(), Stage::Closed | Stage::Broken(_))
+        !matches!(
+            self.ring.stage(),
+            FrontStage::Closed | FrontStage::Broken(_)
+        )
     }
 
     /// The domain was suspended and resumes.
@@ -217,7 +220,11 @@ impl Ends {
     pub fn ring_waits(&self) -> bool
         ensures { result ≡ is_wait (ring_ask_of self.now.ring) }
     {
-        self.ring.idle() || matches!(self.ring.stage(), Stage::Initialised | Stage::Left)
+        self.ring.idle()
+            || matches!(
+                self.ring.stage(),
+                FrontStage::Initialised | FrontStage::Left
+            )
     }
 
     /// How many requests are unfinished, and how many sectors they move.
@@ -264,18 +271,18 @@ impl Ends {
 }
 
 // Whether no step of a request or of the ring's loop is begun.
-fn is_still(stage: Stage) -> bool
+fn is_still(stage: FrontStage) -> bool
     ensures { result ≡ is_still stage }
 {
     matches!(
         stage,
-        Stage::RingWord(_)
-            | Stage::Initialised
-            | Stage::Loop
-            | Stage::RingRead(_)
-            | Stage::RingEnd(..)
-            | Stage::ClosePort
-            | Stage::Left
-            | Stage::Closed
+        FrontStage::RingWord(_)
+            | FrontStage::Initialised
+            | FrontStage::Loop
+            | FrontStage::RingRead(_)
+            | FrontStage::RingEnd(..)
+            | FrontStage::ClosePort
+            | FrontStage::Left
+            | FrontStage::Closed
     )
 }

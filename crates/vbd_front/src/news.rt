@@ -6,7 +6,7 @@ ghost use Rattle.xenbus_state.specs.FrontView.{ring_order};
 ghost use Rattle.vbd_front.specs.Step.{bus_told, offers_of, state_of_news, states_entered, all_entered, news_told, followed, waited, IsHeard};
 
 use blk_base::FrontAnswer;
-use blk_front::{Front, FrontState, Offers, Stage};
+use blk_front::{Front, FrontStage, FrontState, Offers};
 use xenbus_state::{FrontBus, FrontBusAsk, FrontNews};
 
 /// Completes what the negotiation asks by this answer, and says that there are no grants to end beside those
@@ -79,19 +79,19 @@ pub fn state_of(offers: Offers, news: FrontNews) -> FrontState
 
 /// The ring's end has moved to this stage. The negotiation learns it where it asked for what is done
 /// now, or where a watch was taken and the ring isn't broken.
-pub fn follow(bus: &mut FrontBus, idle: bool, later: Stage, answer: &FrontAnswer)
+pub fn follow(bus: &mut FrontBus, idle: bool, later: FrontStage, answer: &FrontAnswer)
     requires { IsHeard (ask_of bus.old idle) answer.now }
     ensures { bus.new ≡ followed (ask_of bus.old idle) later idle bus.old answer.now }
 {
     match (bus.ask(idle), later) {
         (FrontBusAsk::WriteRingWord(_) | FrontBusAsk::NewPort | FrontBusAsk::ClosePort, _)
-        | (FrontBusAsk::Grant(_), Stage::RingFrame(_) | Stage::NewPort) => {
+        | (FrontBusAsk::Grant(_), FrontStage::RingFrame(_) | FrontStage::NewPort) => {
             complete(bus, idle, answer);
         }
-        (FrontBusAsk::EndGrant(_), Stage::RingRead(_) | Stage::ClosePort) => {
+        (FrontBusAsk::EndGrant(_), FrontStage::RingRead(_) | FrontStage::ClosePort) => {
             complete(bus, idle, &FrontAnswer::Done);
         }
-        (FrontBusAsk::Wait, Stage::Broken(_)) => {}
+        (FrontBusAsk::Wait, FrontStage::Broken(_)) => {}
         (FrontBusAsk::Wait, _) => wake(bus, idle, answer),
         _ => {}
     }

@@ -10,22 +10,22 @@ use Rattle.blk_base.specs.declared.ask.BackAsk.TheVariants as back_ask
 use Rattle.event_channel.specs.Channels.{is_pending}
 use Rattle.key_directory.specs.Watches.{has_pending}
 use Rattle.hypervisor.specs.Act.{has_to_take}
-use Rattle.blk_front.specs.declared.stage.Stage.{Stage}
-use Rattle.blk_front.specs.declared.stage.Stage.TheVariants as ring_stage
+use Rattle.blk_front.specs.declared.stage.FrontStage.{FrontStage}
+use Rattle.blk_front.specs.declared.stage.FrontStage.TheVariants as ring_stage
 use Rattle.blk_front.specs.declared.stage.Ending.{Ending}
 use Rattle.blk_front.specs.declared.request.Request.{Request}
 use Rattle.blk_front.specs.View as front_ends
 use Rattle.blk_front.specs.Ask as front_ring
 use Rattle.blk_front.specs.Submit.{is_ready, is_led, is_idle, ending_of}
-use Rattle.blk_back.specs.declared.stage.Stage.{Stage as BackRing}
-use Rattle.blk_back.specs.declared.stage.Stage.TheVariants as back_stage
+use Rattle.blk_back.specs.declared.stage.BackStage.{BackStage}
+use Rattle.blk_back.specs.declared.stage.BackStage.TheVariants as back_stage
 use Rattle.blk_back.specs.Ask as back_ring
 use Rattle.xenbus_state.specs.declared.state.BusState.{BusState}
 use Rattle.xenbus_state.specs.declared.state.BusState.TheVariants as state
 use Rattle.xenbus_state.specs.States.{state_number}
-use Rattle.xenbus_state.specs.declared.stage.FrontStage.{FrontStage}
-use Rattle.xenbus_state.specs.declared.stage.FrontStage.TheVariants as stage
-use Rattle.xenbus_state.specs.declared.stage.BackStage.{BackStage}
+use Rattle.xenbus_state.specs.declared.stage.FrontBusStage.{FrontBusStage}
+use Rattle.xenbus_state.specs.declared.stage.FrontBusStage.TheVariants as stage
+use Rattle.xenbus_state.specs.declared.stage.BackBusStage.{BackBusStage}
 use Rattle.xenbus_state.specs.declared.front.FrontBusAsk.{FrontBusAsk}
 use Rattle.xenbus_state.specs.declared.front.FrontBusAsk.TheVariants as front_bus
 use Rattle.xenbus_state.specs.declared.back.BackBusAsk.TheVariants as back_bus
@@ -65,8 +65,8 @@ leads_back : (n : Negotiation) → Reached n → LeadsBack n
 leads_back n j = subst LeadsBack j.stands (connected_after j.run)
 
 -- a front that wrote Closing and rests is at no step of a request
-still_closing : (gone : Bool) (port : Option ℕ) (s : Stage) → FrontRests state.Closing gone port s → (ending_of s ≡ 0) × (front_view.is_still s ≡ true)
-still_closing false None s rests = subst (λ (t : Stage). (ending_of t ≡ 0) × (front_view.is_still t ≡ true)) (sym rests) (refl, refl)
+still_closing : (gone : Bool) (port : Option ℕ) (s : FrontStage) → FrontRests state.Closing gone port s → (ending_of s ≡ 0) × (front_view.is_still s ≡ true)
+still_closing false None s rests = subst (λ (t : FrontStage). (ending_of t ≡ 0) × (front_view.is_still t ≡ true)) (sym rests) (refl, refl)
 still_closing false (Some p) ring_stage.Initialised rests = (refl, refl)
 still_closing false (Some p) ring_stage.Loop rests = (refl, refl)
 still_closing false (Some p) s rests = absurd (true≢false (sym rests))
@@ -75,12 +75,12 @@ still_closing true (Some p) (ring_stage.RingRead page) rests = (refl, refl)
 still_closing true (Some p) (ring_stage.RingEnd page seen) rests = (refl, refl)
 still_closing true (Some p) s rests = absurd rests
 
-ready_unled : (s : Stage) → is_ready s ≡ true → is_led s ≡ false
+ready_unled : (s : FrontStage) → is_ready s ≡ true → is_led s ≡ false
 ready_unled ring_stage.Initialised ready = absurd (true≢false (sym ready))
 ready_unled ring_stage.Left ready = absurd (true≢false (sym ready))
 ready_unled s ready = refl
 
-serving_unled : (s : BackRing) → is_serving s ≡ true → back_ring.is_led s ≡ false
+serving_unled : (s : BackStage) → is_serving s ≡ true → back_ring.is_led s ≡ false
 serving_unled back_stage.InitWait serves = absurd (true≢false (sym serves))
 serving_unled s serves = refl
 
@@ -93,7 +93,7 @@ reads_one : (e : Option Ending) (n : ℕ) → IsSome e → front_ring.read_ask e
 reads_one None n some waits = true≢false (sym some)
 reads_one (Some e) n some waits = absurd (cc)
 
-left_reads : (s : Stage) (v : front_ends.View) → is_left s ≡ true → HasInHand s v.ending → front_ring.ask_at s v ≡ front_ask.Wait → ⊥
+left_reads : (s : FrontStage) (v : front_ends.View) → is_left s ≡ true → HasInHand s v.ending → front_ring.ask_at s v ≡ front_ask.Wait → ⊥
 left_reads (ring_stage.LeftData n) v left hand waits = reads_one v.ending n hand waits
 left_reads s v left hand waits = true≢false (sym left)
 
@@ -113,7 +113,7 @@ pub record AreWaiting (w : World) : Type 0 where
   pub back_taken : has_to_take w.rings.under end.Back ≡ false
 
 module _ (w : World) (c d : Check) (k : FrontKnows w c) (j : BackKnows w d) (joined : Joined w) (heard : HasHeard w) (whole : front_view.is_broken w.rings.front.stage ≡ false) (waiting : AreWaiting w) where
-  abbrev r : Stage
+  abbrev r : FrontStage
   r = w.rings.front.stage
 
   abbrev idle : Bool
@@ -155,8 +155,8 @@ module _ (w : World) (c d : Check) (k : FrontKnows w c) (j : BackKnows w d) (joi
     where
       by_bus : FrontBusWaits w.front idle → Place
       by_bus (inl at) = inl (rests_whole w c k at.0 whole)
-      by_bus (inr (inl here)) = let goes : FrontGoesWith stage.Closed w.front r = subst (λ (s : FrontStage). FrontGoesWith s w.front r) here k.fit.front in inr (goes.0, goes.1)
-      by_bus (inr (inr at)) = let goes : FrontGoesWith (stage.Broken at.0) w.front r = subst (λ (s : FrontStage). FrontGoesWith s w.front r) at.1 k.fit.front in absurd (true≢false (sym goes ∙ whole))
+      by_bus (inr (inl here)) = let goes : FrontGoesWith stage.Closed w.front r = subst (λ (s : FrontBusStage). FrontGoesWith s w.front r) here k.fit.front in inr (goes.0, goes.1)
+      by_bus (inr (inr at)) = let goes : FrontGoesWith (stage.Broken at.0) w.front r = subst (λ (s : FrontBusStage). FrontGoesWith s w.front r) at.1 k.fit.front in absurd (true≢false (sym goes ∙ whole))
 
   -- without a request it is idle, where it is at nothing
   unoccupied : length w.rings.front.requests ≡ 0 → (ending_of r ≡ 0) × (front_view.is_still r ≡ true) → idle ≡ true
@@ -190,7 +190,7 @@ module _ (w : World) (c d : Check) (k : FrontKnows w c) (j : BackKnows w d) (joi
 
       by_bus : BackBusWaits w.back → back_ring.is_led w.rings.back.stage ≡ false
       by_bus (inl at) = by_state w.back.state high (rests_so w d j at.0)
-      by_bus (inr (inl here)) = ap back_ring.is_led (subst (λ (s : BackStage). BackGoesWith s w.back.state w.rings.back.stage) here j.fit.back).1
+      by_bus (inr (inl here)) = ap back_ring.is_led (subst (λ (s : BackBusStage). BackGoesWith s w.back.state w.rings.back.stage) here j.fit.back).1
       by_bus (inr (inr at)) = unmaps_some w d j at.0 at.1
 
   abbrev AreUnled : Type 0

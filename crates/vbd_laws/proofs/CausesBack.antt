@@ -25,8 +25,8 @@ use Rattle.schedule_text.specs.declared.line.Line.{Line}
 use Rattle.schedule_text.specs.declared.line.Line.TheVariants as lines
 use Rattle.hypervisor.specs.Hypervisor.{Hypervisor}
 use Rattle.hypervisor.specs.Act.{BackAct, Took, back_act, map_act, bind_act, key_at}
-use Rattle.blk_back.specs.declared.stage.Stage.{Stage}
-use Rattle.blk_back.specs.declared.stage.Stage.TheVariants as stage
+use Rattle.blk_back.specs.declared.stage.BackStage.{BackStage}
+use Rattle.blk_back.specs.declared.stage.BackStage.TheVariants as stage
 use Rattle.blk_back.specs.declared.stage.Reply.{Reply}
 use Rattle.blk_back.specs.declared.told.BackTold.{BackTold}
 use Rattle.blk_back.specs.declared.told.BackTold.TheVariants as told
@@ -37,8 +37,8 @@ use Rattle.blk_back.specs.Ask.{ask_at, loop_ask, index_ask, entry_ask, next_repl
 use Rattle.blk_back.specs.Step.{abort, unbound, looked, overrun, fetched, loop_word, loop_step, may_attach, attached, attaches, step_at}
 use Rattle.xenbus_state.specs.declared.state.BusState.{BusState}
 use Rattle.xenbus_state.specs.declared.state.BusState.TheVariants as state
-use Rattle.xenbus_state.specs.declared.stage.BackStage.{BackStage}
-use Rattle.xenbus_state.specs.declared.stage.BackStage.TheVariants as bus_stage
+use Rattle.xenbus_state.specs.declared.stage.BackBusStage.{BackBusStage}
+use Rattle.xenbus_state.specs.declared.stage.BackBusStage.TheVariants as bus_stage
 use Rattle.xenbus_state.specs.declared.back.BackBusAsk.TheVariants as back_bus
 use Rattle.xenbus_state.specs.declared.table.BackHalt.{BackHalt}
 use Rattle.xenbus_state.specs.declared.table.BackHalt.TheVariants as why
@@ -145,7 +145,7 @@ named_halts before k text v reason None known is e =
     (refl, inr (record { key = k; named = refl; bad = subst (λ (order : ℕ). IsBadKey k text order) (sym known) (bad_key k text v is) }))
 named_halts before k text v reason (Some w) known is e = absurd (none-some _ e)
 
-key_halts : (before : List Line) (h : Hypervisor) (s : BackStage) (v : BackView) (a : BackAct) (reason : BackHalt) → order_read before ≡ v.terms.order → back_act h back_mover.Back (back.key_ask (bus_asks.ask_at s v)) Took ≡ Some a → bus.halt_at s v a.answer ≡ Some reason
+key_halts : (before : List Line) (h : Hypervisor) (s : BackBusStage) (v : BackView) (a : BackAct) (reason : BackHalt) → order_read before ≡ v.terms.order → back_act h back_mover.Back (back.key_ask (bus_asks.ask_at s v)) Took ≡ Some a → bus.halt_at s v a.answer ≡ Some reason
     → CausesHalt before (halt_line (ring_halt reason)) a.shown
 key_halts before h bus_stage.ReadState v a reason known e =
     of_back (λ (x : BackAct). bus.halt_at bus_stage.ReadState v x.answer ≡ Some reason → CausesHalt before (halt_line (ring_halt reason)) x.shown) _ a
@@ -226,7 +226,7 @@ event_halts before v old (answer.Word word) shown running = goes_on before shown
 event_halts before v old x shown running = goes_on before shown v running
 
 -- a move of the back's end of the ring
-ring_halts : (before : List Line) (s : Stage) (v : View) (h : Hypervisor) (a : BackAct) → v.halted ≡ None → v.told ≡ None → back_act h back_mover.Back (ask_at s v) Took ≡ Some a → Halts before a.shown (step_at s v a.answer)
+ring_halts : (before : List Line) (s : BackStage) (v : View) (h : Hypervisor) (a : BackAct) → v.halted ≡ None → v.told ≡ None → back_act h back_mover.Back (ask_at s v) Took ≡ Some a → Halts before a.shown (step_at s v a.answer)
 ring_halts before stage.MapRing v h a running quiet e =
     of_back (λ (x : BackAct). Halts before x.shown (step_at stage.MapRing v x.answer)) _ a (map_halts before v h (next_gref v) (verdict_at h.pages (next_gref v) ReadWrite) refl running quiet) e
 ring_halts before stage.Bind v h a running quiet e = of_back (λ (x : BackAct). Halts before x.shown (step_at stage.Bind v x.answer)) _ a (bind_halts before v h (state_of h.channels v.ring.port) running quiet) e

@@ -15,8 +15,8 @@ use Rattle.schedule_text.specs.declared.line.Line.{Line}
 use Rattle.schedule_text.specs.declared.line.Line.TheVariants as lines
 use Rattle.hypervisor.specs.Hypervisor.{Hypervisor}
 use Rattle.hypervisor.specs.Act.{FrontAct, front_act}
-use Rattle.blk_front.specs.declared.stage.Stage.{Stage}
-use Rattle.blk_front.specs.declared.stage.Stage.TheVariants as stage
+use Rattle.blk_front.specs.declared.stage.FrontStage.{FrontStage}
+use Rattle.blk_front.specs.declared.stage.FrontStage.TheVariants as stage
 use Rattle.blk_front.specs.declared.state.FrontState.{FrontState}
 use Rattle.blk_front.specs.declared.state.FrontState.TheVariants as enter
 use Rattle.blk_front.specs.declared.state.Offers.{Offers}
@@ -28,8 +28,8 @@ use Rattle.blk_front.specs.State.{is_unmade, may_enter, in_state, enters}
 use Rattle.line_text.proofs.Both.{both_true}
 use Rattle.xenbus_state.specs.declared.state.BusState.{BusState}
 use Rattle.xenbus_state.specs.declared.state.BusState.TheVariants as state
-use Rattle.xenbus_state.specs.declared.stage.FrontStage.{FrontStage}
-use Rattle.xenbus_state.specs.declared.stage.FrontStage.TheVariants as bus_stage
+use Rattle.xenbus_state.specs.declared.stage.FrontBusStage.{FrontBusStage}
+use Rattle.xenbus_state.specs.declared.stage.FrontBusStage.TheVariants as bus_stage
 use Rattle.xenbus_state.specs.declared.front.FrontNews.{FrontNews}
 use Rattle.xenbus_state.specs.declared.front.FrontNews.TheVariants as news
 use Rattle.xenbus_state.specs.declared.front.FrontBusAsk.{FrontBusAsk}
@@ -82,7 +82,7 @@ spoken_unread : (h : Hypervisor) (b : FrontBusAsk) (a : FrontAct) → front.spea
 spoken_unread h b a says e = front_keys (λ (x : FrontAct). word_read (lines.Move x.shown) ≡ []) h (front.key_ask b) a (asks_key b says) (λ x is. key_unread x.shown is.shown) e
 
 -- a state that it enters leaves what it has read
-unmade : (s : Stage) → is_unmade s ≡ true → is_reading_on s ≡ false
+unmade : (s : FrontStage) → is_unmade s ≡ true → is_reading_on s ≡ false
 unmade (stage.ResponseHigh low) e = absurd (true≢false (sym e))
 unmade (stage.ResponseLast low high) e = absurd (true≢false (sym e))
 unmade s e = refl
@@ -188,7 +188,7 @@ written_breaks state.Closed answer.Done v idle = refl
 written_breaks s answer.Done v idle = refl
 written_breaks s x v idle = refl
 
-key_breaks : (h : Hypervisor) (s : FrontStage) (v : FrontView) (idle : Bool) (a : FrontAct) (word : ℕ) (before : List Line) → IsPlaced s → front_act h (front.key_ask (bus_asks.ask_at s v)) ≡ Some a
+key_breaks : (h : Hypervisor) (s : FrontBusStage) (v : FrontView) (idle : Bool) (a : FrontAct) (word : ℕ) (before : List Line) → IsPlaced s → front_act h (front.key_ask (bus_asks.ask_at s v)) ≡ Some a
     → news_at s (at s v) idle a.answer ≡ Some (news.Broken word) → CausesBreak before word a.shown
 key_breaks h bus_stage.ReadState v idle a word before placed e =
     of_front (λ (x : FrontAct). news_at bus_stage.ReadState (at bus_stage.ReadState v) idle x.answer ≡ Some (news.Broken word) → CausesBreak before word x.shown) _ a (λ n. state_breaks v.state v.closing idle _ word before (state_read _) refl n) e

@@ -18,8 +18,8 @@ use Rattle.schedule_text.specs.declared.line.Line.{Line}
 use Rattle.schedule_text.specs.declared.line.Line.TheVariants as lines
 use Rattle.hypervisor.specs.Hypervisor.{Hypervisor}
 use Rattle.hypervisor.specs.Act.{FrontAct, BackAct, Outcome, Took, front_act, back_act, key_at, key_set, is_own_path}
-use Rattle.blk_back.specs.declared.stage.Stage.{Stage as BackRing}
-use Rattle.blk_back.specs.declared.stage.Stage.TheVariants as back_ring
+use Rattle.blk_back.specs.declared.stage.BackStage.{BackStage}
+use Rattle.blk_back.specs.declared.stage.BackStage.TheVariants as back_ring
 use Rattle.blk_back.specs.declared.told.Halt.{Halt}
 use Rattle.blk_back.specs.View as ring
 use Rattle.blk_back.specs.Ask as back_asked
@@ -27,8 +27,8 @@ use Rattle.blk_back.specs.Step as ring_step
 use Rattle.xenbus_state.specs.declared.keys.FrontKey.{FrontKey}
 use Rattle.xenbus_state.specs.declared.keys.FrontKey.TheVariants as front_key
 use Rattle.xenbus_state.specs.declared.state.BusState.TheVariants as state
-use Rattle.xenbus_state.specs.declared.stage.BackStage.{BackStage}
-use Rattle.xenbus_state.specs.declared.stage.BackStage.TheVariants as bus_stage
+use Rattle.xenbus_state.specs.declared.stage.BackBusStage.{BackBusStage}
+use Rattle.xenbus_state.specs.declared.stage.BackBusStage.TheVariants as bus_stage
 use Rattle.xenbus_state.specs.declared.back.BackBusAsk.{BackBusAsk}
 use Rattle.xenbus_state.specs.declared.back.BackBusAsk.TheVariants as back_bus
 use Rattle.xenbus_state.specs.declared.table.BackAction.{BackAction}
@@ -145,14 +145,14 @@ key_order front_key.Protocol text v = kept_order (layout_read text) v _ (λ x. r
 key_order front_key.FeaturePersistent text v = kept_order (count_read text) v _ (λ x. refl)
 
 -- the negotiation speaks
-abbrev Ordered : BackStage → BackView → BackAct → Type 0
+abbrev Ordered : BackBusStage → BackView → BackAct → Type 0
 Ordered s v x = (bus.step_at s v x.answer).terms.order ≡ order_after v.terms.order (lines.Move x.shown)
 
 set_acts : (P : BackAct → Type 0) (h : Hypervisor) (path text : List ℕ) (a : BackAct) → P (record { answer = answer.Done; under = key_set h path text; shown = moves.SetKey mover.Back path text })
     → back_act h back_mover.Back (back_ask.SetKey path text) Took ≡ Some a → P a
 set_acts P h path text a holds e = back_test P (is_own_path end.Back path) (record { answer = answer.Done; under = key_set h path text; shown = moves.SetKey mover.Back path text }) a holds e
 
-bus_order : (h : Hypervisor) (s : BackStage) (v : BackView) (a : BackAct) → back_act h back_mover.Back (back.key_ask (bus_asks.ask_at s v)) Took ≡ Some a → Ordered s v a
+bus_order : (h : Hypervisor) (s : BackBusStage) (v : BackView) (a : BackAct) → back_act h back_mover.Back (back.key_ask (bus_asks.ask_at s v)) Took ≡ Some a → Ordered s v a
 bus_order h (bus_stage.Publish k) v a e = set_acts (Ordered (bus_stage.Publish k) v) h (path_under end.Back (back_name k)) (text_of (back_value v.features v.disk k)) a refl e
 bus_order h (bus_stage.WriteState s) v a e = set_acts (Ordered (bus_stage.WriteState s) v) h back.own_state (decimal (state_number s)) a refl e
 bus_order h bus_stage.Watch v a e = of_back (Ordered bus_stage.Watch v) _ a refl e
@@ -180,7 +180,7 @@ abbrev is_get : BackBusAsk → Bool
 is_get (back_bus.GetKey k) = true
 is_get b = false
 
-quiet_at : (s : BackStage) (v : BackView) (x : BackAnswer) → is_get (bus_asks.ask_at s v) ≡ false → (bus.step_at s v x).terms.order ≡ v.terms.order
+quiet_at : (s : BackBusStage) (v : BackView) (x : BackAnswer) → is_get (bus_asks.ask_at s v) ≡ false → (bus.step_at s v x).terms.order ≡ v.terms.order
 quiet_at (bus_stage.Publish k) v answer.Done quiet = refl
 quiet_at (bus_stage.WriteState s) v answer.Done quiet = refl
 quiet_at bus_stage.Watch v answer.Done quiet = refl
@@ -207,7 +207,7 @@ quiet_step v x quiet = by_test (bus_asks.says_closing v) quiet
 done_step : (v : BackView) → (bus.step_of v answer.Done).terms.order ≡ v.terms.order
 done_step v = by_test (bus_asks.says_closing v)
   where
-    done_at : (s : BackStage) → (bus.step_at s v answer.Done).terms.order ≡ v.terms.order
+    done_at : (s : BackBusStage) → (bus.step_at s v answer.Done).terms.order ≡ v.terms.order
     done_at (bus_stage.Publish k) = refl
     done_at s = refl
 
@@ -215,7 +215,7 @@ done_step v = by_test (bus_asks.says_closing v)
     by_test true = refl
     by_test false = done_at v.stage
 
-settled_order : (b : BackStage) (s : BackRing) (v : BackView) → (back_step.settled_at b s v).terms.order ≡ v.terms.order
+settled_order : (b : BackBusStage) (s : BackStage) (v : BackView) → (back_step.settled_at b s v).terms.order ≡ v.terms.order
 settled_order bus_stage.UnmapOthers (back_ring.Abort m) v = refl
 settled_order bus_stage.UnmapOthers s v = done_step v
 settled_order b s v = refl

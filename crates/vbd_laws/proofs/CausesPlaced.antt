@@ -3,15 +3,15 @@ use Rattle.std.proofs.Common.{◌≡◌, ℕ, ◌+◌, ◌||◌, Bool, true, fal
 use Rattle.std.specs.Prelude.{Option, Some, None, nat_lt, ◌==◌}
 use Rattle.blk_base.specs.declared.ask.FrontAnswer.{FrontAnswer}
 use Rattle.blk_base.specs.declared.ask.FrontAnswer.TheVariants as front_answer
-use Rattle.blk_front.specs.declared.stage.Stage.{Stage as FrontRing}
-use Rattle.blk_front.specs.declared.stage.Stage.TheVariants as front_ring
+use Rattle.blk_front.specs.declared.stage.FrontStage.{FrontStage}
+use Rattle.blk_front.specs.declared.stage.FrontStage.TheVariants as front_ring
 use Rattle.xenbus_state.specs.declared.keys.BackKey.{BackKey}
 use Rattle.xenbus_state.specs.declared.keys.BackKey.TheVariants as key
 use Rattle.xenbus_state.specs.declared.keys.FrontKey.{FrontKey}
 use Rattle.xenbus_state.specs.declared.state.BusState.{BusState}
 use Rattle.xenbus_state.specs.declared.state.BusState.TheVariants as state
-use Rattle.xenbus_state.specs.declared.stage.FrontStage.{FrontStage}
-use Rattle.xenbus_state.specs.declared.stage.FrontStage.TheVariants as stage
+use Rattle.xenbus_state.specs.declared.stage.FrontBusStage.{FrontBusStage}
+use Rattle.xenbus_state.specs.declared.stage.FrontBusStage.TheVariants as stage
 use Rattle.xenbus_state.specs.declared.front.FrontBusAsk.{FrontBusAsk}
 use Rattle.xenbus_state.specs.declared.front.FrontBusAsk.TheVariants as ask
 use Rattle.xenbus_state.specs.declared.table.FrontAction.{FrontAction}
@@ -29,7 +29,7 @@ use Rattle.vbd_front.specs.Step.{settled_at, bus_told, woken, followed, waited}
 use Rattle.vbd_laws.proofs.FitFrontBus.{due_cases}
 
 -- the key that the front reads is one of those of its stage
-abbrev pub IsPlaced : FrontStage → Type 0
+abbrev pub IsPlaced : FrontBusStage → Type 0
 IsPlaced (stage.ReadFeature k) = IsFeature k
 IsPlaced (stage.ReadFact k) = IsFact k
 IsPlaced s = Unit {0}
@@ -64,7 +64,7 @@ acted_placed action.CloseAndConnect v = tt
 acted_placed action.Leave v = tt
 acted_placed (action.Break word) v = tt
 
-either : (b : Bool) (x y : FrontStage) → IsPlaced x → IsPlaced y → IsPlaced (if b then x else y)
+either : (b : Bool) (x y : FrontBusStage) → IsPlaced x → IsPlaced y → IsPlaced (if b then x else y)
 either true x y p q = p
 either false x y p q = q
 
@@ -80,7 +80,7 @@ written_placed : (s : BusState) → IsPlaced (after_state s)
 written_placed state.Closed = tt
 written_placed s = tt
 
-at_placed : (s : FrontStage) (v : FrontView) (idle : Bool) (x : FrontAnswer) → IsPlaced s → v.stage ≡ s → IsPlaced (step_at s v idle x).stage
+at_placed : (s : FrontBusStage) (v : FrontView) (idle : Bool) (x : FrontAnswer) → IsPlaced s → v.stage ≡ s → IsPlaced (step_at s v idle x).stage
 at_placed stage.Rest v idle (front_answer.Watched path) placed here = tt
 at_placed stage.ReadState v idle (front_answer.Key text) placed here = acted_placed (tables.front_action v.state v.closing idle (state_read text)) v
 at_placed (stage.ReadFeature k) v idle (front_answer.Key text) placed here = read_feature k (count_read text) v
@@ -123,7 +123,7 @@ woken_placed : (broken : Bool) (v : FrontView) (idle : Bool) (x : FrontAnswer) �
 woken_placed false v idle (front_answer.Watched path) placed = told_placed v idle (front_answer.Watched path) placed
 woken_placed broken v idle x placed = placed
 
-pub followed_placed : (b : FrontBusAsk) (s : FrontRing) (v : FrontView) (idle : Bool) (x : FrontAnswer) → IsPlaced v.stage → IsPlaced (followed b s idle v x).stage
+pub followed_placed : (b : FrontBusAsk) (s : FrontStage) (v : FrontView) (idle : Bool) (x : FrontAnswer) → IsPlaced v.stage → IsPlaced (followed b s idle v x).stage
 followed_placed (ask.WriteRingWord word) s v idle x placed = told_placed v idle x placed
 followed_placed (ask.Grant page) (front_ring.RingFrame k) v idle x placed = told_placed v idle x placed
 followed_placed (ask.Grant page) front_ring.NewPort v idle x placed = told_placed v idle x placed
@@ -149,7 +149,7 @@ closed_placed v placed = by_test (v.closing || is_broken_bus v.stage)
 pub suspended_placed : (v : FrontView) → IsPlaced v.stage → IsPlaced (suspended v).stage
 suspended_placed v placed = by_stage v.stage
   where
-    by_stage : (s : FrontStage) → IsPlaced (suspended_at s v).stage
+    by_stage : (s : FrontBusStage) → IsPlaced (suspended_at s v).stage
     by_stage stage.Closed = placed
     by_stage (stage.Broken word) = placed
     by_stage s = tt

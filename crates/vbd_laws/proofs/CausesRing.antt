@@ -19,8 +19,8 @@ use Rattle.schedule_text.specs.declared.line.Line.{Line}
 use Rattle.schedule_text.specs.declared.line.Line.TheVariants as lines
 use Rattle.hypervisor.specs.Hypervisor.{Hypervisor}
 use Rattle.hypervisor.specs.Act.{FrontAct, front_act}
-use Rattle.blk_front.specs.declared.stage.Stage.{Stage}
-use Rattle.blk_front.specs.declared.stage.Stage.TheVariants as stage
+use Rattle.blk_front.specs.declared.stage.FrontStage.{FrontStage}
+use Rattle.blk_front.specs.declared.stage.FrontStage.TheVariants as stage
 use Rattle.blk_front.specs.declared.stage.Ending.{Ending}
 use Rattle.blk_front.specs.declared.request.Request.{Request}
 use Rattle.blk_front.specs.declared.request.Transfer.{Transfer}
@@ -37,23 +37,23 @@ use Rattle.vbd_laws.specs.Causes.{CausesBreak, entry_read, words_read}
 use Rattle.vbd_laws.proofs.CausesLines.{words_one}
 
 -- where it reads the second word of a response it read the first one last, and where it reads the third both
-abbrev pub HasRead : Stage → Shape → ℕ → List Move → Type 0
+abbrev pub HasRead : FrontStage → Shape → ℕ → List Move → Type 0
 HasRead (stage.ResponseHigh low) s k reads = (rest : List Move) × (reads ≡ rest ++ entry_read s k 0 low ∷ [])
 HasRead (stage.ResponseLast low high) s k reads = (rest : List Move) × (reads ≡ rest ++ entry_read s k 0 low ∷ entry_read s k 1 high ∷ [])
 HasRead at s k reads = Unit {0}
 
-abbrev pub is_reading_on : Stage → Bool
+abbrev pub is_reading_on : FrontStage → Bool
 is_reading_on (stage.ResponseHigh low) = true
 is_reading_on (stage.ResponseLast low high) = true
 is_reading_on s = false
 
-pub unread : (s : Stage) (shape : Shape) (k : ℕ) (reads : List Move) → is_reading_on s ≡ false → HasRead s shape k reads
+pub unread : (s : FrontStage) (shape : Shape) (k : ℕ) (reads : List Move) → is_reading_on s ≡ false → HasRead s shape k reads
 unread (stage.ResponseHigh low) shape k reads e = absurd (true≢false e)
 unread (stage.ResponseLast low high) shape k reads e = absurd (true≢false e)
 unread s shape k reads e = tt
 
 -- after a suspend it reads no response
-still_anew : (s : Stage) → is_reading_on (stage_after s) ≡ false
+still_anew : (s : FrontStage) → is_reading_on (stage_after s) ≡ false
 still_anew (stage.ReadData n) = refl
 still_anew (stage.LeftData n) = refl
 still_anew s = refl
@@ -91,14 +91,14 @@ either : (b : Bool) (before : List Line) (shown : Move) (x y : View) → (b ≡ 
 either true before shown x y p q = p refl
 either false before shown x y p q = q refl
 
-either_stage : (b : Bool) (x y : Stage) → is_reading_on x ≡ false → is_reading_on y ≡ false → is_reading_on (if b then x else y) ≡ false
+either_stage : (b : Bool) (x y : FrontStage) → is_reading_on x ≡ false → is_reading_on y ≡ false → is_reading_on (if b then x else y) ≡ false
 either_stage true x y p q = p
 either_stage false x y p q = q
 
-goes_to : (before : List Line) (shown : Move) (v : View) (next : Stage) → v.told ≡ None → is_reading_on next ≡ false → RingGoes before shown (at next v)
+goes_to : (before : List Line) (shown : Move) (v : View) (next : FrontStage) → v.told ≡ None → is_reading_on next ≡ false → RingGoes before shown (at next v)
 goes_to before shown v next quiet still = calm before shown (at next v) still (ap is_calm quiet)
 
-stays : (before : List Line) (shown : Move) (v : View) (s : Stage) → v.stage ≡ s → v.told ≡ None → is_reading_on s ≡ false → RingGoes before shown v
+stays : (before : List Line) (shown : Move) (v : View) (s : FrontStage) → v.stage ≡ s → v.told ≡ None → is_reading_on s ≡ false → RingGoes before shown v
 stays before shown v s here quiet still = calm before shown v (ap is_reading_on here ∙ still) (ap is_calm quiet)
 
 looked_goes : (before : List Line) (v : View) (word : ℕ) (otherwise : View) → v.told ≡ None → RingGoes before (moves.FrontRead 2 2 word) otherwise → RingGoes before (moves.FrontRead 2 2 word) (looked v word otherwise)
@@ -185,7 +185,7 @@ mapped_bits : (word : ℕ) → is_mapped word ≡ true → (is_reading word || i
 mapped_bits word is = grind (arith, nat_tests)
 
 -- the first word of a grant's entry was read
-entry_goes : (before : List Line) (v : View) (gref word : ℕ) (next : Stage) → v.told ≡ None → is_reading_on next ≡ false
+entry_goes : (before : List Line) (v : View) (gref word : ℕ) (next : FrontStage) → v.told ≡ None → is_reading_on next ≡ false
     → RingGoes before (moves.FrontRead (gref / 512) (2 * (gref % 512)) word) (if is_mapped word then broken word v else at next v)
 entry_goes before v gref word next quiet still =
     either (is_mapped word) before _ (broken word v) (at next v)
@@ -246,7 +246,7 @@ left_read_goes before v n (answer.Word word) shown here quiet = left_goes before
 left_read_goes before v n x shown here quiet = stays before shown v (stage.LeftData n) here quiet refl
 
 -- a move of the front's end of the ring
-pub ring_goes : (s : Stage) (v : View) (h : Hypervisor) (a : FrontAct) (before : List Line) → v.stage ≡ s → v.told ≡ None → HasRead s v.shape v.ring.indices.cons (words_read before) → front_act h (ask_at s v) ≡ Some a
+pub ring_goes : (s : FrontStage) (v : View) (h : Hypervisor) (a : FrontAct) (before : List Line) → v.stage ≡ s → v.told ≡ None → HasRead s v.shape v.ring.indices.cons (words_read before) → front_act h (ask_at s v) ≡ Some a
     → RingGoes before a.shown (step_at s v a.answer)
 ring_goes (stage.RingWord k) v h a before here quiet has e = goes_to before a.shown v _ quiet (either_stage (k == 15) (stage.RingFrame 0) (stage.RingWord (k + 1)) refl refl)
 ring_goes (stage.RingFrame page) v h a before here quiet has e = goes_to before a.shown v _ quiet refl

@@ -43,14 +43,14 @@ use Rattle.vbd_laws.proofs.FitChannels.{IsUnported, job_leaves, sent_fits}
 use Rattle.vbd_laws.proofs.FitFront.{fit_front_moves, fit_front_closes}
 use Rattle.vbd_laws.proofs.FitBackShares.{Terms, terms_in}
 use Rattle.vbd_laws.proofs.FitBack.{fit_back_moves, fit_back_closes}
-use Rattle.blk_front.specs.declared.stage.Stage.{Stage as Ring}
-use Rattle.blk_front.specs.declared.stage.Stage.TheVariants as ring_stage
+use Rattle.blk_front.specs.declared.stage.FrontStage.{FrontStage}
+use Rattle.blk_front.specs.declared.stage.FrontStage.TheVariants as ring_stage
 use Rattle.blk_front.specs.State.{is_bare}
 use Rattle.blk_front.specs.Suspend.{is_left}
 use Rattle.xenbus_state.specs.declared.state.BusState.{BusState}
 use Rattle.xenbus_state.specs.declared.state.BusState.TheVariants as state
-use Rattle.xenbus_state.specs.declared.stage.FrontStage.{FrontStage}
-use Rattle.xenbus_state.specs.declared.stage.FrontStage.TheVariants as stage
+use Rattle.xenbus_state.specs.declared.stage.FrontBusStage.{FrontBusStage}
+use Rattle.xenbus_state.specs.declared.stage.FrontBusStage.TheVariants as stage
 use Rattle.xenbus_state.specs.FrontView.{FrontView}
 use Rattle.vbd_laws.proofs.FitFrontMoves.{with_port}
 
@@ -161,7 +161,7 @@ through_submit v job through = by_test (v.last == 4294967295) v.closing (both_tr
     by_test false false closing = absurd (true≢false (sym closing))
 
 -- a front that may take a request has agreed the order of its ring
-ready_rests : (own : BusState) (gone : Bool) (port : Option ℕ) (r : Ring) → FrontRests own gone port r → is_ready r ≡ true → IsSome port
+ready_rests : (own : BusState) (gone : Bool) (port : Option ℕ) (r : FrontStage) → FrontRests own gone port r → is_ready r ≡ true → IsSome port
 ready_rests state.Initialising gone port r rests ready = absurd (true≢false (sym ready ∙ ap is_ready rests.0))
 ready_rests state.Initialised gone port r rests ready = rests.1
 ready_rests state.Connected gone port r rests ready = rests.1
@@ -170,11 +170,11 @@ ready_rests state.Closing false (Some port) r rests ready = refl
 ready_rests state.Closing true (Some port) r rests ready = refl
 ready_rests own gone port r rests ready = absurd rests
 
-broken_unready : (r : Ring) → is_broken r ≡ true → is_ready r ≡ true → ⊥
+broken_unready : (r : FrontStage) → is_broken r ≡ true → is_ready r ≡ true → ⊥
 broken_unready (ring_stage.Broken word) is ready = true≢false (sym ready)
 broken_unready r is ready = true≢false (sym is)
 
-ready_agreed : (b : FrontStage) (v : FrontView) (r : Ring) (n : ℕ) → FrontGoesWith b v r → FrontOrdered b v n → is_ready r ≡ true → IsAgreed v.order v.features.order n
+ready_agreed : (b : FrontBusStage) (v : FrontView) (r : FrontStage) (n : ℕ) → FrontGoesWith b v r → FrontOrdered b v n → is_ready r ≡ true → IsAgreed v.order v.features.order n
 ready_agreed (stage.RingWord word) v r n goes ordered ready = ordered
 ready_agreed (stage.Grant page) v r n goes ordered ready = ordered
 ready_agreed stage.NewPort v r n goes ordered ready = ordered
@@ -183,7 +183,7 @@ ready_agreed stage.Rest v r n goes ordered ready =
 ready_agreed stage.ReadState v r n goes ordered ready = with_port v.port v.order v.features.order n (ready_rests v.state v.gone v.port r goes ready) ordered
 ready_agreed stage.Start v r n goes ordered ready = elim goes.1 [ inl is ↦ absurd (true≢false (sym ready ∙ ap is_ready is)) | inr left ↦ absurd (left_unready r left ready) ]
   where
-    left_unready : (r : Ring) → is_left r ≡ true → is_ready r ≡ true → ⊥
+    left_unready : (r : FrontStage) → is_left r ≡ true → is_ready r ≡ true → ⊥
     left_unready (ring_stage.LeftData k) left ready = true≢false (sym ready)
     left_unready r left ready = true≢false (sym left)
 ready_agreed (stage.ReadFeature key) v r n goes ordered ready = absurd (true≢false (sym ready ∙ ap is_ready goes.1))
@@ -193,7 +193,7 @@ ready_agreed (stage.WriteState state.Initialised) v r n goes ordered ready = wit
 ready_agreed (stage.WriteState state.Connected) v r n goes ordered ready = with_port v.port v.order v.features.order n goes.2 ordered
 ready_agreed (stage.WriteState state.Closed) v r n goes ordered ready = absurd (bare_unready r goes.1 ready)
   where
-    bare_unready : (r : Ring) → is_bare r ≡ true → is_ready r ≡ true → ⊥
+    bare_unready : (r : FrontStage) → is_bare r ≡ true → is_ready r ≡ true → ⊥
     bare_unready (ring_stage.RingWord k) bare ready = true≢false (sym ready)
     bare_unready ring_stage.Left bare ready = true≢false (sym ready)
     bare_unready r bare ready = true≢false (sym bare)

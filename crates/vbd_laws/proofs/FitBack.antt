@@ -16,15 +16,15 @@ use Rattle.blk_back.specs.View as ends
 use Rattle.ring_words.specs.Shape.{entries_of}
 use Rattle.blk_front.specs.View as front_ends
 use Rattle.blk_front.specs.Submit.{unfinished}
-use Rattle.blk_back.specs.declared.stage.Stage.{Stage as Ring}
+use Rattle.blk_back.specs.declared.stage.BackStage.{BackStage}
 use Rattle.blk_back.specs.Step.{unmapping_next}
 use Rattle.blk_back.proofs.Hands.{step_info}
 use Rattle.back_jobs.specs.Jobs.{first_mapping}
 use Rattle.xenbus_state.specs.declared.keys.BackKey.{BackKey}
 use Rattle.xenbus_state.specs.declared.values.KeyValue.{KeyValue}
 use Rattle.xenbus_state.specs.declared.state.BusState.TheVariants as state
-use Rattle.xenbus_state.specs.declared.stage.BackStage.{BackStage}
-use Rattle.xenbus_state.specs.declared.stage.BackStage.TheVariants as stage
+use Rattle.xenbus_state.specs.declared.stage.BackBusStage.{BackBusStage}
+use Rattle.xenbus_state.specs.declared.stage.BackBusStage.TheVariants as stage
 use Rattle.xenbus_state.specs.declared.back.BackBusAsk.{BackBusAsk}
 use Rattle.xenbus_state.specs.declared.back.BackBusAsk.TheVariants as back_bus
 use Rattle.xenbus_state.specs.declared.table.BackHalt.{BackHalt}
@@ -165,10 +165,10 @@ never false = refl
 
 pub asks_publishing : (w : World) (k : BackKey) → w.back.stage ≡ stage.Publish k → (says_closing w.back ≡ false) × (back_asks w ≡ back_bus.SetKey k (back_value w.back.features w.back.disk k))
 asks_publishing w k here =
-    let on : says_closing w.back ≡ false = ap (λ (b : BackStage). w.back.unplugged && says_closing_at b w.back.state) here ∙ never w.back.unplugged in
-    (on, ap (λ (c : Bool). if c then back_bus.SetState state.Closing else ask_at w.back.stage w.back) on ∙ ap (λ (b : BackStage). ask_at b w.back) here)
+    let on : says_closing w.back ≡ false = ap (λ (b : BackBusStage). w.back.unplugged && says_closing_at b w.back.state) here ∙ never w.back.unplugged in
+    (on, ap (λ (c : Bool). if c then back_bus.SetState state.Closing else ask_at w.back.stage w.back) on ∙ ap (λ (b : BackBusStage). ask_at b w.back) here)
 
-next_settled : (k : Option BackKey) (r : Ring) (v : BackView) → (let u : BackView = back_step.settled r (at (after_feature k) v) in u.stage) ≡ after_feature k
+next_settled : (k : Option BackKey) (r : BackStage) (v : BackView) → (let u : BackView = back_step.settled r (at (after_feature k) v) in u.stage) ≡ after_feature k
 next_settled (Some k) r v = refl
 next_settled None r v = refl
 
@@ -176,30 +176,30 @@ told_done : (k : BackKey) (value : KeyValue) (x : BackAnswer) → IsAnswer (back
 told_done k value answer.Done allowed = refl
 told_done k value x allowed = absurd allowed
 
-publish_says : (w : World) (a : BackAct) (r : Ring) (k : BackKey) → IsFit w → w.back.stage ≡ stage.Publish k → IsAnswer (back_asks w) a.answer
+publish_says : (w : World) (a : BackAct) (r : BackStage) (k : BackKey) → IsFit w → w.back.stage ≡ stage.Publish k → IsAnswer (back_asks w) a.answer
     → SaidAt (Says w (keys_after w)) (let u : BackView = back_step.settled r (step_of w.back a.answer) in u.stage)
 publish_says w a r k fit here allowed =
     let asks = asks_publishing w k here in
-    let goes : BackGoesWith (stage.Publish k) w.back.state w.rings.back.stage = subst (λ (b : BackStage). BackGoesWith b w.back.state w.rings.back.stage) here fit.back in
+    let goes : BackGoesWith (stage.Publish k) w.back.state w.rings.back.stage = subst (λ (b : BackBusStage). BackGoesWith b w.back.state w.rings.back.stage) here fit.back in
     let done = told_done k (back_value w.back.features w.back.disk k) a.answer (subst (λ (b : BackBusAsk). IsAnswer b a.answer) asks.1 allowed) in
     let told : step_of w.back a.answer ≡ at (after_feature (next_feature k)) w.back =
-    told_at w.back a.answer asks.0 ∙ (ap (λ (b : BackStage). step_at b w.back a.answer) here ∙ ap (λ (x : BackAnswer). step_at (stage.Publish k) w.back x) done) in
+    told_at w.back a.answer asks.0 ∙ (ap (λ (b : BackBusStage). step_at b w.back a.answer) here ∙ ap (λ (x : BackAnswer). step_at (stage.Publish k) w.back x) done) in
     let later : (let u : BackView = back_step.settled r (step_of w.back a.answer) in u.stage) ≡ after_feature (next_feature k) =
     ap (λ (v : BackView). let u : BackView = back_step.settled r v in u.stage) told ∙ next_settled (next_feature k) r w.back in
     let said : SaidBefore (Says w (keys_after w)) k = said_kept (Says w w.rings.under.keys) (Says w (keys_after w)) (asked_keeps w.back w.rings.back.stage w.rings.under.keys) (stage.Publish k)
-    (subst (λ (b : BackStage). SaidAt (Says w w.rings.under.keys) b) here fit.said) in
+    (subst (λ (b : BackBusStage). SaidAt (Says w w.rings.under.keys) b) here fit.said) in
     let is : Says w (keys_after w) k = subst (λ (b : BackBusAsk). Says w (negotiated w.rings.back.stage end.Back (back_key b) w.rings.under.keys) k) (sym asks.1)
     (set_says w.back.features w.back.disk w.rings.back.stage w.rings.under.keys k goes.1 (back_may_set w.back k fit.offers)) in
-    subst (λ (b : BackStage). SaidAt (Says w (keys_after w)) b) (sym later) (said_next (Says w (keys_after w)) k said is)
+    subst (λ (b : BackBusStage). SaidAt (Says w (keys_after w)) b) (sym later) (said_next (Says w (keys_after w)) k said is)
 
 -- once all are published they stay said
 keys_said : (w : World) (u : BackView) → IsFit w → is_publishing w.back.stage ≡ false → ((said : Type 0) → HasSaid said w.back → HasSaid said u) → SaidAt (Says w (keys_after w)) u.stage
 keys_said w u fit past later = said_past (Says w w.rings.under.keys) (Says w (keys_after w)) (asked_keeps w.back w.rings.back.stage w.rings.under.keys) w.back u past later fit.said
 
-spoken_says : (w : World) (a : BackAct) (r : Ring) → IsFit w → IsAnswer (back_asks w) a.answer → SaidAt (Says w (keys_after w)) (let u : BackView = back_step.settled r (step_of w.back a.answer) in u.stage)
+spoken_says : (w : World) (a : BackAct) (r : BackStage) → IsFit w → IsAnswer (back_asks w) a.answer → SaidAt (Says w (keys_after w)) (let u : BackView = back_step.settled r (step_of w.back a.answer) in u.stage)
 spoken_says w a r fit allowed = by_stage w.back.stage refl
   where
-    by_stage : (b : BackStage) → w.back.stage ≡ b → SaidAt (Says w (keys_after w)) (let u : BackView = back_step.settled r (step_of w.back a.answer) in u.stage)
+    by_stage : (b : BackBusStage) → w.back.stage ≡ b → SaidAt (Says w (keys_after w)) (let u : BackView = back_step.settled r (step_of w.back a.answer) in u.stage)
     by_stage (stage.Publish k) here = publish_says w a r k fit here allowed
     by_stage b here = keys_said w (back_step.settled r (step_of w.back a.answer)) fit (ap is_publishing here) (λ said. said_settled said r w.back a.answer)
 
@@ -207,9 +207,9 @@ spoken_says w a r fit allowed = by_stage w.back.stage refl
 quiet_past : (w : World) → IsFit w → back.bus_moves (back_asks w) w.rings.back.stage ≡ false → is_publishing w.back.stage ≡ false
 quiet_past w fit quiet = by_stage w.back.stage refl
   where
-    by_stage : (b : BackStage) → w.back.stage ≡ b → is_publishing b ≡ false
+    by_stage : (b : BackBusStage) → w.back.stage ≡ b → is_publishing b ≡ false
     by_stage (stage.Publish k) here =
-        let goes : BackGoesWith (stage.Publish k) w.back.state w.rings.back.stage = subst (λ (b : BackStage). BackGoesWith b w.back.state w.rings.back.stage) here fit.back in
+        let goes : BackGoesWith (stage.Publish k) w.back.state w.rings.back.stage = subst (λ (b : BackBusStage). BackGoesWith b w.back.state w.rings.back.stage) here fit.back in
         let asks = (asks_publishing w k here).1 in
         absurd (true≢false (sym (ap (λ (b : BackBusAsk). back.bus_moves b w.rings.back.stage) asks ∙ ap back.is_between goes.1) ∙ quiet))
     by_stage b here = refl
@@ -247,7 +247,7 @@ fit_takes w a fit turn moves takes e =
       says = λ k is. is;
       announced = fit.announced;
     }) both.0 both.1 refl fit.unported
-    (subst (λ (t : ends.View). IsUnbound t.stage w.rings.under.channels) (sym took.led) (subst (λ (s : Ring). IsUnbound s w.rings.under.channels) waits fit.unbound)))
+    (subst (λ (t : ends.View). IsUnbound t.stage w.rings.under.channels) (sym took.led) (subst (λ (s : BackStage). IsUnbound s w.rings.under.channels) waits fit.unbound)))
 
 -- its end of the ring moves, and asks for no key
 own_keys : (w : World) (a : BackAct) → back_act w.rings.under back_mover.Back (back_ring.ask_of w.rings.back) Took ≡ Some a → LeavesBack w.back.features w.back.disk w.rings.under.keys a.under.keys
@@ -309,7 +309,7 @@ fit_back_moves w fit = fit_turn w (back_turn w) fit refl
 -- and a close
 pub fit_back_closes : (w : World) → IsFit w → IsFit (happens w (Closes end.Back))
 fit_back_closes w fit = fit_back w w.rings (unplugged w.back) fit fit.safe
-    (record { facts = facts_closed w.back; info = refl; said = subst (λ (b : BackStage). SaidAt (Says w w.rings.under.keys) b) (sym (stage_closed w.back)) fit.said; says = λ k is. is; announced = fit.announced }) (by_fits (is_halting w.back.stage)) (closed_shares w.back w.rings.back (back_shares w fit)) refl fit.unported fit.unbound
+    (record { facts = facts_closed w.back; info = refl; said = subst (λ (b : BackBusStage). SaidAt (Says w w.rings.under.keys) b) (sym (stage_closed w.back)) fit.said; says = λ k is. is; announced = fit.announced }) (by_fits (is_halting w.back.stage)) (closed_shares w.back w.rings.back (back_shares w fit)) refl fit.unported fit.unbound
   where
     by_fits : (c : Bool) → BackFits (let v : BackView = w.back in if c then v else record v { unplugged = true }) w.rings.back
     by_fits true = back_fits w fit

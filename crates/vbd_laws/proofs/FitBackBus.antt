@@ -9,8 +9,8 @@ use Rattle.blk_base.specs.declared.operation.Abi.{Abi}
 use Rattle.blk_base.specs.declared.parts.Mapping.{Mapping}
 use Rattle.blk_base.specs.declared.ask.BackAnswer.{BackAnswer}
 use Rattle.blk_base.specs.declared.ask.BackAnswer.TheVariants as answer
-use Rattle.blk_back.specs.declared.stage.Stage.{Stage as Ring}
-use Rattle.blk_back.specs.declared.stage.Stage.TheVariants as ring
+use Rattle.blk_back.specs.declared.stage.BackStage.{BackStage}
+use Rattle.blk_back.specs.declared.stage.BackStage.TheVariants as ring
 use Rattle.blk_back.specs.View as ends
 use Rattle.blk_back.specs.Step.{abort, unmapping_next as ring_aborting, unbound, halts_at as ring_halts_at, may_halt, halts, may_attach, attached, attaches}
 use Rattle.back_jobs.specs.Jobs.{first_mapping}
@@ -20,8 +20,8 @@ use Rattle.xenbus_state.specs.declared.keys.FrontKey.{FrontKey}
 use Rattle.xenbus_state.specs.declared.keys.FrontKey.TheVariants as key
 use Rattle.xenbus_state.specs.declared.state.BusState.{BusState}
 use Rattle.xenbus_state.specs.declared.state.BusState.TheVariants as state
-use Rattle.xenbus_state.specs.declared.stage.BackStage.{BackStage}
-use Rattle.xenbus_state.specs.declared.stage.BackStage.TheVariants as stage
+use Rattle.xenbus_state.specs.declared.stage.BackBusStage.{BackBusStage}
+use Rattle.xenbus_state.specs.declared.stage.BackBusStage.TheVariants as stage
 use Rattle.xenbus_state.specs.declared.table.BackAction.{BackAction}
 use Rattle.xenbus_state.specs.declared.table.BackAction.TheVariants as action
 use Rattle.xenbus_state.specs.declared.table.BackHalt.{BackHalt}
@@ -60,7 +60,7 @@ pub told_at : (v : BackView) (x : BackAnswer) → says_closing v ≡ false → s
 told_at v x goes_on = rw goes_on refl
 
 -- a back that has halted unmaps a mapping next, or has none left
-abbrev pub is_ended : Ring → Bool
+abbrev pub is_ended : BackStage → Bool
 is_ended (ring.Abort m) = true
 is_ended ring.UnmapRing = true
 is_ended ring.UnmapUnbound = true
@@ -75,7 +75,7 @@ pub writing : (pages : List Mapping) (bound : Bool) (own : BusState) → length 
 writing [] bound own none free = rw free refl
 writing (page ∷ pages) bound own none free = absurd (omega arith)
 
-pub last_goes : (own : BusState) (r : Ring) → r ≡ ring.Halted → BackGoesWith (stage.WriteState (last_state own)) own r
+pub last_goes : (own : BusState) (r : BackStage) → r ≡ ring.Halted → BackGoesWith (stage.WriteState (last_state own)) own r
 last_goes state.Closing r over = (refl, over)
 last_goes own r over = over
 
@@ -84,7 +84,7 @@ last_halts state.Closing = refl
 last_halts own = refl
 
 -- once the negotiation is settled they fit
-pub ends_fit : (s : Ring) (v : BackView) (r : ends.View) → r.stage ≡ s → is_ended s ≡ true → v.stage ≡ stage.UnmapOthers → is_some r.halted ≡ true → BackHolds s v.terms.order (length v.pages) v.bound → BackFits (settled s v) r
+pub ends_fit : (s : BackStage) (v : BackView) (r : ends.View) → r.stage ≡ s → is_ended s ≡ true → v.stage ≡ stage.UnmapOthers → is_some r.halted ≡ true → BackHolds s v.terms.order (length v.pages) v.bound → BackFits (settled s v) r
 ends_fit s v r at_stage ended here halts held = by_stage s at_stage ended held
   where
     goes_on : says_closing v ≡ false
@@ -94,18 +94,18 @@ ends_fit s v r at_stage ended here halts held = by_stage s at_stage ended held
         by_asked true = refl
         by_asked false = refl
 
-    Ended : BackStage → Type 0
+    Ended : BackBusStage → Type 0
     Ended b = BackFits (at b v) r
 
     has_unmapped : step_of v answer.Done ≡ at (unmapping_next v.pages v.bound v.state) v
-    has_unmapped = told_at v answer.Done goes_on ∙ ap (λ (b : BackStage). step_at b v answer.Done) here
+    has_unmapped = told_at v answer.Done goes_on ∙ ap (λ (b : BackBusStage). step_at b v answer.Done) here
 
-    settles : (s : Ring) → settled_at stage.UnmapOthers s v ≡ step_of v answer.Done → (b : BackStage) → unmapping_next v.pages v.bound v.state ≡ b → Ended b → BackFits (settled s v) r
-    settles s last b next fits = subst (λ (u : BackView). BackFits u r) (sym (ap (λ (b : BackStage). settled_at b s v) here ∙ (last ∙ (has_unmapped ∙ ap (λ (b : BackStage). at b v) next)))) fits
+    settles : (s : BackStage) → settled_at stage.UnmapOthers s v ≡ step_of v answer.Done → (b : BackBusStage) → unmapping_next v.pages v.bound v.state ≡ b → Ended b → BackFits (settled s v) r
+    settles s last b next fits = subst (λ (u : BackView). BackFits u r) (sym (ap (λ (b : BackBusStage). settled_at b s v) here ∙ (last ∙ (has_unmapped ∙ ap (λ (b : BackBusStage). at b v) next)))) fits
 
-    by_stage : (s : Ring) → r.stage ≡ s → is_ended s ≡ true → BackHolds s v.terms.order (length v.pages) v.bound → BackFits (settled s v) r
+    by_stage : (s : BackStage) → r.stage ≡ s → is_ended s ≡ true → BackHolds s v.terms.order (length v.pages) v.bound → BackFits (settled s v) r
     by_stage (ring.Abort m) e ended held =
-        let same : settled (ring.Abort m) v ≡ v = ap (λ (b : BackStage). settled_at b (ring.Abort m) v) here in
+        let same : settled (ring.Abort m) v ≡ v = ap (λ (b : BackBusStage). settled_at b (ring.Abort m) v) here in
         subst (λ (u : BackView). BackFits u r) (sym same) (record { goes = rw (here, e) tt; held = rw e held; halted = rw here halts })
     by_stage ring.UnmapRing e ended held =
         settles ring.UnmapRing refl stage.UnmapPage (unmapping v.pages v.bound v.state held.0) (record { goes = rw e tt; held = rw e held; halted = halts })
@@ -117,7 +117,7 @@ ends_fit s v r at_stage ended here halts held = by_stage s at_stage ended held
     by_stage s e ended held = absurd (true≢false (sym ended))
 
 -- the negotiation has the end of the ring halt
-halts_ring : (reason : BackHalt) (r : ends.View) (s : Ring) → r.stage ≡ s → halts (ring_halt reason) r ≡ ring_halts_at s (ring_halt reason) r
+halts_ring : (reason : BackHalt) (r : ends.View) (s : BackStage) → r.stage ≡ s → halts (ring_halt reason) r ≡ ring_halts_at s (ring_halt reason) r
 halts_ring reason r s here = rw (may reason, here) refl
   where
     may : (reason : BackHalt) → may_halt (ring_halt reason) ≡ true
@@ -141,9 +141,9 @@ unbound_ended (page ∷ pages) = refl
 pub unbound_fits : (v : BackView) (r : ends.View) → r.stage ≡ unbound r.pages → r.pages ≡ v.pages → v.stage ≡ stage.UnmapOthers → is_some r.halted ≡ true → v.bound ≡ false → BackFits (settled r.stage v) r
 unbound_fits v r here same over halts free =
     let held : BackHolds (unbound r.pages) v.terms.order (length v.pages) v.bound = subst (λ (pages : List Mapping). BackHolds (unbound r.pages) v.terms.order (length pages) v.bound) same (unbound_holds r.pages v.terms.order v.bound free) in
-    subst (λ (s : Ring). BackFits (settled s v) r) (sym here) (ends_fit (unbound r.pages) v r here (unbound_ended r.pages) over halts held)
+    subst (λ (s : BackStage). BackFits (settled s v) r) (sym here) (ends_fit (unbound r.pages) v r here (unbound_ended r.pages) over halts held)
 
-free_unbound : (s : Ring) (order pages : ℕ) (binds : Bool) → is_unbound s ≡ true → BackHolds s order pages binds → binds ≡ false
+free_unbound : (s : BackStage) (order pages : ℕ) (binds : Bool) → is_unbound s ≡ true → BackHolds s order pages binds → binds ≡ false
 free_unbound ring.InitWait order pages binds is held = held.1
 free_unbound ring.MapRing order pages binds is held = held.1
 free_unbound s order pages binds is held = absurd (true≢false (sym is))
@@ -154,7 +154,7 @@ halt_fits reason v r (inl here) same held =
     subst (λ (x : ends.View). BackFits (settled x.stage (halted v)) x) (sym (by_stage r.stage refl here))
     (unbound_fits (halted v) (record r { halted = Some (ring_halt reason); stage = unbound r.pages }) refl same refl refl (free_unbound r.stage v.terms.order (length v.pages) v.bound here held))
   where
-    by_stage : (s : Ring) → r.stage ≡ s → is_unbound s ≡ true → halts (ring_halt reason) r ≡ record r { halted = Some (ring_halt reason); stage = unbound r.pages }
+    by_stage : (s : BackStage) → r.stage ≡ s → is_unbound s ≡ true → halts (ring_halt reason) r ≡ record r { halted = Some (ring_halt reason); stage = unbound r.pages }
     by_stage ring.InitWait e is = halts_ring reason r ring.InitWait e
     by_stage ring.MapRing e is = halts_ring reason r ring.MapRing e
     by_stage s e is = absurd (true≢false (sym is))
@@ -170,26 +170,26 @@ halt_fits reason v r (inr here) same held =
     by_mapping (Some m) held = ends_fit (ring.Abort m) (halted v) _ refl refl refl refl held
 
 -- a back that rests connects once
-connects_once : (own : BusState) (r : Ring) → is_connected own ≡ false → BackReads own r → (own ≡ state.InitWait) × (r ≡ ring.InitWait)
+connects_once : (own : BusState) (r : BackStage) → is_connected own ≡ false → BackReads own r → (own ≡ state.InitWait) × (r ≡ ring.InitWait)
 connects_once state.InitWait r suits reads = (refl, reads)
 connects_once state.Connected r suits reads = absurd (true≢false suits)
 connects_once state.Closing r suits reads = absurd (true≢false suits)
 connects_once own r suits reads = absurd reads
 
-reads_rests : (own : BusState) (r : Ring) → BackReads own r → BackRests own r
+reads_rests : (own : BusState) (r : BackStage) → BackReads own r → BackRests own r
 reads_rests state.InitWait r reads = reads
 reads_rests state.Connected r reads = ap is_serving reads
 reads_rests state.Closing r reads = ap is_serving reads
 reads_rests own r reads = absurd reads
 
-reads_between : (own : BusState) (r : Ring) → BackReads own r → (is_unbound r ≡ true) ⊎ (r ≡ ring.Loop)
+reads_between : (own : BusState) (r : BackStage) → BackReads own r → (is_unbound r ≡ true) ⊎ (r ≡ ring.Loop)
 reads_between state.InitWait r reads = inl (ap is_unbound reads)
 reads_between state.Connected r reads = inr reads
 reads_between state.Closing r reads = inr reads
 reads_between own r reads = absurd reads
 
 -- what an answer makes of both
-abbrev Heard : BackStage → BackView → ends.View → BackAnswer → Type 0
+abbrev Heard : BackBusStage → BackView → ends.View → BackAnswer → Type 0
 Heard b v r x = let led : ends.View = ring_led (halt_at b v x) (reads_layout (ask_at b v)) (step_at b v x) r in BackFits (settled led.stage (step_at b v x)) led
 
 acted_fits : (act : BackAction) (v : BackView) (r : ends.View) → SuitsBack v.state act → v.stage ≡ stage.ReadState → BackReads v.state r.stage → BackFits v r → r.pages ≡ v.pages
@@ -199,7 +199,7 @@ acted_fits action.Connect v r suits here reads h same = record { goes = connects
 acted_fits (action.Halt reason) v r suits here reads h same = halt_fits reason v r (reads_between v.state r.stage reads) same h.held
 
 -- a key before the last one is read
-abbrev pub IsEarly : BackStage → Type 0
+abbrev pub IsEarly : BackBusStage → Type 0
 IsEarly (stage.ReadKey key.FeaturePersistent) = ⊥
 IsEarly (stage.ReadKey k) = Unit {0}
 IsEarly b = ⊥
@@ -257,13 +257,13 @@ reads_key P key.FeaturePersistent text v all halts =
     reads_number P (with_persistent v) (count_read text) (λ n. all _ (record { own = refl; features = refl; disk = refl; pages = refl; bound = refl; next = (refl, refl, refl, refl) })) halts
 
 -- where the end of the ring stands as this is read or mapped next
-abbrev NextAt : BackStage → Ring → Type 0
+abbrev NextAt : BackBusStage → BackStage → Type 0
 NextAt (stage.ReadKey key.FeaturePersistent) t = t ≡ ring.MapRing
 NextAt (stage.ReadKey k) t = t ≡ ring.InitWait
 NextAt stage.MapPage t = t ≡ ring.MapRing
 NextAt b t = ⊥
 
-early_next : (b : BackStage) (t : Ring) → IsEarly b → t ≡ ring.InitWait → NextAt b t
+early_next : (b : BackBusStage) (t : BackStage) → IsEarly b → t ≡ ring.InitWait → NextAt b t
 early_next (stage.ReadKey key.FeaturePersistent) t early waits = absurd early
 early_next (stage.ReadKey key.RingPageOrder) t early waits = waits
 early_next (stage.ReadKey (key.RingRefOf page)) t early waits = waits
@@ -273,7 +273,7 @@ early_next (stage.ReadKey key.Protocol) t early waits = waits
 early_next b t early waits = absurd early
 
 -- the key that is read next says where the end of the ring stands
-goes_reading : (b : BackStage) (own : BusState) (t : Ring) → own ≡ state.InitWait → NextAt b t → BackGoesWith b own t
+goes_reading : (b : BackBusStage) (own : BusState) (t : BackStage) → own ≡ state.InitWait → NextAt b t → BackGoesWith b own t
 goes_reading (stage.ReadKey key.FeaturePersistent) own t is next = (is, next)
 goes_reading (stage.ReadKey key.RingPageOrder) own t is next = (is, next)
 goes_reading (stage.ReadKey (key.RingRefOf page)) own t is next = (is, next)
@@ -283,7 +283,7 @@ goes_reading (stage.ReadKey key.Protocol) own t is next = (is, next)
 goes_reading stage.MapPage own t is next = (is, next)
 goes_reading b own t is next = absurd next
 
-pub waits_reading : (k : FrontKey) (own : BusState) (t : Ring) → BackGoesWith (stage.ReadKey k) own t → (own ≡ state.InitWait) × (is_unbound t ≡ true)
+pub waits_reading : (k : FrontKey) (own : BusState) (t : BackStage) → BackGoesWith (stage.ReadKey k) own t → (own ≡ state.InitWait) × (is_unbound t ≡ true)
 waits_reading key.FeaturePersistent own t goes = (goes.0, ap is_unbound goes.1)
 waits_reading key.RingPageOrder own t goes = (goes.0, ap is_unbound goes.1)
 waits_reading (key.RingRefOf page) own t goes = (goes.0, ap is_unbound goes.1)
@@ -291,12 +291,12 @@ waits_reading key.RingRef own t goes = (goes.0, ap is_unbound goes.1)
 waits_reading key.EventChannel own t goes = (goes.0, ap is_unbound goes.1)
 waits_reading key.Protocol own t goes = (goes.0, ap is_unbound goes.1)
 
-reading_on : (b : BackStage) (t : Ring) → NextAt b t → is_halting b ≡ false
+reading_on : (b : BackBusStage) (t : BackStage) → NextAt b t → is_halting b ≡ false
 reading_on (stage.ReadKey k) t next = refl
 reading_on stage.MapPage t next = refl
 reading_on b t next = absurd next
 
-reading_still : (b : BackStage) (t : Ring) (u : BackView) → NextAt b t → settled_at b t u ≡ u
+reading_still : (b : BackBusStage) (t : BackStage) (u : BackView) → NextAt b t → settled_at b t u ≡ u
 reading_still (stage.ReadKey k) t u next = refl
 reading_still stage.MapPage t u next = refl
 reading_still b t u next = absurd next
@@ -312,7 +312,7 @@ reading_fits k v u y reads own next held served =
     })
 
 -- nothing is mapped yet, whatever the order
-none_holds : (t : Ring) (order other pages : ℕ) (binds : Bool) → is_unbound t ≡ true → pages ≡ 0 → BackHolds t order pages binds → BackHolds t other pages binds
+none_holds : (t : BackStage) (order other pages : ℕ) (binds : Bool) → is_unbound t ≡ true → pages ≡ 0 → BackHolds t order pages binds → BackHolds t other pages binds
 none_holds ring.InitWait order other pages binds is none held = held
 none_holds ring.MapRing order other pages binds is none held = let some = pow_pos other in (omega arith, held.1)
 none_holds t order other pages binds is none held = absurd (true≢false (sym is))
@@ -373,7 +373,7 @@ fact_fits back_key.SectorSize v r is here h served = record { goes = (is, here, 
 fact_fits k v r is here h served = record { goes = (is, here); held = h.held; halted = served }
 
 -- the other end's key was read, or its own was set
-heard_fits : (b : BackStage) (v : BackView) (r : ends.View) (x : BackAnswer) → v.stage ≡ b → BackGoesWith b v.state r.stage → BackFits v r → BackShares v r → speaks (ask_at b v) ≡ true → IsAnswer (ask_at b v) x → Heard b v r x
+heard_fits : (b : BackBusStage) (v : BackView) (r : ends.View) (x : BackAnswer) → v.stage ≡ b → BackGoesWith b v.state r.stage → BackFits v r → BackShares v r → speaks (ask_at b v) ≡ true → IsAnswer (ask_at b v) x → Heard b v r x
 heard_fits (stage.Publish k) v r answer.Done here goes h shares says allowed = offered_fits (next_feature k) v r goes.0 goes.1 h (h.halted ∙ ap is_halting here)
 heard_fits (stage.WriteState state.InitWait) v r answer.Done here goes h shares says allowed = record { goes = (refl, goes.1); held = h.held; halted = h.halted ∙ ap is_halting here }
 heard_fits (stage.WriteState state.Connected) v r answer.Done here goes h shares says allowed = record { goes = ap is_serving goes.1; held = h.held; halted = h.halted ∙ ap is_halting here }
@@ -383,7 +383,7 @@ heard_fits (stage.WriteState own) v r answer.Done here goes h shares says allowe
 heard_fits stage.Watch v r answer.Done here goes h shares says allowed = record { goes = rw goes.0 goes.1; held = h.held; halted = h.halted ∙ ap is_halting here }
 heard_fits stage.ReadState v r (answer.Key text) here goes h shares says allowed =
     acted_fits (back_action v.state v.unplugged (state_read text)) v r (action_suits v.state v.unplugged (state_read text)) here goes h shares.pages
-heard_fits (stage.ReadKey k) v r (answer.Key text) here goes h shares says allowed = key_fits k text v r goes h shares (subst (λ (b : BackStage). IsPlaced b v) here shares.sound.placed) (h.halted ∙ ap is_halting here)
+heard_fits (stage.ReadKey k) v r (answer.Key text) here goes h shares says allowed = key_fits k text v r goes h shares (subst (λ (b : BackBusStage). IsPlaced b v) here shares.sound.placed) (h.halted ∙ ap is_halting here)
 heard_fits (stage.PublishFact k) v r answer.Done here goes h shares says allowed = fact_fits k v r goes.0 goes.1 h (h.halted ∙ ap is_halting here)
 heard_fits (stage.Publish k) v r x here goes h shares says allowed = absurd allowed
 heard_fits (stage.WriteState own) v r x here goes h shares says allowed = absurd allowed
@@ -403,7 +403,7 @@ pub spoken_fits : (v : BackView) (r : ends.View) (x : BackAnswer) → BackFits v
     → let y : ends.View = ring_led (halt_of v x) (reads_layout (ask_of v)) (step_of v x) r in BackFits (settled y.stage (step_of v x)) y
 spoken_fits v r x h shares says allowed = by_test (says_closing v) refl
   where
-    closing : (b : BackStage) (own : BusState) → says_closing_at b own ≡ true → v.stage ≡ b → BackGoesWith b own r.stage → BackFits (settled_at b r.stage (record v { state = state.Closing })) r
+    closing : (b : BackBusStage) (own : BusState) → says_closing_at b own ≡ true → v.stage ≡ b → BackGoesWith b own r.stage → BackFits (settled_at b r.stage (record v { state = state.Closing })) r
     closing stage.Rest state.Connected is here goes = record { goes = rw here goes; held = h.held; halted = h.halted }
     closing stage.ReadState state.Connected is here goes = record { goes = rw here goes; held = h.held; halted = h.halted }
     closing b own is here goes = absurd (true≢false (sym is))

@@ -5,8 +5,8 @@ use Rattle.blk_base.specs.declared.parts.Mapping.{Mapping}
 use Rattle.blk_base.specs.declared.ask.BackAnswer.{BackAnswer}
 use Rattle.blk_base.specs.declared.ask.BackAnswer.TheVariants as answer
 use Rattle.blk_back.specs.declared.told.Halt.{Halt}
-use Rattle.blk_back.specs.declared.stage.Stage.{Stage as BackRing}
-use Rattle.blk_back.specs.declared.stage.Stage.TheVariants as ring
+use Rattle.blk_back.specs.declared.stage.BackStage.{BackStage}
+use Rattle.blk_back.specs.declared.stage.BackStage.TheVariants as ring
 use Rattle.xenbus_state.specs.declared.keys.FrontKey.{FrontKey}
 use Rattle.xenbus_state.specs.declared.keys.FrontKey.TheVariants as key
 use Rattle.xenbus_state.specs.declared.keys.BackKey.{BackKey}
@@ -14,8 +14,8 @@ use Rattle.xenbus_state.specs.declared.state.BusState.{BusState}
 use Rattle.xenbus_state.specs.declared.state.BusState.TheVariants as state
 use Rattle.xenbus_state.specs.declared.offer.Features.{Features}
 use Rattle.xenbus_state.specs.declared.offer.DiskFacts.{DiskFacts}
-use Rattle.xenbus_state.specs.declared.stage.BackStage.{BackStage}
-use Rattle.xenbus_state.specs.declared.stage.BackStage.TheVariants as stage
+use Rattle.xenbus_state.specs.declared.stage.BackBusStage.{BackBusStage}
+use Rattle.xenbus_state.specs.declared.stage.BackBusStage.TheVariants as stage
 use Rattle.xenbus_state.specs.declared.table.BackAction.{BackAction}
 use Rattle.xenbus_state.specs.declared.table.BackAction.TheVariants as action
 use Rattle.xenbus_state.specs.declared.back.BackBusAsk.{BackBusAsk}
@@ -33,7 +33,7 @@ use Rattle.vbd_laws.proofs.FitBackBus.{IsEarly, Follows, reads_key}
 
 -- what the negotiation becomes in a move of the back: what it is told, and a halt, keep this
 module _ (P : BackView → Type 0) (told : (v : BackView) (a : BackAnswer) → P v → P (step_of v a)) (stops : (v : BackView) → P v → P (stopped v)) where
-  pub settled_is : (s : BackStage) (r : BackRing) (v : BackView) → P v → P (back_step.settled_at s r v)
+  pub settled_is : (s : BackBusStage) (r : BackStage) (v : BackView) → P v → P (back_step.settled_at s r v)
   settled_is stage.UnmapOthers (ring.Abort m) v p = p
   settled_is stage.UnmapOthers r v p = told v answer.Done p
   settled_is s r v p = p
@@ -87,7 +87,7 @@ facts_acted t action.Nothing v is = is
 facts_acted t action.Connect v is = is
 facts_acted t (action.Halt reason) v is = is
 
-facts_at : (t : Facts) (b : BackStage) (v : BackView) (x : BackAnswer) → HasFacts t v → HasFacts t (step_at b v x)
+facts_at : (t : Facts) (b : BackBusStage) (v : BackView) (x : BackAnswer) → HasFacts t v → HasFacts t (step_at b v x)
 facts_at t (stage.Publish k) v answer.Done is = is
 facts_at t (stage.WriteState s) v answer.Done is = is
 facts_at t stage.Watch v answer.Done is = is
@@ -119,7 +119,7 @@ facts_stopped t v is = by_test (is_halting v.stage)
     by_test false = is
 
 -- it publishes its features
-abbrev pub is_publishing : BackStage → Bool
+abbrev pub is_publishing : BackBusStage → Bool
 is_publishing (stage.Publish k) = true
 is_publishing b = false
 
@@ -146,7 +146,7 @@ past_acted action.Nothing v = refl
 past_acted action.Connect v = refl
 past_acted (action.Halt reason) v = refl
 
-past_early : (b : BackStage) → IsEarly b → is_publishing b ≡ false
+past_early : (b : BackBusStage) → IsEarly b → is_publishing b ≡ false
 past_early (stage.ReadKey k) early = refl
 past_early b early = absurd early
 
@@ -159,7 +159,7 @@ past_mapped : (more : Bool) → is_publishing (if more then stage.MapPage else s
 past_mapped true = refl
 past_mapped false = refl
 
-past_at : (b : BackStage) (v : BackView) (x : BackAnswer) → v.stage ≡ b → is_publishing b ≡ false → IsPast (step_at b v x)
+past_at : (b : BackBusStage) (v : BackView) (x : BackAnswer) → v.stage ≡ b → is_publishing b ≡ false → IsPast (step_at b v x)
 past_at (stage.Publish k) v x here past = absurd (true≢false past)
 past_at (stage.WriteState s) v answer.Done here past = past_state s
 past_at stage.Watch v answer.Done here past = refl
@@ -192,7 +192,7 @@ over_told v x here = by_test (says_closing v)
   where
     by_test : (c : Bool) → (let u : BackView = if c then record v { state = state.Closing } else step_at v.stage v x in u.stage) ≡ stage.Halted
     by_test true = here
-    by_test false = subst (λ (b : BackStage). (let u : BackView = step_at b v x in u.stage) ≡ stage.Halted) (sym here) here
+    by_test false = subst (λ (b : BackBusStage). (let u : BackView = step_at b v x in u.stage) ≡ stage.Halted) (sym here) here
 
 said_told : (said : Type 0) (v : BackView) (x : BackAnswer) → HasSaid said v → HasSaid said (step_of v x)
 said_told said v x has = (past_told v x has.0, elim has.1 [ inl is ↦ inl is | inr over ↦ inr (over_told v x over) ])
@@ -205,7 +205,7 @@ said_stopped said v has = by_test (is_halting v.stage) refl
     by_test false e = (refl, elim has.1 [ inl is ↦ inl is | inr over ↦ absurd (true≢false (sym (ap is_halting over) ∙ e)) ])
 
 -- each part of a move keeps all three
-pub facts_settled : (s : BackRing) (v : BackView) (x : BackAnswer) → facts_in (back_step.settled s (step_of v x)) ≡ facts_in v
+pub facts_settled : (s : BackStage) (v : BackView) (x : BackAnswer) → facts_in (back_step.settled s (step_of v x)) ≡ facts_in v
 facts_settled s v x = settled_is (HasFacts (facts_in v)) (facts_told (facts_in v)) (facts_stopped (facts_in v)) (let u : BackView = step_of v x in u.stage) s (step_of v x) (facts_told (facts_in v) v x refl)
 
 pub facts_moved : (moves : Bool) (b : BackBusAsk) (x : View) (a : BackAnswer) → (let y : View = back_step.ring_step moves b x a in facts_in y.bus) ≡ facts_in x.bus
@@ -215,7 +215,7 @@ facts_moved moves b x a = ring_is (HasFacts (facts_in x.bus)) (facts_told (facts
 pub facts_stepped : (x : View) (a : BackAnswer) → (let y : View = back_step.step_of x a in facts_in y.bus) ≡ facts_in x.bus
 facts_stepped x a = step_is (HasFacts (facts_in x.bus)) (facts_told (facts_in x.bus)) (facts_stopped (facts_in x.bus)) x a refl
 
-pub said_settled : (said : Type 0) (s : BackRing) (v : BackView) (x : BackAnswer) → HasSaid said v → HasSaid said (back_step.settled s (step_of v x))
+pub said_settled : (said : Type 0) (s : BackStage) (v : BackView) (x : BackAnswer) → HasSaid said v → HasSaid said (back_step.settled s (step_of v x))
 said_settled said s v x has = settled_is (HasSaid said) (said_told said) (said_stopped said) (let u : BackView = step_of v x in u.stage) s (step_of v x) (said_told said v x has)
 
 pub said_moved : (said : Type 0) (moves : Bool) (b : BackBusAsk) (x : View) (a : BackAnswer) → HasSaid said x.bus → (let y : View = back_step.ring_step moves b x a in HasSaid said y.bus)

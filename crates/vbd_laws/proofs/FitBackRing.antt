@@ -7,8 +7,8 @@ use Rattle.blk_base.specs.declared.ask.BackAnswer.TheVariants as answer
 use Rattle.ring_words.specs.Ring.{requests_of, overruns, notifies}
 use Rattle.back_jobs.specs.Jobs.{first_mapping}
 use Rattle.blk_back.specs.declared.stage.Reply.{Reply}
-use Rattle.blk_back.specs.declared.stage.Stage.{Stage}
-use Rattle.blk_back.specs.declared.stage.Stage.TheVariants as stage
+use Rattle.blk_back.specs.declared.stage.BackStage.{BackStage}
+use Rattle.blk_back.specs.declared.stage.BackStage.TheVariants as stage
 use Rattle.blk_back.specs.View.{View}
 use Rattle.blk_back.specs.Ask.{ask_at, loop_ask, next_reply, IsAnswer}
 use Rattle.ring_words.specs.Shape.{entry_words_of}
@@ -16,14 +16,14 @@ use Rattle.blk_back.specs.Step.{unmapping_next, unbound, bound, other_pages, ove
 use Rattle.vbd_model.specs.Fit.{is_serving}
 
 -- the ring's page was mapped and the port was bound, or either was refused
-abbrev pub is_past : Stage → Bool
+abbrev pub is_past : BackStage → Bool
 is_past stage.MapRing = false
 is_past stage.InitWait = false
 is_past stage.Bind = false
 is_past s = true
 
 -- it has halted, and unmaps a mapping of a job or the ring's page
-abbrev pub aborts : Stage → Bool
+abbrev pub aborts : BackStage → Bool
 aborts (stage.Abort m) = true
 aborts stage.UnmapRing = true
 aborts s = false
@@ -60,7 +60,7 @@ notified_serves : (b : Bool) → is_serving (if b then stage.Send else stage.Loo
 notified_serves true = refl
 notified_serves false = refl
 
-serves_at : (s : Stage) (v : View) (x : BackAnswer) → v.stage ≡ s → is_serving s ≡ true → Serves v (step_at s v x)
+serves_at : (s : BackStage) (v : View) (x : BackAnswer) → v.stage ≡ s → is_serving s ≡ true → Serves v (step_at s v x)
 serves_at stage.Loop v x here p = loop_serves v (next_reply v) x here
 serves_at (stage.Fetch k) v (answer.Word word) here p = fetch_serves v k word
 serves_at (stage.ReplyHigh r) v x here p = inl (refl, refl)
@@ -86,7 +86,7 @@ pub serves_step : (v : View) (x : BackAnswer) → is_serving v.stage ≡ true �
 serves_step v x p = serves_at v.stage v x refl p
 
 -- past its port's bind the back stays so, whatever it is told
-pub gives_past : (s : Stage) → aborts s ≡ true → is_past s ≡ true
+pub gives_past : (s : BackStage) → aborts s ≡ true → is_past s ≡ true
 gives_past (stage.Abort m) is = refl
 gives_past stage.UnmapRing is = refl
 gives_past s is = absurd (true≢false (sym is))
@@ -94,7 +94,7 @@ gives_past s is = absurd (true≢false (sym is))
 served_past : (v u : View) → Serves v u → is_past u.stage ≡ true
 served_past v u (inl serves) = by_stage u.stage serves.0
   where
-    by_stage : (s : Stage) → is_serving s ≡ true → is_past s ≡ true
+    by_stage : (s : BackStage) → is_serving s ≡ true → is_past s ≡ true
     by_stage stage.InitWait is = absurd (true≢false (sym is))
     by_stage stage.MapRing is = absurd (true≢false (sym is))
     by_stage stage.Bind is = absurd (true≢false (sym is))
@@ -109,7 +109,7 @@ pub unbound_past : (pages : List Mapping) → is_past (unbound pages) ≡ true
 unbound_past [] = refl
 unbound_past (page ∷ pages) = refl
 
-past_at : (s : Stage) (v : View) (x : BackAnswer) → v.stage ≡ s → is_past s ≡ true → is_past (step_at s v x).stage ≡ true
+past_at : (s : BackStage) (v : View) (x : BackAnswer) → v.stage ≡ s → is_past s ≡ true → is_past (step_at s v x).stage ≡ true
 past_at stage.InitWait v x here p = absurd (true≢false (sym p))
 past_at stage.MapRing v x here p = absurd (true≢false (sym p))
 past_at stage.Bind v x here p = absurd (true≢false (sym p))
@@ -128,7 +128,7 @@ loop_watched : (v : View) (r : Option Reply) (path : List ℕ) → v.stage ≡ s
 loop_watched v None path here allowed = here
 loop_watched v (Some r) path here allowed = absurd allowed
 
-watched_at : (s : Stage) (v : View) (path : List ℕ) → v.stage ≡ s → is_serving s ≡ true → IsAnswer (ask_at s v) (answer.Watched path) → (step_at s v (answer.Watched path)).stage ≡ stage.Loop
+watched_at : (s : BackStage) (v : View) (path : List ℕ) → v.stage ≡ s → is_serving s ≡ true → IsAnswer (ask_at s v) (answer.Watched path) → (step_at s v (answer.Watched path)).stage ≡ stage.Loop
 watched_at stage.Loop v path here p allowed = loop_watched v (next_reply v) path here allowed
 watched_at stage.InitWait v path here p allowed = absurd (true≢false (sym p))
 watched_at stage.UnmapRing v path here p allowed = absurd (true≢false (sym p))

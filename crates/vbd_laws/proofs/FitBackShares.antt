@@ -8,8 +8,8 @@ use Rattle.blk_base.specs.declared.ask.BackAnswer.TheVariants as answer
 use Rattle.ring_words.specs.Ring.{requests_of, overruns}
 use Rattle.ring_words.specs.Shape.{Shape, entry_words_of}
 use Rattle.blk_back.specs.declared.stage.Reply.{Reply}
-use Rattle.blk_back.specs.declared.stage.Stage.{Stage as Ring}
-use Rattle.blk_back.specs.declared.stage.Stage.TheVariants as ring
+use Rattle.blk_back.specs.declared.stage.BackStage.{BackStage}
+use Rattle.blk_back.specs.declared.stage.BackStage.TheVariants as ring
 use Rattle.blk_back.specs.declared.told.Halt.{Halt}
 use Rattle.blk_back.specs.View as ends
 use Rattle.blk_back.specs.Ask.{next_reply, IsAnswer as IsRingAnswer, ask_at as ring_ask_at}
@@ -18,8 +18,8 @@ use Rattle.xenbus_state.specs.declared.keys.FrontKey.{FrontKey}
 use Rattle.xenbus_state.specs.declared.keys.FrontKey.TheVariants as key
 use Rattle.xenbus_state.specs.declared.state.BusState.{BusState}
 use Rattle.xenbus_state.specs.declared.state.BusState.TheVariants as state
-use Rattle.xenbus_state.specs.declared.stage.BackStage.{BackStage}
-use Rattle.xenbus_state.specs.declared.stage.BackStage.TheVariants as stage
+use Rattle.xenbus_state.specs.declared.stage.BackBusStage.{BackBusStage}
+use Rattle.xenbus_state.specs.declared.stage.BackBusStage.TheVariants as stage
 use Rattle.xenbus_state.specs.declared.back.BackBusAsk.{BackBusAsk}
 use Rattle.xenbus_state.specs.declared.back.BackBusAsk.TheVariants as bus_ask
 use Rattle.xenbus_state.specs.declared.table.BackAction.{BackAction}
@@ -68,13 +68,13 @@ loop_terms v None answer.Event = refl
 loop_terms v None x = refl
 
 -- it maps or unmaps a page now
-abbrev changes : Ring → Bool
+abbrev changes : BackStage → Bool
 changes ring.MapRing = true
 changes ring.UnmapRing = true
 changes ring.UnmapUnbound = true
 changes s = false
 
-step_all : (s : Ring) (v : ends.View) (x : BackAnswer) → changes s ≡ false → terms_in (ring_step.step_at s v x) ≡ terms_in v
+step_all : (s : BackStage) (v : ends.View) (x : BackAnswer) → changes s ≡ false → terms_in (ring_step.step_at s v x) ≡ terms_in v
 step_all ring.MapRing v x still = absurd (true≢false still)
 step_all ring.UnmapRing v x still = absurd (true≢false still)
 step_all ring.UnmapUnbound v x still = absurd (true≢false still)
@@ -99,7 +99,7 @@ step_all s v x still = refl
 abbrev of_front : ends.View → Shape × List ℕ × ℕ
 of_front r = (r.shape, r.grefs, r.ring.port)
 
-step_terms : (s : Ring) (v : ends.View) (x : BackAnswer) → of_front (ring_step.step_at s v x) ≡ of_front v
+step_terms : (s : BackStage) (v : ends.View) (x : BackAnswer) → of_front (ring_step.step_at s v x) ≡ of_front v
 step_terms ring.MapRing v (answer.Mapped m) = refl
 step_terms ring.MapRing v (answer.MapRefused status) = refl
 step_terms ring.MapRing v x = refl
@@ -107,10 +107,10 @@ step_terms ring.UnmapRing v x = refl
 step_terms ring.UnmapUnbound v x = refl
 step_terms s v x = ap (λ (t : Terms). (t.0, t.1, t.2)) (step_all s v x refl)
 
-step_pages : (s : Ring) (v : ends.View) (x : BackAnswer) → changes s ≡ false → (ring_step.step_at s v x).pages ≡ v.pages
+step_pages : (s : BackStage) (v : ends.View) (x : BackAnswer) → changes s ≡ false → (ring_step.step_at s v x).pages ≡ v.pages
 step_pages s v x still = ap (λ (t : Terms). t.3) (step_all s v x still)
 
-serving_still : (s : Ring) → is_serving s ≡ true → changes s ≡ false
+serving_still : (s : BackStage) → is_serving s ≡ true → changes s ≡ false
 serving_still ring.MapRing is = absurd (true≢false (sym is))
 serving_still ring.UnmapRing is = absurd (true≢false (sym is))
 serving_still ring.UnmapUnbound is = absurd (true≢false (sym is))
@@ -137,28 +137,28 @@ never true = refl
 never false = refl
 
 others_asked : (v : BackView) → v.stage ≡ stage.UnmapOthers → says_closing v ≡ false
-others_asked v here = ap (λ (b : BackStage). v.unplugged && says_closing_at b v.state) here ∙ never v.unplugged
+others_asked v here = ap (λ (b : BackBusStage). v.unplugged && says_closing_at b v.state) here ∙ never v.unplugged
 
 has_unmapped : (v : BackView) → v.stage ≡ stage.UnmapOthers → step_of v answer.Done ≡ at (unmapping_next v.pages v.bound v.state) v
-has_unmapped v here = told_at v answer.Done (others_asked v here) ∙ ap (λ (b : BackStage). step_at b v answer.Done) here
+has_unmapped v here = told_at v answer.Done (others_asked v here) ∙ ap (λ (b : BackBusStage). step_at b v answer.Done) here
 
-settled_cases : (P : BackView → Type 0) (s : Ring) (v : BackView) → P v → (v.stage ≡ stage.UnmapOthers → P (step_of v answer.Done)) → P (settled s v)
+settled_cases : (P : BackView → Type 0) (s : BackStage) (v : BackView) → P v → (v.stage ≡ stage.UnmapOthers → P (step_of v answer.Done)) → P (settled s v)
 settled_cases P s v same given = by_stage v.stage s refl
   where
-    by_stage : (b : BackStage) (s : Ring) → v.stage ≡ b → P (settled_at b s v)
+    by_stage : (b : BackBusStage) (s : BackStage) → v.stage ≡ b → P (settled_at b s v)
     by_stage stage.UnmapOthers (ring.Abort m) here = same
     by_stage stage.UnmapOthers s here = given here
     by_stage b s here = same
 
-pub settled_alike : (s : Ring) (v : BackView) → IsAlike v (settled s v)
+pub settled_alike : (s : BackStage) (v : BackView) → IsAlike v (settled s v)
 settled_alike s v = settled_cases (IsAlike v) s v (alike v) (λ here. subst (IsAlike v) (sym (has_unmapped v here)) (record { pages = refl; terms = refl; grefs = refl }))
 
-settled_sound : (s : Ring) (v : BackView) → IsSound v → IsSound (settled s v)
+settled_sound : (s : BackStage) (v : BackView) → IsSound v → IsSound (settled s v)
 settled_sound s v sound =
     settled_cases IsSound s v sound (λ here. back_keeps v answer.Done (subst (λ (c : Bool). IsAnswer (if c then bus_ask.SetState state.Closing else ask_at v.stage v) answer.Done) (sym (others_asked v here)) (rw here tt)) sound)
 
 -- where it goes on it went on before
-settled_on : (s : Ring) (v : BackView) → is_halting (settled s v).stage ≡ false → is_halting v.stage ≡ false
+settled_on : (s : BackStage) (v : BackView) → is_halting (settled s v).stage ≡ false → is_halting v.stage ≡ false
 settled_on s v on = settled_cases (λ (u : BackView). is_halting u.stage ≡ false → is_halting v.stage ≡ false) s v (λ same. same)
     (λ here still. absurd (true≢false (sym (ap (λ (u : BackView). is_halting u.stage) (has_unmapped v here) ∙ gives_halting v.pages v.bound v.state) ∙ still))) on
 
@@ -176,7 +176,7 @@ led_pages None true w r = by_test (ring_step.may_attach (shape_read w) w.grefs r
 led_pages None false w r = refl
 
 -- what the negotiation hears of the keys leaves its pages
-spoken_pages : (b : BackStage) (v : BackView) (x : BackAnswer) → speaks (ask_at b v) ≡ true → (step_at b v x).pages ≡ v.pages
+spoken_pages : (b : BackBusStage) (v : BackView) (x : BackAnswer) → speaks (ask_at b v) ≡ true → (step_at b v x).pages ≡ v.pages
 spoken_pages (stage.Publish k) v answer.Done says = refl
 spoken_pages (stage.WriteState own) v answer.Done says = refl
 spoken_pages stage.Watch v answer.Done says = refl
@@ -227,10 +227,10 @@ key_terms k text v r here goes shares =
     by_key key.RingRef goes u reads = λ has on. absurd (waits_not r goes.1 has)
     by_key key.EventChannel goes u reads = λ has on. absurd (waits_not r goes.1 has)
 
-same_terms : (b : BackStage) (v w : BackView) (r : ends.View) → v.stage ≡ b → is_halting b ≡ false → IsAlike v w → BackShares v r → has_terms r.stage ≡ true → is_halting w.stage ≡ false → HaveTerms r w
+same_terms : (b : BackBusStage) (v w : BackView) (r : ends.View) → v.stage ≡ b → is_halting b ≡ false → IsAlike v w → BackShares v r → has_terms r.stage ≡ true → is_halting w.stage ≡ false → HaveTerms r w
 same_terms b v w r here on same shares has still = have_alike r v w same (shares.terms has (ap is_halting here ∙ on))
 
-heard_terms : (b : BackStage) (v : BackView) (r : ends.View) (x : BackAnswer) → v.stage ≡ b → BackGoesWith b v.state r.stage → BackShares v r → speaks (ask_at b v) ≡ true → IsAnswer (ask_at b v) x
+heard_terms : (b : BackBusStage) (v : BackView) (r : ends.View) (x : BackAnswer) → v.stage ≡ b → BackGoesWith b v.state r.stage → BackShares v r → speaks (ask_at b v) ≡ true → IsAnswer (ask_at b v) x
     → TermsAfter (halt_at b v x) (reads_layout (ask_at b v)) (step_at b v x) r
 heard_terms (stage.Publish k) v r answer.Done here goes shares says allowed = same_terms (stage.Publish k) v _ r here refl (record { pages = refl; terms = refl; grefs = refl }) shares
 heard_terms (stage.WriteState state.Closing) v r answer.Done here goes shares says allowed = λ has on. absurd (true≢false on)
@@ -281,7 +281,7 @@ spoken_shares v r x h shares says allowed =
     by_pages true is = rw is refl
     by_pages false is = rw is (spoken_pages v.stage v x (rw is at says))
 
-    going : (b : BackStage) (own : BusState) → says_closing_at b own ≡ true → is_halting b ≡ false
+    going : (b : BackBusStage) (own : BusState) → says_closing_at b own ≡ true → is_halting b ≡ false
     going stage.Rest state.Connected is = refl
     going stage.ReadState state.Connected is = refl
     going b own is = absurd (true≢false (sym is))
@@ -302,20 +302,20 @@ stays v r y kept shared = record { pages = kept ∙ shared; terms = refl; grefs 
 
 woken_moves : (v : BackView) (r y : ends.View) (x : BackAnswer) → v.stage ≡ stage.Rest → says_closing v ≡ false → y.pages ≡ r.pages → r.pages ≡ v.pages → Moves v r y (woken v x)
 woken_moves v r y (answer.Watched path) here on kept shared =
-    subst (Moves v r y) (sym (told_at v (answer.Watched path) on ∙ ap (λ (b : BackStage). step_at b v (answer.Watched path)) here))
+    subst (Moves v r y) (sym (told_at v (answer.Watched path) on ∙ ap (λ (b : BackBusStage). step_at b v (answer.Watched path)) here))
     (record { pages = kept ∙ shared; terms = refl; grefs = refl; halts = λ h. absurd (true≢false (sym h ∙ ap is_halting here)) })
 woken_moves v r y x here on kept shared = stays v r y kept shared
 
-serves_at_rest : (own : BusState) (s : Ring) → BackRests own s → ring_moves bus_ask.Wait s ≡ true → is_serving s ≡ true
+serves_at_rest : (own : BusState) (s : BackStage) → BackRests own s → ring_moves bus_ask.Wait s ≡ true → is_serving s ≡ true
 serves_at_rest state.InitWait s rests moves = absurd (true≢false (sym moves ∙ ap (ring_moves bus_ask.Wait) rests))
 serves_at_rest state.Connected s rests moves = rests
 serves_at_rest state.Closing s rests moves = rests
 serves_at_rest own s rests moves = absurd rests
 
-told_moves : (b : BackStage) (v : BackView) (r y : ends.View) (x : BackAnswer) → v.stage ≡ b → says_closing v ≡ false → Moves v r y (step_at b v x) → Moves v r y (step_of v x)
-told_moves b v r y x here on m = subst (Moves v r y) (sym (told_at v x on ∙ ap (λ (b : BackStage). step_at b v x) here)) m
+told_moves : (b : BackBusStage) (v : BackView) (r y : ends.View) (x : BackAnswer) → v.stage ≡ b → says_closing v ≡ false → Moves v r y (step_at b v x) → Moves v r y (step_of v x)
+told_moves b v r y x here on m = subst (Moves v r y) (sym (told_at v x on ∙ ap (λ (b : BackBusStage). step_at b v x) here)) m
 
-begun_moves : (b : BackStage) (s : Ring) (v : BackView) (r : ends.View) (x : BackAnswer) → v.stage ≡ b → says_closing v ≡ false → BackGoesWith b v.state s → r.pages ≡ v.pages
+begun_moves : (b : BackBusStage) (s : BackStage) (v : BackView) (r : ends.View) (x : BackAnswer) → v.stage ≡ b → says_closing v ≡ false → BackGoesWith b v.state s → r.pages ≡ v.pages
     → ring_moves (ask_at b v) s ≡ true → IsRingAnswer (ring_ask_at s r) x → Moves v r (ring_step.step_at s r x) (followed (ask_at b v) v x)
 begun_moves stage.Rest s v r x here on goes shared moves allowed =
     woken_moves v r (ring_step.step_at s r x) x here on (step_pages s r x (serving_still s (serves_at_rest v.state s goes moves))) shared
@@ -339,7 +339,7 @@ begun_moves stage.UnmapPage s v r x here on goes shared moves allowed = by_stage
     gone y [] same kept = subst (Moves v r y) (sym (still x)) (record { pages = kept ∙ (ap ring_step.other_pages (shared ∙ same) ∙ sym same); terms = refl; grefs = refl; halts = λ h. h })
       where
         still : (x : BackAnswer) → woken v x ≡ v
-        still (answer.Watched path) = told_at v (answer.Watched path) on ∙ ap (λ (b : BackStage). step_at b v (answer.Watched path)) here
+        still (answer.Watched path) = told_at v (answer.Watched path) on ∙ ap (λ (b : BackBusStage). step_at b v (answer.Watched path)) here
         still x = refl
     gone y (page ∷ pages) same kept =
         told_moves stage.UnmapPage v r y answer.Done here on
@@ -349,7 +349,7 @@ begun_moves stage.UnmapPage s v r x here on goes shared moves allowed = by_stage
         others [] = refl
         others (page ∷ pages) = refl
 
-    by_stage : (s : Ring) → IsUnmapping s → Moves v r (ring_step.step_at s r x) (followed (unmap_ask v.pages) v x)
+    by_stage : (s : BackStage) → IsUnmapping s → Moves v r (ring_step.step_at s r x) (followed (unmap_ask v.pages) v x)
     by_stage ring.UnmapRing unmaps = gone _ v.pages refl refl
     by_stage ring.UnmapUnbound unmaps = gone _ v.pages refl refl
     by_stage s unmaps = absurd unmaps
@@ -364,7 +364,7 @@ begun_moves stage.ClosePort s v r x here on goes shared moves allowed = rw goes 
 begun_moves stage.Halted s v r x here on goes shared moves allowed = rw goes.1 (subst (Moves v r r) (sym (still x)) (stays v r r refl shared))
   where
     still : (x : BackAnswer) → woken v x ≡ v
-    still (answer.Watched path) = told_at v (answer.Watched path) on ∙ ap (λ (b : BackStage). step_at b v (answer.Watched path)) here
+    still (answer.Watched path) = told_at v (answer.Watched path) on ∙ ap (λ (b : BackBusStage). step_at b v (answer.Watched path)) here
     still x = refl
 begun_moves (stage.Publish k) s v r x here on goes shared moves allowed = rw goes.1 (stays v r _ refl shared)
 begun_moves (stage.WriteState state.InitWait) s v r x here on goes shared moves allowed = rw goes.1 (stays v r _ refl shared)
@@ -375,21 +375,21 @@ begun_moves (stage.WriteState own) s v r x here on goes shared moves allowed = a
 begun_moves stage.Watch s v r x here on goes shared moves allowed = rw goes.1 (stays v r _ refl shared)
 begun_moves stage.ReadState s v r x here on goes shared moves allowed = reading v.state s goes
   where
-    reading : (own : BusState) (s : Ring) → BackReads own s → Moves v r (ring_step.step_at s r x) v
+    reading : (own : BusState) (s : BackStage) → BackReads own s → Moves v r (ring_step.step_at s r x) v
     reading state.InitWait s reads = rw reads (stays v r _ refl shared)
     reading state.Connected s reads = rw reads (stays v r _ (step_pages ring.Loop r x refl) shared)
     reading state.Closing s reads = rw reads (stays v r _ (step_pages ring.Loop r x refl) shared)
     reading own s reads = absurd reads
 begun_moves (stage.ReadKey k) s v r x here on goes shared moves allowed = by_stage s (waits_reading k v.state s goes).1 moves
   where
-    by_stage : (s : Ring) → is_unbound s ≡ true → ring_moves (bus_ask.GetKey k) s ≡ true → Moves v r (ring_step.step_at s r x) v
+    by_stage : (s : BackStage) → is_unbound s ≡ true → ring_moves (bus_ask.GetKey k) s ≡ true → Moves v r (ring_step.step_at s r x) v
     by_stage ring.InitWait is moves = absurd (true≢false (sym moves))
     by_stage ring.MapRing is moves = absurd (true≢false (sym moves))
     by_stage s is moves = absurd (true≢false (sym is))
 begun_moves (stage.PublishFact k) s v r x here on goes shared moves allowed = rw goes.1 (stays v r _ (step_pages ring.Loop r x refl) shared)
 
 -- where it says that it closes it hears of nothing else
-closing_moves : (b : BackStage) (own : BusState) (v : BackView) (r : ends.View) (x : BackAnswer) → says_closing_at b own ≡ true → BackGoesWith b own r.stage → r.pages ≡ v.pages → Moves v r (ring_step.step_of r x) v
+closing_moves : (b : BackBusStage) (own : BusState) (v : BackView) (r : ends.View) (x : BackAnswer) → says_closing_at b own ≡ true → BackGoesWith b own r.stage → r.pages ≡ v.pages → Moves v r (ring_step.step_of r x) v
 closing_moves stage.Rest state.Connected v r x is goes shared = stays v r _ (step_pages r.stage r x (serving_still r.stage goes)) shared
 closing_moves stage.ReadState state.Connected v r x is goes shared = stays v r _ (step_pages r.stage r x (serving_still r.stage (ap is_serving goes))) shared
 closing_moves b own v r x is goes shared = absurd (true≢false (sym is))
@@ -446,7 +446,7 @@ followed_sound bus_ask.Wait v (answer.Watched path) e heard sound = back_keeps v
 followed_sound bus_ask.Wait v x e heard sound = sound
 followed_sound a v x e heard sound = sound
 
-moves_have : (a : BackBusAsk) (s : Ring) → ring_moves a s ≡ true → has_terms s ≡ true
+moves_have : (a : BackBusAsk) (s : BackStage) → ring_moves a s ≡ true → has_terms s ≡ true
 moves_have (bus_ask.Map gref) ring.InitWait moves = absurd (true≢false (sym moves))
 moves_have (bus_ask.Bind port) ring.InitWait moves = absurd (true≢false (sym moves))
 moves_have bus_ask.UnmapOthers ring.InitWait moves = absurd (true≢false (sym moves))
@@ -470,7 +470,7 @@ moved_shares v r x h shares moves allowed =
 pub waited_shares : (v : BackView) (r : ends.View) (x : BackAnswer) → BackShares v r → BackShares (waited (ask_of v) v x) r
 waited_shares v r x shares = by_ask (ask_of v) refl x
   where
-    woken_stage : (b : BackStage) (path : List ℕ) → v.stage ≡ b → says_closing v ≡ false → IsAlike v (step_at b v (answer.Watched path)) × (is_halting (step_at b v (answer.Watched path)).stage ≡ false → is_halting v.stage ≡ false)
+    woken_stage : (b : BackBusStage) (path : List ℕ) → v.stage ≡ b → says_closing v ≡ false → IsAlike v (step_at b v (answer.Watched path)) × (is_halting (step_at b v (answer.Watched path)).stage ≡ false → is_halting v.stage ≡ false)
     woken_stage stage.Rest path here on = (record { pages = refl; terms = refl; grefs = refl }, λ still. ap is_halting here)
     woken_stage b path here on = (alike v, λ still. still)
 

@@ -17,8 +17,8 @@ use Rattle.event_channel.specs.declared.channels.PortState.TheVariants as port
 use Rattle.event_channel.specs.Channels.{ChannelState, state_of, place_of, with_port, bound, is_bound_port, is_bound, sent, taken, closed, closed_port, unbound_port}
 use Rattle.hypervisor.specs.Hypervisor.{Hypervisor}
 use Rattle.hypervisor.specs.Act.{FrontAct, BackAct, Outcome, front_act, back_act, map_act, bind_act}
-use Rattle.blk_back.specs.declared.stage.Stage.{Stage}
-use Rattle.blk_back.specs.declared.stage.Stage.TheVariants as stage
+use Rattle.blk_back.specs.declared.stage.BackStage.{BackStage}
+use Rattle.blk_back.specs.declared.stage.BackStage.TheVariants as stage
 use Rattle.blk_back.specs.View.{View}
 use Rattle.blk_back.specs.Ask.{next_gref, ask_at, ask_of}
 use Rattle.blk_back.specs.Step.{unbound, step_at, step_of}
@@ -71,13 +71,13 @@ quiet_closed c was = (none_bound c.ports, was.1)
     none_bound [] = refl
     none_bound (p ∷ ports) = none_bound ports
 
-unbound_as : (s : Stage) (c d : ChannelState) → (IsQuiet c → IsQuiet d) → IsUnbound s c → IsUnbound s d
+unbound_as : (s : BackStage) (c d : ChannelState) → (IsQuiet c → IsQuiet d) → IsUnbound s c → IsUnbound s d
 unbound_as stage.InitWait c d into was = into was
 unbound_as stage.MapRing c d into was = into was
 unbound_as stage.Bind c d into was = into was
 unbound_as s c d into was = tt
 
-pub unbound_front : (s : Stage) (h : Hypervisor) (c : ChannelState) (ask : FrontAsk) (a : FrontAct) → IsFronts c ask → IsUnbound s h.channels → front_act h ask ≡ Some a
+pub unbound_front : (s : BackStage) (h : Hypervisor) (c : ChannelState) (ask : FrontAsk) (a : FrontAct) → IsFronts c ask → IsUnbound s h.channels → front_act h ask ≡ Some a
     → IsUnbound s a.under.channels
 unbound_front s h c ask a own was e =
     front_channels (λ (d : ChannelState). IsUnbound s d) h ask a was (unbound_as s h.channels (taken h.channels end.Front) (λ q. q) was)
@@ -117,7 +117,7 @@ unported_back h ask o a own was e =
     (λ none. was (map_empty unbound_port h.channels.ports none)) e
 
 -- past its port's bind nothing is said of the back's channels
-pub past_unbound : (s : Stage) (c : ChannelState) → is_past s ≡ true → IsUnbound s c
+pub past_unbound : (s : BackStage) (c : ChannelState) → is_past s ≡ true → IsUnbound s c
 past_unbound stage.InitWait c past = absurd (true≢false (sym past))
 past_unbound stage.MapRing c past = absurd (true≢false (sym past))
 past_unbound stage.Bind c past = absurd (true≢false (sym past))
@@ -137,7 +137,7 @@ bind_unbound v h p port.Unbound = tt
 bind_unbound v h p port.Closed = past_unbound (unbound v.pages) h.channels (unbound_past v.pages)
 bind_unbound v h p port.Bound = past_unbound (unbound v.pages) h.channels (unbound_past v.pages)
 
-unbound_at : (s : Stage) (v : View) (h : Hypervisor) (o : Outcome) (a : BackAct) → v.stage ≡ s → IsUnbound s h.channels → back_act h back_mover.Back (ask_at s v) o ≡ Some a
+unbound_at : (s : BackStage) (v : View) (h : Hypervisor) (o : Outcome) (a : BackAct) → v.stage ≡ s → IsUnbound s h.channels → back_act h back_mover.Back (ask_at s v) o ≡ Some a
     → IsUnbound (step_at s v a.answer).stage a.under.channels
 unbound_at stage.InitWait v h o a here was e =
     rw here (back_wait (λ (x : BackAct). IsQuiet x.under.channels) h back_mover.Back a (was.0, refl) (λ path. was) e)
@@ -146,7 +146,7 @@ unbound_at stage.MapRing v h o a here was e =
 unbound_at stage.Bind v h o a here was e =
     of_back (λ (x : BackAct). IsUnbound (step_at stage.Bind v x.answer).stage x.under.channels) _ a (bind_unbound v h v.ring.port (state_of h.channels v.ring.port)) e
 unbound_at s v h o a here was e =
-    past_unbound (step_at s v a.answer).stage a.under.channels (subst (λ (t : Stage). is_past (step_at t v a.answer).stage ≡ true) here (past_step v a.answer (ap is_past here)))
+    past_unbound (step_at s v a.answer).stage a.under.channels (subst (λ (t : BackStage). is_past (step_at t v a.answer).stage ≡ true) here (past_step v a.answer (ap is_past here)))
 
 pub unbound_back : (v : View) (h : Hypervisor) (o : Outcome) (a : BackAct) → IsUnbound v.stage h.channels → back_act h back_mover.Back (ask_of v) o ≡ Some a
     → IsUnbound (step_of v a.answer).stage a.under.channels
@@ -173,7 +173,7 @@ job_leaves h k ask o a own e = (elim (back_acts h (back_mover.Job k) ask o a e) 
 ]) tt own
 
 -- an event comes at a bound port alone
-pub sent_fits : (s : Stage) (c now : ChannelState) → AreSent c now → IsUnported c → IsUnbound s c → IsUnported now × IsUnbound s now
+pub sent_fits : (s : BackStage) (c now : ChannelState) → AreSent c now → IsUnported c → IsUnbound s c → IsUnported now × IsUnbound s now
 sent_fits s c now (inl same) unported unbound = (rw same unported, rw same unbound)
 sent_fits s c now (inr (end.Front, same)) unported unbound = rw same (unported, unbound_as s c (sent c end.Front) (quiet_sent c) unbound)
 sent_fits s c now (inr (end.Back, same)) unported unbound = rw same (sent_unported c unported, unbound_as s c (sent c end.Back) (λ q. q) unbound)

@@ -8,7 +8,7 @@ use Rattle.blk_base.specs.declared.ask.FrontAnswer.{FrontAnswer}
 use Rattle.blk_base.specs.declared.ask.FrontAnswer.TheVariants as answer
 use Rattle.key_directory.specs.Directory.{Directory, key_of}
 use Rattle.hypervisor.specs.Act.{FrontAct, front_act}
-use Rattle.blk_front.specs.declared.stage.Stage.{Stage as FrontRing}
+use Rattle.blk_front.specs.declared.stage.FrontStage.{FrontStage}
 use Rattle.blk_front.specs.declared.state.FrontState.{FrontState}
 use Rattle.blk_front.specs.declared.state.FrontState.TheVariants as enter
 use Rattle.blk_front.specs.declared.state.Offers.{Offers}
@@ -24,8 +24,8 @@ use Rattle.blk_front.specs.Ask as front_ring
 use Rattle.xenbus_state.specs.declared.keys.BackKey.{BackKey}
 use Rattle.xenbus_state.specs.declared.keys.BackKey.TheVariants as back_key
 use Rattle.xenbus_state.specs.declared.offer.Features.{Features}
-use Rattle.xenbus_state.specs.declared.stage.FrontStage.{FrontStage}
-use Rattle.xenbus_state.specs.declared.stage.FrontStage.TheVariants as stage
+use Rattle.xenbus_state.specs.declared.stage.FrontBusStage.{FrontBusStage}
+use Rattle.xenbus_state.specs.declared.stage.FrontBusStage.TheVariants as stage
 use Rattle.xenbus_state.specs.declared.front.FrontNews.{FrontNews}
 use Rattle.xenbus_state.specs.declared.front.FrontBusAsk.{FrontBusAsk}
 use Rattle.xenbus_state.specs.declared.front.FrontBusAsk.TheVariants as bus_ask
@@ -133,11 +133,11 @@ asks_cases P w left other = by_test (is_left w.rings.front.stage) refl
     by_test false e = other e
 
 -- it reads what the back offers as the back says it
-order_read : (w : World) (a : FrontAct) (s : FrontStage) → IsFit w → w.front.stage ≡ s → ReadsOffer (Says w) s → front_act w.rings.under (front.key_ask (bus_asks.ask_of w.front (front_view.is_unoccupied w.rings.front))) ≡ Some a → ReadsOrder s a.answer
+order_read : (w : World) (a : FrontAct) (s : FrontBusStage) → IsFit w → w.front.stage ≡ s → ReadsOffer (Says w) s → front_act w.rings.under (front.key_ask (bus_asks.ask_of w.front (front_view.is_unoccupied w.rings.front))) ≡ Some a → ReadsOrder s a.answer
 order_read w a (stage.ReadFeature k) fit here reads e = by_answer a.answer refl
   where
     asks : bus_asks.ask_of w.front (front_view.is_unoccupied w.rings.front) ≡ bus_ask.GetKey k
-    asks = ap (λ (d : FrontStage). bus_asks.ask_at (bus_asks.due_at d w.front (front_view.is_unoccupied w.rings.front)) w.front) here
+    asks = ap (λ (d : FrontBusStage). bus_asks.ask_at (bus_asks.due_at d w.front (front_view.is_unoccupied w.rings.front)) w.front) here
 
     told : (text : Option (List ℕ)) → a.answer ≡ answer.Key text → key_of w.rings.under.keys.keys (path_under end.Back (back_name k)) ≡ text
     told text same =
@@ -172,7 +172,7 @@ reads_none w x fit =
     watches : is_left w.rings.front.stage ≡ true → bus_asks.ask_of w.front (front_view.is_unoccupied w.rings.front) ≡ bus_ask.GetState → ⊥
     watches left asks =
         let begins = left_starts w.front.stage w.front w.rings.front.stage fit.front left in
-        let first : bus_ask.Watch ≡ bus_ask.GetState = sym (ap (λ (d : FrontStage). bus_asks.ask_at (bus_asks.due_at d w.front (front_view.is_unoccupied w.rings.front)) w.front) begins) ∙ asks in
+        let first : bus_ask.Watch ≡ bus_ask.GetState = sym (ap (λ (d : FrontBusStage). bus_asks.ask_at (bus_asks.due_at d w.front (front_view.is_unoccupied w.rings.front)) w.front) begins) ∙ asks in
         cc
 
 -- so what it becomes reads it so
@@ -246,7 +246,7 @@ own_keys w a e =
     (same_back w.back.features w.back.disk w.rings.under.keys) e
 
 -- what that makes of the negotiation
-moved_reads : (w : World) (x : FrontAnswer) (later : FrontRing) → IsFit w → front.speaks (front_asks w) ≡ false → ReadsOffer (Says w) (front_step.followed (front_asks w) later (front_view.is_unoccupied w.rings.front) w.front x).stage
+moved_reads : (w : World) (x : FrontAnswer) (later : FrontStage) → IsFit w → front.speaks (front_asks w) ≡ false → ReadsOffer (Says w) (front_step.followed (front_asks w) later (front_view.is_unoccupied w.rings.front) w.front x).stage
 moved_reads w x later fit quiet =
     followed_is (λ (u : FrontView). ReadsOffer (Says w) u.stage) (frontend_of w) x fit.reads (told_reading w x fit (reads_none w x fit quiet)) (told_reading w answer.Done fit (reads_none w answer.Done fit quiet)) (front_asks w) later
 

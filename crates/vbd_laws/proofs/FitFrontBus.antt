@@ -4,8 +4,8 @@ use Rattle.std.specs.Prelude.{Option, Some, None, IsSome, length, min, nat_le, �
 use Rattle.std.proofs.lemmas.Bool.Decides.{nat_tests}
 use Rattle.line_text.proofs.Both.{both_true}
 use Rattle.blk_base.specs.declared.ask.FrontAnswer.TheVariants as answer
-use Rattle.blk_front.specs.declared.stage.Stage.{Stage as Ring}
-use Rattle.blk_front.specs.declared.stage.Stage.TheVariants as ring
+use Rattle.blk_front.specs.declared.stage.FrontStage.{FrontStage}
+use Rattle.blk_front.specs.declared.stage.FrontStage.TheVariants as ring
 use Rattle.blk_front.specs.declared.state.FrontState.{FrontState}
 use Rattle.blk_front.specs.declared.state.FrontState.TheVariants as enter
 use Rattle.ring_words.specs.Shape.{entries_of}
@@ -15,8 +15,8 @@ use Rattle.blk_front.specs.Submit.{is_ready}
 use Rattle.blk_front.specs.State.{is_open, is_made, in_state, enters}
 use Rattle.xenbus_state.specs.declared.state.BusState.{BusState}
 use Rattle.xenbus_state.specs.declared.state.BusState.TheVariants as state
-use Rattle.xenbus_state.specs.declared.stage.FrontStage.{FrontStage}
-use Rattle.xenbus_state.specs.declared.stage.FrontStage.TheVariants as stage
+use Rattle.xenbus_state.specs.declared.stage.FrontBusStage.{FrontBusStage}
+use Rattle.xenbus_state.specs.declared.stage.FrontBusStage.TheVariants as stage
 use Rattle.xenbus_state.specs.declared.front.FrontBusAsk.{FrontBusAsk}
 use Rattle.xenbus_state.specs.declared.front.FrontBusAsk.TheVariants as ask
 use Rattle.xenbus_state.specs.FrontView.{FrontView, ring_order}
@@ -35,7 +35,7 @@ pub record FrontFits (v : FrontView) (f : ends.View) : Type 0 where
   pub ordered : FrontOrdered v.stage v f.shape.order
 
 -- where nothing of a request is left, a front that closes is through, and its end of the ring is at nothing
-still_whole : (s : Ring) → is_still s ≡ true → is_broken s ≡ false
+still_whole : (s : FrontStage) → is_still s ≡ true → is_broken s ≡ false
 still_whole (ring.Broken word) still = absurd (true≢false (sym still))
 still_whole s still = refl
 
@@ -51,23 +51,23 @@ unoccupied f is =
     record { none = grind (arith, nat_tests); still = both.1; whole = still_whole f.stage both.1 }
 
 -- what is due: what is begun, or, where nothing is and the front closes, its next step to its end
-pub due_cases : (P : FrontStage → Type 0) (v : FrontView) (idle : Bool) → P v.stage → (v.stage ≡ stage.Rest → v.closing ≡ true → idle ≡ true → P (closing_stage v.state v)) → P (due v idle)
+pub due_cases : (P : FrontBusStage → Type 0) (v : FrontView) (idle : Bool) → P v.stage → (v.stage ≡ stage.Rest → v.closing ≡ true → idle ≡ true → P (closing_stage v.state v)) → P (due v idle)
 due_cases P v idle begun closes = by_stage v.stage refl
   where
     by_test : (c : Bool) → v.stage ≡ stage.Rest → (v.closing && idle) ≡ c → P (if c then closing_stage v.state v else stage.Rest)
     by_test true here e = let both = both_true v.closing idle e in closes here both.0 both.1
     by_test false here e = subst P here begun
 
-    by_stage : (b : FrontStage) → v.stage ≡ b → P (due_at b v idle)
+    by_stage : (b : FrontBusStage) → v.stage ≡ b → P (due_at b v idle)
     by_stage stage.Rest here = by_test (v.closing && idle) here refl
     by_stage b here = subst P here begun
 
 -- a front that rests made nothing, or all, and ended nothing yet
-made_rests : (port : Option ℕ) (r : Ring) → IsSome port → is_made r ≡ true → FrontRests state.Closing false port r
+made_rests : (port : Option ℕ) (r : FrontStage) → IsSome port → is_made r ≡ true → FrontRests state.Closing false port r
 made_rests None r port made = absurd (true≢false (sym port))
 made_rests (Some p) r port made = made
 
-ready_made : (r : Ring) → is_ready r ≡ true → is_still r ≡ true → is_made r ≡ true
+ready_made : (r : FrontStage) → is_ready r ≡ true → is_still r ≡ true → is_made r ≡ true
 ready_made ring.Loop ready still = refl
 ready_made (ring.RingWord k) ready still = absurd (true≢false (sym ready))
 ready_made ring.Initialised ready still = absurd (true≢false (sym ready))
@@ -79,7 +79,7 @@ ready_made ring.Closed ready still = absurd (true≢false (sym ready))
 ready_made r ready still = absurd (true≢false (sym still))
 
 -- so where it closes it may write that, or it did and leaves where the back is gone
-pub closing_cases : (P : FrontStage → Type 0) (v : FrontView) (r : Ring) → is_still r ≡ true → FrontRests v.state v.gone v.port r
+pub closing_cases : (P : FrontBusStage → Type 0) (v : FrontView) (r : FrontStage) → is_still r ≡ true → FrontRests v.state v.gone v.port r
     → (FrontRests state.Closing false v.port r → P (stage.WriteState state.Closing)) → (v.state ≡ state.Closing → FrontRests state.Closing v.gone v.port r → P (leaving v.gone v.port)) → P (closing_stage v.state v)
 closing_cases P v r still rests writes leaves = by_state v.state refl rests
   where
@@ -90,31 +90,31 @@ closing_cases P v r still rests writes leaves = by_state v.state refl rests
     by_state state.Closing is rests = leaves is rests
     by_state own is rests = absurd rests
 
-pub rests_open : (own : BusState) (gone : Bool) (port : Option ℕ) (r : Ring) → FrontRests own gone port r → is_open r ≡ true
+pub rests_open : (own : BusState) (gone : Bool) (port : Option ℕ) (r : FrontStage) → FrontRests own gone port r → is_open r ≡ true
 rests_open state.Initialising gone port r rests = ap is_open rests.0
 rests_open state.Initialised gone port r rests = ap is_open rests.0
 rests_open state.Connected gone port r rests = ready_open r rests.0
   where
-    ready_open : (r : Ring) → is_ready r ≡ true → is_open r ≡ true
+    ready_open : (r : FrontStage) → is_ready r ≡ true → is_open r ≡ true
     ready_open ring.Closed ready = absurd (true≢false (sym ready))
     ready_open (ring.Broken word) ready = absurd (true≢false (sym ready))
     ready_open r ready = refl
 rests_open state.Closing false None r rests = ap is_open rests
 rests_open state.Closing false (Some p) r rests = made_open r rests
   where
-    made_open : (r : Ring) → is_made r ≡ true → is_open r ≡ true
+    made_open : (r : FrontStage) → is_made r ≡ true → is_open r ≡ true
     made_open ring.Initialised made = refl
     made_open ring.Loop made = refl
     made_open r made = absurd (true≢false (sym made))
 rests_open state.Closing true (Some p) r rests = ending_open r rests
   where
-    ending_open : (r : Ring) → IsEndingPage 0 r → is_open r ≡ true
+    ending_open : (r : FrontStage) → IsEndingPage 0 r → is_open r ≡ true
     ending_open (ring.RingRead page) ending = refl
     ending_open (ring.RingEnd page seen) ending = refl
     ending_open r ending = absurd ending
 rests_open own gone port r rests = absurd rests
 
-pub open_whole : (r : Ring) → is_open r ≡ true → is_broken r ≡ false
+pub open_whole : (r : FrontStage) → is_open r ≡ true → is_broken r ≡ false
 open_whole (ring.Broken word) is = absurd (true≢false (sym is))
 open_whole r is = refl
 
@@ -176,7 +176,7 @@ settles_begun u f here own port at_stage four wished few closing =
 pub rests_due : (u : FrontView) (idle c : Bool) → u.stage ≡ stage.Rest → (u.closing && idle) ≡ c → due u idle ≡ (if c then closing_stage u.state u else stage.Rest)
 rests_due u idle c here e = rw (here, e) refl
 
-unmade : (r : Ring) → IsEndingPage 0 r → is_made r ≡ false
+unmade : (r : FrontStage) → IsEndingPage 0 r → is_made r ≡ false
 unmade (ring.RingRead page) ending = refl
 unmade (ring.RingEnd page seen) ending = refl
 unmade r ending = absurd ending
@@ -186,17 +186,17 @@ pub settles_rest : (idle : Bool) (u : FrontView) (f : ends.View) → u.stage ≡
 settles_rest idle u f here still rests fits = by_test (u.closing && idle) refl
   where
     leaves : (gone : Bool) (port : Option ℕ) → due u idle ≡ leaving gone port → FrontRests state.Closing gone port f.stage → Settles idle u f
-    leaves false port e rests = settles_plain idle u f (ap (λ (d : FrontStage). leads (ask_at d u)) e) fits
+    leaves false port e rests = settles_plain idle u f (ap (λ (d : FrontBusStage). leads (ask_at d u)) e) fits
     leaves true None e rests = absurd rests
     leaves true (Some p) e rests =
-        settles_ending idle u f (ap (λ (d : FrontStage). ask_at d u) e)
+        settles_ending idle u f (ap (λ (d : FrontBusStage). ask_at d u) e)
         (enters_cases (λ (x : ends.View) shown. FrontFits u x) enter.Leaving f (λ may. absurd (true≢false (sym (both_true (is_through f) (is_made f.stage) may).1 ∙ unmade f.stage rests))) fits)
 
     by_test : (c : Bool) → (u.closing && idle) ≡ c → Settles idle u f
-    by_test false e = settles_plain idle u f (ap (λ (d : FrontStage). leads (ask_at d u)) (rests_due u idle false here e)) fits
+    by_test false e = settles_plain idle u f (ap (λ (d : FrontBusStage). leads (ask_at d u)) (rests_due u idle false here e)) fits
     by_test true e =
-        closing_cases (λ (d : FrontStage). due u idle ≡ d → Settles idle u f) u f.stage (still (both_true u.closing idle e).1) rests
-        (λ first due_is. settles_plain idle u f (ap (λ (d : FrontStage). leads (ask_at d u)) due_is) fits)
+        closing_cases (λ (d : FrontBusStage). due u idle ≡ d → Settles idle u f) u f.stage (still (both_true u.closing idle e).1) rests
+        (λ first due_is. settles_plain idle u f (ap (λ (d : FrontBusStage). leads (ask_at d u)) due_is) fits)
         (λ is ending due_is. leaves u.gone u.port due_is ending) (rests_due u idle true here e)
 
 -- a front that wrote Closing, and reads now that the back is gone or read it before
@@ -217,15 +217,15 @@ settles_closing idle u f here own closing is_idle free closes ordered rests = by
     rest_ordered = rw here ordered
 
     by_gone : (gone : Bool) (port : Option ℕ) → u.gone ≡ gone → u.port ≡ port → FrontRests state.Closing false port f.stage → Settles idle u f
-    by_gone false port g p rests = settles_plain idle u f (ap (λ (d : FrontStage). leads (ask_at d u)) (asks false port g p)) (fits u f (rw here (inl (rw (own, g, p) rests))) closing closes through rest_ordered)
+    by_gone false port g p rests = settles_plain idle u f (ap (λ (d : FrontBusStage). leads (ask_at d u)) (asks false port g p)) (fits u f (rw here (inl (rw (own, g, p) rests))) closing closes through rest_ordered)
     by_gone true None g p rests =
         let last = asks true None g p in
         let ended : settled idle u ≡ record u { stage = stage.WriteState state.Closed } =
-        ap (λ (d : FrontStage). settled_at (ask_at d u) idle u) last ∙ (ap (λ (d : FrontStage). step_at d (at d u) idle answer.Done) last ∙ ap (λ (o : Option ℕ). record u { stage = after_grants o }) p)
+        ap (λ (d : FrontBusStage). settled_at (ask_at d u) idle u) last ∙ (ap (λ (d : FrontBusStage). step_at d (at d u) idle answer.Done) last ∙ ap (λ (o : Option ℕ). record u { stage = after_grants o }) p)
         in
         subst (λ (t : FrontView). FrontFits t (all_entered (states_due (ask_of t idle) (ring_order t)) f)) (sym ended)
         (fits (record u { stage = stage.WriteState state.Closed }) f (own, rw rests refl, p) closing closes through ordered)
     by_gone true (Some port) g p rests =
         let left : enters enter.Leaving f ≡ record f { stage = ring.RingRead 0 } = rw (closes, free.none, rests) refl in
-        settles_ending idle u f (ap (λ (d : FrontStage). ask_at d u) (asks true (Some port) g p))
+        settles_ending idle u f (ap (λ (d : FrontBusStage). ask_at d u) (asks true (Some port) g p))
         (subst (λ (x : ends.View). FrontFits u x) (sym left) (fits u (record f { stage = ring.RingRead 0 }) (rw here (inl (rw (own, g, p) refl))) closing closes through rest_ordered))

@@ -1,14 +1,14 @@
 -- A front that is asked to close begins to, with its end of the ring.
 use Rattle.std.proofs.Common.{◌≡◌, ℕ, Bool, true, false, true≢false, not, ◌&&◌, ◌||◌, if◌then◌else◌, inl, inr, refl, sym, ap, ◌∙◌, subst}
-use Rattle.blk_front.specs.declared.stage.Stage.{Stage as Ring}
-use Rattle.blk_front.specs.declared.stage.Stage.TheVariants as ring
+use Rattle.blk_front.specs.declared.stage.FrontStage.{FrontStage}
+use Rattle.blk_front.specs.declared.stage.FrontStage.TheVariants as ring
 use Rattle.blk_front.specs.declared.state.FrontState.TheVariants as enter
 use Rattle.blk_front.specs.View as ends
 use Rattle.blk_front.specs.State.{is_open, is_bare, may_enter, enters}
 use Rattle.blk_front.specs.Suspend.{is_left}
 use Rattle.xenbus_state.specs.declared.state.BusState.TheVariants as state
-use Rattle.xenbus_state.specs.declared.stage.FrontStage.{FrontStage}
-use Rattle.xenbus_state.specs.declared.stage.FrontStage.TheVariants as stage
+use Rattle.xenbus_state.specs.declared.stage.FrontBusStage.{FrontBusStage}
+use Rattle.xenbus_state.specs.declared.stage.FrontBusStage.TheVariants as stage
 use Rattle.xenbus_state.specs.FrontView.{FrontView, closed, is_broken as is_broken_bus}
 use Rattle.vbd_front.specs.View.{is_broken}
 use Rattle.vbd_model.specs.Fit.{IsEndingPage, IsGranting, FrontGoesWith, FrontOrdered}
@@ -16,27 +16,27 @@ use Rattle.vbd_laws.proofs.FitFrontBus.{FrontFits, rests_open}
 use Rattle.vbd_laws.proofs.FitFrontSpoken.{begun_fits}
 
 -- an end of the ring that isn't broken is open, until it is closed
-granting_open : (page : ℕ) (r : Ring) → IsGranting page r → is_open r ≡ true
+granting_open : (page : ℕ) (r : FrontStage) → IsGranting page r → is_open r ≡ true
 granting_open page (ring.RingFrame k) is = refl
 granting_open page (ring.RingFence k) is = refl
 granting_open page (ring.RingFlags k) is = refl
 granting_open page r is = absurd is
 
-ending_open : (page : ℕ) (r : Ring) → IsEndingPage page r → is_open r ≡ true
+ending_open : (page : ℕ) (r : FrontStage) → IsEndingPage page r → is_open r ≡ true
 ending_open page (ring.RingRead k) is = refl
 ending_open page (ring.RingEnd k seen) is = refl
 ending_open page r is = absurd is
 
-bare_open : (r : Ring) → is_bare r ≡ true → is_open r ≡ true
+bare_open : (r : FrontStage) → is_bare r ≡ true → is_open r ≡ true
 bare_open (ring.RingWord k) bare = refl
 bare_open ring.Left bare = refl
 bare_open r bare = absurd (true≢false (sym bare))
 
-left_open : (r : Ring) → is_left r ≡ true → is_open r ≡ true
+left_open : (r : FrontStage) → is_left r ≡ true → is_open r ≡ true
 left_open (ring.LeftData n) is = refl
 left_open r is = absurd (true≢false (sym is))
 
-goes_open : (b : FrontStage) (v : FrontView) (r : Ring) → FrontGoesWith b v r → v.closing ≡ false → is_broken r ≡ false → is_open r ≡ true
+goes_open : (b : FrontBusStage) (v : FrontView) (r : FrontStage) → FrontGoesWith b v r → v.closing ≡ false → is_broken r ≡ false → is_open r ≡ true
 goes_open stage.Start v r goes closing whole = elim goes.1 [ inl is ↦ ap is_open is | inr is ↦ left_open r is ]
 goes_open stage.Rest v r goes closing whole = elim goes [ inl rests ↦ rests_open v.state v.gone v.port r rests | inr is ↦ absurd (true≢false (sym is ∙ whole)) ]
 goes_open stage.ReadState v r goes closing whole = rests_open v.state v.gone v.port r goes
@@ -57,7 +57,7 @@ goes_open (stage.Broken word) v r goes closing whole = absurd (true≢false (sym
 goes_open b v r goes closing whole = absurd goes
 
 -- whether it closes is said of a closed front alone
-goes_closing : (b : FrontStage) (v : FrontView) (r : Ring) → FrontGoesWith b v r → FrontGoesWith b (record v { closing = true }) r
+goes_closing : (b : FrontBusStage) (v : FrontView) (r : FrontStage) → FrontGoesWith b v r → FrontGoesWith b (record v { closing = true }) r
 goes_closing stage.Closed v r goes = (goes.0, goes.1, refl)
 goes_closing (stage.WriteState state.Initialised) v r goes = goes
 goes_closing (stage.WriteState state.Connected) v r goes = goes
@@ -65,13 +65,13 @@ goes_closing (stage.WriteState state.Closed) v r goes = goes
 goes_closing (stage.WriteState own) v r goes = absurd goes
 goes_closing b v r goes = goes
 
-ordered_closing : (b : FrontStage) (v : FrontView) (n : ℕ) → FrontOrdered b v n → FrontOrdered b (record v { closing = true }) n
+ordered_closing : (b : FrontBusStage) (v : FrontView) (n : ℕ) → FrontOrdered b v n → FrontOrdered b (record v { closing = true }) n
 ordered_closing (stage.RingWord word) v n ordered = ordered
 ordered_closing (stage.Grant page) v n ordered = ordered
 ordered_closing stage.NewPort v n ordered = ordered
 ordered_closing b v n ordered = ordered
 
-unopened : (r : Ring) → is_broken r ≡ true → is_open r ≡ false
+unopened : (r : FrontStage) → is_broken r ≡ true → is_open r ≡ false
 unopened (ring.Broken word) is = refl
 unopened r is = absurd (true≢false (sym is))
 
@@ -84,7 +84,7 @@ begins_no_more f true is closing = by_test f.closing (unopened f.stage is)
     by_test true opened = refl
     by_test false opened = opened
 
-broken_bus : (b : FrontStage) (v : FrontView) (r : Ring) → FrontGoesWith b v r → is_broken_bus b ≡ true → is_broken r ≡ true
+broken_bus : (b : FrontBusStage) (v : FrontView) (r : FrontStage) → FrontGoesWith b v r → is_broken_bus b ≡ true → is_broken r ≡ true
 broken_bus (stage.Broken word) v r goes is = goes
 broken_bus b v r goes is = absurd (true≢false (sym is))
 

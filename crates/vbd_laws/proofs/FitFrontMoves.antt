@@ -10,8 +10,8 @@ use Rattle.blk_base.specs.declared.ask.FrontAnswer.TheVariants as answer
 use Rattle.blk_front.specs.declared.request.Request.{Request}
 use Rattle.blk_front.specs.declared.stage.Ending.{Ending}
 use Rattle.blk_front.specs.Request.{words_in}
-use Rattle.blk_front.specs.declared.stage.Stage.{Stage as Ring}
-use Rattle.blk_front.specs.declared.stage.Stage.TheVariants as ring
+use Rattle.blk_front.specs.declared.stage.FrontStage.{FrontStage}
+use Rattle.blk_front.specs.declared.stage.FrontStage.TheVariants as ring
 use Rattle.blk_front.specs.View as ends
 use Rattle.ring_words.specs.Shape.{Shape}
 use Rattle.split_model.proofs.Shapes.{step_shape}
@@ -22,8 +22,8 @@ use Rattle.blk_front.specs.State.{is_made, is_bare}
 use Rattle.blk_front.specs.Suspend.{is_left}
 use Rattle.xenbus_state.specs.declared.state.BusState.{BusState}
 use Rattle.xenbus_state.specs.declared.state.BusState.TheVariants as state
-use Rattle.xenbus_state.specs.declared.stage.FrontStage.{FrontStage}
-use Rattle.xenbus_state.specs.declared.stage.FrontStage.TheVariants as stage
+use Rattle.xenbus_state.specs.declared.stage.FrontBusStage.{FrontBusStage}
+use Rattle.xenbus_state.specs.declared.stage.FrontBusStage.TheVariants as stage
 use Rattle.xenbus_state.specs.declared.front.FrontBusAsk.TheVariants as ask
 use Rattle.xenbus_state.specs.FrontView.{FrontView, ring_order}
 use Rattle.xenbus_state.specs.FrontAsk.{leaving, due, ask_at, ask_of}
@@ -37,13 +37,13 @@ use Rattle.vbd_laws.proofs.FitFrontBus.{FrontFits, unoccupied, due_cases, closin
 use Rattle.vbd_laws.proofs.FitFrontSpoken.{fits_at, whole_rests, whole_ordered}
 
 -- the negotiation goes on with the end of the ring, and neither writes a state nor begins to close
-record Follows (v u : FrontView) (r : Ring) (n : ℕ) : Type 0 where
+record Follows (v u : FrontView) (r : FrontStage) (n : ℕ) : Type 0 where
   goes : FrontGoesWith u.stage u r
   closing : u.closing ≡ v.closing
   own : u.state ≡ v.state
   ordered : FrontOrdered u.stage u n
 
-abbrev FollowsTo : FrontView → Ring → ℕ → FrontView → Type 0
+abbrev FollowsTo : FrontView → FrontStage → ℕ → FrontView → Type 0
 FollowsTo v r n u = Follows v u r n
 
 -- so they fit after a move of the end of the ring
@@ -63,11 +63,11 @@ follows_fit v u f x h follows = record {
         by_test false is = refl
 
 -- what is due was answered
-told_at : (d : FrontStage) (v : FrontView) (idle : Bool) (x : FrontAnswer) → due v idle ≡ d → bus_told idle v x ≡ settled idle (step_at d (at d v) idle x)
-told_at d v idle x e = ap (λ (s : FrontStage). settled idle (step_at s (at s v) idle x)) e
+told_at : (d : FrontBusStage) (v : FrontView) (idle : Bool) (x : FrontAnswer) → due v idle ≡ d → bus_told idle v x ≡ settled idle (step_at d (at d v) idle x)
+told_at d v idle x e = ap (λ (s : FrontBusStage). settled idle (step_at s (at s v) idle x)) e
 
 -- a watch that is taken has a front that rests read the other end's state
-woken_follows : (broken : Bool) (v : FrontView) (idle : Bool) (x : FrontAnswer) (r : Ring) (n : ℕ) → v.stage ≡ stage.Rest → due v idle ≡ stage.Rest → PortOrdered v.port v.order v.features.order n
+woken_follows : (broken : Bool) (v : FrontView) (idle : Bool) (x : FrontAnswer) (r : FrontStage) (n : ℕ) → v.stage ≡ stage.Rest → due v idle ≡ stage.Rest → PortOrdered v.port v.order v.features.order n
     → FrontRests v.state v.gone v.port r ⊎ (is_broken r ≡ true) → (broken ≡ false → is_broken r ≡ false) → Follows v (woken broken idle v x) r n
 woken_follows broken v idle x r n here e ordered rests whole = by_answer broken x rests whole
   where
@@ -95,7 +95,7 @@ word_follows word v idle f answer.Done e own low port agreed allowed = subst (Fo
 word_follows word v idle f x e own low port agreed allowed = absurd allowed
 
 -- three moves make a page's grant: then the next one is granted, or the port is made
-grant_follows : (page : ℕ) (s : Ring) (v : FrontView) (idle : Bool) (f : ends.View) (x : FrontAnswer) → v.stage ≡ stage.Grant page → due v idle ≡ stage.Grant page → v.state ≡ state.Initialising → v.port ≡ None
+grant_follows : (page : ℕ) (s : FrontStage) (v : FrontView) (idle : Bool) (f : ends.View) (x : FrontAnswer) → v.stage ≡ stage.Grant page → due v idle ≡ stage.Grant page → v.state ≡ state.Initialising → v.port ≡ None
     → IsAgreed v.order v.features.order f.shape.order → IsGranting page s → IsAnswer (ring_ask_at s f) x → Follows v (followed (ask.Grant page) (ring_step_at s f x).stage idle v x) (ring_step_at s f x).stage f.shape.order
 grant_follows page (ring.RingFrame k) v idle f x here e own port agreed is allowed = record { goes = rw here (own, is, port); closing = refl; own = refl; ordered = rw here agreed }
 grant_follows page (ring.RingFence k) v idle f x here e own port agreed is allowed = record { goes = rw here (own, is, port); closing = refl; own = refl; ordered = rw here agreed }
@@ -107,7 +107,7 @@ grant_follows page (ring.RingFlags k) v idle f answer.Done here e own port agree
         ∙ ap (λ (b : Bool). settled idle (at (if b then stage.Grant (page + 1) else stage.NewPort) v)) (sym (ap (λ (n : ℕ). nat_lt (n + 1) (2 ^ ring_order v)) is) ∙ (sym (ap (λ (n : ℕ). nat_lt (k + 1) (2 ^ n)) agreed.0) ∙ m))
 
     by_test : (more : Bool) → nat_lt (k + 1) (2 ^ f.shape.order) ≡ more
-        → let s : Ring = (if more then ring.RingFrame (k + 1) else ring.NewPort) in Follows v (followed (ask.Grant page) s idle v answer.Done) s f.shape.order
+        → let s : FrontStage = (if more then ring.RingFrame (k + 1) else ring.NewPort) in Follows v (followed (ask.Grant page) s idle v answer.Done) s f.shape.order
     by_test true m = subst (FollowsTo v _ _) (sym (told true m)) (record { goes = (own, ap (λ (n : ℕ). n + 1) is, port); closing = refl; own = refl; ordered = agreed })
     by_test false m = subst (FollowsTo v _ _) (sym (told false m)) (record { goes = (own, refl, port); closing = refl; own = refl; ordered = agreed })
 grant_follows page (ring.RingFlags k) v idle f x here e own port agreed is allowed = absurd allowed
@@ -121,8 +121,8 @@ port_follows v idle f (answer.Port port) e own agreed allowed =
 port_follows v idle f x e own agreed allowed = absurd allowed
 
 -- a page's grant is ended in two moves, or the ring breaks: then the next one's is, or the port is closed
-end_follows : (page : ℕ) (s : Ring) (v : FrontView) (idle : Bool) (f : ends.View) (x : FrontAnswer) (p : ℕ) → due v idle ≡ stage.EndGrant page → v.state ≡ state.Closing → v.port ≡ Some p → IsAgreed v.order v.features.order f.shape.order
-    → FrontOrdered v.stage v f.shape.order → ((r : Ring) → IsEndingPage page r ⊎ (is_broken r ≡ true) → FrontGoesWith v.stage v r)
+end_follows : (page : ℕ) (s : FrontStage) (v : FrontView) (idle : Bool) (f : ends.View) (x : FrontAnswer) (p : ℕ) → due v idle ≡ stage.EndGrant page → v.state ≡ state.Closing → v.port ≡ Some p → IsAgreed v.order v.features.order f.shape.order
+    → FrontOrdered v.stage v f.shape.order → ((r : FrontStage) → IsEndingPage page r ⊎ (is_broken r ≡ true) → FrontGoesWith v.stage v r)
     → IsEndingPage page s → IsAnswer (ring_ask_at s f) x → Follows v (followed (ask.EndGrant page) (ring_step_at s f x).stage idle v x) (ring_step_at s f x).stage f.shape.order
 end_follows page (ring.RingRead k) v idle f (answer.Word word) p e own port agreed ordered still is allowed = by_test (is_mapped word)
   where
@@ -137,7 +137,7 @@ end_follows page (ring.RingEnd k seen) v idle f (answer.Word word) p e own port 
         ∙ ap (λ (b : Bool). settled idle (at (if b then stage.EndGrant (page + 1) else stage.EndOtherGrants) v)) (sym (ap (λ (n : ℕ). nat_lt (n + 1) (2 ^ ring_order v)) is) ∙ (sym (ap (λ (n : ℕ). nat_lt (k + 1) (2 ^ n)) agreed.0) ∙ m))
 
     left : (more : Bool) → nat_lt (k + 1) (2 ^ f.shape.order) ≡ more
-        → let s : Ring = (if more then ring.RingRead (k + 1) else ring.ClosePort) in Follows v (followed (ask.EndGrant page) s idle v (answer.Word word)) s f.shape.order
+        → let s : FrontStage = (if more then ring.RingRead (k + 1) else ring.ClosePort) in Follows v (followed (ask.EndGrant page) s idle v (answer.Word word)) s f.shape.order
     left true m = subst (FollowsTo v _ _) (sym (told true m)) (record { goes = (own, inl (ap (λ (n : ℕ). n + 1) is), rw port refl); closing = refl; own = refl; ordered = rw port agreed })
     left false m =
         let settles : settled idle (at stage.EndOtherGrants v) ≡ at stage.ClosePort v = rw port refl in
@@ -151,7 +151,7 @@ end_follows page (ring.RingEnd k seen) v idle f x p e own port agreed ordered st
 end_follows page s v idle f x p e own port agreed ordered still is allowed = absurd is
 
 -- an end of the ring that is broken stays so, and the negotiation learns no more
-broken_ends : (page : ℕ) (s : Ring) (v : FrontView) (idle : Bool) (f : ends.View) (x : FrontAnswer) → v.stage ≡ stage.EndGrant page → f.stage ≡ s → v.state ≡ state.Closing → IsSome v.port → FrontOrdered v.stage v f.shape.order
+broken_ends : (page : ℕ) (s : FrontStage) (v : FrontView) (idle : Bool) (f : ends.View) (x : FrontAnswer) → v.stage ≡ stage.EndGrant page → f.stage ≡ s → v.state ≡ state.Closing → IsSome v.port → FrontOrdered v.stage v f.shape.order
     → is_broken s ≡ true → Follows v (followed (ask.EndGrant page) (ring_step_at s f x).stage idle v x) (ring_step_at s f x).stage f.shape.order
 broken_ends page (ring.Broken word) v idle f x here at_stage own port ordered is =
     rw at_stage (record { goes = rw here (own, inr refl, port); closing = refl; own = refl; ordered = ordered })
@@ -195,7 +195,7 @@ no_request [] waiting none = by_test (waiting == 0)
     by_test false = refl
 no_request (r ∷ requests) waiting none = let some = none in absurd (grind (arith, nat_tests))
 
-made_stays : (s : Ring) (f : ends.View) (x : FrontAnswer) → f.stage ≡ s → is_made s ≡ true → is_through f ≡ true → IsAnswer (ring_ask_at s f) x → is_made (ring_step_at s f x).stage ≡ true
+made_stays : (s : FrontStage) (f : ends.View) (x : FrontAnswer) → f.stage ≡ s → is_made s ≡ true → is_through f ≡ true → IsAnswer (ring_ask_at s f) x → is_made (ring_step_at s f x).stage ≡ true
 made_stays ring.Initialised f x here made through allowed = ap is_made here
 made_stays ring.Loop f x here made through allowed =
     ap is_made (through_loops f (ends.next_request f) x through here (no_request f.requests f.waiting (both_true f.closing (length f.requests == 0) through).1) allowed)
@@ -207,7 +207,7 @@ rests_on : (own : BusState) (gone : Bool) (port : Option ℕ) (f : ends.View) (x
 rests_on state.Initialising gone port f x moves rests through left allowed = absurd (true≢false (sym moves ∙ ap is_connected rests.0))
 rests_on state.Initialised gone port f x moves rests through left allowed = inl (stays f.stage rests.0 refl, rests.1)
   where
-    stays : (s : Ring) → s ≡ ring.Initialised → f.stage ≡ s → (ring_step_at s f x).stage ≡ ring.Initialised
+    stays : (s : FrontStage) → s ≡ ring.Initialised → f.stage ≡ s → (ring_step_at s f x).stage ≡ ring.Initialised
     stays s same here = rw same (here ∙ same)
 rests_on state.Connected gone port f x moves rests through left allowed = by_test (is_ready (ring_step_of f x).stage) (is_broken (ring_step_of f x).stage) refl refl (up_step f x (rw rests.0 refl))
   where
@@ -227,7 +227,7 @@ ending_unoccupied f ending through = by_stage f.stage ending
     none : length f.requests ≡ 0
     none = let zero = (both_true f.closing (length f.requests == 0) through).1 in grind (arith, nat_tests)
 
-    by_stage : (s : Ring) → IsEndingPage 0 s → (length f.requests + ending_of s == 0 && is_still s) ≡ true
+    by_stage : (s : FrontStage) → IsEndingPage 0 s → (length f.requests + ending_of s == 0 && is_still s) ≡ true
     by_stage (ring.RingRead page) is = rw none refl
     by_stage (ring.RingEnd page seen) is = rw none refl
     by_stage s is = absurd is
@@ -245,11 +245,11 @@ leaves_next v f here whole h own gone = by_port v.port refl (subst (λ (g : Bool
         rests_due v (is_unoccupied f) true here (rw (closing, idle) refl) ∙ rw (own, gone, p) refl
 
 -- one that is closed or broken reads it no more
-over_follows : (b : FrontStage) (broken : Bool) (v : FrontView) (idle : Bool) (x : FrontAnswer) (r : Ring) (n : ℕ) → v.stage ≡ b → due v idle ≡ b
+over_follows : (b : FrontBusStage) (broken : Bool) (v : FrontView) (idle : Bool) (x : FrontAnswer) (r : FrontStage) (n : ℕ) → v.stage ≡ b → due v idle ≡ b
     → ((path : List ℕ) → settled idle (step_at b (at b v) idle (answer.Watched path)) ≡ at b v) → Follows v v r n → Follows v (woken broken idle v x) r n
 over_follows b true v idle x r n here e same unmoved = unmoved
 over_follows b false v idle (answer.Watched path) r n here e same unmoved =
-    subst (FollowsTo v r n) (sym (told_at b v idle (answer.Watched path) e ∙ (same path ∙ ap (λ (s : FrontStage). at s v) (sym here)))) unmoved
+    subst (FollowsTo v r n) (sym (told_at b v idle (answer.Watched path) e ∙ (same path ∙ ap (λ (s : FrontBusStage). at s v) (sym here)))) unmoved
 over_follows b false v idle x r n here e same unmoved = unmoved
 
 -- its end of the ring moves while the front rests
@@ -265,7 +265,7 @@ rest_follows v f x here e h moves allowed =
         rests_on v.state v.gone v.port f x moves (whole_rests v f here whole h) (λ own. h.through own whole) (λ own gone. let ends : stage.Rest ≡ stage.EndGrant 0 = sym e ∙ leaves_next v f here whole h own gone in absurd (cc)) allowed
 
 -- and while the negotiation asks it to make the ring, or to leave it
-begun_follows : (b : FrontStage) (s : Ring) (v : FrontView) (idle : Bool) (f : ends.View) (x : FrontAnswer) → v.stage ≡ b → f.stage ≡ s → due v idle ≡ b → FrontOrdered b v f.shape.order → FrontGoesWith b v s
+begun_follows : (b : FrontBusStage) (s : FrontStage) (v : FrontView) (idle : Bool) (f : ends.View) (x : FrontAnswer) → v.stage ≡ b → f.stage ≡ s → due v idle ≡ b → FrontOrdered b v f.shape.order → FrontGoesWith b v s
     → (b ≡ stage.Rest → Follows v (followed ask.Wait (ring_step_at s f x).stage idle v x) (ring_step_at s f x).stage f.shape.order) → speaks (ask_at b v) ≡ false → ring_moves (ask_at b v) s ≡ true
     → IsAnswer (ring_ask_at s f) x → Follows v (followed (ask_at b v) (ring_step_at s f x).stage idle v x) (ring_step_at s f x).stage f.shape.order
 begun_follows stage.Rest s v idle f x here at_stage e ordered goes rests quiet moves allowed = rests refl
@@ -286,7 +286,7 @@ begun_follows stage.Closed s v idle f x here at_stage e ordered goes rests quiet
     rw goes.1 (over_follows stage.Closed (is_broken f.stage) v idle x f.stage f.shape.order here e (λ path. refl)
     (record { goes = rw here (goes.0, at_stage ∙ goes.1, goes.2); closing = refl; own = refl; ordered = rw here ordered }))
 begun_follows (stage.Broken word) s v idle f x here at_stage e ordered goes rests quiet moves allowed =
-    let is : is_broken (ring_step_at s f x).stage ≡ true = subst (λ (t : Ring). is_broken (ring_step_at t f x).stage ≡ true) at_stage (broken_step f x (ap is_broken at_stage ∙ goes)) in
+    let is : is_broken (ring_step_at s f x).stage ≡ true = subst (λ (t : FrontStage). is_broken (ring_step_at t f x).stage ≡ true) at_stage (broken_step f x (ap is_broken at_stage ∙ goes)) in
     subst (λ (b : Bool). Follows v (woken b idle v x) (ring_step_at s f x).stage f.shape.order) (sym is) (record { goes = rw here is; closing = refl; own = refl; ordered = rw here ordered })
 begun_follows stage.Start s v idle f x here at_stage e ordered goes rests quiet moves allowed = absurd (true≢false quiet)
 begun_follows stage.ReadState s v idle f x here at_stage e ordered goes rests quiet moves allowed = absurd (true≢false quiet)
@@ -297,40 +297,40 @@ begun_follows (stage.WriteState own) s v idle f x here at_stage e ordered goes r
 begun_follows b s v idle f x here at_stage e ordered goes rests quiet moves allowed = absurd goes
 
 -- data are left after a suspend only where the negotiation begins anew
-ending_none : (page : ℕ) (r : Ring) → IsEndingPage page r → is_left r ≡ true → ⊥
+ending_none : (page : ℕ) (r : FrontStage) → IsEndingPage page r → is_left r ≡ true → ⊥
 ending_none page (ring.LeftData n) ending left = ending
 ending_none page r ending left = true≢false (sym left)
 
-rests_none : (own : BusState) (gone : Bool) (port : Option ℕ) (r : Ring) → FrontRests own gone port r → is_left r ≡ true → ⊥
+rests_none : (own : BusState) (gone : Bool) (port : Option ℕ) (r : FrontStage) → FrontRests own gone port r → is_left r ≡ true → ⊥
 rests_none state.Initialising gone port r rests left = true≢false (sym left ∙ ap is_left rests.0)
 rests_none state.Initialised gone port r rests left = true≢false (sym left ∙ ap is_left rests.0)
 rests_none state.Connected gone port r rests left = ready_none r rests.0 left
   where
-    ready_none : (r : Ring) → is_ready r ≡ true → is_left r ≡ true → ⊥
+    ready_none : (r : FrontStage) → is_ready r ≡ true → is_left r ≡ true → ⊥
     ready_none (ring.LeftData n) ready left = true≢false (sym ready)
     ready_none r ready left = true≢false (sym left)
 rests_none state.Closing false None r rests left = true≢false (sym left ∙ ap is_left rests)
 rests_none state.Closing false (Some port) r rests left = made_none r rests left
   where
-    made_none : (r : Ring) → is_made r ≡ true → is_left r ≡ true → ⊥
+    made_none : (r : FrontStage) → is_made r ≡ true → is_left r ≡ true → ⊥
     made_none (ring.LeftData n) made left = true≢false (sym made)
     made_none r made left = true≢false (sym left)
 rests_none state.Closing true (Some port) r rests left = ending_none 0 r rests left
 rests_none own gone port r rests left = rests
 
-granting_none : (page : ℕ) (r : Ring) → IsGranting page r → is_left r ≡ true → ⊥
+granting_none : (page : ℕ) (r : FrontStage) → IsGranting page r → is_left r ≡ true → ⊥
 granting_none page (ring.LeftData n) granting left = granting
 granting_none page r granting left = true≢false (sym left)
 
-broken_none : (r : Ring) → is_broken r ≡ true → is_left r ≡ true → ⊥
+broken_none : (r : FrontStage) → is_broken r ≡ true → is_left r ≡ true → ⊥
 broken_none (ring.LeftData n) is left = true≢false (sym is)
 broken_none r is left = true≢false (sym left)
 
-bare_none : (r : Ring) → is_bare r ≡ true → is_left r ≡ true → ⊥
+bare_none : (r : FrontStage) → is_bare r ≡ true → is_left r ≡ true → ⊥
 bare_none (ring.LeftData n) bare left = true≢false (sym bare)
 bare_none r bare left = true≢false (sym left)
 
-pub left_starts : (b : FrontStage) (v : FrontView) (r : Ring) → FrontGoesWith b v r → is_left r ≡ true → b ≡ stage.Start
+pub left_starts : (b : FrontBusStage) (v : FrontView) (r : FrontStage) → FrontGoesWith b v r → is_left r ≡ true → b ≡ stage.Start
 left_starts stage.Start v r goes left = refl
 left_starts stage.Rest v r goes left = elim goes [ inl rests ↦ absurd (rests_none v.state v.gone v.port r rests left) | inr is ↦ absurd (broken_none r is left) ]
 left_starts stage.ReadState v r goes left = absurd (rests_none v.state v.gone v.port r goes left)
@@ -350,7 +350,7 @@ left_starts stage.Closed v r goes left = absurd (true≢false (sym left ∙ ap i
 left_starts (stage.Broken word) v r goes left = absurd (broken_none r goes left)
 left_starts b v r goes left = absurd goes
 
-pub none_left : (b : FrontStage) (v : FrontView) (r : Ring) → FrontGoesWith b v r → (b ≡ stage.Start → ⊥) → is_left r ≡ false
+pub none_left : (b : FrontBusStage) (v : FrontView) (r : FrontStage) → FrontGoesWith b v r → (b ≡ stage.Start → ⊥) → is_left r ≡ false
 none_left b v r goes other = by_test (is_left r) refl
   where
     by_test : (c : Bool) → is_left r ≡ c → c ≡ false
@@ -358,15 +358,15 @@ none_left b v r goes other = by_test (is_left r) refl
     by_test false none = refl
 
 -- else the end of the ring of a negotiation that waits has the move once it is connected
-pub connected_moves : (r : Ring) → is_left r ≡ false → ring_moves ask.Wait r ≡ true → is_connected r ≡ true
+pub connected_moves : (r : FrontStage) → is_left r ≡ false → ring_moves ask.Wait r ≡ true → is_connected r ≡ true
 connected_moves (ring.LeftData n) none moves = absurd (true≢false none)
 connected_moves r none moves = moves
 
-pub left_moves : (r : Ring) → is_left r ≡ true → ring_moves ask.Wait r ≡ true
+pub left_moves : (r : FrontStage) → is_left r ≡ true → ring_moves ask.Wait r ≡ true
 left_moves (ring.LeftData n) left = refl
 left_moves r left = absurd (true≢false (sym left))
 
-pub connected_still : (r : Ring) → ring_moves ask.Wait r ≡ false → is_connected r ≡ false
+pub connected_still : (r : FrontStage) → ring_moves ask.Wait r ≡ false → is_connected r ≡ false
 connected_still (ring.LeftData n) still = refl
 connected_still r still = still
 
@@ -375,17 +375,17 @@ pub ring_fits : (v : FrontView) (f : ends.View) (x : FrontAnswer) → FrontFits 
     → IsAnswer (ring_ask_at f.stage f) x → FrontFits (followed (ask_of v (is_unoccupied f)) (ring_step_of f x).stage (is_unoccupied f) v x) (ring_step_of f x)
 ring_fits v f x h quiet moves allowed =
     follows_fit v _ f x h
-    (due_cases (λ (d : FrontStage). due v idle ≡ d → Moves d) v idle
+    (due_cases (λ (d : FrontBusStage). due v idle ≡ d → Moves d) v idle
     (λ e quiet moves. begun_follows v.stage f.stage v idle f x refl refl e h.ordered h.goes (λ here. rest_follows v f x here (e ∙ here) h (rests here moves) allowed) quiet moves allowed)
     (λ here closing is_idle.
     let is = unoccupied f is_idle in
-    closing_cases (λ (d : FrontStage). due v idle ≡ d → Moves d) v f.stage is.still (whole_rests v f here is.whole h) (λ first e quiet. absurd (true≢false quiet))
+    closing_cases (λ (d : FrontBusStage). due v idle ≡ d → Moves d) v f.stage is.still (whole_rests v f here is.whole h) (λ first e quiet. absurd (true≢false quiet))
     (λ own ending. leaves here own is.whole v.gone v.port refl refl ending)) refl quiet moves)
   where
     idle : Bool
     idle = is_unoccupied f
 
-    Moves : FrontStage → Type 0
+    Moves : FrontBusStage → Type 0
     Moves d = speaks (ask_at d v) ≡ false → ring_moves (ask_at d v) f.stage ≡ true → Follows v (followed (ask_at d v) (ring_step_of f x).stage idle v x) (ring_step_of f x).stage f.shape.order
 
     none : v.stage ≡ stage.Rest → is_left f.stage ≡ false
@@ -401,7 +401,7 @@ ring_fits v f x h quiet moves allowed =
     leaves here own whole true (Some n) g p ending e quiet moves =
         let agreed = whole_ordered v f here h in end_follows 0 f.stage v idle f x n e own p (rw p at agreed) h.ordered rested ending allowed
       where
-        rested : (r : Ring) → IsEndingPage 0 r ⊎ (is_broken r ≡ true) → FrontGoesWith v.stage v r
+        rested : (r : FrontStage) → IsEndingPage 0 r ⊎ (is_broken r ≡ true) → FrontGoesWith v.stage v r
         rested r (inl is) = rw here (inl (rw (own, g, p) is))
         rested r (inr is) = rw here (inr is)
 
@@ -410,15 +410,15 @@ pub wait_fits : (v : FrontView) (f : ends.View) (x : FrontAnswer) → FrontFits 
     → FrontFits (waited (ask_of v (is_unoccupied f)) (is_unoccupied f) v x) f
 wait_fits v f x h quiet still =
     kept
-    (due_cases (λ (d : FrontStage). due v idle ≡ d → Waits d) v idle (λ e. begun v.stage refl e h.goes)
+    (due_cases (λ (d : FrontBusStage). due v idle ≡ d → Waits d) v idle (λ e. begun v.stage refl e h.goes)
     (λ here closing is_idle.
     let is = unoccupied f is_idle in
-    closing_cases (λ (d : FrontStage). due v idle ≡ d → Waits d) v f.stage is.still (whole_rests v f here is.whole h) (λ first e quiet. absurd (true≢false quiet)) (λ own ending. leaves here v.gone v.port)) refl quiet still)
+    closing_cases (λ (d : FrontBusStage). due v idle ≡ d → Waits d) v f.stage is.still (whole_rests v f here is.whole h) (λ first e quiet. absurd (true≢false quiet)) (λ own ending. leaves here v.gone v.port)) refl quiet still)
   where
     idle : Bool
     idle = is_unoccupied f
 
-    Waits : FrontStage → Type 0
+    Waits : FrontBusStage → Type 0
     Waits d = speaks (ask_at d v) ≡ false → ring_moves (ask_at d v) f.stage ≡ false → Follows v (waited (ask_at d v) idle v x) f.stage f.shape.order
 
     kept : Follows v (waited (ask_of v idle) idle v x) f.stage f.shape.order → FrontFits (waited (ask_of v idle) idle v x) f
@@ -427,14 +427,14 @@ wait_fits v f x h quiet still =
     unmoved : Follows v v f.stage f.shape.order
     unmoved = record { goes = h.goes; closing = refl; own = refl; ordered = h.ordered }
 
-    whole : (r : Ring) → is_connected r ≡ false → is_broken r ≡ false
+    whole : (r : FrontStage) → is_connected r ≡ false → is_broken r ≡ false
     whole (ring.Broken word) still = absurd (true≢false still)
     whole r still = refl
 
     rests : v.stage ≡ stage.Rest → due v idle ≡ stage.Rest → is_connected f.stage ≡ false → Follows v (woken false idle v x) f.stage f.shape.order
     rests here e still = let is = whole f.stage still in woken_follows false v idle x f.stage f.shape.order here e (rw here at h.ordered) (inl (whole_rests v f here is h)) (λ none. is)
 
-    begun : (b : FrontStage) → v.stage ≡ b → due v idle ≡ b → FrontGoesWith b v f.stage → Waits b
+    begun : (b : FrontBusStage) → v.stage ≡ b → due v idle ≡ b → FrontGoesWith b v f.stage → Waits b
     begun stage.Rest here e goes quiet still = rests here e (connected_still f.stage still)
     begun stage.Closed here e goes quiet still = over_follows stage.Closed false v idle x f.stage f.shape.order here e (λ path. refl) unmoved
     begun (stage.Broken word) here e goes quiet still = over_follows (stage.Broken word) false v idle x f.stage f.shape.order here e (λ path. refl) unmoved
@@ -446,7 +446,7 @@ wait_fits v f x h quiet still =
     leaves here true (Some n) e quiet still = unmoved
 
 -- data that are left are told while the negotiation waits
-left_goes : (r : Ring) (f : ends.View) (x : FrontAnswer) → f.stage ≡ r → is_left r ≡ true → IsUnbegun (ring_step_at r f x).stage
+left_goes : (r : FrontStage) (f : ends.View) (x : FrontAnswer) → f.stage ≡ r → is_left r ≡ true → IsUnbegun (ring_step_at r f x).stage
 left_goes (ring.LeftData n) f (answer.Word word) here left = by_ending f.ending
   where
     by_ending : (o : Option Ending) → IsUnbegun (left_step o n word f).stage

@@ -3,15 +3,15 @@ use Rattle.std.proofs.Common.{◌≡◌, ℕ, ◌+◌, ◌==◌, ◌||◌, ◌&&
 use Rattle.std.specs.Prelude.{Option, Some, None, nat_lt}
 use Rattle.blk_base.specs.declared.ask.FrontAnswer.{FrontAnswer}
 use Rattle.blk_base.specs.declared.ask.FrontAnswer.TheVariants as answer
-use Rattle.blk_front.specs.declared.stage.Stage.{Stage as FrontRing}
-use Rattle.blk_front.specs.declared.stage.Stage.TheVariants as ring
+use Rattle.blk_front.specs.declared.stage.FrontStage.{FrontStage}
+use Rattle.blk_front.specs.declared.stage.FrontStage.TheVariants as ring
 use Rattle.xenbus_state.specs.declared.keys.FrontKey.{FrontKey}
 use Rattle.xenbus_state.specs.declared.keys.BackKey.{BackKey}
 use Rattle.xenbus_state.specs.declared.keys.BackKey.TheVariants as key
 use Rattle.xenbus_state.specs.declared.state.BusState.{BusState}
 use Rattle.xenbus_state.specs.declared.state.BusState.TheVariants as state
-use Rattle.xenbus_state.specs.declared.stage.FrontStage.{FrontStage}
-use Rattle.xenbus_state.specs.declared.stage.FrontStage.TheVariants as stage
+use Rattle.xenbus_state.specs.declared.stage.FrontBusStage.{FrontBusStage}
+use Rattle.xenbus_state.specs.declared.stage.FrontBusStage.TheVariants as stage
 use Rattle.xenbus_state.specs.declared.table.FrontAction.{FrontAction}
 use Rattle.xenbus_state.specs.declared.table.FrontAction.TheVariants as action
 use Rattle.xenbus_state.specs.declared.front.FrontBusAsk.{FrontBusAsk}
@@ -40,7 +40,7 @@ module _ (P : FrontView → Type 0) (x : View) (a : FrontAnswer) (p : P x.bus)
   woken_is false c q = p
   woken_is true c q = p
 
-  pub followed_is : (b : FrontBusAsk) (later : FrontRing) → P (front_step.followed b later (view.is_unoccupied x.ring) x.bus a)
+  pub followed_is : (b : FrontBusAsk) (later : FrontStage) → P (front_step.followed b later (view.is_unoccupied x.ring) x.bus a)
   followed_is (ask.WriteRingWord word) later = told
   followed_is (ask.Grant page) (ring.RingFrame k) = told
   followed_is (ask.Grant page) ring.NewPort = told
@@ -93,7 +93,7 @@ publishes_offered own closing idle (Some state.Reconfigured) e = absurd (cc)
 publishes_offered own closing idle None e = absurd (cc)
 
 -- what is said stays said
-pub reads_kept : (P Q : BackKey → Type 0) → ((k : BackKey) → P k → Q k) → (s : FrontStage) → ReadsOffer P s → ReadsOffer Q s
+pub reads_kept : (P Q : BackKey → Type 0) → ((k : BackKey) → P k → Q k) → (s : FrontBusStage) → ReadsOffer P s → ReadsOffer Q s
 reads_kept P Q keeps (stage.ReadFeature k) is = (is.0, all_kept P Q keeps is.1)
 reads_kept P Q keeps s is = tt
 
@@ -128,7 +128,7 @@ module _ (says : BackKey → Type 0) where
       by_next None = tt
       by_next (Some k) = tt
 
-  either_reads : (b : Bool) (s t : FrontStage) → ReadsOffer says s → ReadsOffer says t → ReadsOffer says (if b then s else t)
+  either_reads : (b : Bool) (s t : FrontBusStage) → ReadsOffer says s → ReadsOffer says t → ReadsOffer says (if b then s else t)
   either_reads true s t p q = p
   either_reads false s t p q = q
 
@@ -144,7 +144,7 @@ module _ (says : BackKey → Type 0) where
   state_reads state.Closed = tt
   state_reads s = tt
 
-  after_reads : (s : FrontStage) (v : FrontView) → ReadsOffer says s → ReadsOffer says (after s v)
+  after_reads : (s : FrontBusStage) (v : FrontView) → ReadsOffer says s → ReadsOffer says (after s v)
   after_reads stage.Start v is = tt
   after_reads (stage.RingWord word) v is = either_reads (word == 15) (stage.Grant 0) (stage.RingWord (word + 1)) tt tt
   after_reads (stage.Grant page) v is = either_reads (nat_lt (page + 1) (pages_of v)) (stage.Grant (page + 1)) stage.NewPort tt tt
@@ -157,10 +157,10 @@ module _ (says : BackKey → Type 0) where
   abbrev pub Announces : FrontView → Bool → FrontAnswer → Type 0
   Announces v idle x = ask_of v idle ≡ ask.GetState → (text : Option (List ℕ)) → x ≡ answer.Key text → front_action v.state v.closing idle (state_read text) ≡ action.Publish → IsServiceSaid says
 
-  abbrev AnnouncesAt : FrontStage → FrontView → Bool → FrontAnswer → Type 0
+  abbrev AnnouncesAt : FrontBusStage → FrontView → Bool → FrontAnswer → Type 0
   AnnouncesAt d v idle x = ask_at d v ≡ ask.GetState → (text : Option (List ℕ)) → x ≡ answer.Key text → front_action v.state v.closing idle (state_read text) ≡ action.Publish → IsServiceSaid says
 
-  step_reads : (d : FrontStage) (v : FrontView) (idle : Bool) (x : FrontAnswer) → AnnouncesAt d v idle x → ReadsOffer says d → ReadsOffer says (step_at d (at d v) idle x).stage
+  step_reads : (d : FrontBusStage) (v : FrontView) (idle : Bool) (x : FrontAnswer) → AnnouncesAt d v idle x → ReadsOffer says d → ReadsOffer says (step_at d (at d v) idle x).stage
   step_reads stage.Rest v idle (answer.Watched path) may is = tt
   step_reads stage.ReadState v idle (answer.Key text) may is = acted_reads (front_action v.state v.closing idle (state_read text)) (at stage.ReadState v) (may refl text refl)
   step_reads (stage.ReadFeature k) v idle (answer.Key text) may is = feature_reads k (count_read text) (at (stage.ReadFeature k) v) is.1

@@ -12,8 +12,8 @@ use Rattle.ring_words.specs.Ring.{responses_of, notifies}
 use Rattle.ring_words.specs.Shape.{entry_words_of}
 use Rattle.blk_layout.specs.declared.response.Response.{Response}
 use Rattle.blk_layout.specs.Response.{response_of}
-use Rattle.blk_front.specs.declared.stage.Stage.{Stage}
-use Rattle.blk_front.specs.declared.stage.Stage.TheVariants as stage
+use Rattle.blk_front.specs.declared.stage.FrontStage.{FrontStage}
+use Rattle.blk_front.specs.declared.stage.FrontStage.TheVariants as stage
 use Rattle.blk_front.specs.declared.stage.Ending.{Ending}
 use Rattle.blk_front.specs.declared.request.Request.{Request}
 use Rattle.blk_front.specs.declared.request.Transfer.{Transfer}
@@ -28,47 +28,47 @@ use Rattle.vbd_front.specs.View.{is_broken as is_broken_ring}
 use Rattle.line_text.proofs.Both.{both_true}
 
 -- it is connected, or broken
-abbrev pub is_up : Stage → Bool
+abbrev pub is_up : FrontStage → Bool
 is_up s = is_ready s || is_broken_ring s
 
 -- what a move from a stage leaves
-abbrev Steps : Stage → View → View → Type 0
+abbrev Steps : FrontStage → View → View → Type 0
 Steps s v x =
     (x.closing ≡ v.closing) × (length v.requests ≡ 0 → length x.requests ≡ 0) × (is_up s ≡ true → is_up x.stage ≡ true)
     × (length x.requests + ending_of x.stage ≤ length v.requests + ending_of s)
 
-either : (b : Bool) (s : Stage) (v x y : View) → Steps s v x → Steps s v y → Steps s v (if b then x else y)
+either : (b : Bool) (s : FrontStage) (v x y : View) → Steps s v x → Steps s v y → Steps s v (if b then x else y)
 either true s v x y p q = p
 either false s v x y p q = q
 
 -- a stage of a connected front at which no request is ending
-abbrev IsOn : Stage → Type 0
+abbrev IsOn : FrontStage → Type 0
 IsOn s = (is_up s ≡ true) × (ending_of s ≡ 0)
 
-either_on : (b : Bool) (x y : Stage) → IsOn x → IsOn y → IsOn (if b then x else y)
+either_on : (b : Bool) (x y : FrontStage) → IsOn x → IsOn y → IsOn (if b then x else y)
 either_on true x y p q = p
 either_on false x y p q = q
 
 -- one at which none is ending
-either_none : (b : Bool) (x y : Stage) → ending_of x ≡ 0 → ending_of y ≡ 0 → ending_of (if b then x else y) ≡ 0
+either_none : (b : Bool) (x y : FrontStage) → ending_of x ≡ 0 → ending_of y ≡ 0 → ending_of (if b then x else y) ≡ 0
 either_none true x y p q = p
 either_none false x y p q = q
 
-stays : (s : Stage) (v : View) → v.stage ≡ s → Steps s v v
+stays : (s : FrontStage) (v : View) → v.stage ≡ s → Steps s v v
 stays s v here = (refl, λ none. none, λ up. ap is_up here ∙ up, let same = ap ending_of here in omega arith)
 
 -- it goes to a stage of a connected front
-goes_to : (s : Stage) (v : View) (next : Stage) → IsOn next → Steps s v (at next v)
+goes_to : (s : FrontStage) (v : View) (next : FrontStage) → IsOn next → Steps s v (at next v)
 goes_to s v next on = (refl, λ none. none, λ was. on.0, let none = on.1 in omega arith)
 
-broken_steps : (s : Stage) (v : View) (word : ℕ) → Steps s v (broken word v)
+broken_steps : (s : FrontStage) (v : View) (word : ℕ) → Steps s v (broken word v)
 broken_steps s v word = (refl, λ none. none, λ up. refl, omega arith)
 
 -- it goes on to be made, or to be left
-makes : (s : Stage) (v : View) (next : Stage) → is_up s ≡ false → ending_of next ≡ 0 → Steps s v (at next v)
+makes : (s : FrontStage) (v : View) (next : FrontStage) → is_up s ≡ false → ending_of next ≡ 0 → Steps s v (at next v)
 makes s v next before ends = (refl, λ none. none, λ up. absurd (true≢false (sym up ∙ before)), omega arith)
 
-looked_steps : (s : Stage) (v : View) (word : ℕ) (otherwise : View) → Steps s v otherwise → Steps s v (looked v word otherwise)
+looked_steps : (s : FrontStage) (v : View) (word : ℕ) (otherwise : View) → Steps s v otherwise → Steps s v (looked v word otherwise)
 looked_steps s v word otherwise h =
     either (nat_lt (distance_of v.ring.indices.cons v.ring.indices.prod) (distance_of v.ring.indices.cons word)) s v (broken word v) (if word == v.ring.indices.cons then otherwise else record v { ring = record v.ring { seen = word }; stage = stage.Loop }) (broken_steps s v word)
     (either (word == v.ring.indices.cons) s v otherwise (record v { ring = record v.ring { seen = word }; stage = stage.Loop }) h (refl, λ none. none, λ up. refl, omega arith))
@@ -113,7 +113,7 @@ found_within requests (Some place) found e = by_place (slice_get requests place)
         let whole : (place, r) ≡ found = same_Some (place, r) found same in
         subst (λ (f : ℕ × Request). f.0 < length requests) whole (slice_get_within requests place r s)
 
-response_steps : (s : Stage) (v : View) (response : Result Response ℕ) (low : ℕ) (found : Option (ℕ × Request)) → ((f : ℕ × Request) → found ≡ Some f → f.0 < length v.requests) → Steps s v (response_at v response low found)
+response_steps : (s : FrontStage) (v : View) (response : Result Response ℕ) (low : ℕ) (found : Option (ℕ × Request)) → ((f : ℕ × Request) → found ≡ Some f → f.0 < length v.requests) → Steps s v (response_at v response low found)
 response_steps s v response low None within = broken_steps s v low
 response_steps s v (Err word) low (Some found) within = broken_steps s v word
 response_steps s v (Ok response) low (Some found) within =
@@ -131,7 +131,7 @@ revoked_steps v (Some e) place before here =
     either (nat_lt (place + 1) (length e.request.frames.items)) (stage.GrantEnd place before) v _ _ (refl, λ none. none, λ up. refl, omega arith) (ended_steps place before v e)
 
 -- what is told of a sector leaves the rest
-told_steps : (s next : Stage) (v : View) (e : Ending) (n : ℕ) (words : List ℕ) → (is_up s ≡ true → is_up next ≡ true) → ending_of next ≤ ending_of s → Steps s v (at next (sector_told e n words v))
+told_steps : (s next : FrontStage) (v : View) (e : Ending) (n : ℕ) (words : List ℕ) → (is_up s ≡ true → is_up next ≡ true) → ending_of next ≤ ending_of s → Steps s v (at next (sector_told e n words v))
 told_steps s next v e n words up ends = by_last (n % 128 == 127)
   where
     by_last : (b : Bool) → Steps s v (at next (if b then record v { words = words; told = Some (told.Sector e.request.number (n / 128) words) } else record v { words = words }))
@@ -151,7 +151,7 @@ left_steps v (Some e) n word here =
     either (nat_lt (n + 1) (words_in e.request)) (stage.LeftData n) v _ _ (told_steps (stage.LeftData n) (stage.LeftData (n + 1)) v e n _ (λ up. up) (omega arith))
     (told_steps (stage.LeftData n) (stage.RingWord 0) v e n _ (λ up. up) (omega arith))
 
-steps_at : (s : Stage) (v : View) (x : FrontAnswer) → v.stage ≡ s → Steps s v (step_at s v x)
+steps_at : (s : FrontStage) (v : View) (x : FrontAnswer) → v.stage ≡ s → Steps s v (step_at s v x)
 steps_at (stage.RingWord k) v x here =
     makes (stage.RingWord k) v (if k == 15 then stage.RingFrame 0 else stage.RingWord (k + 1)) refl (either_none (k == 15) (stage.RingFrame 0) (stage.RingWord (k + 1)) refl refl)
 steps_at (stage.RingFrame page) v x here = makes (stage.RingFrame page) v (stage.RingFence page) refl refl
@@ -221,6 +221,6 @@ through_step v x is =
 pub broken_step : (v : View) (x : FrontAnswer) → is_broken_ring v.stage ≡ true → is_broken_ring (step_of v x).stage ≡ true
 broken_step v x is = by_stage v.stage refl is
   where
-    by_stage : (s : Stage) → v.stage ≡ s → is_broken_ring s ≡ true → is_broken_ring (step_at s v x).stage ≡ true
+    by_stage : (s : FrontStage) → v.stage ≡ s → is_broken_ring s ≡ true → is_broken_ring (step_at s v x).stage ≡ true
     by_stage (stage.Broken word) here is = ap is_broken_ring here
     by_stage s here is = absurd (true≢false (sym is))

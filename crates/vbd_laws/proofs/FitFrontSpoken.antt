@@ -5,8 +5,8 @@ use Rattle.std.proofs.lemmas.Option.{same_Some}
 use Rattle.line_text.proofs.Both.{both_true}
 use Rattle.blk_base.specs.declared.ask.FrontAnswer.{FrontAnswer}
 use Rattle.blk_base.specs.declared.ask.FrontAnswer.TheVariants as answer
-use Rattle.blk_front.specs.declared.stage.Stage.{Stage as Ring}
-use Rattle.blk_front.specs.declared.stage.Stage.TheVariants as ring
+use Rattle.blk_front.specs.declared.stage.FrontStage.{FrontStage}
+use Rattle.blk_front.specs.declared.stage.FrontStage.TheVariants as ring
 use Rattle.blk_front.specs.declared.state.FrontState.TheVariants as enter
 use Rattle.blk_front.specs.declared.state.Offers.{Offers}
 use Rattle.ring_words.specs.Shape.{entries_of}
@@ -18,8 +18,8 @@ use Rattle.xenbus_state.specs.declared.keys.BackKey.TheVariants as key
 use Rattle.xenbus_state.specs.declared.keys.FrontKey.{FrontKey}
 use Rattle.xenbus_state.specs.declared.state.BusState.{BusState}
 use Rattle.xenbus_state.specs.declared.state.BusState.TheVariants as state
-use Rattle.xenbus_state.specs.declared.stage.FrontStage.{FrontStage}
-use Rattle.xenbus_state.specs.declared.stage.FrontStage.TheVariants as stage
+use Rattle.xenbus_state.specs.declared.stage.FrontBusStage.{FrontBusStage}
+use Rattle.xenbus_state.specs.declared.stage.FrontBusStage.TheVariants as stage
 use Rattle.xenbus_state.specs.declared.table.FrontAction.{FrontAction}
 use Rattle.xenbus_state.specs.declared.table.FrontAction.TheVariants as action
 use Rattle.xenbus_state.specs.States.{state_read}
@@ -184,7 +184,7 @@ connects_settles offers v f idle here port ordered h =
     (settles_rest idle (record v { state = state.Connected; stage = stage.Rest }) (record f { offers = offers; stage = ring.Loop }) refl (λ e. refl) (refl, port)
     (record { goes = inl (refl, port); closing = λ whole. h.closing (rw here refl); through = λ e whole. absurd (cc); ordered = ordered }))
 
-bare_whole : (r : Ring) → is_bare r ≡ true → is_broken r ≡ false
+bare_whole : (r : FrontStage) → is_bare r ≡ true → is_broken r ≡ false
 bare_whole (ring.Broken word) bare = absurd (true≢false (sym bare))
 bare_whole r bare = refl
 
@@ -199,25 +199,25 @@ closes_settles v f idle own bare ordered h =
     (record { goes = (refl, refl, closing); closing = λ e. h.closing whole; through = λ e. absurd (cc); ordered = ordered })
 
 -- what was begun was answered
-abbrev Told : Offers → FrontStage → FrontView → ends.View → FrontAnswer → Bool → Type 0
+abbrev Told : Offers → FrontBusStage → FrontView → ends.View → FrontAnswer → Bool → Type 0
 Told offers d v f x idle = Settles idle (step_at d (at d v) idle x) (all_entered (states_of_news offers (news_at d (at d v) idle x)) f)
 
 -- a front that reads what the back offers reads a key that says some of it, the last one as the back says it
-abbrev pub ReadsOrder : FrontStage → FrontAnswer → Type 0
+abbrev pub ReadsOrder : FrontBusStage → FrontAnswer → Type 0
 ReadsOrder (stage.ReadFeature k) (answer.Key text) = IsFeature k × (k ≡ key.MaxRingPageOrder → text ≡ Some (decimal 4))
 ReadsOrder d x = Unit {0}
 
 -- so is an answer to a negotiation at this stage; no data are left after a suspend, and a ring of the order that is agreed has an entry for each request
-pub record Answers (d : FrontStage) (v : FrontView) (f : ends.View) (x : FrontAnswer) : Type 0 where
+pub record Answers (d : FrontBusStage) (v : FrontView) (f : ends.View) (x : FrontAnswer) : Type 0 where
   pub reads : ReadsOrder d x
   pub none_left : is_left f.stage ≡ false
   pub few : length f.requests ≤ entries_of (min v.order 4)
 
-begins_ring : (r : Ring) → IsUnbegun r → is_left r ≡ false → r ≡ ring.RingWord 0
+begins_ring : (r : FrontStage) → IsUnbegun r → is_left r ≡ false → r ≡ ring.RingWord 0
 begins_ring r (inl is) none = is
 begins_ring r (inr is) none = absurd (true≢false (sym is ∙ none))
 
-told_settles : (offers : Offers) (d : FrontStage) (v : FrontView) (f : ends.View) (x : FrontAnswer) (idle : Bool) → Answers d v f x → (idle ≡ true → IsUnoccupied f) → FrontFits (at d v) f → speaks (ask_at d v) ≡ true → IsAnswer (ask_at d v) x
+told_settles : (offers : Offers) (d : FrontBusStage) (v : FrontView) (f : ends.View) (x : FrontAnswer) (idle : Bool) → Answers d v f x → (idle ≡ true → IsUnoccupied f) → FrontFits (at d v) f → speaks (ask_at d v) ≡ true → IsAnswer (ask_at d v) x
     → Told offers d v f x idle
 told_settles offers stage.Start v f answer.Done idle may free h says allowed =
     let goes = h.goes in
@@ -268,10 +268,10 @@ whole_ordered v f here h = rw here at h.ordered
 pub spoken_settles : (offers : Offers) (v : FrontView) (f : ends.View) (x : FrontAnswer) (idle : Bool) → Answers v.stage v f x → (idle ≡ true → IsUnoccupied f) → FrontFits v f → speaks (ask_of v idle) ≡ true → IsAnswer (ask_of v idle) x
     → Settles idle (step_of v idle x) (all_entered (states_of_news offers (news_of v idle x)) f)
 spoken_settles offers v f x idle may free h =
-    due_cases (λ (d : FrontStage). speaks (ask_at d v) ≡ true → IsAnswer (ask_at d v) x → Told offers d v f x idle) v idle (told_settles offers v.stage v f x idle may free h)
+    due_cases (λ (d : FrontBusStage). speaks (ask_at d v) ≡ true → IsAnswer (ask_at d v) x → Told offers d v f x idle) v idle (told_settles offers v.stage v f x idle may free h)
     (λ here closing is_idle.
     let is = free is_idle in
-    closing_cases (λ (d : FrontStage). speaks (ask_at d v) ≡ true → IsAnswer (ask_at d v) x → Told offers d v f x idle) v f.stage is.still (whole_rests v f here is.whole h)
+    closing_cases (λ (d : FrontBusStage). speaks (ask_at d v) ≡ true → IsAnswer (ask_at d v) x → Told offers d v f x idle) v f.stage is.still (whole_rests v f here is.whole h)
     (λ rests says. says_settles offers v f x idle closing is_idle is h (whole_ordered v f here h) rests) (λ own ending. leaves v.gone v.port))
   where
     leaves : (gone : Bool) (port : Option ℕ) → speaks (ask_at (leaving gone port) v) ≡ true → IsAnswer (ask_at (leaving gone port) v) x → Told offers (leaving gone port) v f x idle

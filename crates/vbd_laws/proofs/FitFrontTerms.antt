@@ -3,11 +3,11 @@ use Rattle.std.proofs.Common.{◌≡◌, ℕ, Bool, true, false, if◌then◌els
 use Rattle.std.specs.Prelude.{Option, Some, None, ◌||◌}
 use Rattle.blk_base.specs.declared.ask.FrontAnswer.{FrontAnswer}
 use Rattle.blk_base.specs.declared.ask.FrontAnswer.TheVariants as answer
-use Rattle.blk_front.specs.declared.stage.Stage.{Stage as Ring}
-use Rattle.blk_front.specs.declared.stage.Stage.TheVariants as ring
+use Rattle.blk_front.specs.declared.stage.FrontStage.{FrontStage}
+use Rattle.blk_front.specs.declared.stage.FrontStage.TheVariants as ring
 use Rattle.xenbus_state.specs.declared.keys.BackKey.{BackKey}
-use Rattle.xenbus_state.specs.declared.stage.FrontStage.{FrontStage}
-use Rattle.xenbus_state.specs.declared.stage.FrontStage.TheVariants as stage
+use Rattle.xenbus_state.specs.declared.stage.FrontBusStage.{FrontBusStage}
+use Rattle.xenbus_state.specs.declared.stage.FrontBusStage.TheVariants as stage
 use Rattle.xenbus_state.specs.declared.table.FrontAction.{FrontAction}
 use Rattle.xenbus_state.specs.declared.table.FrontAction.TheVariants as action
 use Rattle.xenbus_state.specs.declared.front.FrontBusAsk.{FrontBusAsk}
@@ -45,7 +45,7 @@ terms_fact : (k : BackKey) (n : Option ℕ) (v : FrontView) → Terms v (fact_st
 terms_fact k None v = record { abi = refl; order = refl }
 terms_fact k (Some n) v = record { abi = refl; order = refl }
 
-terms_at : (s : FrontStage) (v : FrontView) (idle : Bool) (x : FrontAnswer) → Terms v (step_at s v idle x)
+terms_at : (s : FrontBusStage) (v : FrontView) (idle : Bool) (x : FrontAnswer) → Terms v (step_at s v idle x)
 terms_at stage.Rest v idle (answer.Watched path) = record { abi = refl; order = refl }
 terms_at stage.ReadState v idle (answer.Key text) = terms_acted (front_action v.state v.closing idle (state_read text)) v
 terms_at (stage.ReadFeature k) v idle (answer.Key text) = terms_feature k (count_read text) v
@@ -68,7 +68,7 @@ terms_told v idle x = let told = terms_step v idle x in let last = settled_terms
     settled_terms a u = same_terms u
 
 -- told that a thing is done
-features_done : (s : FrontStage) (v : FrontView) (idle : Bool) → (step_at s v idle answer.Done).features ≡ v.features
+features_done : (s : FrontBusStage) (v : FrontView) (idle : Bool) → (step_at s v idle answer.Done).features ≡ v.features
 features_done (stage.WriteState s) v idle = refl
 features_done stage.ClosePort v idle = refl
 features_done s v idle = refl
@@ -87,7 +87,7 @@ terms_woken : (broken : Bool) (v : FrontView) (idle : Bool) (x : FrontAnswer) �
 terms_woken false v idle (answer.Watched path) = terms_told v idle (answer.Watched path)
 terms_woken broken v idle x = same_terms v
 
-pub terms_followed : (b : FrontBusAsk) (s : Ring) (v : FrontView) (idle : Bool) (x : FrontAnswer) → Terms v (followed b s idle v x)
+pub terms_followed : (b : FrontBusAsk) (s : FrontStage) (v : FrontView) (idle : Bool) (x : FrontAnswer) → Terms v (followed b s idle v x)
 terms_followed (ask.WriteRingWord word) s v idle x = terms_told v idle x
 terms_followed (ask.Grant page) (ring.RingFrame k) v idle x = terms_told v idle x
 terms_followed (ask.Grant page) ring.NewPort v idle x = terms_told v idle x

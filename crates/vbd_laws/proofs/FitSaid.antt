@@ -13,16 +13,16 @@ use Rattle.segment_list.specs.declared.verdict.DiskInfo.{DiskInfo}
 use Rattle.key_directory.specs.Directory.{Directory, key_of, written, with_watches}
 use Rattle.key_directory.specs.Watches.{Watches}
 use Rattle.key_directory.proofs.Entries.{key_of-with_key_same}
-use Rattle.blk_back.specs.declared.stage.Stage.{Stage as BackRing}
-use Rattle.blk_back.specs.declared.stage.Stage.TheVariants as ring
+use Rattle.blk_back.specs.declared.stage.BackStage.{BackStage}
+use Rattle.blk_back.specs.declared.stage.BackStage.TheVariants as ring
 use Rattle.xenbus_state.specs.declared.keys.BackKey.{BackKey}
 use Rattle.xenbus_state.specs.declared.keys.BackKey.TheVariants as key
 use Rattle.xenbus_state.specs.declared.values.KeyValue.{KeyValue}
 use Rattle.xenbus_state.specs.declared.offer.Features.{Features}
 use Rattle.xenbus_state.specs.declared.offer.DiskFacts.{DiskFacts}
 use Rattle.xenbus_state.specs.declared.state.BusState.TheVariants as state
-use Rattle.xenbus_state.specs.declared.stage.BackStage.{BackStage}
-use Rattle.xenbus_state.specs.declared.stage.BackStage.TheVariants as stage
+use Rattle.xenbus_state.specs.declared.stage.BackBusStage.{BackBusStage}
+use Rattle.xenbus_state.specs.declared.stage.BackBusStage.TheVariants as stage
 use Rattle.xenbus_state.specs.declared.front.FrontBusAsk.{FrontBusAsk}
 use Rattle.xenbus_state.specs.declared.front.FrontBusAsk.TheVariants as front_ask
 use Rattle.xenbus_state.specs.declared.back.BackBusAsk.{BackBusAsk}
@@ -68,7 +68,7 @@ module _ (f : Features) (disk : DiskFacts) (d : Directory) (k : BackKey) where
   front_set : (name text : List ℕ) → Says d → Says (keys_after end.Front (Sets (path_under end.Front name) text) d)
   front_set name text says = set_keeps end.Front (path_under end.Front name) text (written_keeps name text says) says
 
-  pub front_keeps : (s : BackRing) (a : FrontBusAsk) → Says d → Says (negotiated s end.Front (front_key a) d)
+  pub front_keeps : (s : BackStage) (a : FrontBusAsk) → Says d → Says (negotiated s end.Front (front_key a) d)
   front_keeps s (front_ask.SetState own) says = front_set (codes "state") (decimal (state_number own)) says
   front_keeps s (front_ask.SetKey name value) says = front_set (front_name name) (text_of value) says
   front_keeps s a says = says
@@ -82,7 +82,7 @@ module _ (f : Features) (disk : DiskFacts) (d : Directory) (k : BackKey) where
       set_keeps end.Back back.own_state text (ap (λ (texts : BackKey → Option (List ℕ)). texts k) (back_texts_state d.keys text) ∙ says) says
   back_moves a own says = says
 
-  back_keeps : (s : BackRing) (a : BackBusAsk) → IsOwn f disk a → Says d → Says (negotiated s end.Back (back_key a) d)
+  back_keeps : (s : BackStage) (a : BackBusAsk) → IsOwn f disk a → Says d → Says (negotiated s end.Back (back_key a) d)
   back_keeps s a own says = either Says (may_negotiate s end.Back (back_key a)) (keys_after end.Back (back_key a) d) d (back_moves a own says) says
 
 -- no key of the front's is the back's state
@@ -90,7 +90,7 @@ front_sets : (d : Directory) (name text : List ℕ) → let x : Directory = keys
 front_sets d name text =
     either (λ (x : Directory). key_of x.keys back_state ≡ key_of d.keys back_state) (may_set end.Front (path_under end.Front name) text) (written d (path_under end.Front name) text) d (back_state_other d.keys name text) refl
 
-front_state_kept : (s : BackRing) (a : FrontBusAsk) (d : Directory) → let x : Directory = negotiated s end.Front (front_key a) d in key_of x.keys back_state ≡ key_of d.keys back_state
+front_state_kept : (s : BackStage) (a : FrontBusAsk) (d : Directory) → let x : Directory = negotiated s end.Front (front_key a) d in key_of x.keys back_state ≡ key_of d.keys back_state
 front_state_kept s (front_ask.SetState own) d = front_sets d (codes "state") (decimal (state_number own))
 front_state_kept s (front_ask.SetKey name value) d = front_sets d (front_name name) (text_of value)
 front_state_kept s a d = refl
@@ -103,7 +103,7 @@ pub record LeavesBack (f : Features) (disk : DiskFacts) (d x : Directory) : Type
 pub same_back : (f : Features) (disk : DiskFacts) (d : Directory) → LeavesBack f disk d d
 same_back f disk d = record { says = λ k is. is; state = refl }
 
-pub front_leaves : (f : Features) (disk : DiskFacts) (s : BackRing) (a : FrontBusAsk) (d : Directory) → LeavesBack f disk d (negotiated s end.Front (front_key a) d)
+pub front_leaves : (f : Features) (disk : DiskFacts) (s : BackStage) (a : FrontBusAsk) (d : Directory) → LeavesBack f disk d (negotiated s end.Front (front_key a) d)
 front_leaves f disk s a d = record { says = λ k. front_keeps f disk d k s a; state = front_state_kept s a d }
 
 pub watched_leaves : (f : Features) (disk : DiskFacts) (d x : Directory) (at : End) (w : Watches) → LeavesBack f disk d x → LeavesBack f disk d (with_watches x at w)
@@ -117,14 +117,14 @@ unmap_own : (f : Features) (disk : DiskFacts) (pages : List Mapping) → IsOwn f
 unmap_own f disk [] = tt
 unmap_own f disk (page ∷ pages) = tt
 
-own_at : (b : BackStage) (v : BackView) → IsOwn v.features v.disk (ask_at b v)
+own_at : (b : BackBusStage) (v : BackView) → IsOwn v.features v.disk (ask_at b v)
 own_at (stage.Publish name) v = refl
 own_at (stage.PublishFact name) v = refl
 own_at stage.UnmapPage v = unmap_own v.features v.disk v.pages
 own_at b v = tt
 
 -- what the back's negotiation does with the keys leaves what they say
-pub asked_keeps : (v : BackView) (s : BackRing) (d : Directory) (k : BackKey) → SaysKey d v.features v.disk k → SaysKey (negotiated s end.Back (back_key (ask_of v)) d) v.features v.disk k
+pub asked_keeps : (v : BackView) (s : BackStage) (d : Directory) (k : BackKey) → SaysKey d v.features v.disk k → SaysKey (negotiated s end.Back (back_key (ask_of v)) d) v.features v.disk k
 asked_keeps v s d k = back_keeps v.features v.disk d k s (ask_of v) (by_test (says_closing v))
   where
     by_test : (c : Bool) → IsOwn v.features v.disk (if c then back_ask.SetState state.Closing else ask_at v.stage v)
@@ -148,22 +148,22 @@ before_kept P Q keeps k said = all_kept P Q keeps said
 pub announced_kept : (f : Features) (disk : DiskFacts) (d x : Directory) → LeavesBack f disk d x → IsAnnounced (SaysKey d f disk) d → IsAnnounced (SaysKey x f disk) x
 announced_kept f disk d x same is read = all_kept (SaysKey d f disk) (SaysKey x f disk) same.says (is (ap state_read (sym same.state) ∙ read))
 
-pub said_kept : (P Q : BackKey → Type 0) → ((k : BackKey) → P k → Q k) → (b : BackStage) → SaidAt P b → SaidAt Q b
+pub said_kept : (P Q : BackKey → Type 0) → ((k : BackKey) → P k → Q k) → (b : BackBusStage) → SaidAt P b → SaidAt Q b
 said_kept P Q keeps (stage.Publish k) said = before_kept P Q keeps k said
 said_kept P Q keeps stage.Halted said = tt
 said_kept P Q keeps b said = all_kept P Q keeps said
 
 -- past that all are said, or it has halted
-abbrev is_over : BackStage → Bool
+abbrev is_over : BackBusStage → Bool
 is_over stage.Halted = true
 is_over b = false
 
-said_or : (P : BackKey → Type 0) (b : BackStage) → is_publishing b ≡ false → SaidAt P b → IsServiceSaid P ⊎ (b ≡ stage.Halted)
+said_or : (P : BackKey → Type 0) (b : BackBusStage) → is_publishing b ≡ false → SaidAt P b → IsServiceSaid P ⊎ (b ≡ stage.Halted)
 said_or P (stage.Publish k) past said = absurd (true≢false past)
 said_or P stage.Halted past said = inr refl
 said_or P b past said = inl said
 
-said_at : (P : BackKey → Type 0) (b : BackStage) → is_publishing b ≡ false → IsServiceSaid P ⊎ (b ≡ stage.Halted) → SaidAt P b
+said_at : (P : BackKey → Type 0) (b : BackBusStage) → is_publishing b ≡ false → IsServiceSaid P ⊎ (b ≡ stage.Halted) → SaidAt P b
 said_at P (stage.Publish k) past said = absurd (true≢false past)
 said_at P stage.Halted past said = tt
 said_at P b past (inl said) = said
@@ -185,17 +185,17 @@ said_next P key.FeatureMaxIndirectSegments said is = (said.0, said.1, said.2, is
 said_next P key.MaxRingPageOrder said is = record { barrier = said.0; flush = said.1; discard = said.2; indirect = said.3; order = is }
 said_next P k said is = said
 
-pub set_says : (f : Features) (disk : DiskFacts) (s : BackRing) (d : Directory) (k : BackKey) → s ≡ ring.InitWait → may_set end.Back (path_under end.Back (back_name k)) (text_of (back_value f disk k)) ≡ true
+pub set_says : (f : Features) (disk : DiskFacts) (s : BackStage) (d : Directory) (k : BackKey) → s ≡ ring.InitWait → may_set end.Back (path_under end.Back (back_name k)) (text_of (back_value f disk k)) ≡ true
     → SaysKey (negotiated s end.Back (back_key (back_ask.SetKey k (back_value f disk k))) d) f disk k
 set_says f disk s d k waits may =
     let turns = may_turn (back_key (back_ask.SetKey k (back_value f disk k))) ring.InitWait refl (λ early. refl) in
-    subst (λ (t : BackRing). SaysKey (negotiated t end.Back (back_key (back_ask.SetKey k (back_value f disk k))) d) f disk k) (sym waits) (rw (turns, may) (back_said d.keys f disk k))
+    subst (λ (t : BackStage). SaysKey (negotiated t end.Back (back_key (back_ask.SetKey k (back_value f disk k))) d) f disk k) (sym waits) (rw (turns, may) (back_said d.keys f disk k))
 
 -- the back says that it offers once all is said
 init_said : (P : BackKey → Type 0) (v : BackView) → ask_of v ≡ back_ask.SetState state.InitWait → SaidAt P v.stage → IsServiceSaid P
 init_said P v e said = by_test (says_closing v) e
   where
-    by_stage : (b : BackStage) → ask_at b v ≡ back_ask.SetState state.InitWait → SaidAt P b → IsServiceSaid P
+    by_stage : (b : BackBusStage) → ask_at b v ≡ back_ask.SetState state.InitWait → SaidAt P b → IsServiceSaid P
     by_stage (stage.Publish k) asks is = absurd (cc)
     by_stage stage.Halted asks is = absurd (cc)
     by_stage b asks is = is
@@ -218,7 +218,7 @@ module _ (f : Features) (disk : DiskFacts) (d : Directory) (is : IsAnnounced (Sa
       either Announced (may_set end.Back path (text_of value)) (written d path (text_of value)) d (λ read. is (ap state_read (sym (back_state_key d.keys name (text_of value))) ∙ read)) is
   announced_after a said = is
 
-pub announced_asked : (v : BackView) (s : BackRing) (d : Directory) → SaidAt (SaysKey d v.features v.disk) v.stage → IsAnnounced (SaysKey d v.features v.disk) d
+pub announced_asked : (v : BackView) (s : BackStage) (d : Directory) → SaidAt (SaysKey d v.features v.disk) v.stage → IsAnnounced (SaysKey d v.features v.disk) d
     → let x : Directory = negotiated s end.Back (back_key (ask_of v)) d in IsAnnounced (SaysKey x v.features v.disk) x
 announced_asked v s d said is read =
     all_kept (SaysKey d v.features v.disk) _ (asked_keeps v s d)

@@ -7,15 +7,15 @@ use Rattle.ring_words.specs.Shape.{entries_of}
 use Rattle.hypervisor.specs.Suspend.{suspended as under_suspended}
 use Rattle.blk_front.specs.declared.request.Request.{Request}
 use Rattle.blk_front.specs.declared.stage.Ending.{Ending}
-use Rattle.blk_front.specs.declared.stage.Stage.{Stage as Ring}
-use Rattle.blk_front.specs.declared.stage.Stage.TheVariants as ring_stage
+use Rattle.blk_front.specs.declared.stage.FrontStage.{FrontStage}
+use Rattle.blk_front.specs.declared.stage.FrontStage.TheVariants as ring_stage
 use Rattle.blk_front.specs.Submit.{unfinished, ending_of}
 use Rattle.blk_front.specs.State.{is_open}
 use Rattle.blk_front.specs.Suspend.{by_number, with_ending, requests_after, stage_after, resumed}
 use Rattle.xenbus_state.specs.declared.keys.BackKey.{BackKey}
 use Rattle.xenbus_state.specs.declared.state.BusState.TheVariants as state
-use Rattle.xenbus_state.specs.declared.stage.FrontStage.{FrontStage}
-use Rattle.xenbus_state.specs.declared.stage.FrontStage.TheVariants as stage
+use Rattle.xenbus_state.specs.declared.stage.FrontBusStage.{FrontBusStage}
+use Rattle.xenbus_state.specs.declared.stage.FrontBusStage.TheVariants as stage
 use Rattle.xenbus_state.specs.States.{state_read}
 use Rattle.xenbus_state.specs.FrontView.{FrontView, suspended_at, suspended}
 use Rattle.xenbus_state.specs.BackView.{start_of, halted_of}
@@ -33,17 +33,17 @@ use Rattle.vbd_model.specs.Fit.{IsUnbegun, FrontGoesWith, IsWished, PortOrdered,
 use Rattle.vbd_laws.proofs.FitFrontBus.{open_whole}
 
 -- a front that is open begins anew: its negotiation is neither closed nor broken
-pub anew_at : (b : FrontStage) (v : FrontView) (r : Ring) → FrontGoesWith b v r → is_open r ≡ true → suspended_at b v ≡ record v { stage = stage.Start; state = state.Initialising; gone = false; port = None }
+pub anew_at : (b : FrontBusStage) (v : FrontView) (r : FrontStage) → FrontGoesWith b v r → is_open r ≡ true → suspended_at b v ≡ record v { stage = stage.Start; state = state.Initialising; gone = false; port = None }
 anew_at stage.Closed v r goes opened = absurd (true≢false (sym opened ∙ ap is_open goes.1))
 anew_at (stage.Broken word) v r goes opened = absurd (not_open r goes opened)
   where
-    not_open : (r : Ring) → is_broken r ≡ true → is_open r ≡ true → ⊥
+    not_open : (r : FrontStage) → is_broken r ≡ true → is_open r ≡ true → ⊥
     not_open (ring_stage.Broken word) is opened = true≢false (sym opened)
     not_open r is opened = true≢false (sym is)
 anew_at b v r goes opened = refl
 
 -- its end of the ring is made anew, after the data that are left
-begins : (s : Ring) → IsUnbegun (stage_after s)
+begins : (s : FrontStage) → IsUnbegun (stage_after s)
 begins (ring_stage.ReadData n) = inr refl
 begins (ring_stage.LeftData n) = inr refl
 begins s = inl refl
@@ -61,7 +61,7 @@ with_long : (ending : Option Ending) (requests : List Request) → length (with_
 with_long None requests = omega arith
 with_long (Some e) requests = let more = placed_long e.request requests in omega arith
 
-fewer : (s : Ring) (ending : Option Ending) (requests : List Request) → length (requests_after s ending requests) + ending_of (stage_after s) ≤ length requests + ending_of s
+fewer : (s : FrontStage) (ending : Option Ending) (requests : List Request) → length (requests_after s ending requests) + ending_of (stage_after s) ≤ length requests + ending_of s
 fewer (ring_stage.GrantRead place) ending requests = let long = with_long ending requests in omega arith
 fewer (ring_stage.GrantEnd place before) ending requests = let long = with_long ending requests in omega arith
 fewer (ring_stage.ReadData n) ending requests = omega arith
@@ -73,7 +73,7 @@ ordered_wished : (port : Option ℕ) (wished offered n : ℕ) → PortOrdered po
 ordered_wished None wished offered n ordered = ordered
 ordered_wished (Some port) wished offered n ordered = inr ordered
 
-pub was_wished : (b : FrontStage) (v : FrontView) (n : ℕ) → FrontOrdered b v n → IsWished v.order v.features.order n
+pub was_wished : (b : FrontBusStage) (v : FrontView) (n : ℕ) → FrontOrdered b v n → IsWished v.order v.features.order n
 was_wished (stage.RingWord word) v n ordered = inr ordered
 was_wished (stage.Grant page) v n ordered = inr ordered
 was_wished stage.NewPort v n ordered = inr ordered
@@ -93,7 +93,7 @@ six_announced : (says : BackKey → Type 0) → IsAnnounced says (fresh_director
 six_announced says read = let same : Some state.Closed ≡ Some state.InitWait = sym six_read ∙ read in absurd (cc)
 
 -- a front that is closed or broken reads no offer
-over_reads : (says : BackKey → Type 0) (b : FrontStage) (v : FrontView) (r : Ring) → FrontGoesWith b v r → is_open r ≡ false → ReadsOffer says b
+over_reads : (says : BackKey → Type 0) (b : FrontBusStage) (v : FrontView) (r : FrontStage) → FrontGoesWith b v r → is_open r ≡ false → ReadsOffer says b
 over_reads says (stage.ReadFeature k) v r goes over = absurd (true≢false (sym (ap is_open goes.1) ∙ over))
 over_reads says b v r goes over = tt
 

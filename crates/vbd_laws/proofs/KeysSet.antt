@@ -6,21 +6,21 @@ use Rattle.std.proofs.lemmas.Fmt.{decimal_digit}
 use Rattle.blk_base.specs.declared.parts.End.TheVariants as end
 use Rattle.blk_base.specs.declared.parts.Mapping.{Mapping}
 use Rattle.event_channel.specs.Channels.{ChannelState}
-use Rattle.blk_front.specs.declared.stage.Stage.{Stage as FrontRing}
-use Rattle.blk_front.specs.declared.stage.Stage.TheVariants as front_ring
+use Rattle.blk_front.specs.declared.stage.FrontStage.{FrontStage}
+use Rattle.blk_front.specs.declared.stage.FrontStage.TheVariants as front_ring
 use Rattle.blk_front.specs.View as ends
 use Rattle.blk_front.specs.Submit.{is_connected}
-use Rattle.blk_back.specs.declared.stage.Stage.{Stage as BackRing}
-use Rattle.blk_back.specs.declared.stage.Stage.TheVariants as back_ring
+use Rattle.blk_back.specs.declared.stage.BackStage.{BackStage}
+use Rattle.blk_back.specs.declared.stage.BackStage.TheVariants as back_ring
 use Rattle.xenbus_state.specs.declared.keys.FrontKey.{FrontKey}
 use Rattle.xenbus_state.specs.declared.keys.FrontKey.TheVariants as front_key
 use Rattle.xenbus_state.specs.declared.keys.BackKey.{BackKey}
 use Rattle.xenbus_state.specs.declared.keys.BackKey.TheVariants as back_key
 use Rattle.xenbus_state.specs.declared.state.BusState.TheVariants as state
-use Rattle.xenbus_state.specs.declared.stage.FrontStage.{FrontStage}
-use Rattle.xenbus_state.specs.declared.stage.FrontStage.TheVariants as front_stage
-use Rattle.xenbus_state.specs.declared.stage.BackStage.{BackStage}
-use Rattle.xenbus_state.specs.declared.stage.BackStage.TheVariants as back_stage
+use Rattle.xenbus_state.specs.declared.stage.FrontBusStage.{FrontBusStage}
+use Rattle.xenbus_state.specs.declared.stage.FrontBusStage.TheVariants as front_stage
+use Rattle.xenbus_state.specs.declared.stage.BackBusStage.{BackBusStage}
+use Rattle.xenbus_state.specs.declared.stage.BackBusStage.TheVariants as back_stage
 use Rattle.xenbus_state.specs.declared.front.FrontBusAsk.{FrontBusAsk}
 use Rattle.xenbus_state.specs.declared.front.FrontBusAsk.TheVariants as front_ask
 use Rattle.xenbus_state.specs.declared.back.BackBusAsk.{BackBusAsk}
@@ -83,7 +83,7 @@ abbrev pub BackMaySet : BackBusAsk → Type 0
 BackMaySet (back_ask.SetKey key value) = may_set end.Back (path_under end.Back (back_name key)) (text_of value) ≡ true
 BackMaySet a = Unit {0}
 
-front_sets_at : (b : FrontStage) (v : FrontView) → FrontMaySet (front_bus.ask_at b v)
+front_sets_at : (b : FrontBusStage) (v : FrontView) → FrontMaySet (front_bus.ask_at b v)
 front_sets_at (front_stage.Publish key) v = front_may_set v key
 front_sets_at b v = tt
 
@@ -97,7 +97,7 @@ unmap_sets v = by_pages v.pages
     by_pages [] = tt
     by_pages (page ∷ pages) = tt
 
-back_sets_at : (b : BackStage) (v : BackView) → v.features ≡ offer v.disk.read_only v.features.indirect → BackMaySet (back_bus.ask_at b v)
+back_sets_at : (b : BackBusStage) (v : BackView) → v.features ≡ offer v.disk.read_only v.features.indirect → BackMaySet (back_bus.ask_at b v)
 back_sets_at (back_stage.Publish key) v offers = back_may_set v key offers
 back_sets_at (back_stage.PublishFact key) v offers = back_may_set v key offers
 back_sets_at back_stage.UnmapPage v offers = unmap_sets v
@@ -111,21 +111,21 @@ back_sets v offers = by_test (back_bus.says_closing v)
     by_test false = back_sets_at v.stage v offers
 
 -- where neither the front's negotiation nor its end of the ring has the move, the ring isn't made
-granting : (page : ℕ) (r : FrontRing) → IsGranting page r → is_connected r ≡ false
+granting : (page : ℕ) (r : FrontStage) → IsGranting page r → is_connected r ≡ false
 granting page (front_ring.RingFrame k) is = refl
 granting page (front_ring.RingFence k) is = refl
 granting page (front_ring.RingFlags k) is = refl
 granting page r is = absurd is
 
 -- one that ends its grants, or broke as it did, has the move
-ending_moves : (page : ℕ) (r : FrontRing) → IsEndingPage page r ⊎ (is_broken r ≡ true) → front.ring_moves (front_ask.EndGrant page) r ≡ true
+ending_moves : (page : ℕ) (r : FrontStage) → IsEndingPage page r ⊎ (is_broken r ≡ true) → front.ring_moves (front_ask.EndGrant page) r ≡ true
 ending_moves page (front_ring.RingRead k) is = refl
 ending_moves page (front_ring.RingEnd k seen) is = refl
 ending_moves page (front_ring.Broken word) is = refl
 ending_moves page r (inl is) = absurd is
 ending_moves page r (inr is) = absurd (true≢false (sym is))
 
-unconnected_at : (b : FrontStage) (v : FrontView) (r : FrontRing) → FrontGoesWith b v r → front.speaks (front_bus.ask_at b v) ≡ false → front.ring_moves (front_bus.ask_at b v) r ≡ false → is_connected r ≡ false
+unconnected_at : (b : FrontBusStage) (v : FrontView) (r : FrontStage) → FrontGoesWith b v r → front.speaks (front_bus.ask_at b v) ≡ false → front.ring_moves (front_bus.ask_at b v) r ≡ false → is_connected r ≡ false
 unconnected_at front_stage.Rest v r goes quiet still = connected_still r still
 unconnected_at front_stage.Closed v r goes quiet still = connected_still r still
 unconnected_at (front_stage.Broken word) v r goes quiet still = connected_still r still
@@ -143,7 +143,7 @@ unconnected_at (front_stage.WriteState own) v r goes quiet still = absurd (true�
 unconnected_at b v r goes quiet still = absurd goes
 
 -- one that leaves moves to end its grant
-unconnected_leaving : (gone : Bool) (port : Option ℕ) (v : FrontView) (r : FrontRing) → FrontRests state.Closing gone port r → front.speaks (front_bus.ask_at (front_bus.leaving gone port) v) ≡ false
+unconnected_leaving : (gone : Bool) (port : Option ℕ) (v : FrontView) (r : FrontStage) → FrontRests state.Closing gone port r → front.speaks (front_bus.ask_at (front_bus.leaving gone port) v) ≡ false
     → front.ring_moves (front_bus.ask_at (front_bus.leaving gone port) v) r ≡ false → is_connected r ≡ false
 unconnected_leaving false port v r rests quiet still = connected_still r still
 unconnected_leaving true None v r rests quiet still = absurd rests
@@ -151,15 +151,15 @@ unconnected_leaving true (Some p) v r rests quiet still = absurd (true≢false (
 
 unconnected : (v : FrontView) (f : ends.View) → FrontFits v f → front.speaks (front_bus.ask_of v (is_unoccupied f)) ≡ false → front.ring_moves (front_bus.ask_of v (is_unoccupied f)) f.stage ≡ false → is_connected f.stage ≡ false
 unconnected v f fits =
-    due_cases (λ (d : FrontStage). Waits d) v (is_unoccupied f) (unconnected_at v.stage v f.stage fits.goes)
+    due_cases (λ (d : FrontBusStage). Waits d) v (is_unoccupied f) (unconnected_at v.stage v f.stage fits.goes)
     (λ here closing idle.
     let is = unoccupied f idle in
-    closing_cases (λ (d : FrontStage). Waits d) v f.stage is.still (whole_rests v f here is.whole fits) (λ first quiet. absurd (true≢false quiet)) (λ own rests. unconnected_leaving v.gone v.port v f.stage rests))
+    closing_cases (λ (d : FrontBusStage). Waits d) v f.stage is.still (whole_rests v f here is.whole fits) (λ first quiet. absurd (true≢false quiet)) (λ own rests. unconnected_leaving v.gone v.port v f.stage rests))
   where
-    Waits : FrontStage → Type 0
+    Waits : FrontBusStage → Type 0
     Waits d = front.speaks (front_bus.ask_at d v) ≡ false → front.ring_moves (front_bus.ask_at d v) f.stage ≡ false → is_connected f.stage ≡ false
 
-unported : (r : FrontRing) (c : ChannelState) → is_connected r ≡ false → IsPorted r c → c.ports ≡ []
+unported : (r : FrontStage) (c : ChannelState) → is_connected r ≡ false → IsPorted r c → c.ports ≡ []
 unported (front_ring.LeftData n) c unmade ported = ported.1
 unported (front_ring.RingWord k) c unmade ported = ported.1
 unported (front_ring.RingFrame page) c unmade ported = ported.1
@@ -174,25 +174,25 @@ pub front_unpending : (v : FrontView) (f : ends.View) (c : ChannelState) → Fro
 front_unpending v f c fits ported none quiet still = none (unported f.stage c (unconnected v f fits quiet still) ported)
 
 -- where neither the back's negotiation nor its end of the ring has the move, no port is bound
-unbound_free : (r : BackRing) → back.ring_moves back_ask.Wait r ≡ false → is_past r ≡ false
+unbound_free : (r : BackStage) → back.ring_moves back_ask.Wait r ≡ false → is_past r ≡ false
 unbound_free back_ring.InitWait still = refl
 unbound_free back_ring.MapRing still = refl
 unbound_free back_ring.Bind still = refl
 unbound_free r still = absurd (true≢false still)
 
 -- one that has halted moves to unmap what it holds
-giving_moves : (r : BackRing) → IsAborting r → back.ring_moves back_ask.UnmapOthers r ≡ true
+giving_moves : (r : BackStage) → IsAborting r → back.ring_moves back_ask.UnmapOthers r ≡ true
 giving_moves (back_ring.Abort m) gives = refl
 giving_moves r gives = absurd gives
 
-unmapping_moves : (r : BackRing) (pages : List Mapping) → IsUnmapping r → back.ring_moves (back_bus.unmap_ask pages) r ≡ true
+unmapping_moves : (r : BackStage) (pages : List Mapping) → IsUnmapping r → back.ring_moves (back_bus.unmap_ask pages) r ≡ true
 unmapping_moves back_ring.UnmapRing [] unmaps = refl
 unmapping_moves back_ring.UnmapRing (page ∷ pages) unmaps = refl
 unmapping_moves back_ring.UnmapUnbound [] unmaps = refl
 unmapping_moves back_ring.UnmapUnbound (page ∷ pages) unmaps = refl
 unmapping_moves r pages unmaps = absurd unmaps
 
-unpast_at : (b : BackStage) (v : BackView) (r : BackRing) → BackGoesWith b v.state r → back.speaks (back_bus.ask_at b v) ≡ false → back.ring_moves (back_bus.ask_at b v) r ≡ false → is_past r ≡ false
+unpast_at : (b : BackBusStage) (v : BackView) (r : BackStage) → BackGoesWith b v.state r → back.speaks (back_bus.ask_at b v) ≡ false → back.ring_moves (back_bus.ask_at b v) r ≡ false → is_past r ≡ false
 unpast_at back_stage.Rest v r goes quiet still = unbound_free r still
 unpast_at back_stage.UnmapOthers v r goes quiet still = absurd (true≢false (sym (giving_moves r goes) ∙ still))
 unpast_at back_stage.UnmapPage v r goes quiet still = absurd (true≢false (sym (unmapping_moves r v.pages goes) ∙ still))
@@ -207,32 +207,32 @@ unpast_at back_stage.ReadState v r goes quiet still = absurd (true≢false quiet
 unpast_at (back_stage.ReadKey key) v r goes quiet still = absurd (true≢false quiet)
 unpast_at (back_stage.PublishFact key) v r goes quiet still = absurd (true≢false quiet)
 
-unpast : (v : BackView) (r : BackRing) → BackGoesWith v.stage v.state r → back.speaks (back_bus.ask_of v) ≡ false → back.ring_moves (back_bus.ask_of v) r ≡ false → is_past r ≡ false
+unpast : (v : BackView) (r : BackStage) → BackGoesWith v.stage v.state r → back.speaks (back_bus.ask_of v) ≡ false → back.ring_moves (back_bus.ask_of v) r ≡ false → is_past r ≡ false
 unpast v r goes = by_test (back_bus.says_closing v)
   where
     by_test : (c : Bool) → let a : BackBusAsk = if c then back_ask.SetState state.Closing else back_bus.ask_at v.stage v in back.speaks a ≡ false → back.ring_moves a r ≡ false → is_past r ≡ false
     by_test true quiet still = absurd (true≢false quiet)
     by_test false quiet still = unpast_at v.stage v r goes quiet still
 
-unpast_unpending : (r : BackRing) (c : ChannelState) → is_past r ≡ false → IsUnbound r c → c.back_pending ≡ false
+unpast_unpending : (r : BackStage) (c : ChannelState) → is_past r ≡ false → IsUnbound r c → c.back_pending ≡ false
 unpast_unpending back_ring.InitWait c before unbound = unbound.1
 unpast_unpending back_ring.MapRing c before unbound = unbound.1
 unpast_unpending back_ring.Bind c before unbound = unbound.1
 unpast_unpending r c before unbound = absurd (true≢false before)
 
-unpast_between : (r : BackRing) → is_past r ≡ false → is_between r ≡ true
+unpast_between : (r : BackStage) → is_past r ≡ false → is_between r ≡ true
 unpast_between back_ring.InitWait before = refl
 unpast_between back_ring.MapRing before = refl
 unpast_between back_ring.Bind before = refl
 unpast_between r before = absurd (true≢false before)
 
 -- so it has no event to take, and may turn to its keys
-pub back_unpending : (v : BackView) (r : BackRing) (c : ChannelState) → BackGoesWith v.stage v.state r → IsUnbound r c
+pub back_unpending : (v : BackView) (r : BackStage) (c : ChannelState) → BackGoesWith v.stage v.state r → IsUnbound r c
     → back.speaks (back_bus.ask_of v) ≡ false → back.ring_moves (back_bus.ask_of v) r ≡ false → (c.back_pending ≡ false) × (is_between r ≡ true)
 back_unpending v r c goes unbound quiet still = let before = unpast v r goes quiet still in (unpast_unpending r c before unbound, unpast_between r before)
 
 -- where it is between two steps it may turn to its keys, early ones as it waits for the terms of its front
-pub may_turn : (move : KeyMove) (s : BackRing) → is_between s ≡ true → (is_early move ≡ true → is_led s ≡ true) → may_negotiate s end.Back move ≡ true
+pub may_turn : (move : KeyMove) (s : BackStage) → is_between s ≡ true → (is_early move ≡ true → is_led s ≡ true) → may_negotiate s end.Back move ≡ true
 may_turn move s between led = rw between (by_early (is_early move) led)
   where
     by_early : (early : Bool) → (early ≡ true → is_led s ≡ true) → (not early || is_led s) ≡ true
@@ -240,5 +240,5 @@ may_turn move s between led = rw between (by_early (is_early move) led)
     by_early false waits = refl
 
 -- where its negotiation speaks it may turn to its keys
-pub back_turns : (a : BackBusAsk) (r : BackRing) → back.bus_moves a r ≡ true → is_between r ≡ true
+pub back_turns : (a : BackBusAsk) (r : BackStage) → back.bus_moves a r ≡ true → is_between r ≡ true
 back_turns a r moves = (both_true (back.speaks a) (back.is_between r) moves).1

@@ -16,8 +16,8 @@ use Rattle.blk_back.specs.View as ends
 use Rattle.blk_back.specs.Step as ring_step
 use Rattle.xenbus_state.specs.declared.keys.FrontKey.TheVariants as key
 use Rattle.xenbus_state.specs.declared.state.BusState.TheVariants as state
-use Rattle.xenbus_state.specs.declared.stage.BackStage.{BackStage}
-use Rattle.xenbus_state.specs.declared.stage.BackStage.TheVariants as stage
+use Rattle.xenbus_state.specs.declared.stage.BackBusStage.{BackBusStage}
+use Rattle.xenbus_state.specs.declared.stage.BackBusStage.TheVariants as stage
 use Rattle.xenbus_state.specs.declared.back.BackBusAsk.TheVariants as bus_ask
 use Rattle.xenbus_state.specs.declared.table.BackHalt.{BackHalt}
 use Rattle.xenbus_state.specs.declared.values.FrontTerms.{FrontTerms}
@@ -41,7 +41,7 @@ use Rattle.vbd_laws.proofs.FitSaid.{served_said}
 use Rattle.vbd_laws.proofs.MovesTurns.{back_asks, back_learns, back_takes}
 
 -- it reads the layout: the key is read now
-layout_at : (b : BackStage) (v : BackView) → back_step.reads_layout (ask_at b v) ≡ true → b ≡ stage.ReadKey key.Protocol
+layout_at : (b : BackBusStage) (v : BackView) → back_step.reads_layout (ask_at b v) ≡ true → b ≡ stage.ReadKey key.Protocol
 layout_at (stage.ReadKey key.Protocol) v reads = refl
 layout_at (stage.ReadKey key.RingPageOrder) v reads = absurd (true≢false (sym reads))
 layout_at (stage.ReadKey (key.RingRefOf page)) v reads = absurd (true≢false (sym reads))
@@ -65,7 +65,7 @@ asks_layout v reads = by_test (says_closing v) refl
 pub layout_asked : (v : BackView) → back_step.reads_layout (ask_of v) ≡ true → ask_of v ≡ bus_ask.GetKey key.Protocol
 layout_asked v reads =
     let asks = asks_layout v reads in
-    ap (λ (c : Bool). if c then bus_ask.SetState state.Closing else ask_at v.stage v) asks.0 ∙ ap (λ (b : BackStage). ask_at b v) asks.1
+    ap (λ (c : Bool). if c then bus_ask.SetState state.Closing else ask_at v.stage v) asks.0 ∙ ap (λ (b : BackBusStage). ask_at b v) asks.1
 
 -- where it is read well the terms name it
 named_by : (text : List ℕ) (v : BackView) (x64 x32 : Bool) → bytes_eq text (codes "x86_64-abi") ≡ x64 → bytes_eq text (codes "x86_32-abi") ≡ x32
@@ -110,16 +110,16 @@ layout_named w a said reads none =
     ap (λ (k : BackAsk). back_act w.rings.under back_mover.Back k Took) (ap back.key_ask (sym asked) ∙ sym (ap (λ (b : Bool). if b then back.key_ask (back_asks w) else back.ring_ask (back.ring_moves (back_asks w) w.rings.back.stage) (backend_of w)) said.moves)) ∙ said.turn in
     let told : a.answer ≡ answer.Key (ring.layout_text w.rings) = of_back (λ (y : BackAct). y.answer ≡ answer.Key (ring.layout_text w.rings)) _ a refl acts in
     let stepped : step_of w.back a.answer ≡ kept_or_halted (key_read key.Protocol (ring.layout_text w.rings) w.back) w.back =
-    told_at w.back a.answer asks.0 ∙ (ap (λ (b : BackStage). step_at b w.back a.answer) asks.1 ∙ ap (λ (x : BackAnswer). step_at (stage.ReadKey key.Protocol) w.back x) told) in
+    told_at w.back a.answer asks.0 ∙ (ap (λ (b : BackBusStage). step_at b w.back a.answer) asks.1 ∙ ap (λ (x : BackAnswer). step_at (stage.ReadKey key.Protocol) w.back x) told) in
     let halts : halt_of w.back a.answer ≡ key_halt key.Protocol (key_read key.Protocol (ring.layout_text w.rings) w.back) =
-    ap (λ (c : Bool). if c then None else halt_at w.back.stage w.back a.answer) asks.0 ∙ (ap (λ (b : BackStage). halt_at b w.back a.answer) asks.1 ∙ ap (λ (x : BackAnswer). halt_at (stage.ReadKey key.Protocol) w.back x) told) in
+    ap (λ (c : Bool). if c then None else halt_at w.back.stage w.back a.answer) asks.0 ∙ (ap (λ (b : BackBusStage). halt_at b w.back a.answer) asks.1 ∙ ap (λ (x : BackAnswer). halt_at (stage.ReadKey key.Protocol) w.back x) told) in
     subst (λ (u : BackView). is_layout u.terms.abi (ring.layout_text w.rings) ≡ true) (sym stepped) (named (ring.layout_text w.rings) w.back (sym halts ∙ none))
 
 -- the back's keys say what it serves by then
 serves_said : (w : World) → IsFit w → back_step.reads_layout (back_asks w) ≡ true → SaysServed w.rings
 serves_said w fit reads =
     served_said w.rings.under.keys w.back.features w.back.disk w.rings.back.jobs.info fit.published fit.limited
-    (subst (λ (b : BackStage). SaidAt (SaysKey w.rings.under.keys w.back.features w.back.disk) b) (asks_layout w.back reads).1 fit.said)
+    (subst (λ (b : BackBusStage). SaidAt (SaysKey w.rings.under.keys w.back.features w.back.disk) b) (asks_layout w.back reads).1 fit.said)
 
 -- what it may take
 abbrev TestOf : World → (moves reads none : Bool) → Shape → List ℕ → Bool

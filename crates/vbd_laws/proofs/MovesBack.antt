@@ -17,7 +17,7 @@ use Rattle.blk_io.specs.Disk.{DiskSeen}
 use Rattle.key_directory.specs.Directory.{Directory, written}
 use Rattle.hypervisor.specs.Hypervisor.{Hypervisor}
 use Rattle.hypervisor.specs.Act.{BackAct, Took, back_act, back_watched, watch_next, with_keys}
-use Rattle.blk_back.specs.declared.stage.Stage.{Stage}
+use Rattle.blk_back.specs.declared.stage.BackStage.{BackStage}
 use Rattle.blk_back.specs.declared.told.Halt.{Halt}
 use Rattle.blk_back.specs.View as back_ends
 use Rattle.blk_back.specs.Ask as back_ring
@@ -34,8 +34,8 @@ use Rattle.xenbus_state.specs.declared.state.BusState.{BusState}
 use Rattle.xenbus_state.specs.declared.state.BusState.TheVariants as state
 use Rattle.xenbus_state.specs.Programs.{IsFact}
 use Rattle.xenbus_state.specs.BackAsk.{says_closing, unmap_ask, ask_at}
-use Rattle.xenbus_state.specs.declared.stage.BackStage.{BackStage}
-use Rattle.xenbus_state.specs.declared.stage.BackStage.TheVariants as bus_stage
+use Rattle.xenbus_state.specs.declared.stage.BackBusStage.{BackBusStage}
+use Rattle.xenbus_state.specs.declared.stage.BackBusStage.TheVariants as bus_stage
 use Rattle.xenbus_state.specs.BackStep.{step_of}
 use Rattle.blk_back.specs.Ask.{is_led}
 use Rattle.blk_base.specs.declared.moves.Move.{Move as Shown}
@@ -87,7 +87,7 @@ abbrev Keyed : World → KeyMove → BackAct → Type 0
 Keyed w move a = (ring.happens w.rings (ring.Negotiates end.Back move) ≡ over w a.under) × (ring.lines_at w.rings (ring.Negotiates end.Back move) ≡ lines.Move a.shown ∷ [])
 
 -- between two entries and two replies the back may turn to its keys
-turns : (s : Stage) (move : KeyMove) (d : Directory) → may_negotiate s end.Back move ≡ true
+turns : (s : BackStage) (move : KeyMove) (d : Directory) → may_negotiate s end.Back move ≡ true
     → (negotiated s end.Back move d ≡ keys_after end.Back move d) × (negotiated_lines s end.Back move d ≡ key_lines end.Back move d)
 turns s move d may = (rw may refl, rw may refl)
 
@@ -206,7 +206,7 @@ fact_late own_key.SectorSize value is = refl
 fact_late own_key.Info value is = refl
 fact_late k value is = absurd is
 
-read_led : (k : FrontKey) (own : BusState) (r : Stage) → BackGoesWith (bus_stage.ReadKey k) own r → is_early (back_key (back_bus.GetKey k)) ≡ true → is_led r ≡ true
+read_led : (k : FrontKey) (own : BusState) (r : BackStage) → BackGoesWith (bus_stage.ReadKey k) own r → is_early (back_key (back_bus.GetKey k)) ≡ true → is_led r ≡ true
 read_led key.Protocol own r goes early = ap is_led goes.1
 read_led key.RingPageOrder own r goes early = absurd (true≢false (sym early))
 read_led (key.RingRefOf page) own r goes early = absurd (true≢false (sym early))
@@ -214,7 +214,7 @@ read_led key.RingRef own r goes early = absurd (true≢false (sym early))
 read_led key.EventChannel own r goes early = absurd (true≢false (sym early))
 read_led key.FeaturePersistent own r goes early = absurd (true≢false (sym early))
 
-led_at : (b : BackStage) (v : BackView) (r : Stage) → BackGoesWith b v.state r → is_early (back_key (ask_at b v)) ≡ true → is_led r ≡ true
+led_at : (b : BackBusStage) (v : BackView) (r : BackStage) → BackGoesWith b v.state r → is_early (back_key (ask_at b v)) ≡ true → is_led r ≡ true
 led_at (bus_stage.Publish k) v r goes early = ap is_led goes.1
 led_at (bus_stage.ReadKey k) v r goes early = read_led k v.state r goes early
 led_at (bus_stage.PublishFact k) v r goes early = absurd (true≢false (sym early ∙ fact_late k (back_value v.features v.disk k) goes.2))

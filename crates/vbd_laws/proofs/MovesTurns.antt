@@ -14,8 +14,8 @@ use Rattle.hypervisor.specs.Hypervisor.{Hypervisor}
 use Rattle.hypervisor.specs.Act.{FrontAct, BackAct, Took, front_act, back_act}
 use Rattle.blk_front.specs.declared.state.FrontState.{FrontState}
 use Rattle.blk_front.specs.Ask as front_ring
-use Rattle.blk_back.specs.declared.stage.Stage.{Stage as BackRing}
-use Rattle.blk_back.specs.declared.stage.Stage.TheVariants as back_ring_stage
+use Rattle.blk_back.specs.declared.stage.BackStage.{BackStage}
+use Rattle.blk_back.specs.declared.stage.BackStage.TheVariants as back_ring_stage
 use Rattle.blk_back.specs.declared.told.Halt.{Halt}
 use Rattle.blk_back.specs.Ask as back_ring
 use Rattle.xenbus_state.specs.declared.front.FrontBusAsk.{FrontBusAsk}
@@ -130,13 +130,13 @@ quiet_back (back_bus.SetKey key value) quiet = absurd (true≢false quiet)
 quiet_back a quiet = refl
 
 -- where the back's negotiation and its end of the ring wait, the negotiation doesn't speak: one that does leaves the move to an end that is within a step
-within : (s : BackRing) → back.is_between s ≡ false → back.ring_moves back_bus.Wait s ≡ true
+within : (s : BackStage) → back.is_between s ≡ false → back.ring_moves back_bus.Wait s ≡ true
 within back_ring_stage.InitWait mid = absurd (true≢false mid)
 within back_ring_stage.MapRing mid = absurd (true≢false mid)
 within back_ring_stage.Bind mid = absurd (true≢false mid)
 within s mid = refl
 
-pub waits_quiet : (a : BackBusAsk) (s : BackRing) → back.bus_moves a s ≡ false → back.ring_moves a s ≡ false → back.speaks a ≡ false
+pub waits_quiet : (a : BackBusAsk) (s : BackStage) → back.bus_moves a s ≡ false → back.ring_moves a s ≡ false → back.speaks a ≡ false
 waits_quiet back_bus.Watch s quiet still = absurd (true≢false (sym (within s quiet) ∙ still))
 waits_quiet back_bus.GetState s quiet still = absurd (true≢false (sym (within s quiet) ∙ still))
 waits_quiet (back_bus.GetKey key) s quiet still = absurd (true≢false (sym (within s quiet) ∙ still))

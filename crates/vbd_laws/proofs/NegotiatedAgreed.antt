@@ -7,8 +7,8 @@ use Rattle.blk_front.specs.View as ends
 use Rattle.blk_front.specs.State.{in_state, enters}
 use Rattle.xenbus_state.specs.declared.state.BusState.{BusState}
 use Rattle.xenbus_state.specs.declared.state.BusState.TheVariants as state
-use Rattle.xenbus_state.specs.declared.stage.FrontStage.{FrontStage}
-use Rattle.xenbus_state.specs.declared.stage.FrontStage.TheVariants as stage
+use Rattle.xenbus_state.specs.declared.stage.FrontBusStage.{FrontBusStage}
+use Rattle.xenbus_state.specs.declared.stage.FrontBusStage.TheVariants as stage
 use Rattle.xenbus_state.specs.declared.offer.Features.{Features}
 use Rattle.xenbus_state.specs.declared.offer.DiskFacts.{DiskFacts}
 use Rattle.xenbus_state.specs.declared.front.FrontBusAsk.{FrontBusAsk}
@@ -24,7 +24,7 @@ use Rattle.vbd_laws.proofs.FitFrontBus.{due_cases}
 use Rattle.vbd_laws.proofs.NegotiatedRun.{Reached}
 
 -- the ring is begun, or the next that is asked for is a word of it
-abbrev pub is_begun : FrontStage → Bool
+abbrev pub is_begun : FrontBusStage → Bool
 is_begun (stage.RingWord word) = true
 is_begun s = false
 
@@ -32,7 +32,7 @@ abbrev pub begins : FrontBusAsk → Bool
 begins (ask.WriteRingWord word) = true
 begins a = false
 
-begun_at : (d : FrontStage) (v : FrontView) → begins (ask_at d v) ≡ true → is_begun d ≡ true
+begun_at : (d : FrontBusStage) (v : FrontView) → begins (ask_at d v) ≡ true → is_begun d ≡ true
 begun_at (stage.RingWord word) v e = refl
 begun_at d v e = absurd (true≢false (sym e))
 
@@ -47,15 +47,15 @@ closing_begins own v = refl
 
 pub begun_now : (v : FrontView) (idle : Bool) → begins (ask_of v idle) ≡ true → is_begun v.stage ≡ true
 begun_now v idle =
-    due_cases (λ (d : FrontStage). begins (ask_at d v) ≡ true → is_begun v.stage ≡ true) v idle (begun_at v.stage v)
+    due_cases (λ (d : FrontBusStage). begins (ask_at d v) ≡ true → is_begun v.stage ≡ true) v idle (begun_at v.stage v)
     (λ here closing is_idle e. absurd (true≢false (sym e ∙ closing_begins v.state v)))
 
 -- a front that connects has read all that its back offers
-abbrev connects : FrontStage → Bool
+abbrev connects : FrontBusStage → Bool
 connects (stage.WriteState state.Connected) = true
 connects s = false
 
-read_all : (s : FrontStage) (own : BusState) (r f : Features) (e d : DiskFacts) → connects s ≡ true → FrontRead s own r f e d → r ≡ f
+read_all : (s : FrontBusStage) (own : BusState) (r f : Features) (e d : DiskFacts) → connects s ≡ true → FrontRead s own r f e d → r ≡ f
 read_all (stage.WriteState state.Connected) own r f e d is read = read.0
 read_all s own r f e d is read = absurd (true≢false (sym is))
 
@@ -79,7 +79,7 @@ closing_writes s v own e = let same : state.Closing ≡ own = cc in subst (λ (s
 -- so one that connects knows what its back serves
 connecting : (v : FrontView) (idle : Bool) → due v idle ≡ stage.WriteState state.Connected → v.stage ≡ stage.WriteState state.Connected
 connecting v idle =
-    due_cases (λ (d : FrontStage). d ≡ stage.WriteState state.Connected → v.stage ≡ stage.WriteState state.Connected) v idle (λ e. e)
+    due_cases (λ (d : FrontBusStage). d ≡ stage.WriteState state.Connected → v.stage ≡ stage.WriteState state.Connected) v idle (λ e. e)
     (λ here closing is_idle e. absurd (let late = closing_writes v.state v state.Connected e in omega arith))
 
 pub connects_knowing : (n : Negotiation) (idle : Bool) → Reached n → due n.front idle ≡ stage.WriteState state.Connected → n.front.features ≡ n.back.features

@@ -18,16 +18,16 @@ use Rattle.key_directory.specs.Watches.{taken, next_watch}
 use Rattle.key_directory.specs.Directory.{Directory, watches_of, with_watches}
 use Rattle.hypervisor.specs.Hypervisor.{Hypervisor}
 use Rattle.hypervisor.specs.Act.{BackAct, Took, back_act, map_act, bind_act}
-use Rattle.blk_back.specs.declared.stage.Stage.{Stage}
-use Rattle.blk_back.specs.declared.stage.Stage.TheVariants as ring_stage
+use Rattle.blk_back.specs.declared.stage.BackStage.{BackStage}
+use Rattle.blk_back.specs.declared.stage.BackStage.TheVariants as ring_stage
 use Rattle.blk_back.specs.declared.told.Halt.{Halt}
 use Rattle.blk_back.specs.View as ring
 use Rattle.blk_back.specs.Ask as ring_ask
 use Rattle.blk_back.specs.Step as ring_step
 use Rattle.xenbus_state.specs.declared.state.BusState.{BusState}
 use Rattle.xenbus_state.specs.declared.state.BusState.TheVariants as state
-use Rattle.xenbus_state.specs.declared.stage.BackStage.{BackStage}
-use Rattle.xenbus_state.specs.declared.stage.BackStage.TheVariants as stage
+use Rattle.xenbus_state.specs.declared.stage.BackBusStage.{BackBusStage}
+use Rattle.xenbus_state.specs.declared.stage.BackBusStage.TheVariants as stage
 use Rattle.xenbus_state.specs.declared.back.BackBusAsk.{BackBusAsk}
 use Rattle.xenbus_state.specs.declared.back.BackBusAsk.TheVariants as bus_ask
 use Rattle.xenbus_state.specs.BackView.{BackView, is_halting, halted}
@@ -75,12 +75,12 @@ module _ (P : Negotiation → Type 0) (keeps : (n : Negotiation) (page : Mapping
       (keeps n page j)
 
   -- where its end of the ring has no other mapping to unmap it goes on
-  settles : (b : BackStage) (s : Stage) (n : Negotiation) → n.back.stage ≡ b → P n → P (with_back n (settled_at b s n.back) n.keys)
+  settles : (b : BackBusStage) (s : BackStage) (n : Negotiation) → n.back.stage ≡ b → P n → P (with_back n (settled_at b s n.back) n.keys)
   settles stage.UnmapOthers (ring_stage.Abort m) n here j = j
   settles stage.UnmapOthers s n here j = told_holds n bus_ask.UnmapOthers a_page answer.Done n.keys (others_asked n.back here) refl refl j
   settles b s n here j = j
 
-  settled_holds : (s : Stage) (n : Negotiation) → P n → P (with_back n (settled s n.back) n.keys)
+  settled_holds : (s : BackStage) (n : Negotiation) → P n → P (with_back n (settled s n.back) n.keys)
   settled_holds s n j = settles n.back.stage s n refl j
 
   -- nothing becomes of it
@@ -168,7 +168,7 @@ module _ (P : Negotiation → Type 0) (keeps : (n : Negotiation) (page : Mapping
   leaves_follows a leaves = still_holds P keeps n h a.under.keys kept leaves.keys j
 
   -- within an entry and a reply its end of the ring leaves the keys
-  push_leaves : (r : ring.View) (a : BackAct) (s : Stage) → is_between s ≡ false → back_act h back_mover.Back (ring_ask.ask_at s r) Took ≡ Some a → Leaves h a
+  push_leaves : (r : ring.View) (a : BackAct) (s : BackStage) → is_between s ≡ false → back_act h back_mover.Back (ring_ask.ask_at s r) Took ≡ Some a → Leaves h a
   push_leaves r a (ring_stage.Fetch k) within e = of_back (Leaves h) _ a (record { unwatched = tt; keys = refl }) e
   push_leaves r a (ring_stage.ReplyHigh p) within e = of_back (Leaves h) _ a (record { unwatched = tt; keys = refl }) e
   push_leaves r a (ring_stage.ReplyLast p) within e = of_back (Leaves h) _ a (record { unwatched = tt; keys = refl }) e
@@ -184,7 +184,7 @@ module _ (P : Negotiation → Type 0) (keeps : (n : Negotiation) (page : Mapping
   unmaps_follow m (page ∷ pages) a asks some e = of_back (Follows (bus_ask.Unmap m)) _ a (λ given. told_done (bus_ask.Unmap m) a_page answer.Done asks refl refl) e
 
   -- what its end of the ring did is told it where it asked for that
-  ring_follows : (r : ring.View) (a : BackAct) (b : BackBusAsk) (s : Stage) → ask_of n.back ≡ b → r.stage ≡ s → bus_moves b s ≡ false → ring_moves b s ≡ true → (IsUnmapping s → 0 < length r.pages) → IsBacks (ring_ask.ask_at s r)
+  ring_follows : (r : ring.View) (a : BackAct) (b : BackBusAsk) (s : BackStage) → ask_of n.back ≡ b → r.stage ≡ s → bus_moves b s ≡ false → ring_moves b s ≡ true → (IsUnmapping s → 0 < length r.pages) → IsBacks (ring_ask.ask_at s r)
       → back_act h back_mover.Back (ring_ask.ask_at s r) Took ≡ Some a → Follows b a
   ring_follows r a bus_ask.Wait s asks here quiet moves some own e = λ given. waits_holds a asks (quiet_act h (ring_ask.ask_at s r) a own e)
   ring_follows r a (bus_ask.Map gref) ring_stage.MapRing asks here quiet moves some own e = of_back (Follows (bus_ask.Map gref)) _ a (map_follows gref (ring_ask.next_gref r) (verdict_at h.pages (ring_ask.next_gref r) ReadWrite) asks) e
@@ -215,7 +215,7 @@ up_halting (page ∷ pages) bound s = refl
 up_halting [] true s = refl
 up_halting [] false s = last_halting s
 
-step_halting : (s : BackStage) (v : BackView) (x : BackAnswer) → v.stage ≡ s → is_halting s ≡ true → is_halting (step_at s v x).stage ≡ true
+step_halting : (s : BackBusStage) (v : BackView) (x : BackAnswer) → v.stage ≡ s → is_halting s ≡ true → is_halting (step_at s v x).stage ≡ true
 step_halting (stage.WriteState s) v answer.Done here is = state_halting s is
 step_halting stage.UnmapOthers v answer.Done here is = up_halting v.pages v.bound v.state
 step_halting stage.UnmapPage v answer.Done here is = up_halting (other_pages v.pages) v.bound v.state
@@ -260,10 +260,10 @@ halted_same (Some why) v is = by_test (is_halting v.stage) (is refl)
     by_test false e = absurd (true≢false (sym e))
 
 -- where neither moves the negotiation waits
-abbrev IsStuck : BackBusAsk → Stage → Type 0
+abbrev IsStuck : BackBusAsk → BackStage → Type 0
 IsStuck b r = b ≡ bus_ask.Wait
 
-speaks_ring : (b : BackBusAsk) (r : Stage) → speaks b ≡ true → is_between r ≡ false → ring_moves b r ≡ true
+speaks_ring : (b : BackBusAsk) (r : BackStage) → speaks b ≡ true → is_between r ≡ false → ring_moves b r ≡ true
 speaks_ring b ring_stage.InitWait says within = absurd (true≢false within)
 speaks_ring b ring_stage.MapRing says within = absurd (true≢false within)
 speaks_ring b ring_stage.Bind says within = absurd (true≢false within)
@@ -274,26 +274,26 @@ speaks_ring (bus_ask.SetState own) r says within = refl
 speaks_ring (bus_ask.SetKey key value) r says within = refl
 speaks_ring b r says within = absurd (true≢false (sym says))
 
-says_stuck : (b : BackBusAsk) (r : Stage) → speaks b ≡ true → bus_moves b r ≡ false → ring_moves b r ≡ false → IsStuck b r
+says_stuck : (b : BackBusAsk) (r : BackStage) → speaks b ≡ true → bus_moves b r ≡ false → ring_moves b r ≡ false → IsStuck b r
 says_stuck b r says quiet still = absurd (true≢false (sym (speaks_ring b r says (sym (ap (λ (c : Bool). c && is_between r) says) ∙ quiet)) ∙ still))
 
-moves_stuck : (b : BackBusAsk) (r : Stage) → ring_moves b r ≡ true → ring_moves b r ≡ false → IsStuck b r
+moves_stuck : (b : BackBusAsk) (r : BackStage) → ring_moves b r ≡ true → ring_moves b r ≡ false → IsStuck b r
 moves_stuck b r moves still = absurd (true≢false (sym moves ∙ still))
 
-giving_moves : (r : Stage) → IsAborting r → ring_moves bus_ask.UnmapOthers r ≡ true
+giving_moves : (r : BackStage) → IsAborting r → ring_moves bus_ask.UnmapOthers r ≡ true
 giving_moves (ring_stage.Abort m) is = refl
 giving_moves r is = absurd is
 
-unmapping_moves : (m : Mapping) (r : Stage) → IsUnmapping r → ring_moves (bus_ask.Unmap m) r ≡ true
+unmapping_moves : (m : Mapping) (r : BackStage) → IsUnmapping r → ring_moves (bus_ask.Unmap m) r ≡ true
 unmapping_moves m ring_stage.UnmapRing is = refl
 unmapping_moves m ring_stage.UnmapUnbound is = refl
 unmapping_moves m r is = absurd is
 
-unmap_stuck : (pages : List Mapping) (r : Stage) → IsUnmapping r → ring_moves (unmap_ask pages) r ≡ false → IsStuck (unmap_ask pages) r
+unmap_stuck : (pages : List Mapping) (r : BackStage) → IsUnmapping r → ring_moves (unmap_ask pages) r ≡ false → IsStuck (unmap_ask pages) r
 unmap_stuck [] r is still = refl
 unmap_stuck (m ∷ pages) r is still = moves_stuck (bus_ask.Unmap m) r (unmapping_moves m r is) still
 
-stuck_at : (s : BackStage) (v : BackView) (r : Stage) → BackGoesWith s v.state r → bus_moves (ask_at s v) r ≡ false → ring_moves (ask_at s v) r ≡ false → IsStuck (ask_at s v) r
+stuck_at : (s : BackBusStage) (v : BackView) (r : BackStage) → BackGoesWith s v.state r → bus_moves (ask_at s v) r ≡ false → ring_moves (ask_at s v) r ≡ false → IsStuck (ask_at s v) r
 stuck_at (stage.Publish k) v r fits quiet still = says_stuck (ask_at (stage.Publish k) v) r refl quiet still
 stuck_at (stage.WriteState own) v r fits quiet still = says_stuck (ask_at (stage.WriteState own) v) r refl quiet still
 stuck_at stage.Watch v r fits quiet still = says_stuck (ask_at stage.Watch v) r refl quiet still
@@ -308,7 +308,7 @@ stuck_at stage.UnmapOthers v r fits quiet still = moves_stuck bus_ask.UnmapOther
 stuck_at stage.UnmapPage v r fits quiet still = unmap_stuck v.pages r fits still
 stuck_at stage.ClosePort v r fits quiet still = moves_stuck bus_ask.ClosePort r (rw fits refl) still
 
-stuck_of : (v : BackView) (r : Stage) → BackGoesWith v.stage v.state r → bus_moves (ask_of v) r ≡ false → ring_moves (ask_of v) r ≡ false → IsStuck (ask_of v) r
+stuck_of : (v : BackView) (r : BackStage) → BackGoesWith v.stage v.state r → bus_moves (ask_of v) r ≡ false → ring_moves (ask_of v) r ≡ false → IsStuck (ask_of v) r
 stuck_of v r fits = by_test (says_closing v)
   where
     by_test : (c : Bool) → (let b : BackBusAsk = if c then bus_ask.SetState state.Closing else ask_at v.stage v in bus_moves b r ≡ false → ring_moves b r ≡ false → IsStuck b r)
@@ -320,7 +320,7 @@ both_first true q e = refl
 both_first false q e = e
 
 -- a back that unmaps a page of the ring has one
-unmapping_some : (s : Stage) (order pages : ℕ) (bound : Bool) → BackHolds s order pages bound → IsUnmapping s → 0 < pages
+unmapping_some : (s : BackStage) (order pages : ℕ) (bound : Bool) → BackHolds s order pages bound → IsUnmapping s → 0 < pages
 unmapping_some ring_stage.UnmapRing order pages bound held is = held.0
 unmapping_some ring_stage.UnmapUnbound order pages bound held is = held.0
 unmapping_some s order pages bound held is = absurd is
@@ -367,7 +367,7 @@ module _ (P : Negotiation → Type 0) (keeps : (n : Negotiation) (page : Mapping
       c : BackBusAsk
       c = bus_ask_of x
 
-      s : Stage
+      s : BackStage
       s = w.rings.back.stage
 
       by_ring : (m : Bool) → ring_moves c s ≡ m → bus_moves c s ≡ false → Moves w a (backend_ask.ring_ask m x) (backend_step.ring_step m c x a.answer)

@@ -8,8 +8,8 @@ use Rattle.blk_base.specs.declared.parts.End.TheVariants as end
 use Rattle.blk_base.specs.declared.ask.FrontAnswer.{FrontAnswer}
 use Rattle.key_directory.specs.Watches.{Watches}
 use Rattle.hypervisor.specs.Act.{FrontAct, BackAct}
-use Rattle.blk_front.specs.declared.stage.Stage.{Stage}
-use Rattle.blk_front.specs.declared.stage.Stage.TheVariants as ring_stage
+use Rattle.blk_front.specs.declared.stage.FrontStage.{FrontStage}
+use Rattle.blk_front.specs.declared.stage.FrontStage.TheVariants as ring_stage
 use Rattle.blk_front.specs.declared.request.Request.{Request}
 use Rattle.blk_front.specs.declared.state.FrontState.{FrontState}
 use Rattle.blk_front.specs.declared.state.FrontState.TheVariants as entered
@@ -22,8 +22,8 @@ use Rattle.blk_back.specs.Step as back_ring_step
 use Rattle.xenbus_state.specs.States.{state_number}
 use Rattle.xenbus_state.specs.declared.state.BusState.{BusState}
 use Rattle.xenbus_state.specs.declared.state.BusState.TheVariants as state
-use Rattle.xenbus_state.specs.declared.stage.FrontStage.{FrontStage}
-use Rattle.xenbus_state.specs.declared.stage.FrontStage.TheVariants as stage
+use Rattle.xenbus_state.specs.declared.stage.FrontBusStage.{FrontBusStage}
+use Rattle.xenbus_state.specs.declared.stage.FrontBusStage.TheVariants as stage
 use Rattle.xenbus_state.specs.declared.offer.Features.{Features}
 use Rattle.xenbus_state.specs.declared.offer.DiskFacts.{DiskFacts}
 use Rattle.xenbus_state.specs.declared.front.FrontBusAsk.{FrontBusAsk}
@@ -86,7 +86,7 @@ module _ (f : Features) (d : DiskFacts) (idle : Bool) (busy : idle ≡ false) wh
       (settles_heard (ask_of next.front idle) next refl (happening_holds f d (negotiated.FrontMoves idle port) n moved.1 h) (heard_happens f d n (negotiated.FrontMoves idle port) busy h known))
 
 -- a front with requests is occupied
-occupied_by : (requests : List Request) (s : Stage) → requests ≢ [] → (length requests + ending_of s == 0 && is_still s) ≡ false
+occupied_by : (requests : List Request) (s : FrontStage) → requests ≢ [] → (length requests + ending_of s == 0 && is_still s) ≡ false
 occupied_by [] s some = absurd (some refl)
 occupied_by (q ∷ requests) s some = by_test (length (q ∷ requests) + ending_of s == 0) refl
   where
@@ -161,16 +161,16 @@ submit_requests v job = by_test (v.last == 4294967295) v.closing (is_ready v.sta
     by_test false false false e = inl refl
     by_test false false true e = inr e
 
-ready_whole : {A : Type 0} (r : Stage) → is_ready r ≡ true → is_broken r ≡ true → A
+ready_whole : {A : Type 0} (r : FrontStage) → is_ready r ≡ true → is_broken r ≡ true → A
 ready_whole (ring_stage.Broken word) ready broken = absurd (true≢false (sym ready))
 ready_whole r ready broken = absurd (true≢false (sym broken))
 
-ready_rests : (own : BusState) (gone : Bool) (port : Option ℕ) (r : Stage) (b : BusState) (w : Watches) → FrontRests own gone port r → is_ready r ≡ true → RestSees own b w
+ready_rests : (own : BusState) (gone : Bool) (port : Option ℕ) (r : FrontStage) (b : BusState) (w : Watches) → FrontRests own gone port r → is_ready r ≡ true → RestSees own b w
 ready_rests state.Initialising gone port r b w fits ready = absurd (true≢false (sym ready ∙ ap is_ready fits.0))
 ready_rests state.Initialised gone port r b w fits ready = absurd (true≢false (sym ready ∙ ap is_ready fits.0))
 ready_rests own gone port r b w fits ready = tt
 
-ready_heard : (s : FrontStage) (v : FrontView) (r : Stage) (b : BusState) (w : Watches) → FrontGoesWith s v r → is_ready r ≡ true → HeardAt s v.state b w
+ready_heard : (s : FrontBusStage) (v : FrontView) (r : FrontStage) (b : BusState) (w : Watches) → FrontGoesWith s v r → is_ready r ≡ true → HeardAt s v.state b w
 ready_heard stage.Rest v r b w (inl fits) ready = ready_rests v.state v.gone v.port r b w fits ready
 ready_heard stage.Rest v r b w (inr broken) ready = ready_whole r ready broken
 ready_heard s v r b w fits ready = tt

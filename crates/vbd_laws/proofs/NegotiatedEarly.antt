@@ -8,8 +8,8 @@ use Rattle.blk_base.specs.declared.ask.FrontAnswer.{FrontAnswer}
 use Rattle.blk_base.specs.declared.ask.FrontAnswer.TheVariants as front_answer
 use Rattle.schedule_text.specs.declared.line.Line.{Line}
 use Rattle.hypervisor.specs.Act.{FrontAct, front_act}
-use Rattle.blk_front.specs.declared.stage.Stage.{Stage as FrontRing}
-use Rattle.blk_front.specs.declared.stage.Stage.TheVariants as front_ring
+use Rattle.blk_front.specs.declared.stage.FrontStage.{FrontStage}
+use Rattle.blk_front.specs.declared.stage.FrontStage.TheVariants as front_ring
 use Rattle.blk_front.specs.declared.stage.Ending.{Ending}
 use Rattle.blk_front.specs.Request.{words_in}
 use Rattle.blk_front.specs.declared.state.FrontState.{FrontState}
@@ -18,13 +18,13 @@ use Rattle.blk_front.specs.State.{in_state, enters}
 use Rattle.blk_front.specs.Submit.{is_connected}
 use Rattle.blk_front.specs.View as front_ends
 use Rattle.blk_front.specs.Step as front_ring_step
-use Rattle.blk_back.specs.declared.stage.Stage.{Stage as BackRing}
-use Rattle.blk_back.specs.declared.stage.Stage.TheVariants as ring
+use Rattle.blk_back.specs.declared.stage.BackStage.{BackStage}
+use Rattle.blk_back.specs.declared.stage.BackStage.TheVariants as ring
 use Rattle.blk_back.specs.View as ring_view
 use Rattle.xenbus_state.specs.declared.state.BusState.{BusState}
 use Rattle.xenbus_state.specs.declared.state.BusState.TheVariants as state
-use Rattle.xenbus_state.specs.declared.stage.BackStage.{BackStage}
-use Rattle.xenbus_state.specs.declared.stage.BackStage.TheVariants as bus
+use Rattle.xenbus_state.specs.declared.stage.BackBusStage.{BackBusStage}
+use Rattle.xenbus_state.specs.declared.stage.BackBusStage.TheVariants as bus
 use Rattle.xenbus_state.specs.declared.keys.FrontKey.TheVariants as key
 use Rattle.xenbus_state.specs.Tables.{is_connected as bus_connected}
 use Rattle.xenbus_state.specs.BackView.{BackView, is_halting, unplugged}
@@ -49,7 +49,7 @@ use Rattle.vbd_laws.proofs.NegotiatedRests.{Rests, same_rests, closes_joined}
 use Rattle.vbd_laws.proofs.NegotiatedKept.{IsTimely, states_timely}
 
 -- the front's end of the ring before it is connected, and after a close of one that has no ring
-abbrev pub is_early : FrontRing → Bool
+abbrev pub is_early : FrontStage → Bool
 is_early (front_ring.RingWord k) = true
 is_early (front_ring.RingFrame page) = true
 is_early (front_ring.RingFence page) = true
@@ -60,7 +60,7 @@ is_early (front_ring.LeftData n) = true
 is_early front_ring.Closed = true
 is_early s = false
 
-pub early_whole : (s : FrontRing) → is_early s ≡ true → front_view.is_broken s ≡ false
+pub early_whole : (s : FrontStage) → is_early s ≡ true → front_view.is_broken s ≡ false
 early_whole (front_ring.Broken word) is = absurd (true≢false (sym is))
 early_whole s is = refl
 
@@ -102,29 +102,29 @@ rests_way v w same (inr a) =
     (λ made. ap is_connected same.front ∙ made) a)
 
 -- while the back hasn't mapped the ring its front enters no state but that it closes, and that it is closed
-elsewhere : {A : Type 0} (r s : BackRing) → is_unbound r ≡ true → is_unbound s ≡ false → r ≡ s → A
+elsewhere : {A : Type 0} (r s : BackStage) → is_unbound r ≡ true → is_unbound s ≡ false → r ≡ s → A
 elsewhere r s early none e = absurd (true≢false (sym early ∙ (ap is_unbound e ∙ none)))
 
-not_served : {A : Type 0} (r : BackRing) → is_unbound r ≡ true → is_serving r ≡ true → A
+not_served : {A : Type 0} (r : BackStage) → is_unbound r ≡ true → is_serving r ≡ true → A
 not_served ring.InitWait early is = absurd (true≢false (sym is))
 not_served ring.MapRing early is = absurd (true≢false (sym is))
 not_served r early is = absurd (true≢false (sym early))
 
-not_aborting : {A : Type 0} (r : BackRing) → is_unbound r ≡ true → IsAborting r → A
+not_aborting : {A : Type 0} (r : BackStage) → is_unbound r ≡ true → IsAborting r → A
 not_aborting (ring.Abort m) early is = absurd (true≢false (sym early))
 not_aborting r early is = absurd is
 
-not_unmapped : {A : Type 0} (r : BackRing) → is_unbound r ≡ true → IsUnmapping r → A
+not_unmapped : {A : Type 0} (r : BackStage) → is_unbound r ≡ true → IsUnmapping r → A
 not_unmapped ring.UnmapRing early is = absurd (true≢false (sym early))
 not_unmapped ring.UnmapUnbound early is = absurd (true≢false (sym early))
 not_unmapped r early is = absurd is
 
-unconnected_rests : (own : BusState) (r : BackRing) → is_unbound r ≡ true → BackRests own r → bus_connected own ≡ true → ⊥
+unconnected_rests : (own : BusState) (r : BackStage) → is_unbound r ≡ true → BackRests own r → bus_connected own ≡ true → ⊥
 unconnected_rests state.Connected r early fits is = not_served r early fits
 unconnected_rests state.Closing r early fits is = not_served r early fits
 unconnected_rests own r early fits is = true≢false (sym is)
 
-unconnected_reads : (own : BusState) (r : BackRing) → is_unbound r ≡ true → BackReads own r → bus_connected own ≡ true → ⊥
+unconnected_reads : (own : BusState) (r : BackStage) → is_unbound r ≡ true → BackReads own r → bus_connected own ≡ true → ⊥
 unconnected_reads state.Connected r early fits is = elsewhere r ring.Loop early refl fits
 unconnected_reads state.Closing r early fits is = elsewhere r ring.Loop early refl fits
 unconnected_reads own r early fits is = true≢false (sym is)
@@ -132,7 +132,7 @@ unconnected_reads own r early fits is = true≢false (sym is)
 unlike : (own s : BusState) → own ≡ s → bus_connected s ≡ false → bus_connected own ≡ true → ⊥
 unlike own s e none is = true≢false (sym is ∙ (ap bus_connected e ∙ none))
 
-unconnected : (s : BackStage) (own : BusState) (r : BackRing) → is_unbound r ≡ true → BackGoesWith s own r → bus_connected own ≡ true → ⊥
+unconnected : (s : BackBusStage) (own : BusState) (r : BackStage) → is_unbound r ≡ true → BackGoesWith s own r → bus_connected own ≡ true → ⊥
 unconnected (bus.Publish k) own r early fits is = unlike own state.Initialising fits.0 refl is
 unconnected (bus.WriteState state.InitWait) own r early fits is = unlike own state.Initialising fits.0 refl is
 unconnected (bus.WriteState state.Connected) own r early fits is = unlike own state.InitWait fits.0 refl is
@@ -152,8 +152,8 @@ unconnected bus.UnmapPage own r early fits is = not_unmapped r early fits
 unconnected bus.ClosePort own r early fits is = elsewhere r ring.ClosePort early refl fits
 unconnected bus.Halted own r early fits is = unlike own state.Closed fits.0 refl is
 
-not_halted : (v : BackView) (r : BackRing) → is_unbound r ≡ true → BackGoesWith v.stage v.state r → IsHalted v → ⊥
-not_halted v r early fits h = elsewhere r ring.Halted early refl (subst (λ (s : BackStage). BackGoesWith s v.state r) h.stage fits).1
+not_halted : (v : BackView) (r : BackStage) → is_unbound r ≡ true → BackGoesWith v.stage v.state r → IsHalted v → ⊥
+not_halted v r early fits h = elsewhere r ring.Halted early refl (subst (λ (s : BackBusStage). BackGoesWith s v.state r) h.stage fits).1
 
 enter_early : (w : World) → BackGoesWith w.back.stage w.back.state w.rings.back.stage → is_unbound w.rings.back.stage ≡ true → (states : List FrontState) (r : front_ends.View) → AllByRecursion (IsTimely w) states
     → is_early r.stage ≡ true → is_early (front_step.all_entered states r).stage ≡ true
@@ -170,7 +170,7 @@ enter_early w fits unbound (s ∷ states) r timely early =
     by_state entered.Closed now = refl
     by_state (entered.Broken word) now = absurd now
 
-either_early : (b : Bool) (s t : FrontRing) → is_early s ≡ true → is_early t ≡ true → is_early (if b then s else t) ≡ true
+either_early : (b : Bool) (s t : FrontStage) → is_early s ≡ true → is_early t ≡ true → is_early (if b then s else t) ≡ true
 either_early true s t p q = p
 either_early false s t p q = q
 
@@ -185,7 +185,7 @@ left_early (Some e) n word r here = by_more (nat_lt (n + 1) (words_in e.request)
     by_more true = refl
     by_more false = refl
 
-step_early : (s : FrontRing) (r : front_ends.View) (x : FrontAnswer) → r.stage ≡ s → is_early s ≡ true → is_early (front_ring_step.step_at s r x).stage ≡ true
+step_early : (s : FrontStage) (r : front_ends.View) (x : FrontAnswer) → r.stage ≡ s → is_early s ≡ true → is_early (front_ring_step.step_at s r x).stage ≡ true
 step_early (front_ring.RingWord k) r x here early = either_early (k == 15) (front_ring.RingFrame 0) (front_ring.RingWord (k + 1)) refl refl
 step_early (front_ring.RingFrame page) r x here early = refl
 step_early (front_ring.RingFence page) r x here early = refl
@@ -220,7 +220,7 @@ one_port = with_port fresh_channels
 some_port : one_port.ports ≡ [] → ⊥
 some_port none = absurd (cc)
 
-ported_connected : (s : FrontRing) → IsPorted s one_port → is_connected s ≡ true
+ported_connected : (s : FrontStage) → IsPorted s one_port → is_connected s ≡ true
 ported_connected (front_ring.LeftData n) none = absurd (some_port none.1)
 ported_connected (front_ring.RingWord k) none = absurd (some_port none.1)
 ported_connected (front_ring.RingFrame page) none = absurd (some_port none.1)
@@ -229,7 +229,7 @@ ported_connected (front_ring.RingFlags page) none = absurd (some_port none.1)
 ported_connected front_ring.NewPort none = absurd (some_port none.1)
 ported_connected s none = refl
 
-connected_ported : (s : FrontRing) → is_connected s ≡ true → IsPorted s one_port × IsUnported s one_port
+connected_ported : (s : FrontStage) → is_connected s ≡ true → IsPorted s one_port × IsUnported s one_port
 connected_ported (front_ring.LeftData n) is = absurd (true≢false (sym is))
 connected_ported (front_ring.RingWord k) is = absurd (true≢false (sym is))
 connected_ported (front_ring.RingFrame page) is = absurd (true≢false (sym is))

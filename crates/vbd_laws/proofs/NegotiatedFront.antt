@@ -11,8 +11,8 @@ use Rattle.key_directory.specs.Watches.{taken, next_watch}
 use Rattle.key_directory.specs.Directory.{Directory, watches_of, with_watches}
 use Rattle.hypervisor.specs.Hypervisor.{Hypervisor}
 use Rattle.hypervisor.specs.Act.{FrontAct, front_act}
-use Rattle.blk_front.specs.declared.stage.Stage.{Stage}
-use Rattle.blk_front.specs.declared.stage.Stage.TheVariants as ring_stage
+use Rattle.blk_front.specs.declared.stage.FrontStage.{FrontStage}
+use Rattle.blk_front.specs.declared.stage.FrontStage.TheVariants as ring_stage
 use Rattle.blk_front.specs.declared.stage.Ending.{Ending}
 use Rattle.blk_front.specs.Suspend.{is_left}
 use Rattle.ring_words.specs.Shape.{entry_words_of}
@@ -26,8 +26,8 @@ use Rattle.blk_front.specs.declared.request.Transfer.TheVariants as transfer
 use Rattle.xen_pages.specs.Pages.{word_of}
 use Rattle.xenbus_state.specs.declared.state.BusState.{BusState}
 use Rattle.xenbus_state.specs.declared.state.BusState.TheVariants as state
-use Rattle.xenbus_state.specs.declared.stage.FrontStage.{FrontStage}
-use Rattle.xenbus_state.specs.declared.stage.FrontStage.TheVariants as stage
+use Rattle.xenbus_state.specs.declared.stage.FrontBusStage.{FrontBusStage}
+use Rattle.xenbus_state.specs.declared.stage.FrontBusStage.TheVariants as stage
 use Rattle.xenbus_state.specs.declared.front.FrontBusAsk.{FrontBusAsk}
 use Rattle.xenbus_state.specs.declared.front.FrontBusAsk.TheVariants as bus_ask
 use Rattle.xenbus_state.specs.FrontView.{FrontView}
@@ -127,7 +127,7 @@ quiet_act h asked a own e = (elim (front_acts h asked a e) as (λ wish x acts. A
 ]) own
 
 -- a front that takes a watch in its ring breaks nothing
-either_whole : (b : Bool) (s t : Stage) → is_broken s ≡ false → is_broken t ≡ false → is_broken (if b then s else t) ≡ false
+either_whole : (b : Bool) (s t : FrontStage) → is_broken s ≡ false → is_broken t ≡ false → is_broken (if b then s else t) ≡ false
 either_whole true s t p q = p
 either_whole false s t p q = q
 
@@ -159,7 +159,7 @@ granted_whole : (r : ring.View) (next : Option Request) (place : ℕ) → is_bro
 granted_whole r None place p = p
 granted_whole r (Some q) place p = either_view (nat_lt (place + 1) (length q.frames.items)) _ _ refl refl
 
-watched_whole : (s : Stage) (r : ring.View) (path : List ℕ) → r.stage ≡ s → is_broken s ≡ false → is_broken (ring_step.step_at s r (answer.Watched path)).stage ≡ false
+watched_whole : (s : FrontStage) (r : ring.View) (path : List ℕ) → r.stage ≡ s → is_broken s ≡ false → is_broken (ring_step.step_at s r (answer.Watched path)).stage ≡ false
 watched_whole (ring_stage.RingWord k) r path here p = either_whole (k == 15) (ring_stage.RingFrame 0) (ring_stage.RingWord (k + 1)) refl refl
 watched_whole (ring_stage.RingFrame page) r path here p = refl
 watched_whole (ring_stage.RingFence page) r path here p = refl
@@ -191,7 +191,7 @@ still_goes n h v idle keys same kept left =
     inl (ap (λ (x : FrontView). with_front n x keys) (sym same) ∙ ap (λ (d : Directory). with_front n n.front d) (left ∙ sym kept))
 
 -- its end of the ring moves, or waits with it: the negotiation waits
-waits_goes : (f : View) (n : Negotiation) (h : Hypervisor) (asked : FrontAsk) (a : FrontAct) (later : Stage) → n.front ≡ f.bus → n.keys ≡ h.keys → ask_of f.bus (is_unoccupied f.ring) ≡ bus_ask.Wait → Leaves h a ⊎ Takes h asked a
+waits_goes : (f : View) (n : Negotiation) (h : Hypervisor) (asked : FrontAsk) (a : FrontAct) (later : FrontStage) → n.front ≡ f.bus → n.keys ≡ h.keys → ask_of f.bus (is_unoccupied f.ring) ≡ bus_ask.Wait → Leaves h a ⊎ Takes h asked a
     → ((path : List ℕ) → a.answer ≡ answer.Watched path → is_broken later ≡ false)
     → Goes (is_unoccupied f.ring) n (with_front n (woken (is_broken later) (is_unoccupied f.ring) f.bus a.answer) a.under.keys)
 waits_goes f n h asked a later same kept asks (inl leaves) whole =
@@ -207,7 +207,7 @@ waits_goes f n h asked a later same kept asks (inr takes) whole =
     (told_goes f n a.answer a.under.keys bus_ask.Wait 0 (omega arith) same asks first keyed)
 
 -- what a move of the ring's end makes of the negotiation that asked for it
-abbrev RingGoes : View → Negotiation → FrontBusAsk → Stage → FrontAct → Type 0
+abbrev RingGoes : View → Negotiation → FrontBusAsk → FrontStage → FrontAct → Type 0
 RingGoes f n b s x = Goes (is_unoccupied f.ring) n (with_front n (followed b (ring_step.step_at s f.ring x.answer).stage (is_unoccupied f.ring) f.bus x.answer) x.under.keys)
 
 module _ (f : View) (n : Negotiation) (h : Hypervisor) (a : FrontAct) (same : n.front ≡ f.bus) (kept : n.keys ≡ h.keys) where
@@ -240,7 +240,7 @@ module _ (f : View) (n : Negotiation) (h : Hypervisor) (a : FrontAct) (same : n.
   granted_goes true k page asks = told_done (bus_ask.Grant page) answer.Done 0 (omega arith) asks refl refl
   granted_goes false k page asks = told_done (bus_ask.Grant page) answer.Done 0 (omega arith) asks refl refl
 
-  ring_goes : (b : FrontBusAsk) (s : Stage) → ask_of f.bus (is_unoccupied f.ring) ≡ b → f.ring.stage ≡ s → speaks b ≡ false → ring_moves b s ≡ true → is_broken s ≡ false → (b ≡ bus_ask.EndOtherGrants → ⊥) → (s ≡ ring_stage.NewPort → h.channels.made < 4294967295) → AsksNoKey (ring_ask.ask_at s f.ring)
+  ring_goes : (b : FrontBusAsk) (s : FrontStage) → ask_of f.bus (is_unoccupied f.ring) ≡ b → f.ring.stage ≡ s → speaks b ≡ false → ring_moves b s ≡ true → is_broken s ≡ false → (b ≡ bus_ask.EndOtherGrants → ⊥) → (s ≡ ring_stage.NewPort → h.channels.made < 4294967295) → AsksNoKey (ring_ask.ask_at s f.ring)
       → front_act h (ring_ask.ask_at s f.ring) ≡ Some a → RingGoes f n b s a
   ring_goes bus_ask.Wait s asks here quiet moves whole keeps unmade own e =
       waits_goes f n h (ring_ask.ask_at s f.ring) a (ring_step.step_at s f.ring a.answer).stage same kept asks (quiet_act h (ring_ask.ask_at s f.ring) a own e)
@@ -268,53 +268,53 @@ module _ (f : View) (n : Negotiation) (h : Hypervisor) (a : FrontAct) (same : n.
   ring_goes b s asks here quiet moves whole keeps unmade own e = absurd (cc)
 
 -- where the negotiation says nothing and its end of the ring has no move, it waits; and it has no other grants to end
-record Quiet (b : FrontBusAsk) (r : Stage) : Type 0 where
+record Quiet (b : FrontBusAsk) (r : FrontStage) : Type 0 where
   waits : speaks b ≡ false → ring_moves b r ≡ false → b ≡ bus_ask.Wait
   keeps : b ≡ bus_ask.EndOtherGrants → ⊥
 
-says_quiet : (b : FrontBusAsk) (r : Stage) → speaks b ≡ true → Quiet b r
+says_quiet : (b : FrontBusAsk) (r : FrontStage) → speaks b ≡ true → Quiet b r
 says_quiet b r says = record { waits = λ quiet. absurd (true≢false (sym says ∙ quiet)); keeps = λ e. absurd (true≢false (sym says ∙ ap speaks e)) }
 
-wait_quiet : (r : Stage) → Quiet bus_ask.Wait r
+wait_quiet : (r : FrontStage) → Quiet bus_ask.Wait r
 wait_quiet r = record { waits = λ quiet still. refl; keeps = λ e. cc }
 
-moves_quiet : (b : FrontBusAsk) (r : Stage) → ring_moves b r ≡ true → (b ≡ bus_ask.EndOtherGrants → ⊥) → Quiet b r
+moves_quiet : (b : FrontBusAsk) (r : FrontStage) → ring_moves b r ≡ true → (b ≡ bus_ask.EndOtherGrants → ⊥) → Quiet b r
 moves_quiet b r moves keeps = record { waits = λ quiet still. absurd (true≢false (sym moves ∙ still)); keeps = keeps }
 
-ending_moves : (page : ℕ) (r : Stage) → IsEndingPage page r → ring_moves (bus_ask.EndGrant page) r ≡ true
+ending_moves : (page : ℕ) (r : FrontStage) → IsEndingPage page r → ring_moves (bus_ask.EndGrant page) r ≡ true
 ending_moves page (ring_stage.RingRead k) is = refl
 ending_moves page (ring_stage.RingEnd k seen) is = refl
 ending_moves page r is = absurd is
 
-ends_whole : (page : ℕ) (r : Stage) → IsEndingPage page r ⊎ (is_broken r ≡ true) → is_broken r ≡ false → IsEndingPage page r
+ends_whole : (page : ℕ) (r : FrontStage) → IsEndingPage page r ⊎ (is_broken r ≡ true) → is_broken r ≡ false → IsEndingPage page r
 ends_whole page r (inl is) whole = is
 ends_whole page r (inr broken) whole = absurd (true≢false (sym broken ∙ whole))
 
-leaving_quiet : (gone : Bool) (port : Option ℕ) (v : FrontView) (r : Stage) → FrontRests state.Closing gone port r → Quiet (ask_at (leaving gone port) v) r
+leaving_quiet : (gone : Bool) (port : Option ℕ) (v : FrontView) (r : FrontStage) → FrontRests state.Closing gone port r → Quiet (ask_at (leaving gone port) v) r
 leaving_quiet false None v r fits = wait_quiet r
 leaving_quiet false (Some p) v r fits = wait_quiet r
 leaving_quiet true None v r fits = absurd fits
 leaving_quiet true (Some p) v r fits = moves_quiet (bus_ask.EndGrant 0) r (ending_moves 0 r fits) (λ e. cc)
 
-closing_quiet : (own : BusState) (v : FrontView) (r : Stage) → FrontRests own v.gone v.port r → Quiet (ask_at (closing_stage own v) v) r
+closing_quiet : (own : BusState) (v : FrontView) (r : FrontStage) → FrontRests own v.gone v.port r → Quiet (ask_at (closing_stage own v) v) r
 closing_quiet state.Closing v r fits = leaving_quiet v.gone v.port v r fits
 closing_quiet own v r fits = says_quiet (ask_at (closing_stage own v) v) r refl
 
-due_quiet : (c : Bool) (v : FrontView) (r : Stage) → (c ≡ true → FrontRests v.state v.gone v.port r) → Quiet (ask_at (if c then closing_stage v.state v else stage.Rest) v) r
+due_quiet : (c : Bool) (v : FrontView) (r : FrontStage) → (c ≡ true → FrontRests v.state v.gone v.port r) → Quiet (ask_at (if c then closing_stage v.state v else stage.Rest) v) r
 due_quiet true v r fits = closing_quiet v.state v r (fits refl)
 due_quiet false v r fits = wait_quiet r
 
-rests_whole : (v : FrontView) (r : Stage) → FrontRests v.state v.gone v.port r ⊎ (is_broken r ≡ true) → is_broken r ≡ false → FrontRests v.state v.gone v.port r
+rests_whole : (v : FrontView) (r : FrontStage) → FrontRests v.state v.gone v.port r ⊎ (is_broken r ≡ true) → is_broken r ≡ false → FrontRests v.state v.gone v.port r
 rests_whole v r (inl fits) whole = fits
 rests_whole v r (inr broken) whole = absurd (true≢false (sym broken ∙ whole))
 
-granting_moves : (page : ℕ) (r : Stage) → IsGranting page r → ring_moves (bus_ask.Grant page) r ≡ true
+granting_moves : (page : ℕ) (r : FrontStage) → IsGranting page r → ring_moves (bus_ask.Grant page) r ≡ true
 granting_moves page (ring_stage.RingFrame k) is = refl
 granting_moves page (ring_stage.RingFence k) is = refl
 granting_moves page (ring_stage.RingFlags k) is = refl
 granting_moves page r is = absurd is
 
-quiet_at : (s : FrontStage) (v : FrontView) (r : Stage) (idle : Bool) → FrontGoesWith s v r → is_broken r ≡ false → Quiet (ask_at (due_at s v idle) v) r
+quiet_at : (s : FrontBusStage) (v : FrontView) (r : FrontStage) (idle : Bool) → FrontGoesWith s v r → is_broken r ≡ false → Quiet (ask_at (due_at s v idle) v) r
 quiet_at stage.Rest v r idle fits whole = due_quiet (v.closing && idle) v r (λ e. rests_whole v r fits whole)
 quiet_at stage.Start v r idle fits whole = says_quiet bus_ask.Watch r refl
 quiet_at stage.ReadState v r idle fits whole = says_quiet bus_ask.GetState r refl
@@ -332,7 +332,7 @@ quiet_at (stage.Broken word) v r idle fits whole = wait_quiet r
 quiet_at s v r idle fits whole = absurd fits
 
 -- a front that wrote Closing is unoccupied: no request is left, and its end of the ring is at nothing
-record IsIdleRing (r : Stage) : Type 0 where
+record IsIdleRing (r : FrontStage) : Type 0 where
   still : is_still r ≡ true
   ended : ending_of r ≡ 0
 
@@ -345,31 +345,31 @@ later_not own e f = absurd (cc)
 last_not : {A : Type 0} (own : BusState) → own ≡ state.Closed → own ≡ state.Closing → A
 last_not own e f = absurd (cc)
 
-made_idle : (r : Stage) → is_made r ≡ true → IsIdleRing r
+made_idle : (r : FrontStage) → is_made r ≡ true → IsIdleRing r
 made_idle ring_stage.Initialised is = record { still = refl; ended = refl }
 made_idle ring_stage.Loop is = record { still = refl; ended = refl }
 made_idle r is = absurd (true≢false (sym is))
 
-ending_idle : (page : ℕ) (r : Stage) → IsEndingPage page r → IsIdleRing r
+ending_idle : (page : ℕ) (r : FrontStage) → IsEndingPage page r → IsIdleRing r
 ending_idle page (ring_stage.RingRead k) is = record { still = refl; ended = refl }
 ending_idle page (ring_stage.RingEnd k seen) is = record { still = refl; ended = refl }
 ending_idle page r is = absurd is
 
-bare_idle : (r : Stage) → is_bare r ≡ true → IsIdleRing r
+bare_idle : (r : FrontStage) → is_bare r ≡ true → IsIdleRing r
 bare_idle (ring_stage.RingWord k) is = record { still = refl; ended = refl }
 bare_idle ring_stage.Left is = record { still = refl; ended = refl }
 bare_idle r is = absurd (true≢false (sym is))
 
-rests_idle : (gone : Bool) (port : Option ℕ) (r : Stage) → FrontRests state.Closing gone port r → IsIdleRing r
+rests_idle : (gone : Bool) (port : Option ℕ) (r : FrontStage) → FrontRests state.Closing gone port r → IsIdleRing r
 rests_idle false None r fits = rw fits (record { still = refl; ended = refl })
 rests_idle false (Some p) r fits = made_idle r fits
 rests_idle true (Some p) r fits = ending_idle 0 r fits
 rests_idle true None r fits = absurd fits
 
-closing_rests : (v : FrontView) (r : Stage) → v.state ≡ state.Closing → FrontRests v.state v.gone v.port r → IsIdleRing r
+closing_rests : (v : FrontView) (r : FrontStage) → v.state ≡ state.Closing → FrontRests v.state v.gone v.port r → IsIdleRing r
 closing_rests v r e fits = rests_idle v.gone v.port r (subst (λ (own : BusState). FrontRests own v.gone v.port r) e fits)
 
-closing_idle : (s : FrontStage) (v : FrontView) (r : Stage) → FrontGoesWith s v r → v.state ≡ state.Closing → is_broken r ≡ false → IsIdleRing r
+closing_idle : (s : FrontBusStage) (v : FrontView) (r : FrontStage) → FrontGoesWith s v r → v.state ≡ state.Closing → is_broken r ≡ false → IsIdleRing r
 closing_idle stage.Rest v r fits e whole = closing_rests v r e (rests_whole v r fits whole)
 closing_idle stage.ReadState v r fits e whole = closing_rests v r e fits
 closing_idle stage.Start v r fits e whole = early_not v.state fits.0 e
@@ -401,10 +401,10 @@ closing_unoccupied w fit whole e =
     none_left w.rings.front.closing (length w.rings.front.requests) (ending_of w.rings.front.stage) (is_still w.rings.front.stage) (fit.through e whole) idle.ended idle.still
 
 -- a move writes a state only where the negotiation asks for that
-abbrev pub Keeps : FrontStage → FrontView → FrontView → Type 0
+abbrev pub Keeps : FrontBusStage → FrontView → FrontView → Type 0
 Keeps s v u = (u.state ≡ v.state) ⊎ ((own : BusState) × (s ≡ stage.WriteState own) × (u.state ≡ own))
 
-acted_keeps : (s : FrontStage) (act : FrontAction) (v : FrontView) → Keeps s v (acted act v)
+acted_keeps : (s : FrontBusStage) (act : FrontAction) (v : FrontView) → Keeps s v (acted act v)
 acted_keeps s action.Nothing v = inl refl
 acted_keeps s action.Publish v = inl refl
 acted_keeps s action.Connect v = inl refl
@@ -413,15 +413,15 @@ acted_keeps s action.CloseAndConnect v = inl refl
 acted_keeps s action.Leave v = inl refl
 acted_keeps s (action.Break word) v = inl refl
 
-feature_keeps : (s : FrontStage) (k : BackKey) (n : Option ℕ) (v : FrontView) → Keeps s v (feature_step k n v)
+feature_keeps : (s : FrontBusStage) (k : BackKey) (n : Option ℕ) (v : FrontView) → Keeps s v (feature_step k n v)
 feature_keeps s k None v = inl refl
 feature_keeps s k (Some n) v = inl refl
 
-fact_keeps : (s : FrontStage) (k : BackKey) (n : Option ℕ) (v : FrontView) → Keeps s v (fact_step k n v)
+fact_keeps : (s : FrontBusStage) (k : BackKey) (n : Option ℕ) (v : FrontView) → Keeps s v (fact_step k n v)
 fact_keeps s k None v = inl refl
 fact_keeps s k (Some n) v = inl refl
 
-pub step_keeps : (s : FrontStage) (v : FrontView) (idle : Bool) (x : FrontAnswer) → Keeps s v (bus_step.step_at s v idle x)
+pub step_keeps : (s : FrontBusStage) (v : FrontView) (idle : Bool) (x : FrontAnswer) → Keeps s v (bus_step.step_at s v idle x)
 step_keeps stage.Rest v idle (answer.Watched path) = inl refl
 step_keeps stage.ReadState v idle (answer.Key text) = acted_keeps stage.ReadState (front_action v.state v.closing idle (state_read text)) v
 step_keeps (stage.ReadFeature k) v idle (answer.Key text) = feature_keeps (stage.ReadFeature k) k (count_read text) v
@@ -432,7 +432,7 @@ step_keeps stage.ClosePort v idle answer.Done = inl refl
 step_keeps s v idle answer.Done = inl refl
 step_keeps s v idle x = inl refl
 
-writes_not : (s : FrontStage) (v : FrontView) (r : Stage) (own : BusState) → FrontGoesWith s v r → due_at s v false ≡ stage.WriteState own → own ≡ state.Closing → ⊥
+writes_not : (s : FrontBusStage) (v : FrontView) (r : FrontStage) (own : BusState) → FrontGoesWith s v r → due_at s v false ≡ stage.WriteState own → own ≡ state.Closing → ⊥
 writes_not stage.Rest v r own fits due e = by_test v.closing due
   where
     by_test : (c : Bool) → (if c && false then closing_stage v.state v else stage.Rest) ≡ stage.WriteState own → ⊥
@@ -472,24 +472,24 @@ later_served w false served fits port = by_kept (step_keeps (due_at w.front.stag
     by_kept (inr wrote) e = absurd (writes_not w.front.stage w.front w.rings.front.stage wrote.0 fits wrote.1 (sym wrote.2 ∙ e))
 
 -- before it has made its port one may be made
-unmade : (s : Stage) (c : ChannelState) → IsPorted s c → s ≡ ring_stage.NewPort → c.made < 4294967295
-unmade s c p e = let none : IsPorted ring_stage.NewPort c = subst (λ (x : Stage). IsPorted x c) e p in none.0
+unmade : (s : FrontStage) (c : ChannelState) → IsPorted s c → s ≡ ring_stage.NewPort → c.made < 4294967295
+unmade s c p e = let none : IsPorted ring_stage.NewPort c = subst (λ (x : FrontStage). IsPorted x c) e p in none.0
 
 -- what the front's move makes of the negotiation
 abbrev pub Moves : World → FrontAct → FrontAsk → View → Type 0
 Moves w a asked after = front_act w.rings.under asked ≡ Some a → Goes (is_unoccupied w.rings.front) (negotiation_of w) (with_front (negotiation_of w) after.bus a.under.keys)
 
 -- where data are left after a suspend they are in hand
-abbrev pub HasInHand : Stage → Option Ending → Type 0
+abbrev pub HasInHand : FrontStage → Option Ending → Type 0
 HasInHand (ring_stage.LeftData n) ending = IsSome ending
 HasInHand s ending = Unit {0}
 
-pub none_in_hand : (s : Stage) (ending : Option Ending) → is_left s ≡ false → HasInHand s ending
+pub none_in_hand : (s : FrontStage) (ending : Option Ending) → is_left s ≡ false → HasInHand s ending
 none_in_hand (ring_stage.LeftData n) ending none = absurd (true≢false none)
 none_in_hand s ending none = tt
 
 -- they are read: the negotiation and the keys stay
-left_leaves : (s : Stage) (r : ring.View) (h : Hypervisor) (a : FrontAct) → is_left s ≡ true → HasInHand s r.ending → front_act h (ring_ask.ask_at s r) ≡ Some a → Leaves h a
+left_leaves : (s : FrontStage) (r : ring.View) (h : Hypervisor) (a : FrontAct) → is_left s ≡ true → HasInHand s r.ending → front_act h (ring_ask.ask_at s r) ≡ Some a → Leaves h a
 left_leaves (ring_stage.LeftData n) r h a left hand e = by_ending r.ending hand e
   where
     by_ending : (ending : Option Ending) → IsSome ending → front_act h (ring_ask.read_ask ending n) ≡ Some a → Leaves h a

@@ -6,8 +6,8 @@ use Rattle.blk_base.specs.declared.parts.Mapping.{Mapping}
 use Rattle.blk_base.specs.declared.ask.FrontAnswer.{FrontAnswer}
 use Rattle.blk_base.specs.declared.ask.FrontAnswer.TheVariants as answer
 use Rattle.hypervisor.specs.Act.{FrontAct, front_act}
-use Rattle.blk_front.specs.declared.stage.Stage.{Stage as FrontRing}
-use Rattle.blk_front.specs.declared.stage.Stage.TheVariants as front_ring
+use Rattle.blk_front.specs.declared.stage.FrontStage.{FrontStage}
+use Rattle.blk_front.specs.declared.stage.FrontStage.TheVariants as front_ring
 use Rattle.blk_front.specs.declared.state.FrontState.{FrontState}
 use Rattle.blk_front.specs.declared.state.FrontState.TheVariants as entered
 use Rattle.blk_front.specs.declared.state.Offers.{Offers}
@@ -16,10 +16,10 @@ use Rattle.blk_front.specs.State.{is_made}
 use Rattle.blk_front.specs.Suspend.{is_left}
 use Rattle.xenbus_state.specs.declared.state.BusState.{BusState}
 use Rattle.xenbus_state.specs.declared.state.BusState.TheVariants as state
-use Rattle.xenbus_state.specs.declared.stage.FrontStage.{FrontStage}
-use Rattle.xenbus_state.specs.declared.stage.FrontStage.TheVariants as bus
-use Rattle.xenbus_state.specs.declared.stage.BackStage.{BackStage}
-use Rattle.xenbus_state.specs.declared.stage.BackStage.TheVariants as back_bus
+use Rattle.xenbus_state.specs.declared.stage.FrontBusStage.{FrontBusStage}
+use Rattle.xenbus_state.specs.declared.stage.FrontBusStage.TheVariants as bus
+use Rattle.xenbus_state.specs.declared.stage.BackBusStage.{BackBusStage}
+use Rattle.xenbus_state.specs.declared.stage.BackBusStage.TheVariants as back_bus
 use Rattle.xenbus_state.specs.declared.offer.Features.{Features}
 use Rattle.xenbus_state.specs.declared.front.FrontBusAsk.{FrontBusAsk}
 use Rattle.xenbus_state.specs.declared.front.FrontBusAsk.TheVariants as front_ask
@@ -49,8 +49,8 @@ use Rattle.vbd_laws.proofs.NegotiatedFront.{none_in_hand, front_goes, Told, keys
 use Rattle.vbd_laws.proofs.NegotiatedAgreed.{connects_knowing}
 
 -- a ring that passed a test which none fails to pass that is being made is made
-connected_by : (test : FrontRing → Bool) → ((k : ℕ) → test (front_ring.RingWord k) ≡ false) → ((page : ℕ) → test (front_ring.RingFrame page) ≡ false) → ((page : ℕ) → test (front_ring.RingFence page) ≡ false)
-    → ((page : ℕ) → test (front_ring.RingFlags page) ≡ false) → test front_ring.NewPort ≡ false → ((n : ℕ) → test (front_ring.LeftData n) ≡ false) → (r : FrontRing) → test r ≡ true → is_connected r ≡ true
+connected_by : (test : FrontStage → Bool) → ((k : ℕ) → test (front_ring.RingWord k) ≡ false) → ((page : ℕ) → test (front_ring.RingFrame page) ≡ false) → ((page : ℕ) → test (front_ring.RingFence page) ≡ false)
+    → ((page : ℕ) → test (front_ring.RingFlags page) ≡ false) → test front_ring.NewPort ≡ false → ((n : ℕ) → test (front_ring.LeftData n) ≡ false) → (r : FrontStage) → test r ≡ true → is_connected r ≡ true
 connected_by test words frame fence flags port left (front_ring.RingWord k) is = absurd (true≢false (sym is ∙ words k))
 connected_by test words frame fence flags port left (front_ring.RingFrame page) is = absurd (true≢false (sym is ∙ frame page))
 connected_by test words frame fence flags port left (front_ring.RingFence page) is = absurd (true≢false (sym is ∙ fence page))
@@ -59,16 +59,16 @@ connected_by test words frame fence flags port left front_ring.NewPort is = absu
 connected_by test words frame fence flags port left (front_ring.LeftData n) is = absurd (true≢false (sym is ∙ left n))
 connected_by test words frame fence flags port left r is = refl
 
-broken_connected : (r : FrontRing) → front_view.is_broken r ≡ true → is_connected r ≡ true
+broken_connected : (r : FrontStage) → front_view.is_broken r ≡ true → is_connected r ≡ true
 broken_connected r is = connected_by front_view.is_broken (λ k. refl) (λ page. refl) (λ page. refl) (λ page. refl) refl (λ n. refl) r is
 
 -- and so is one whose grants are being ended
-ending_connected : (page : ℕ) (r : FrontRing) → IsEndingPage page r → is_connected r ≡ true
+ending_connected : (page : ℕ) (r : FrontStage) → IsEndingPage page r → is_connected r ≡ true
 ending_connected page (front_ring.RingRead k) fits = refl
 ending_connected page (front_ring.RingEnd k seen) fits = refl
 ending_connected page r fits = absurd fits
 
-left_connected : (page : ℕ) (r : FrontRing) → IsEndingPage page r ⊎ (front_view.is_broken r ≡ true) → is_connected r ≡ true
+left_connected : (page : ℕ) (r : FrontStage) → IsEndingPage page r ⊎ (front_view.is_broken r ≡ true) → is_connected r ≡ true
 left_connected page r (inl ending) = ending_connected page r ending
 left_connected page r (inr broken) = broken_connected r broken
 
@@ -76,7 +76,7 @@ unported : {A : Type 0} (port : Option ℕ) → port ≡ None → IsSome port �
 unported port none some = absurd (true≢false (sym some ∙ ap is_some none))
 
 -- a front with a port has made its ring
-port_rests : (own : BusState) (gone : Bool) (port : Option ℕ) (r : FrontRing) → FrontRests own gone port r → IsSome port → is_connected r ≡ true
+port_rests : (own : BusState) (gone : Bool) (port : Option ℕ) (r : FrontStage) → FrontRests own gone port r → IsSome port → is_connected r ≡ true
 port_rests state.Initialising gone port r fits some = unported port fits.1 some
 port_rests state.Initialised gone port r fits some = ap is_connected fits.0
 port_rests state.Connected gone port r fits some = connected_by is_ready (λ k. refl) (λ page. refl) (λ page. refl) (λ page. refl) refl (λ n. refl) r fits.0
@@ -86,7 +86,7 @@ port_rests state.Closing true (Some p) r fits some = ending_connected 0 r fits
 port_rests state.Closing true None r fits some = absurd fits
 port_rests own gone port r fits some = absurd fits
 
-port_connected : (s : FrontStage) (v : FrontView) (r : FrontRing) → FrontGoesWith s v r → IsSome v.port → is_connected r ≡ true
+port_connected : (s : FrontBusStage) (v : FrontView) (r : FrontStage) → FrontGoesWith s v r → IsSome v.port → is_connected r ≡ true
 port_connected bus.Start v r fits some = unported v.port fits.2 some
 port_connected bus.Rest v r (inl fits) some = port_rests v.state v.gone v.port r fits some
 port_connected bus.Rest v r (inr broken) some = broken_connected r broken
@@ -112,7 +112,7 @@ unmap_not : (pages : List Mapping) (gref : ℕ) → unmap_ask pages ≡ bus_ask.
 unmap_not [] gref e = absurd (cc)
 unmap_not (page ∷ pages) gref e = absurd (cc)
 
-maps_at : (s : BackStage) (v : BackView) (gref : ℕ) → ask_at s v ≡ bus_ask.Map gref → s ≡ back_bus.MapPage
+maps_at : (s : BackBusStage) (v : BackView) (gref : ℕ) → ask_at s v ≡ bus_ask.Map gref → s ≡ back_bus.MapPage
 maps_at back_bus.MapPage v gref e = refl
 maps_at back_bus.UnmapPage v gref e = absurd (unmap_not v.pages gref e)
 maps_at back_bus.Watch v gref e = absurd (cc)
@@ -129,7 +129,7 @@ unbinds : (pages : List Mapping) (port : ℕ) → unmap_ask pages ≡ bus_ask.Bi
 unbinds [] port e = absurd (cc)
 unbinds (page ∷ pages) port e = absurd (cc)
 
-binds_at : (s : BackStage) (v : BackView) (port : ℕ) → ask_at s v ≡ bus_ask.Bind port → (s ≡ back_bus.Bind) × (v.terms.port ≡ port)
+binds_at : (s : BackBusStage) (v : BackView) (port : ℕ) → ask_at s v ≡ bus_ask.Bind port → (s ≡ back_bus.Bind) × (v.terms.port ≡ port)
 binds_at back_bus.Bind v port e = (refl, cc)
 binds_at back_bus.UnmapPage v port e = absurd (unbinds v.pages port e)
 binds_at back_bus.Watch v port e = absurd (cc)
@@ -199,15 +199,15 @@ module _ (w : World) (a : FrontAct) (fit : IsFit w) (whole : front_view.is_broke
 
   knows : front_asks.due w.front idle ≡ bus.WriteState state.Connected → front_step.offers_of after ≡ offered w.back.features
   knows here =
-      let done : a.answer ≡ answer.Done = told.answer ∙ ap (λ (s : FrontStage). front_answered (front_asks.ask_at s w.front) 0 w.rings.under.keys) here in
+      let done : a.answer ≡ answer.Done = told.answer ∙ ap (λ (s : FrontBusStage). front_answered (front_asks.ask_at s w.front) 0 w.rings.under.keys) here in
       ap (λ (x : FrontAnswer). front_step.offers_of (front_step.bus_after (frontend_of w) x)) done
       ∙ ap offered (features_told w.front idle ∙ connects_knowing (negotiation_of w) idle j here)
 
   news_timely : (n : Option FrontNews) → news_of w.front idle a.answer ≡ n → IsNewsAt (front_asks.due w.front idle) n → AllByRecursion (IsTimely w) (front_step.states_of_news (front_step.offers_of after) n)
   news_timely None e is = tt
-  news_timely (Some news.Ready) e is = ((connects_at (negotiation_of w) idle j (ap (λ (s : FrontStage). front_asks.ask_at s w.front) is), knows is), tt)
+  news_timely (Some news.Ready) e is = ((connects_at (negotiation_of w) idle j (ap (λ (s : FrontBusStage). front_asks.ask_at s w.front) is), knows is), tt)
   news_timely (Some news.Closing) e is = (tt, tt)
-  news_timely (Some news.Closed) e is = (leaves_at (negotiation_of w) idle j (subst IsLeaving (sym (ap (λ (s : FrontStage). front_asks.ask_at s w.front) is)) tt), tt)
+  news_timely (Some news.Closed) e is = (leaves_at (negotiation_of w) idle j (subst IsLeaving (sym (ap (λ (s : FrontBusStage). front_asks.ask_at s w.front) is)) tt), tt)
   news_timely (Some (news.Broken word)) e is = absurd (breaks_not word e)
 
   reached : Reached (record { front = after; back = w.back; keys = a.under.keys })

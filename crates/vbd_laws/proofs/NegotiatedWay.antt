@@ -13,22 +13,22 @@ use Rattle.hypervisor.specs.Hypervisor.{Hypervisor}
 use Rattle.hypervisor.specs.Act.{BackAct, Took, back_act, is_own_path}
 use Rattle.key_directory.specs.Directory.{Directory, fresh_directory}
 use Rattle.hypervisor.specs.Suspend.{suspended as under_suspended}
-use Rattle.blk_front.specs.declared.stage.Stage.{Stage as FrontRing}
-use Rattle.blk_front.specs.declared.stage.Stage.TheVariants as front_ring
+use Rattle.blk_front.specs.declared.stage.FrontStage.{FrontStage}
+use Rattle.blk_front.specs.declared.stage.FrontStage.TheVariants as front_ring
 use Rattle.blk_front.specs.State.{is_open}
 use Rattle.blk_front.specs.Suspend.{stage_after, resumed}
 use Rattle.blk_front.specs.Submit.{is_connected}
 use Rattle.back_jobs.specs.Jobs.{first_mapping}
-use Rattle.blk_back.specs.declared.stage.Stage.{Stage as BackRing}
-use Rattle.blk_back.specs.declared.stage.Stage.TheVariants as ring
+use Rattle.blk_back.specs.declared.stage.BackStage.{BackStage}
+use Rattle.blk_back.specs.declared.stage.BackStage.TheVariants as ring
 use Rattle.blk_back.specs.declared.told.Halt.{Halt}
 use Rattle.blk_back.specs.View as ring_view
 use Rattle.blk_back.specs.Ask as ring_ask
 use Rattle.blk_back.specs.Step as ring_step
 use Rattle.xenbus_state.specs.declared.state.BusState.{BusState}
 use Rattle.xenbus_state.specs.declared.state.BusState.TheVariants as state
-use Rattle.xenbus_state.specs.declared.stage.BackStage.{BackStage}
-use Rattle.xenbus_state.specs.declared.stage.BackStage.TheVariants as bus
+use Rattle.xenbus_state.specs.declared.stage.BackBusStage.{BackBusStage}
+use Rattle.xenbus_state.specs.declared.stage.BackBusStage.TheVariants as bus
 use Rattle.xenbus_state.specs.declared.table.BackHalt.{BackHalt}
 use Rattle.xenbus_state.specs.declared.table.BackHalt.TheVariants as bus_halt
 use Rattle.xenbus_state.specs.declared.back.BackBusAsk.{BackBusAsk}
@@ -85,14 +85,14 @@ halts_early why r early none =
     let h : Halt = back_step.ring_halt why in
     subst (λ (b : Bool). let u : ring_view.View = if b then ring_step.halts_at r.stage h r else r in (u.stage ≡ ring.Halted) × (is_some u.halted ≡ true)) (sym (halt_may why)) (by_stage r.stage early)
   where
-    by_stage : (s : BackRing) → is_unbound s ≡ true → (let u : ring_view.View = ring_step.halts_at s (back_step.ring_halt why) r in (u.stage ≡ ring.Halted) × (is_some u.halted ≡ true))
+    by_stage : (s : BackStage) → is_unbound s ≡ true → (let u : ring_view.View = ring_step.halts_at s (back_step.ring_halt why) r in (u.stage ≡ ring.Halted) × (is_some u.halted ≡ true))
     by_stage ring.InitWait is = (ap ring_step.unbound none, refl)
     by_stage ring.MapRing is = (ap ring_step.unbound none, refl)
     by_stage s is = absurd (true≢false (sym is))
 
 -- what it reads as it halts it reads before a page is mapped
-unconnected_none : (own : BusState) (s : BackRing) (order pages : ℕ) (bound : Bool) → BackReads own s → is_unbound s ≡ true → BackHolds s order pages bound → pages ≡ 0
-unconnected_none state.InitWait s order pages bound reads early held = (subst (λ (t : BackRing). BackHolds t order pages bound) reads held).0
+unconnected_none : (own : BusState) (s : BackStage) (order pages : ℕ) (bound : Bool) → BackReads own s → is_unbound s ≡ true → BackHolds s order pages bound → pages ≡ 0
+unconnected_none state.InitWait s order pages bound reads early held = (subst (λ (t : BackStage). BackHolds t order pages bound) reads held).0
 unconnected_none state.Connected s order pages bound reads early held = absurd (true≢false (sym early ∙ ap is_unbound reads))
 unconnected_none state.Closing s order pages bound reads early held = absurd (true≢false (sym early ∙ ap is_unbound reads))
 unconnected_none own s order pages bound reads early held = absurd reads
@@ -100,7 +100,7 @@ unconnected_none own s order pages bound reads early held = absurd reads
 no_halt : {A : Type 0} (why : BackHalt) → None ≡ Some why → A
 no_halt why e = absurd (true≢false (sym (ap is_some e)))
 
-halts_none : (b : BackStage) (v : BackView) (x : BackAnswer) (s : BackRing) (why : BackHalt) → back.speaks (ask_at b v) ≡ true → bus_step.halt_at b v x ≡ Some why → BackGoesWith b v.state s → is_unbound s ≡ true
+halts_none : (b : BackBusStage) (v : BackView) (x : BackAnswer) (s : BackStage) (why : BackHalt) → back.speaks (ask_at b v) ≡ true → bus_step.halt_at b v x ≡ Some why → BackGoesWith b v.state s → is_unbound s ≡ true
     → BackHolds s v.terms.order (length v.pages) v.bound → IsPlaced b v → length v.pages ≡ 0
 halts_none bus.ReadState v (answer.Key text) s why says e goes early held placed = unconnected_none v.state s v.terms.order (length v.pages) v.bound goes early held
 halts_none (bus.ReadKey k) v (answer.Key text) s why says e goes early held placed = placed.1.pages
@@ -127,7 +127,7 @@ led_halted : (why : Option BackHalt) (reads : Bool) (u : BackView) (r : ring_vie
 led_halted (Some why) reads u r h =
     halts_cases (λ (y : ring_view.View). Halted y) (back_step.ring_halt why) r (λ e. absurd (true≢false (sym e ∙ ap is_unbound h.ring))) (λ e. not_both r.stage e h.ring) h
   where
-    not_both : {A : Type 0} (s : BackRing) → s ≡ ring.Loop → s ≡ ring.Halted → A
+    not_both : {A : Type 0} (s : BackStage) → s ≡ ring.Loop → s ≡ ring.Halted → A
     not_both s e f = absurd (cc)
 led_halted None true u r h = by_test (ring_step.may_attach (back_step.shape_read u) u.grefs r) refl
   where
@@ -141,7 +141,7 @@ abbrev back_to : World → BackAct → back_view.View → World
 back_to w a x = record { rings = record { front = w.rings.front; back = (back_view.heard x).ring; under = a.under }; front = w.front; back = x.bus }
 
 -- before it has mapped the ring the back's end moves only as its negotiation maps
-maps_next : (b : BackBusAsk) (s : BackRing) → is_unbound s ≡ true → back.ring_moves b s ≡ true → (s ≡ ring.MapRing) × (gref : ℕ) × (b ≡ bus_ask.Map gref)
+maps_next : (b : BackBusAsk) (s : BackStage) → is_unbound s ≡ true → back.ring_moves b s ≡ true → (s ≡ ring.MapRing) × (gref : ℕ) × (b ≡ bus_ask.Map gref)
 maps_next (bus_ask.Map gref) ring.MapRing is e = (refl, gref, refl)
 maps_next b ring.MapRing is e = absurd (true≢false (sym e))
 maps_next (bus_ask.Map gref) ring.InitWait is e = absurd (true≢false (sym e))
@@ -178,8 +178,8 @@ Maps r x c y u = ((is_unbound y.stage ≡ true) × (y.halted ≡ r.halted) × Is
 map_after : (r : ring_view.View) (v : BackView) (x : BackAnswer) (c : Bool) → r.stage ≡ ring.MapRing → r.halted ≡ None → v.stage ≡ bus.MapPage → r.pages ≡ v.pages → r.grefs ≡ v.grefs → c ≡ true
     → ring_ask.IsAnswer (ring_ask.ask_of r) x → (let y : ring_view.View = ring_step.step_of r x in Maps r x c y (bus_step.step_of v x))
 map_after r v x c here unhalted stage pages grefs made allowed =
-    subst (λ (s : BackRing). let y : ring_view.View = ring_step.step_at s r x in Maps r x c y (bus_step.step_of v x)) (sym here)
-    (by_answer x (subst (λ (s : BackRing). ring_ask.IsAnswer (ring_ask.ask_at s r) x) here allowed))
+    subst (λ (s : BackStage). let y : ring_view.View = ring_step.step_at s r x in Maps r x c y (bus_step.step_of v x)) (sym here)
+    (by_answer x (subst (λ (s : BackStage). ring_ask.IsAnswer (ring_ask.ask_at s r) x) here allowed))
   where
     to_ring : Mapping → Bool → ring_view.View
     to_ring m more = record r { pages = r.pages ++ m ∷ []; stage = if more then ring.MapRing else ring.Bind }
@@ -191,7 +191,7 @@ map_after r v x c here unhalted stage pages grefs made allowed =
         let u : BackView = bus_step.mapped m v in
         let last : u.stage ≡ bus.Bind = ap (λ (more : Bool). if more then bus.MapPage else bus.Bind) e in
         let same : back_step.caught_up (to_ring m false) u ≡ u =
-        ap (λ (why : Option Halt). back_step.settled ring.Bind (back_step.bus_halted why u)) unhalted ∙ ap (λ (s : BackStage). back_step.settled_at s ring.Bind u) last in
+        ap (λ (why : Option Halt). back_step.settled ring.Bind (back_step.bus_halted why u)) unhalted ∙ ap (λ (s : BackBusStage). back_step.settled_at s ring.Bind u) last in
         inr (inl (record { ring = refl; stage = ap (λ (y : BackView). y.stage) same ∙ last; made = made }))
 
     by_answer : (y : BackAnswer) → ring_ask.IsAnswer (ring_ask.ask_at ring.MapRing r) y
@@ -206,7 +206,7 @@ map_after r v x c here unhalted stage pages grefs made allowed =
     by_answer y is = absurd is
 
 -- where it maps it hasn't halted
-unhalted_map : (halted : Option Halt) (s : BackStage) → is_some halted ≡ is_halting s → s ≡ bus.MapPage → halted ≡ None
+unhalted_map : (halted : Option Halt) (s : BackBusStage) → is_some halted ≡ is_halting s → s ≡ bus.MapPage → halted ≡ None
 unhalted_map None s e here = refl
 unhalted_map (Some why) s e here = absurd (true≢false (e ∙ ap is_halting here))
 
@@ -287,7 +287,7 @@ binds_port v here = rw here (by_test v.unplugged)
     by_test false = refl
 
 bind_past : (r : ring_view.View) (x : BackAnswer) → r.stage ≡ ring.Bind → ring_ask.IsAnswer (ring_ask.ask_of r) x → is_past (ring_step.step_of r x).stage ≡ true
-bind_past r x here allowed = subst (λ (s : BackRing). is_past (ring_step.step_at s r x).stage ≡ true) (sym here) (by_answer x (subst (λ (s : BackRing). ring_ask.IsAnswer (ring_ask.ask_at s r) x) here allowed))
+bind_past r x here allowed = subst (λ (s : BackStage). is_past (ring_step.step_at s r x).stage ≡ true) (sym here) (by_answer x (subst (λ (s : BackStage). ring_ask.IsAnswer (ring_ask.ask_at s r) x) here allowed))
   where
     by_answer : (y : BackAnswer) → ring_ask.IsAnswer (ring_ask.ask_at ring.Bind r) y → is_past (ring_step.step_at ring.Bind r y).stage ≡ true
     by_answer answer.Done is = refl
@@ -311,12 +311,12 @@ module _ (w : World) (a : BackAct) (turn : back_turn w ≡ Some a) where
       (λ says untaken e. absurd (true≢false (sym says ∙ ap (λ (c : BackBusAsk). back.bus_moves c w.rings.back.stage) asks)))
       (λ says takes e. absurd (true≢false (sym says ∙ ap (λ (c : BackBusAsk). back.bus_moves c w.rings.back.stage) asks)))
       (λ quiet moves e. bind_past w.rings.back a.answer b.ring (back_answered w.rings.under w.rings.back Took a e))
-      (λ quiet still e. absurd (true≢false (sym (ap (λ (c : BackBusAsk). back.ring_moves c ring.Bind) asks) ∙ subst (λ (s : BackRing). back.ring_moves (back_asks w) s ≡ false) b.ring still))) turn
+      (λ quiet still e. absurd (true≢false (sym (ap (λ (c : BackBusAsk). back.ring_moves c ring.Bind) asks) ∙ subst (λ (s : BackStage). back.ring_moves (back_asks w) s ≡ false) b.ring still))) turn
 
   halted_back : Halted w.rings.back → Halted (back_step.step_of (backend_of w) a.answer).ring
   halted_back h =
       back_cases (Keeps IsHaltedNow) w (λ says untaken e. led h) (λ says takes e. led h)
-      (λ quiet moves e. subst (λ (s : BackRing). IsHaltedNow (ring_step.step_at s w.rings.back a.answer)) (sym h.ring) h) (λ quiet still e. h) turn
+      (λ quiet moves e. subst (λ (s : BackStage). IsHaltedNow (ring_step.step_at s w.rings.back a.answer)) (sym h.ring) h) (λ quiet still e. h) turn
     where
       led : Halted w.rings.back → IsHaltedNow (back_step.spoken (backend_of w) a.answer).ring
       led h = led_halted (back_step.halt_of (backend_of w) a.answer) (back_step.reads_layout (back_asks w)) (bus_step.step_of w.back a.answer) w.rings.back h
@@ -347,7 +347,7 @@ back_way w fit way = by_act (back_turn w) refl
     by_act (Some a) e = let moved : IsBackMove w a = back_move_is w a fit e in subst IsOnItsWay (sym moved.world) (by_way a e way)
 
 -- after a suspend the front makes its ring anew, or the new back has halted
-early_anew : (s : FrontRing) → is_early (stage_after s) ≡ true
+early_anew : (s : FrontStage) → is_early (stage_after s) ≡ true
 early_anew (front_ring.ReadData n) = refl
 early_anew (front_ring.LeftData n) = refl
 early_anew s = refl

@@ -2,8 +2,8 @@
 use Rattle.std.proofs.Common.{◌≡◌, ◌∙◌, ap, sym, subst, ℕ, ◌≤◌, Bool, true, true≢false, inl, inr, if◌then◌else◌, arith}
 use Rattle.std.specs.Prelude.{Some, min}
 use Rattle.hypervisor.specs.Act.{FrontAct, front_act}
-use Rattle.xenbus_state.specs.declared.stage.FrontStage.{FrontStage}
-use Rattle.xenbus_state.specs.declared.stage.FrontStage.TheVariants as stage
+use Rattle.xenbus_state.specs.declared.stage.FrontBusStage.{FrontBusStage}
+use Rattle.xenbus_state.specs.declared.stage.FrontBusStage.TheVariants as stage
 use Rattle.xenbus_state.specs.FrontView.{FrontView, ring_order}
 use Rattle.xenbus_state.specs.FrontAsk.{ask_of}
 use Rattle.vbd_front.specs.View as front_view
@@ -28,7 +28,7 @@ least : (wished offered : ℕ) → wished ≤ 4 → offered ≡ 4 → min wished
 least wished offered few most = omega arith
 
 -- a front that begins its ring has read what its back offers
-begun_offered : (b : FrontStage) (v : FrontView) (n : ℕ) → is_begun b ≡ true → FrontOrdered b v n → v.features.order ≡ 4
+begun_offered : (b : FrontBusStage) (v : FrontView) (n : ℕ) → is_begun b ≡ true → FrontOrdered b v n → v.features.order ≡ 4
 begun_offered (stage.RingWord word) v n begun ordered = ordered.1
 begun_offered b v n begun ordered = absurd (true≢false (sym begun))
 

@@ -6,13 +6,13 @@ use Rattle.blk_base.specs.Options.{Options}
 use Rattle.blk_base.specs.declared.parts.End.{End}
 use Rattle.blk_base.specs.declared.parts.End.TheVariants as end
 use Rattle.blk_front.specs.declared.request.Request.{Request}
-use Rattle.blk_front.specs.declared.stage.Stage.{Stage}
-use Rattle.blk_front.specs.declared.stage.Stage.TheVariants as front_ring
+use Rattle.blk_front.specs.declared.stage.FrontStage.{FrontStage}
+use Rattle.blk_front.specs.declared.stage.FrontStage.TheVariants as front_ring
 use Rattle.blk_front.specs.Submit as front_submit
 use Rattle.xenbus_state.specs.declared.state.BusState.{BusState}
 use Rattle.xenbus_state.specs.declared.state.BusState.TheVariants as state
-use Rattle.xenbus_state.specs.declared.stage.FrontStage.{FrontStage}
-use Rattle.xenbus_state.specs.declared.stage.FrontStage.TheVariants as stage
+use Rattle.xenbus_state.specs.declared.stage.FrontBusStage.{FrontBusStage}
+use Rattle.xenbus_state.specs.declared.stage.FrontBusStage.TheVariants as stage
 use Rattle.xenbus_state.specs.FrontView.{FrontView}
 use Rattle.split_model.specs.World as rings
 use Rattle.split_model.specs.Keys.{KeyMove}
@@ -42,11 +42,11 @@ said_at : (n : Negotiation) → Reached n → AreStatesSaid n
 said_at n j = subst AreStatesSaid j.stands (states_said j.run)
 
 -- a front without requests, in its loop or closed, is unoccupied
-still_at : (requests : List Request) (s : Stage) → requests ≡ [] → (s ≡ front_ring.Loop) ⊎ (s ≡ front_ring.Closed) → (length requests + front_submit.ending_of s == 0 && front_view.is_still s) ≡ true
+still_at : (requests : List Request) (s : FrontStage) → requests ≡ [] → (s ≡ front_ring.Loop) ⊎ (s ≡ front_ring.Closed) → (length requests + front_submit.ending_of s == 0 && front_view.is_still s) ≡ true
 still_at requests s none (inl e) = rw (none, e) refl
 still_at requests s none (inr e) = rw (none, e) refl
 
-whole_at : (s : Stage) → (s ≡ front_ring.Loop) ⊎ (s ≡ front_ring.Closed) → front_view.is_broken s ≡ false
+whole_at : (s : FrontStage) → (s ≡ front_ring.Loop) ⊎ (s ≡ front_ring.Closed) → front_view.is_broken s ≡ false
 whole_at s (inl e) = ap front_view.is_broken e
 whole_at s (inr e) = ap front_view.is_broken e
 
@@ -58,12 +58,12 @@ is_closed s = false
 differs : {A : Type 0} (b c : BusState) → b ≡ state.Closed → b ≡ c → is_closed c ≡ false → A
 differs b c own is other = absurd (true≢false (sym (ap is_closed own) ∙ ap is_closed is ∙ other))
 
-rests_unclosed : {A : Type 0} (s : BusState) (gone : Bool) (port : Option ℕ) (r : Stage) → FrontRests s gone port r → s ≡ state.Closed → A
+rests_unclosed : {A : Type 0} (s : BusState) (gone : Bool) (port : Option ℕ) (r : FrontStage) → FrontRests s gone port r → s ≡ state.Closed → A
 rests_unclosed state.Closed gone port r rests own = absurd rests
 rests_unclosed s gone port r rests own = absurd (true≢false (sym (ap is_closed own)))
 
 -- a front that wrote Closed closes, where its end of the ring isn't broken
-closed_closes : (b : FrontStage) (v : FrontView) (r : Stage) → FrontGoesWith b v r → v.state ≡ state.Closed → front_view.is_broken r ≡ false → v.closing ≡ true
+closed_closes : (b : FrontBusStage) (v : FrontView) (r : FrontStage) → FrontGoesWith b v r → v.state ≡ state.Closed → front_view.is_broken r ≡ false → v.closing ≡ true
 closed_closes stage.Start v r goes own whole = differs v.state state.Initialising own goes.0 refl
 closed_closes stage.Rest v r goes own whole = elim goes [ inl rests ↦ rests_unclosed v.state v.gone v.port r rests own | inr is ↦ absurd (true≢false (sym is ∙ whole)) ]
 closed_closes stage.ReadState v r goes own whole = rests_unclosed v.state v.gone v.port r goes own

@@ -17,8 +17,8 @@ use Rattle.xenbus_state.specs.declared.state.BusState.{BusState}
 use Rattle.xenbus_state.specs.declared.state.BusState.TheVariants as state
 use Rattle.xenbus_state.specs.declared.offer.Features.{Features}
 use Rattle.xenbus_state.specs.declared.offer.DiskFacts.{DiskFacts}
-use Rattle.xenbus_state.specs.declared.stage.BackStage.{BackStage}
-use Rattle.xenbus_state.specs.declared.stage.BackStage.TheVariants as bus
+use Rattle.xenbus_state.specs.declared.stage.BackBusStage.{BackBusStage}
+use Rattle.xenbus_state.specs.declared.stage.BackBusStage.TheVariants as bus
 use Rattle.xenbus_state.specs.declared.table.BackAction.{BackAction}
 use Rattle.xenbus_state.specs.declared.table.BackAction.TheVariants as action
 use Rattle.xenbus_state.specs.declared.back.BackBusAsk.TheVariants as back_ask
@@ -48,7 +48,7 @@ use Rattle.vbd_laws.proofs.NegotiatedBack.{IsGiven}
 use Rattle.vbd_laws.proofs.ServedTexts.{few_states, page_name, state_name, ring_name, order_name, port_name, layout_name, persistent_name, number_text, page_path, front_state_path, back_state_path, back_path, ring_path, order_path, port_path, layout_path, persistent_path, flag_text, state_text}
 
 -- a page whose reference it reads is one of 16
-abbrev pub IsPlain : BackStage → Type 0
+abbrev pub IsPlain : BackBusStage → Type 0
 IsPlain (bus.ReadKey (key.RingRefOf page)) = page < 16
 IsPlain s = Unit {0}
 
@@ -59,7 +59,7 @@ pub record Speaks (v : BackView) : Type 0 where
   pub port : v.terms.port < 2 ^ 32
   pub stage : IsPlain v.stage
 
-at_speaks : (s : BackStage) (v : BackView) → IsPlain s → Speaks v → Speaks (record v { stage = s })
+at_speaks : (s : BackBusStage) (v : BackView) → IsPlain s → Speaks v → Speaks (record v { stage = s })
 at_speaks s v p h = record { sectors = h.sectors; order = h.order; grefs = h.grefs; port = h.port; stage = p }
 
 feature_plain : (k : Option BackKey) → IsPlain (after_feature k)
@@ -81,7 +81,7 @@ up_plain (page ∷ pages) bound own = tt
 up_plain [] true own = tt
 up_plain [] false own = tt
 
-either_plain : (b : Bool) (s t : BackStage) → IsPlain s → IsPlain t → IsPlain (if b then s else t)
+either_plain : (b : Bool) (s t : BackBusStage) → IsPlain s → IsPlain t → IsPlain (if b then s else t)
 either_plain true s t p q = p
 either_plain false s t p q = q
 
@@ -170,7 +170,7 @@ key_speaks key.EventChannel (Some text) v h = number_speaks (with_port v) text v
 key_speaks key.Protocol text v h = kept_speaks (with_layout v) (layout_read text) v (λ abi. record { sectors = h.sectors; order = h.order; grefs = h.grefs; port = h.port; stage = tt }) h
 key_speaks key.FeaturePersistent text v h = kept_speaks (with_persistent v) (count_read text) v (λ n. record { sectors = h.sectors; order = h.order; grefs = h.grefs; port = h.port; stage = tt }) h
 
-step_speaks : (s : BackStage) (v : BackView) (a : BackAnswer) → Speaks v → Speaks (step_at s v a)
+step_speaks : (s : BackBusStage) (v : BackView) (a : BackAnswer) → Speaks v → Speaks (step_at s v a)
 step_speaks (bus.Publish k) v answer.Done h = at_speaks (after_feature (next_feature k)) v (feature_plain (next_feature k)) h
 step_speaks (bus.WriteState s) v answer.Done h = record { sectors = h.sectors; order = h.order; grefs = h.grefs; port = h.port; stage = state_plain s }
 step_speaks bus.Watch v answer.Done h = at_speaks bus.Rest v tt h
@@ -263,7 +263,7 @@ unmap_spelled : (pages : List Mapping) → IsSpelled (key_move (unmap_ask pages)
 unmap_spelled [] = tt
 unmap_spelled (page ∷ pages) = tt
 
-at_spelled : (s : BackStage) (v : BackView) → v.features ≡ offer v.disk.read_only v.features.indirect → v.features.indirect ≤ 960 → v.disk.sectors < 2 ^ 64 → IsPlain s → IsSpelled (key_move (ask_at s v))
+at_spelled : (s : BackBusStage) (v : BackView) → v.features ≡ offer v.disk.read_only v.features.indirect → v.features.indirect ≤ 960 → v.disk.sectors < 2 ^ 64 → IsPlain s → IsSpelled (key_move (ask_at s v))
 at_spelled (bus.Publish k) v e most few p = value_spelled k v.features v.disk e most few
 at_spelled (bus.WriteState s) v e most few p = (back_state_path, state_text s)
 at_spelled bus.Watch v e most few p = front_state_path
@@ -327,7 +327,7 @@ key_read_halt : (k : FrontKey) (o : Option BackView) → IsPlain (bus.ReadKey k)
 key_read_halt k None p = plain_read k p
 key_read_halt k (Some v) p = tt
 
-halt_at_read : (s : BackStage) (v : BackView) (a : BackAnswer) → IsGiven a → IsPlain s → IsRead (halt_at s v a)
+halt_at_read : (s : BackBusStage) (v : BackView) (a : BackAnswer) → IsGiven a → IsPlain s → IsRead (halt_at s v a)
 halt_at_read bus.ReadState v (answer.Key text) given p = action_read v.state v.unplugged (state_read text)
 halt_at_read (bus.ReadKey k) v (answer.Key text) given p = key_read_halt k (key_read k text v) p
 halt_at_read bus.MapPage v (answer.MapRefused status) given p = absurd given

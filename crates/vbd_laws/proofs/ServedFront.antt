@@ -16,8 +16,8 @@ use Rattle.xenbus_state.specs.declared.keys.FrontKey.TheVariants as key
 use Rattle.xenbus_state.specs.declared.keys.BackKey.{BackKey}
 use Rattle.xenbus_state.specs.declared.state.BusState.{BusState}
 use Rattle.xenbus_state.specs.declared.state.BusState.TheVariants as state
-use Rattle.xenbus_state.specs.declared.stage.FrontStage.{FrontStage}
-use Rattle.xenbus_state.specs.declared.stage.FrontStage.TheVariants as bus
+use Rattle.xenbus_state.specs.declared.stage.FrontBusStage.{FrontBusStage}
+use Rattle.xenbus_state.specs.declared.stage.FrontBusStage.TheVariants as bus
 use Rattle.xenbus_state.specs.declared.table.FrontAction.{FrontAction}
 use Rattle.xenbus_state.specs.declared.table.FrontAction.TheVariants as action
 use Rattle.xenbus_state.specs.declared.front.FrontBusAsk.{FrontBusAsk}
@@ -48,7 +48,7 @@ abbrev pub IsPort : (Fits : ℕ → Type 0) → Option ℕ → Type 0
 IsPort Fits None = Unit {0}
 IsPort Fits (Some port) = Fits port
 
-abbrev pub IsPlain : FrontStage → Type 0
+abbrev pub IsPlain : FrontBusStage → Type 0
 IsPlain (bus.Publish (key.RingRefOf page)) = page < 16
 IsPlain s = Unit {0}
 
@@ -64,7 +64,7 @@ IsNumber port = port < 2 ^ 32
 abbrev pub Speaks : FrontView → Type 0
 Speaks v = SpeaksWith IsNumber v
 
-either_plain : (b : Bool) (s t : FrontStage) → IsPlain s → IsPlain t → IsPlain (if b then s else t)
+either_plain : (b : Bool) (s t : FrontBusStage) → IsPlain s → IsPlain t → IsPlain (if b then s else t)
 either_plain true s t p q = p
 either_plain false s t p q = q
 
@@ -77,7 +77,7 @@ closing_plain : (own : BusState) (v : FrontView) → IsPlain (closing_stage own 
 closing_plain state.Closing v = leaving_plain v.gone v.port
 closing_plain own v = tt
 
-due_plain : (s : FrontStage) (v : FrontView) (idle : Bool) → IsPlain s → IsPlain (due_at s v idle)
+due_plain : (s : FrontBusStage) (v : FrontView) (idle : Bool) → IsPlain s → IsPlain (due_at s v idle)
 due_plain bus.Rest v idle p = either_plain (v.closing && idle) (closing_stage v.state v) bus.Rest (closing_plain v.state v) tt
 due_plain s v idle p = p
 
@@ -126,7 +126,7 @@ published_plain key.FeaturePersistent order few = tt
 few_orders : (v : FrontView) → v.order ≤ 4 → ring_order v ≤ 4
 few_orders v o = let least : ring_order v ≤ v.order = omega arith in omega arith
 
-after_plain : (s : FrontStage) (v : FrontView) → v.order ≤ 4 → IsPlain s → IsPlain (after s v)
+after_plain : (s : FrontBusStage) (v : FrontView) → v.order ≤ 4 → IsPlain s → IsPlain (after s v)
 after_plain bus.Start v o p = tt
 after_plain (bus.RingWord word) v o p = either_plain (word == 15) (bus.Grant 0) (bus.RingWord (word + 1)) tt tt
 after_plain (bus.Grant page) v o p = either_plain (nat_lt (page + 1) (pages_of v)) (bus.Grant (page + 1)) bus.NewPort tt tt
@@ -158,7 +158,7 @@ module _ (Fits : ℕ → Type 0) where
   fact_speaks k None v o p = record { order = o; port = p; stage = tt }
   fact_speaks k (Some n) v o p = record { order = o; port = p; stage = fact_plain (next_fact k) }
 
-  step_speaks : (s : FrontStage) (v : FrontView) (idle : Bool) (a : FrontAnswer) → Tells a → v.order ≤ 4 → IsPort Fits v.port → IsPlain s → SpeaksWith Fits (step_at s (at s v) idle a)
+  step_speaks : (s : FrontBusStage) (v : FrontView) (idle : Bool) (a : FrontAnswer) → Tells a → v.order ≤ 4 → IsPort Fits v.port → IsPlain s → SpeaksWith Fits (step_at s (at s v) idle a)
   step_speaks bus.Rest v idle (answer.Watched path) told o p q = record { order = o; port = p; stage = tt }
   step_speaks bus.ReadState v idle (answer.Key text) told o p q = acted_speaks (front_action v.state v.closing idle (state_read text)) (at bus.ReadState v) o p
   step_speaks (bus.ReadFeature k) v idle (answer.Key text) told o p q = feature_speaks k (count_read text) (at (bus.ReadFeature k) v) o p
@@ -224,7 +224,7 @@ module _ (Fits : ℕ → Type 0) where
   pub suspended_speaks : (v : FrontView) → SpeaksWith Fits v → SpeaksWith Fits (suspended v)
   suspended_speaks v h = by_stage v.stage
     where
-      by_stage : (s : FrontStage) → SpeaksWith Fits (suspended_at s v)
+      by_stage : (s : FrontBusStage) → SpeaksWith Fits (suspended_at s v)
       by_stage bus.Closed = h
       by_stage (bus.Broken word) = h
       by_stage s = record { order = h.order; port = tt; stage = tt }
@@ -266,7 +266,7 @@ small_port : (port : Option ℕ) → IsPort IsNumber port → unwrap_or port 0 <
 small_port None fits = omega arith
 small_port (Some p) fits = omega arith
 
-at_spelled : (s : FrontStage) (v : FrontView) → v.order ≤ 4 → IsPort IsNumber v.port → IsPlain s → IsSpelled (front_key (ask_at s v))
+at_spelled : (s : FrontBusStage) (v : FrontView) → v.order ≤ 4 → IsPort IsNumber v.port → IsPlain s → IsSpelled (front_key (ask_at s v))
 at_spelled bus.Start v o p q = back_state_path
 at_spelled bus.ReadState v o p q = back_state_path
 at_spelled (bus.ReadFeature k) v o p q = back_path k
@@ -286,7 +286,7 @@ front_spelled w h =
     asks_cases (λ (b : FrontBusAsk). IsSpelled (front_key b)) w (λ left. tt) (λ none. at_spelled (due w.front idle) w.front h.order h.port (due_plain w.front.stage w.front idle h.stage))
 
 -- it is connected and closed as it writes so, and a word that breaks it is one of 0, 6 and 9
-abbrev pub IsNewsAt : FrontStage → Option FrontNews → Type 0
+abbrev pub IsNewsAt : FrontBusStage → Option FrontNews → Type 0
 IsNewsAt s (Some news.Ready) = s ≡ bus.WriteState state.Connected
 IsNewsAt s (Some news.Closed) = s ≡ bus.WriteState state.Closed
 IsNewsAt s (Some (news.Broken word)) = word < 2 ^ 32
@@ -328,18 +328,18 @@ action_word own closing idle (Some state.Initialised) = tt
 action_word own closing idle (Some state.Reconfiguring) = tt
 action_word own closing idle (Some state.Reconfigured) = tt
 
-begun_is : (s : FrontStage) (closing : Bool) → IsNewsAt s (closing_news closing)
+begun_is : (s : FrontBusStage) (closing : Bool) → IsNewsAt s (closing_news closing)
 begun_is s true = tt
 begun_is s false = tt
 
-acted_is : (s : FrontStage) (act : FrontAction) (closing : Bool) → IsWordAction act → IsNewsAt s (action_news act closing)
+acted_is : (s : FrontBusStage) (act : FrontAction) (closing : Bool) → IsWordAction act → IsNewsAt s (action_news act closing)
 acted_is s (action.Break word) closing few = few
 acted_is s action.Close closing few = begun_is s closing
 acted_is s action.CloseAndConnect closing few = begun_is s closing
 acted_is s action.Leave closing few = begun_is s closing
 acted_is s act closing few = tt
 
-read_is : (s : FrontStage) (n : Option ℕ) → IsNewsAt s (read_news n)
+read_is : (s : FrontBusStage) (n : Option ℕ) → IsNewsAt s (read_news n)
 read_is s None = omega arith
 read_is s (Some n) = tt
 
@@ -348,7 +348,7 @@ written_is state.Connected = refl
 written_is state.Closed = refl
 written_is s = tt
 
-news_at_is : (s : FrontStage) (v : FrontView) (idle : Bool) (a : FrontAnswer) → IsNewsAt s (news_at s v idle a)
+news_at_is : (s : FrontBusStage) (v : FrontView) (idle : Bool) (a : FrontAnswer) → IsNewsAt s (news_at s v idle a)
 news_at_is bus.ReadState v idle (answer.Key text) = acted_is bus.ReadState (front_action v.state v.closing idle (state_read text)) v.closing (action_word v.state v.closing idle (state_read text))
 news_at_is (bus.ReadFeature k) v idle (answer.Key text) = read_is (bus.ReadFeature k) (count_read text)
 news_at_is (bus.ReadFact k) v idle (answer.Key text) = read_is (bus.ReadFact k) (fact_read k text)

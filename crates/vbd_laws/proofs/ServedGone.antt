@@ -15,22 +15,22 @@ use Rattle.hypervisor.specs.Hypervisor.{Hypervisor}
 use Rattle.hypervisor.specs.Act.{BackAct, Outcome, Took, front_act, back_act, front_watched, back_watched, watch_next, has_to_take}
 use Rattle.hypervisor.specs.Suspend.{suspended as under_suspended}
 use Rattle.back_jobs.specs.Jobs.{ask_job}
-use Rattle.blk_front.specs.declared.stage.Stage.{Stage as FrontRing}
-use Rattle.blk_front.specs.declared.stage.Stage.TheVariants as front_ring
+use Rattle.blk_front.specs.declared.stage.FrontStage.{FrontStage}
+use Rattle.blk_front.specs.declared.stage.FrontStage.TheVariants as front_ring
 use Rattle.blk_front.specs.Ask as front_ring_ask
 use Rattle.blk_front.specs.State.{is_open, is_made, is_bare}
 use Rattle.blk_front.specs.Submit as front_submit
 use Rattle.blk_front.specs.Submit.{is_ready, is_connected}
 use Rattle.blk_front.specs.Suspend.{is_left, resumed}
-use Rattle.blk_back.specs.declared.stage.Stage.{Stage as BackRing}
-use Rattle.blk_back.specs.declared.stage.Stage.TheVariants as ring
+use Rattle.blk_back.specs.declared.stage.BackStage.{BackStage}
+use Rattle.blk_back.specs.declared.stage.BackStage.TheVariants as ring
 use Rattle.blk_back.specs.Ask as ring_ask
 use Rattle.xenbus_state.specs.declared.state.BusState.{BusState}
 use Rattle.xenbus_state.specs.declared.state.BusState.TheVariants as state
-use Rattle.xenbus_state.specs.declared.stage.FrontStage.{FrontStage}
-use Rattle.xenbus_state.specs.declared.stage.FrontStage.TheVariants as bus
-use Rattle.xenbus_state.specs.declared.stage.BackStage.{BackStage}
-use Rattle.xenbus_state.specs.declared.stage.BackStage.TheVariants as back_bus
+use Rattle.xenbus_state.specs.declared.stage.FrontBusStage.{FrontBusStage}
+use Rattle.xenbus_state.specs.declared.stage.FrontBusStage.TheVariants as bus
+use Rattle.xenbus_state.specs.declared.stage.BackBusStage.{BackBusStage}
+use Rattle.xenbus_state.specs.declared.stage.BackBusStage.TheVariants as back_bus
 use Rattle.xenbus_state.specs.declared.front.FrontBusAsk.{FrontBusAsk}
 use Rattle.xenbus_state.specs.declared.front.FrontBusAsk.TheVariants as front_bus_ask
 use Rattle.xenbus_state.specs.declared.back.BackBusAsk.{BackBusAsk}
@@ -70,23 +70,23 @@ pub record IsGone (w : World) : Type 0 where
   pub channels : w.rings.under.channels ≡ reset w.rings.under.channels
 
 -- a front whose end of the ring isn't broken is open, or its negotiation is closed
-open_by : (is_such : FrontRing → Bool) → is_such front_ring.Closed ≡ false → ((word : ℕ) → is_such (front_ring.Broken word) ≡ false) → (r : FrontRing) → is_such r ≡ true → is_open r ≡ true
+open_by : (is_such : FrontStage → Bool) → is_such front_ring.Closed ≡ false → ((word : ℕ) → is_such (front_ring.Broken word) ≡ false) → (r : FrontStage) → is_such r ≡ true → is_open r ≡ true
 open_by is_such closed broken front_ring.Closed is = absurd (true≢false (sym is ∙ closed))
 open_by is_such closed broken (front_ring.Broken word) is = absurd (true≢false (sym is ∙ broken word))
 open_by is_such closed broken r is = refl
 
-ending_open : (page : ℕ) (r : FrontRing) → IsEndingPage page r → is_open r ≡ true
+ending_open : (page : ℕ) (r : FrontStage) → IsEndingPage page r → is_open r ≡ true
 ending_open page (front_ring.RingRead k) fits = refl
 ending_open page (front_ring.RingEnd k seen) fits = refl
 ending_open page r fits = absurd fits
 
-granting_open : (page : ℕ) (r : FrontRing) → IsGranting page r → is_open r ≡ true
+granting_open : (page : ℕ) (r : FrontStage) → IsGranting page r → is_open r ≡ true
 granting_open page (front_ring.RingFrame k) fits = refl
 granting_open page (front_ring.RingFence k) fits = refl
 granting_open page (front_ring.RingFlags k) fits = refl
 granting_open page r fits = absurd fits
 
-rests_open : (own : BusState) (gone : Bool) (port : Option ℕ) (r : FrontRing) → FrontRests own gone port r → is_open r ≡ true
+rests_open : (own : BusState) (gone : Bool) (port : Option ℕ) (r : FrontStage) → FrontRests own gone port r → is_open r ≡ true
 rests_open state.Initialising gone port r fits = ap is_open fits.0
 rests_open state.Initialised gone port r fits = ap is_open fits.0
 rests_open state.Connected gone port r fits = open_by is_ready refl (λ word. refl) r fits.0
@@ -96,11 +96,11 @@ rests_open state.Closing true (Some p) r fits = ending_open 0 r fits
 rests_open state.Closing true None r fits = absurd fits
 rests_open own gone port r fits = absurd fits
 
-unbegun_open : (r : FrontRing) → IsUnbegun r → is_open r ≡ true
+unbegun_open : (r : FrontStage) → IsUnbegun r → is_open r ≡ true
 unbegun_open r (inl begins) = ap is_open begins
 unbegun_open r (inr left) = open_by is_left refl (λ word. refl) r left
 
-open_at : (s : FrontStage) (v : FrontView) (r : FrontRing) → FrontGoesWith s v r → front_view.is_broken r ≡ false → (s ≡ bus.Closed) ⊎ (is_open r ≡ true)
+open_at : (s : FrontBusStage) (v : FrontView) (r : FrontStage) → FrontGoesWith s v r → front_view.is_broken r ≡ false → (s ≡ bus.Closed) ⊎ (is_open r ≡ true)
 open_at bus.Start v r fits whole = inr (unbegun_open r fits.1)
 open_at bus.Rest v r (inl fits) whole = inr (rests_open v.state v.gone v.port r fits)
 open_at bus.Rest v r (inr broken) whole = absurd (true≢false (sym broken ∙ whole))
@@ -155,10 +155,10 @@ none_said false = refl
 module _ (w : World) (fit : IsFit w) (gone : IsGone w) where
   -- the ends of the ring, and both states
   goes : (w.front.state ≡ state.Closed) × (w.rings.front.stage ≡ front_ring.Closed) × (w.front.closing ≡ true)
-  goes = subst (λ (s : FrontStage). FrontGoesWith s w.front w.rings.front.stage) gone.front fit.front
+  goes = subst (λ (s : FrontBusStage). FrontGoesWith s w.front w.rings.front.stage) gone.front fit.front
 
   halts : (w.back.state ≡ state.Closed) × (w.rings.back.stage ≡ ring.Halted)
-  halts = subst (λ (s : BackStage). BackGoesWith s w.back.state w.rings.back.stage) gone.back fit.back
+  halts = subst (λ (s : BackBusStage). BackGoesWith s w.back.state w.rings.back.stage) gone.back fit.back
 
   halted : is_some w.rings.back.halted ≡ true
   halted = fit.halted ∙ ap is_halting gone.back
@@ -181,29 +181,29 @@ module _ (w : World) (fit : IsFit w) (gone : IsGone w) where
   front_rests =
       let idle : Bool = front_view.is_unoccupied w.rings.front in
       ap (λ (left : Bool). if left then front_bus_ask.Wait else front_bus.ask_of w.front idle) (ap is_left goes.1)
-      ∙ ap (λ (s : FrontStage). front_bus.ask_at (front_bus.due_at s w.front idle) w.front) gone.front
+      ∙ ap (λ (s : FrontBusStage). front_bus.ask_at (front_bus.due_at s w.front idle) w.front) gone.front
 
   back_rests : back_asks w ≡ back_bus_ask.Wait
   back_rests =
       ap (λ (b : Bool). if b then back_bus_ask.SetState state.Closing else back_buses.ask_at w.back.stage w.back)
-      (ap (λ (s : BackStage). w.back.unplugged && back_buses.says_closing_at s w.back.state) gone.back ∙ none_said w.back.unplugged)
-      ∙ ap (λ (s : BackStage). back_buses.ask_at s w.back) gone.back
+      (ap (λ (s : BackBusStage). w.back.unplugged && back_buses.says_closing_at s w.back.state) gone.back ∙ none_said w.back.unplugged)
+      ∙ ap (λ (s : BackBusStage). back_buses.ask_at s w.back) gone.back
 
   front_moves : front.ring_moves (front_asks w) w.rings.front.stage ≡ true
-  front_moves = ap (λ (b : FrontBusAsk). front.ring_moves b w.rings.front.stage) front_rests ∙ ap (λ (s : FrontRing). front.ring_moves front_bus_ask.Wait s) goes.1
+  front_moves = ap (λ (b : FrontBusAsk). front.ring_moves b w.rings.front.stage) front_rests ∙ ap (λ (s : FrontStage). front.ring_moves front_bus_ask.Wait s) goes.1
 
   back_moves : back.ring_moves (back_asks w) w.rings.back.stage ≡ true
-  back_moves = ap (λ (b : BackBusAsk). back.ring_moves b w.rings.back.stage) back_rests ∙ ap (λ (s : BackRing). back.ring_moves back_bus_ask.Wait s) halts.1
+  back_moves = ap (λ (b : BackBusAsk). back.ring_moves b w.rings.back.stage) back_rests ∙ ap (λ (s : BackStage). back.ring_moves back_bus_ask.Wait s) halts.1
 
   front_waits : front.ask_of (frontend_of w) ≡ front_ask.Wait
   front_waits =
       ap (λ (b : FrontBusAsk). front.ask_at b (frontend_of w)) front_rests
-      ∙ (ap (λ (s : FrontRing). front.ring_ask (front.ring_moves front_bus_ask.Wait s) (frontend_of w)) goes.1 ∙ ap (λ (s : FrontRing). front_ring_ask.ask_at s w.rings.front) goes.1)
+      ∙ (ap (λ (s : FrontStage). front.ring_ask (front.ring_moves front_bus_ask.Wait s) (frontend_of w)) goes.1 ∙ ap (λ (s : FrontStage). front_ring_ask.ask_at s w.rings.front) goes.1)
 
   back_waits : back.ask_of (backend_of w) ≡ back_ask.Wait
   back_waits =
       ap (λ (b : BackBusAsk). back.ask_at b (backend_of w)) back_rests
-      ∙ (ap (λ (s : BackRing). back.ring_ask (back.ring_moves back_bus_ask.Wait s) (backend_of w)) halts.1 ∙ ap (λ (s : BackRing). ring_ask.ask_at s w.rings.back) halts.1)
+      ∙ (ap (λ (s : BackStage). back.ring_ask (back.ring_moves back_bus_ask.Wait s) (backend_of w)) halts.1 ∙ ap (λ (s : BackStage). ring_ask.ask_at s w.rings.back) halts.1)
 
   -- so neither moves
   front_still : front_turn w ≡ None

@@ -21,8 +21,8 @@ use Rattle.schedule_text.specs.Range.{AreOptions}
 use Rattle.line_text.proofs.Both.{both_true}
 use Rattle.ring_words.specs.Ring.{requests_of}
 use Rattle.ring_words.specs.Shape.{Shape}
-use Rattle.blk_front.specs.declared.stage.Stage.{Stage as FrontRing}
-use Rattle.blk_front.specs.declared.stage.Stage.TheVariants as front_ring
+use Rattle.blk_front.specs.declared.stage.FrontStage.{FrontStage}
+use Rattle.blk_front.specs.declared.stage.FrontStage.TheVariants as front_ring
 use Rattle.blk_front.specs.declared.state.FrontState.{FrontState}
 use Rattle.blk_front.specs.declared.state.FrontState.TheVariants as entered
 use Rattle.blk_front.specs.declared.state.Offers.{Offers}
@@ -33,8 +33,8 @@ use Rattle.blk_front.specs.State.{is_open, is_made}
 use Rattle.blk_front.specs.Suspend.{is_left}
 use Rattle.blk_front.specs.Submit.{is_connected}
 use Rattle.blk_back.specs.declared.stage.Reply.{Reply}
-use Rattle.blk_back.specs.declared.stage.Stage.{Stage as BackRing}
-use Rattle.blk_back.specs.declared.stage.Stage.TheVariants as ring
+use Rattle.blk_back.specs.declared.stage.BackStage.{BackStage}
+use Rattle.blk_back.specs.declared.stage.BackStage.TheVariants as ring
 use Rattle.blk_back.specs.View as ring_view
 use Rattle.blk_back.specs.Ask as ring_ask
 use Rattle.blk_back.specs.Step as ring_step
@@ -45,10 +45,10 @@ use Rattle.xenbus_state.specs.declared.keys.FrontKey.TheVariants as key
 use Rattle.xenbus_state.specs.declared.values.FrontTerms.{FrontTerms}
 use Rattle.xenbus_state.specs.declared.state.BusState.{BusState}
 use Rattle.xenbus_state.specs.declared.state.BusState.TheVariants as state
-use Rattle.xenbus_state.specs.declared.stage.FrontStage.{FrontStage}
-use Rattle.xenbus_state.specs.declared.stage.FrontStage.TheVariants as bus
-use Rattle.xenbus_state.specs.declared.stage.BackStage.{BackStage}
-use Rattle.xenbus_state.specs.declared.stage.BackStage.TheVariants as back_bus
+use Rattle.xenbus_state.specs.declared.stage.FrontBusStage.{FrontBusStage}
+use Rattle.xenbus_state.specs.declared.stage.FrontBusStage.TheVariants as bus
+use Rattle.xenbus_state.specs.declared.stage.BackBusStage.{BackBusStage}
+use Rattle.xenbus_state.specs.declared.stage.BackBusStage.TheVariants as back_bus
 use Rattle.xenbus_state.specs.declared.front.FrontBusAsk.{FrontBusAsk}
 use Rattle.xenbus_state.specs.declared.front.FrontBusAsk.TheVariants as front_ask
 use Rattle.xenbus_state.specs.declared.table.BackHalt.{BackHalt}
@@ -139,11 +139,11 @@ pub record Honest (config : Options) (w : World) : Type 0 where
   pub going : Going w ⊎ IsGone w
 
 -- the front's end of the ring is never broken
-whole_holds : (config : Options) (w : rings.World) (g : Flow) (d : Pipeline) (s : FrontRing) (b : BackRing) → Holds config w g d s b → front_view.is_broken s ≡ false
+whole_holds : (config : Options) (w : rings.World) (g : Flow) (d : Pipeline) (s : FrontStage) (b : BackStage) → Holds config w g d s b → front_view.is_broken s ≡ false
 whole_holds config w g d (front_ring.Broken word) b h = absurd h.front_at
 whole_holds config w g d s b h = refl
 
-whole_over : (config : Options) (w : rings.World) (d : Pipeline) (s : FrontRing) (b : BackRing) → Over config w d s b → front_view.is_broken s ≡ false
+whole_over : (config : Options) (w : rings.World) (d : Pipeline) (s : FrontStage) (b : BackStage) → Over config w d s b → front_view.is_broken s ≡ false
 whole_over config w d (front_ring.Broken word) b o = absurd o.front_at
 whole_over config w d s b o = refl
 
@@ -158,7 +158,7 @@ whole_now config w standing = by_kept standing.kept
 pub hand_now : (config : Options) (w : World) → Honest config w → HasInHand w.rings.front.stage w.rings.front.ending
 hand_now config w honest = in_hand w honest.front_checks.0 honest.front_checks.1
 
-left_over : (config : Options) (w : rings.World) (d : Pipeline) (s : FrontRing) (b : BackRing) → Over config w d s b → is_left s ≡ false
+left_over : (config : Options) (w : rings.World) (d : Pipeline) (s : FrontStage) (b : BackStage) → Over config w d s b → is_left s ≡ false
 left_over config w d (front_ring.LeftData n) b o = absurd o.front_at
 left_over config w d s b o = refl
 
@@ -176,7 +176,7 @@ IsMaking (front_ask.Grant page) = Unit {0}
 IsMaking front_ask.NewPort = Unit {0}
 IsMaking b = ⊥
 
-made_or_making : (b : FrontBusAsk) (r : FrontRing) → is_left r ≡ false → front.ring_moves b r ≡ true → (is_connected r ≡ true) ⊎ IsMaking b
+made_or_making : (b : FrontBusAsk) (r : FrontStage) → is_left r ≡ false → front.ring_moves b r ≡ true → (is_connected r ≡ true) ⊎ IsMaking b
 made_or_making (front_ask.WriteRingWord word) r none moves = inr tt
 made_or_making (front_ask.Grant page) r none moves = inr tt
 made_or_making front_ask.NewPort r none moves = inr tt
@@ -202,7 +202,7 @@ rest_made : (c : Bool) (v : FrontView) → IsMaking (ask_at (if c then closing_s
 rest_made true v making = closing_made v.state v making
 rest_made false v making = making
 
-making_at : (s : FrontStage) (v : FrontView) (idle : Bool) (r : FrontRing) → FrontGoesWith s v r → IsMaking (ask_at (due_at s v idle) v) → v.state ≡ state.Initialising
+making_at : (s : FrontBusStage) (v : FrontView) (idle : Bool) (r : FrontStage) → FrontGoesWith s v r → IsMaking (ask_at (due_at s v idle) v) → v.state ≡ state.Initialising
 making_at (bus.RingWord word) v idle r fits making = fits.0
 making_at (bus.Grant page) v idle r fits making = fits.0
 making_at bus.NewPort v idle r fits making = fits.0
@@ -242,7 +242,7 @@ enters_when w v n fit same own (entered.Connected offers) timely is = record {
 }
 enters_when w v n fit same own entered.Closing timely is = tt
 enters_when w v n fit same own entered.Leaving timely is =
-    let fits = subst (λ (s : BackStage). BackGoesWith s w.back.state w.rings.back.stage) timely.stage fit.back in
+    let fits = subst (λ (s : BackBusStage). BackGoesWith s w.back.state w.rings.back.stage) timely.stage fit.back in
     ap (λ (b : ring_view.View). b.stage) same ∙ fits.1
 enters_when w v n fit same own entered.Closed timely is = ap (λ (b : ring_view.View). is_some b.halted) same ∙ (fit.halted ∙ ap is_halting timely.stage)
 enters_when w v n fit same own (entered.Broken word) timely is = absurd timely
@@ -275,11 +275,11 @@ late_leaves : (n : Negotiation) → Reached n → LeavesLate n
 late_leaves n j = let h = run_holds j.run in subst LeavesLate j.stands (h.front.stage_after, h.front.gone_after)
 
 -- before that a front that wrote Closing is at nothing
-made_free : (r : FrontRing) → is_made r ≡ true → is_free r ≡ true
+made_free : (r : FrontStage) → is_made r ≡ true → is_free r ≡ true
 made_free (front_ring.RingWord k) is = absurd (true≢false (sym is))
 made_free r is = is
 
-rests_free : (gone : Bool) (port : Option ℕ) (r : FrontRing) (n : ℕ) → FrontRests state.Closing gone port r → (gone ≡ true → 6 ≤ n) → n < 6 → is_free r ≡ true
+rests_free : (gone : Bool) (port : Option ℕ) (r : FrontStage) (n : ℕ) → FrontRests state.Closing gone port r → (gone ≡ true → 6 ≤ n) → n < 6 → is_free r ≡ true
 rests_free false None r n fits late low = ap is_free fits
 rests_free false (Some p) r n fits late low = made_free r fits
 rests_free true port r n fits late low = absurd (let high = late refl in omega arith)
@@ -287,7 +287,7 @@ rests_free true port r n fits late low = absurd (let high = late refl in omega a
 not_early : {A : Type 0} (own s : BusState) → own ≡ s → state_number s < 5 → own ≡ state.Closing → A
 not_early own s e low f = absurd (let same : state_number own ≡ state_number s = ap state_number e in let five : state_number own ≡ 5 = ap state_number f in omega arith)
 
-closing_free : (s : FrontStage) (v : FrontView) (r : FrontRing) (n : ℕ) → FrontGoesWith s v r → v.state ≡ state.Closing → front_view.is_broken r ≡ false → stage_needs s ≤ n → (v.gone ≡ true → 6 ≤ n) → n < 6 → is_free r ≡ true
+closing_free : (s : FrontBusStage) (v : FrontView) (r : FrontStage) (n : ℕ) → FrontGoesWith s v r → v.state ≡ state.Closing → front_view.is_broken r ≡ false → stage_needs s ≤ n → (v.gone ≡ true → 6 ≤ n) → n < 6 → is_free r ≡ true
 closing_free bus.Rest v r n (inl fits) e whole needs late low = rests_free v.gone v.port r n (subst (λ (own : BusState). FrontRests own v.gone v.port r) e fits) late low
 closing_free bus.Rest v r n (inr broken) e whole needs late low = absurd (true≢false (sym broken ∙ whole))
 closing_free bus.ReadState v r n fits e whole needs late low = rests_free v.gone v.port r n (subst (λ (own : BusState). FrontRests own v.gone v.port r) e fits) late low
@@ -309,13 +309,13 @@ closing_free (bus.Broken word) v r n fits e whole needs late low = absurd (omega
 closing_free s v r n fits e whole needs late low = absurd fits
 
 -- a back that halts isn't closed yet
-low_reads : (own : BusState) (r : BackRing) → BackReads own r → state_number own < 6
+low_reads : (own : BusState) (r : BackStage) → BackReads own r → state_number own < 6
 low_reads state.InitWait r fits = omega arith
 low_reads state.Connected r fits = omega arith
 low_reads state.Closing r fits = omega arith
 low_reads own r fits = absurd fits
 
-low_at : (s : BackStage) (v : BackView) (x : BackAnswer) (r : BackRing) (why : BackHalt) → bus_step.halt_at s v x ≡ Some why → BackGoesWith s v.state r → state_number v.state < 6
+low_at : (s : BackBusStage) (v : BackView) (x : BackAnswer) (r : BackStage) (why : BackHalt) → bus_step.halt_at s v x ≡ Some why → BackGoesWith s v.state r → state_number v.state < 6
 low_at back_bus.ReadState v x r why e fits = low_reads v.state r fits
 low_at (back_bus.ReadKey k) v x r why e fits = rw (waits_reading k v.state r fits).0 (omega arith)
 low_at back_bus.MapPage v x r why e fits = rw fits.0 (omega arith)
@@ -323,7 +323,7 @@ low_at back_bus.Bind v x r why e fits = rw fits.0 (omega arith)
 low_at back_bus.Watch v x r why e fits = absurd (none-some why e)
 low_at s v x r why e fits = absurd (none-some why e)
 
-low_halt : (v : BackView) (x : BackAnswer) (r : BackRing) (why : BackHalt) → bus_step.halt_of v x ≡ Some why → BackGoesWith v.stage v.state r → state_number v.state < 6
+low_halt : (v : BackView) (x : BackAnswer) (r : BackStage) (why : BackHalt) → bus_step.halt_of v x ≡ Some why → BackGoesWith v.stage v.state r → state_number v.state < 6
 low_halt v x r why e fits = by_test (says_closing v) e
   where
     by_test : (b : Bool) → (if b then None else bus_step.halt_at v.stage v x) ≡ Some why → state_number v.state < 6
@@ -396,7 +396,7 @@ unmap_given [] x is = absurd is
 unmap_given (page ∷ pages) answer.Done is = tt
 unmap_given (page ∷ pages) x is = absurd is
 
-unhalted_given : (s : BackRing) (v : ring_view.View) (x : BackAnswer) → ring_ask.IsAnswer (ring_ask.ask_at s v) x → (ring_step.step_at s v x).halted ≡ None → IsGiven x
+unhalted_given : (s : BackStage) (v : ring_view.View) (x : BackAnswer) → ring_ask.IsAnswer (ring_ask.ask_at s v) x → (ring_step.step_at s v x).halted ≡ None → IsGiven x
 unhalted_given ring.MapRing v (answer.MapRefused status) is unhalted = absurd (none-some _ (sym unhalted))
 unhalted_given ring.Bind v answer.BindRefused is unhalted = absurd (none-some _ (sym unhalted))
 unhalted_given ring.Loop v x is unhalted = loop_refuses v (ring_ask.next_reply v) x is
@@ -411,7 +411,7 @@ record Quiet (r : ring_view.View) (x : BackAnswer) : Type 0 where
   given : IsGiven x
   same : (ring_step.step_of r x).halted ≡ r.halted
 
-up_quiet : (s : BackRing) (held : List Mapping) (r : ring_view.View) (x : BackAnswer) → IsAborting held s → ring_ask.IsAnswer (ring_ask.ask_at s r) x → IsGiven x × ((ring_step.step_at s r x).halted ≡ r.halted)
+up_quiet : (s : BackStage) (held : List Mapping) (r : ring_view.View) (x : BackAnswer) → IsAborting held s → ring_ask.IsAnswer (ring_ask.ask_at s r) x → IsGiven x × ((ring_step.step_at s r x).halted ≡ r.halted)
 up_quiet ring.UnmapRing held r x up is = (unmap_given r.pages x is, refl)
 up_quiet ring.UnmapUnbound held r x up is = (unmap_given r.pages x is, refl)
 up_quiet ring.ClosePort held r answer.Done up is = (tt, refl)
@@ -462,39 +462,39 @@ back_joins config w honest going = by_act (back_turn w) refl
     by_act (Some a) e = let moved : IsBackMove w a = back_move_is w a honest.stands.fit e in subst Joined (sym moved.world) (back_joined config w a honest going e)
 
 -- an end of the ring that maps is elsewhere than here
-abbrev is_mapping : BackRing → Bool
+abbrev is_mapping : BackStage → Bool
 is_mapping ring.MapRing = true
 is_mapping r = false
 
-not_mapping : {A : Type 0} {r : BackRing} (t : BackRing) → t ≡ r → t ≡ ring.MapRing → is_mapping r ≡ false → A
+not_mapping : {A : Type 0} {r : BackStage} (t : BackStage) → t ≡ r → t ≡ ring.MapRing → is_mapping r ≡ false → A
 not_mapping t at e other = absurd (true≢false (sym (ap is_mapping e) ∙ ap is_mapping at ∙ other))
 
-served_map : {A : Type 0} (t : BackRing) → is_serving t ≡ true → t ≡ ring.MapRing → A
+served_map : {A : Type 0} (t : BackStage) → is_serving t ≡ true → t ≡ ring.MapRing → A
 served_map t is e = absurd (true≢false (sym is ∙ ap is_serving e))
 
-rests_map : {A : Type 0} (own : BusState) (t : BackRing) → BackRests own t → t ≡ ring.MapRing → A
+rests_map : {A : Type 0} (own : BusState) (t : BackStage) → BackRests own t → t ≡ ring.MapRing → A
 rests_map state.InitWait t fits e = not_mapping t fits e refl
 rests_map state.Connected t fits e = served_map t fits e
 rests_map state.Closing t fits e = served_map t fits e
 rests_map own t fits e = absurd fits
 
-reads_map : {A : Type 0} (own : BusState) (t : BackRing) → BackReads own t → t ≡ ring.MapRing → A
+reads_map : {A : Type 0} (own : BusState) (t : BackStage) → BackReads own t → t ≡ ring.MapRing → A
 reads_map state.InitWait t fits e = not_mapping t fits e refl
 reads_map state.Connected t fits e = not_mapping t fits e refl
 reads_map state.Closing t fits e = not_mapping t fits e refl
 reads_map own t fits e = absurd fits
 
-given_map : {A : Type 0} (t : BackRing) → Aborts t → t ≡ ring.MapRing → A
+given_map : {A : Type 0} (t : BackStage) → Aborts t → t ≡ ring.MapRing → A
 given_map (ring.Abort m) up e = not_mapping (ring.Abort m) refl e refl
 given_map t up e = absurd up
 
-unmapped_map : {A : Type 0} (t : BackRing) → IsUnmapping t → t ≡ ring.MapRing → A
+unmapped_map : {A : Type 0} (t : BackStage) → IsUnmapping t → t ≡ ring.MapRing → A
 unmapped_map ring.UnmapRing up e = not_mapping ring.UnmapRing refl e refl
 unmapped_map ring.UnmapUnbound up e = not_mapping ring.UnmapUnbound refl e refl
 unmapped_map t up e = absurd up
 
 -- a back that has read the layout has read all the terms of its front but one, or all
-map_reads : (s : BackStage) (own : BusState) (t : BackRing) → BackGoesWith s own t → t ≡ ring.MapRing → (s ≡ back_bus.ReadKey key.FeaturePersistent) ⊎ (s ≡ back_bus.MapPage)
+map_reads : (s : BackBusStage) (own : BusState) (t : BackStage) → BackGoesWith s own t → t ≡ ring.MapRing → (s ≡ back_bus.ReadKey key.FeaturePersistent) ⊎ (s ≡ back_bus.MapPage)
 map_reads (back_bus.ReadKey key.FeaturePersistent) own t fits e = inl refl
 map_reads (back_bus.ReadKey k) own t fits e = not_mapping t fits.1 e refl
 map_reads back_bus.MapPage own t fits e = inr refl
@@ -526,9 +526,9 @@ record GoesByTerms (f : FrontView) (b : BackView) : Type 0 where
 abbrev MapsByTerms : Negotiation → Type 0
 MapsByTerms n = (n.back.stage ≡ back_bus.ReadKey key.FeaturePersistent) ⊎ (n.back.stage ≡ back_bus.MapPage) → GoesByTerms n.front n.back
 
-serving : (s : BackStage) (own : BusState) → (s ≡ back_bus.ReadKey key.FeaturePersistent) ⊎ (s ≡ back_bus.MapPage) → serves s own ≡ true
-serving s own (inl e) = ap (λ (x : BackStage). serves x own) e
-serving s own (inr e) = ap (λ (x : BackStage). serves x own) e
+serving : (s : BackBusStage) (own : BusState) → (s ≡ back_bus.ReadKey key.FeaturePersistent) ⊎ (s ≡ back_bus.MapPage) → serves s own ≡ true
+serving s own (inl e) = ap (λ (x : BackBusStage). serves x own) e
+serving s own (inr e) = ap (λ (x : BackBusStage). serves x own) e
 
 maps_by_terms : (n : Negotiation) → Reached n → MapsByTerms n
 maps_by_terms n j = subst MapsByTerms j.stands (λ at. by_stage at)
@@ -543,14 +543,14 @@ maps_by_terms n j = subst MapsByTerms j.stands (λ at. by_stage at)
         let after = h.back.serving_after serves_so in
         let read = h.back.read serves_so in
         elim at [
-          | inl e ↦ (let terms = subst (λ (s : BackStage). BackRead s m.back.terms (terms_of m.front) m.back.grefs) e read in record { late = after.0; some = after.1; abi = terms.3; order = terms.0; port = terms.2; grefs = terms.1 })
+          | inl e ↦ (let terms = subst (λ (s : BackBusStage). BackRead s m.back.terms (terms_of m.front) m.back.grefs) e read in record { late = after.0; some = after.1; abi = terms.3; order = terms.0; port = terms.2; grefs = terms.1 })
           | inr e ↦
-              (let terms = subst (λ (s : BackStage). BackRead s m.back.terms (terms_of m.front) m.back.grefs) e read in
+              (let terms = subst (λ (s : BackBusStage). BackRead s m.back.terms (terms_of m.front) m.back.grefs) e read in
               record { late = after.0; some = after.1; abi = ap (λ (t : FrontTerms). t.abi) terms.0; order = ap (λ (t : FrontTerms). t.order) terms.0; port = ap (λ (t : FrontTerms). t.port) terms.0; grefs = terms.1 })
         ]
 
 -- the front's end of the ring has the order that was agreed
-agreed_order : (s : FrontStage) (v : FrontView) (n : ℕ) → FrontOrdered s v n → IsSome v.port → n ≡ ring_order v
+agreed_order : (s : FrontBusStage) (v : FrontView) (n : ℕ) → FrontOrdered s v n → IsSome v.port → n ≡ ring_order v
 agreed_order (bus.RingWord word) v n ordered some = ordered.0
 agreed_order (bus.Grant page) v n ordered some = ordered.0
 agreed_order bus.NewPort v n ordered some = ordered.0

@@ -12,7 +12,7 @@ use Rattle.blk_front.specs.declared.state.FrontState.{FrontState}
 use Rattle.blk_front.specs.declared.state.FrontState.TheVariants as enter
 use Rattle.blk_front.specs.declared.state.Offers.{Offers}
 use Rattle.blk_front.specs.State.{is_open}
-use Rattle.xenbus_state.specs.declared.stage.FrontStage.{FrontStage}
+use Rattle.xenbus_state.specs.declared.stage.FrontBusStage.{FrontBusStage}
 use Rattle.xenbus_state.specs.declared.front.FrontBusAsk.{FrontBusAsk}
 use Rattle.xenbus_state.specs.declared.front.FrontBusAsk.TheVariants as front_ask
 use Rattle.xenbus_state.specs.declared.front.FrontNews.{FrontNews}
@@ -88,7 +88,7 @@ due_words n (front_ask.WriteRingWord word) order agrees = (agrees refl, tt)
 due_words n (front_ask.EndGrant page) order agrees = (tt, tt)
 due_words n b order agrees = tt
 
-news_words : (n : ℕ) (s : FrontStage) (offers : Offers) (news_of : Option FrontNews) (b : FrontBusAsk) (order : ℕ) → IsNewsAt s news_of → (begins b ≡ true → order ≡ n)
+news_words : (n : ℕ) (s : FrontBusStage) (offers : Offers) (news_of : Option FrontNews) (b : FrontBusAsk) (order : ℕ) → IsNewsAt s news_of → (begins b ≡ true → order ≡ n)
     → AllByRecursion (IsWord n) (front_step.states_entered offers news_of b order)
 news_words n s offers None b order is agrees = due_words n b order agrees
 news_words n s offers (Some news.Ready) b order is agrees = (tt, due_words n b order agrees)

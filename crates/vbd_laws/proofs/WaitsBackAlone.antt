@@ -15,8 +15,8 @@ use Rattle.blk_back.specs.Ask as back_ring
 use Rattle.blk_back.specs.Step as ring_step
 use Rattle.xenbus_state.specs.declared.state.BusState.{BusState}
 use Rattle.xenbus_state.specs.declared.state.BusState.TheVariants as state
-use Rattle.xenbus_state.specs.declared.stage.BackStage.{BackStage}
-use Rattle.xenbus_state.specs.declared.stage.BackStage.TheVariants as stage
+use Rattle.xenbus_state.specs.declared.stage.BackBusStage.{BackBusStage}
+use Rattle.xenbus_state.specs.declared.stage.BackBusStage.TheVariants as stage
 use Rattle.xenbus_state.specs.declared.table.BackAction.TheVariants as action
 use Rattle.xenbus_state.specs.declared.back.BackBusAsk.{BackBusAsk}
 use Rattle.xenbus_state.specs.declared.back.BackBusAsk.TheVariants as bus_ask
@@ -199,7 +199,7 @@ module _ (w : World) (c : Check) (h : Heard) (k : Knows w c) (l : Hears w.back h
 
   rests_done : w.back.stage ≡ stage.Rest → bus.says_closing w.back ≡ false → waits.BackRests w h
   rests_done here quiet = record {
-    done = done_by h (subst (λ (s : BackStage). HearsAt s w.back.state h) here l);
+    done = done_by h (subst (λ (s : BackBusStage). HearsAt s w.back.state h) here l);
     runs = running here;
     said = λ asked own. true≢false (sym (rw (here, asked, own) refl) ∙ quiet);
   }
@@ -210,7 +210,7 @@ module _ (w : World) (c : Check) (h : Heard) (k : Knows w c) (l : Hears w.back h
       unhalted : is_halting w.back.stage ≡ false
       unhalted = sym k.fit.halted ∙ ap is_some rests.runs
 
-      halts : (s : BackStage) → w.back.stage ≡ s → is_halting s ≡ true → back_asks w ≡ bus_ask.Wait
+      halts : (s : BackBusStage) → w.back.stage ≡ s → is_halting s ≡ true → back_asks w ≡ bus_ask.Wait
       halts s here is = absurd (true≢false (sym is ∙ (ap is_halting (sym here) ∙ unhalted)))
 
       unheard : (x : Heard) → h ≡ x → (waits.BackHasDone w.back.state w.back.unplugged x → ⊥) → back_asks w ≡ bus_ask.Wait
@@ -232,10 +232,10 @@ module _ (w : World) (c : Check) (h : Heard) (k : Knows w c) (l : Hears w.back h
 
       at_rest : w.back.stage ≡ stage.Rest → back_asks w ≡ bus_ask.Wait
       at_rest here =
-          ap (λ (s : BackStage). if w.back.unplugged && bus.says_closing_at s w.back.state then bus_ask.SetState state.Closing else bus.ask_at s w.back) here
+          ap (λ (s : BackBusStage). if w.back.unplugged && bus.says_closing_at s w.back.state then bus_ask.SetState state.Closing else bus.ask_at s w.back) here
           ∙ ap (λ (b : Bool). if b then bus_ask.SetState state.Closing else bus_ask.Wait) (says_none w.back.unplugged w.back.state refl refl)
 
-      by_stage : (s : BackStage) → w.back.stage ≡ s → HearsAt s w.back.state h → BackGoesWith s w.back.state w.rings.back.stage → back_asks w ≡ bus_ask.Wait
+      by_stage : (s : BackBusStage) → w.back.stage ≡ s → HearsAt s w.back.state h → BackGoesWith s w.back.state w.rings.back.stage → back_asks w ≡ bus_ask.Wait
       by_stage stage.Rest here is goes = at_rest here
       by_stage (stage.Publish key) here is goes = unheard Unwatched is (λ done. done)
       by_stage (stage.WriteState state.InitWait) here is goes = unheard Unwatched is (λ done. done)

@@ -6,16 +6,16 @@ use Rattle.blk_base.specs.declared.ask.BackAsk.{BackAsk}
 use Rattle.blk_base.specs.declared.ask.BackAsk.TheVariants as back_ask
 use Rattle.ring_words.specs.Ring.{requests_of}
 use Rattle.blk_back.specs.declared.stage.Reply.{Reply}
-use Rattle.blk_back.specs.declared.stage.Stage.{Stage}
-use Rattle.blk_back.specs.declared.stage.Stage.TheVariants as ring_stage
+use Rattle.blk_back.specs.declared.stage.BackStage.{BackStage}
+use Rattle.blk_back.specs.declared.stage.BackStage.TheVariants as ring_stage
 use Rattle.blk_back.specs.View as ends
 use Rattle.blk_back.specs.Ask as back_ring
 use Rattle.blk_back.specs.Ask.{is_wait}
 use Rattle.xenbus_state.specs.declared.state.BusState.{BusState}
 use Rattle.xenbus_state.specs.declared.state.BusState.TheVariants as state
 use Rattle.xenbus_state.specs.States.{state_number}
-use Rattle.xenbus_state.specs.declared.stage.BackStage.{BackStage}
-use Rattle.xenbus_state.specs.declared.stage.BackStage.TheVariants as stage
+use Rattle.xenbus_state.specs.declared.stage.BackBusStage.{BackBusStage}
+use Rattle.xenbus_state.specs.declared.stage.BackBusStage.TheVariants as stage
 use Rattle.xenbus_state.specs.declared.back.BackBusAsk.{BackBusAsk}
 use Rattle.xenbus_state.specs.declared.back.BackBusAsk.TheVariants as bus_ask
 use Rattle.xenbus_state.specs.BackView.{BackView}
@@ -77,7 +77,7 @@ unmaps_none (page ∷ pages) e = bus_asks_on (bus_ask.Unmap page) refl e
 pub bus_waits : (b : BackView) → bus.ask_of b ≡ bus_ask.Wait → BusWaits b
 bus_waits b e = by_test (bus.says_closing b) refl e
   where
-    by_stage : (s : BackStage) → b.stage ≡ s → bus.says_closing b ≡ false → bus.ask_at s b ≡ bus_ask.Wait → BusWaits b
+    by_stage : (s : BackBusStage) → b.stage ≡ s → bus.says_closing b ≡ false → bus.ask_at s b ≡ bus_ask.Wait → BusWaits b
     by_stage stage.Rest here says e = inl (here, says)
     by_stage stage.Halted here says e = inr (inl here)
     by_stage stage.UnmapPage here says e = inr (inr (here, unmaps_none b.pages e))
@@ -109,7 +109,7 @@ loop_waits f e = by_next (back_ring.next_reply f) refl e
     by_next (Some r) n e = asks_on (back_ring.reply_ask f r 0) refl e
     by_next None n e = (n, by_none f.ring.asleep (requests_of f.ring.indices f.ring.seen == 0) refl e)
 
-serving_waits : (s : Stage) (f : ends.View) → serves_ring s ≡ true → back_ring.ask_at s f ≡ back_ask.Wait → s ≡ ring_stage.Loop
+serving_waits : (s : BackStage) (f : ends.View) → serves_ring s ≡ true → back_ring.ask_at s f ≡ back_ask.Wait → s ≡ ring_stage.Loop
 serving_waits ring_stage.Loop f serves e = refl
 serving_waits (ring_stage.Fetch k) f serves e = asks_on _ refl e
 serving_waits (ring_stage.ReplyHigh r) f serves e = asks_on _ refl e
@@ -123,52 +123,52 @@ serving_waits ring_stage.EventFence f serves e = asks_on _ refl e
 serving_waits ring_stage.LookAgain f serves e = asks_on _ refl e
 serving_waits s f serves e = absurd (true≢false (sym serves))
 
-serving_moves : (s : Stage) → serves_ring s ≡ true → back.ring_moves bus_ask.Wait s ≡ true
+serving_moves : (s : BackStage) → serves_ring s ≡ true → back.ring_moves bus_ask.Wait s ≡ true
 serving_moves ring_stage.InitWait serves = absurd (true≢false (sym serves))
 serving_moves ring_stage.MapRing serves = absurd (true≢false (sym serves))
 serving_moves ring_stage.Bind serves = absurd (true≢false (sym serves))
 serving_moves s serves = refl
 
 -- within a step of its end of the ring it asks for the next move of that, whatever its negotiation asks
-within_moves : (b : BackBusAsk) (s : Stage) → back.is_between s ≡ false → back.speaks b ≡ true → back.ring_moves b s ≡ back.ring_moves bus_ask.Wait s
+within_moves : (b : BackBusAsk) (s : BackStage) → back.is_between s ≡ false → back.speaks b ≡ true → back.ring_moves b s ≡ back.ring_moves bus_ask.Wait s
 within_moves bus_ask.Watch s within says = any s
   where
-    any : (s : Stage) → back.ring_moves bus_ask.Watch s ≡ back.ring_moves bus_ask.Wait s
+    any : (s : BackStage) → back.ring_moves bus_ask.Watch s ≡ back.ring_moves bus_ask.Wait s
     any ring_stage.InitWait = refl
     any ring_stage.MapRing = refl
     any ring_stage.Bind = refl
     any s = refl
 within_moves bus_ask.GetState s within says = any s
   where
-    any : (s : Stage) → back.ring_moves bus_ask.GetState s ≡ back.ring_moves bus_ask.Wait s
+    any : (s : BackStage) → back.ring_moves bus_ask.GetState s ≡ back.ring_moves bus_ask.Wait s
     any ring_stage.InitWait = refl
     any ring_stage.MapRing = refl
     any ring_stage.Bind = refl
     any s = refl
 within_moves (bus_ask.GetKey key) s within says = any s
   where
-    any : (s : Stage) → back.ring_moves (bus_ask.GetKey key) s ≡ back.ring_moves bus_ask.Wait s
+    any : (s : BackStage) → back.ring_moves (bus_ask.GetKey key) s ≡ back.ring_moves bus_ask.Wait s
     any ring_stage.InitWait = refl
     any ring_stage.MapRing = refl
     any ring_stage.Bind = refl
     any s = refl
 within_moves (bus_ask.SetState own) s within says = any s
   where
-    any : (s : Stage) → back.ring_moves (bus_ask.SetState own) s ≡ back.ring_moves bus_ask.Wait s
+    any : (s : BackStage) → back.ring_moves (bus_ask.SetState own) s ≡ back.ring_moves bus_ask.Wait s
     any ring_stage.InitWait = refl
     any ring_stage.MapRing = refl
     any ring_stage.Bind = refl
     any s = refl
 within_moves (bus_ask.SetKey key value) s within says = any s
   where
-    any : (s : Stage) → back.ring_moves (bus_ask.SetKey key value) s ≡ back.ring_moves bus_ask.Wait s
+    any : (s : BackStage) → back.ring_moves (bus_ask.SetKey key value) s ≡ back.ring_moves bus_ask.Wait s
     any ring_stage.InitWait = refl
     any ring_stage.MapRing = refl
     any ring_stage.Bind = refl
     any s = refl
 within_moves b s within says = absurd (true≢false (sym says))
 
-within_asks : (s : Stage) (f : ends.View) → back.is_between s ≡ false → (back.ring_moves bus_ask.Wait s ≡ true) × (is_wait (back_ring.ask_at s f) ≡ false)
+within_asks : (s : BackStage) (f : ends.View) → back.is_between s ≡ false → (back.ring_moves bus_ask.Wait s ≡ true) × (is_wait (back_ring.ask_at s f) ≡ false)
 within_asks (ring_stage.Fetch k) f within = (refl, refl)
 within_asks (ring_stage.ReplyHigh r) f within = (refl, refl)
 within_asks (ring_stage.ReplyLast r) f within = (refl, refl)
@@ -187,7 +187,7 @@ key_asks (bus_ask.SetKey key value) says = refl
 key_asks b says = absurd (true≢false (sym says))
 
 -- between two steps and asleep, one that serves is in its loop
-loops : (s : Stage) (c : Check) (asleep : Bool) → serves_ring s ≡ true → back.is_between s ≡ true → c ≡ Asleep → Sees s c asleep → s ≡ ring_stage.Loop
+loops : (s : BackStage) (c : Check) (asleep : Bool) → serves_ring s ≡ true → back.is_between s ≡ true → c ≡ Asleep → Sees s c asleep → s ≡ ring_stage.Loop
 loops ring_stage.Loop c asleep serves between found is = refl
 loops ring_stage.StoreEvent c asleep serves between found is = absurd (true≢false (sym (ap sleeps found) ∙ is.1))
 loops ring_stage.EventFence c asleep serves between found is = absurd (true≢false (sym (ap sleeps found) ∙ ap sleeps is.1))
@@ -205,20 +205,20 @@ module _ (w : World) (c : Check) (k : Knows w c) where
   abbrev v : back_view.View
   v = backend_of w
 
-  abbrev r : Stage
+  abbrev r : BackStage
   r = w.rings.back.stage
 
   -- what it asks where its negotiation leaves the move to its end of the ring
-  ring_asks : (b : BackBusAsk) (s : Stage) (moves : Bool) → r ≡ s → back.bus_moves b s ≡ false → back.ring_moves b s ≡ moves → back.ask_at b v ≡ (if moves then back_ring.ask_at s w.rings.back else back_ask.Wait)
+  ring_asks : (b : BackBusAsk) (s : BackStage) (moves : Bool) → r ≡ s → back.bus_moves b s ≡ false → back.ring_moves b s ≡ moves → back.ask_at b v ≡ (if moves then back_ring.ask_at s w.rings.back else back_ask.Wait)
   ring_asks b s moves here quiet does =
-      ap (λ (t : Stage). if back.bus_moves b t then back.key_ask b else back.ring_ask (back.ring_moves b t) v) here
+      ap (λ (t : BackStage). if back.bus_moves b t then back.key_ask b else back.ring_ask (back.ring_moves b t) v) here
       ∙ (ap (λ (t : Bool). if t then back.key_ask b else back.ring_ask (back.ring_moves b s) v) quiet ∙ (ap (λ (t : Bool). back.ring_ask t v) does ∙ by_moves moves))
     where
       by_moves : (m : Bool) → back.ring_ask m v ≡ (if m then back_ring.ask_at s w.rings.back else back_ask.Wait)
-      by_moves true = ap (λ (t : Stage). back_ring.ask_at t w.rings.back) here
+      by_moves true = ap (λ (t : BackStage). back_ring.ask_at t w.rings.back) here
       by_moves false = refl
 
-  moving : {A : Type 0} (b : BackBusAsk) (s : Stage) → r ≡ s → back.bus_moves b s ≡ false → back.ring_moves b s ≡ true → is_wait (back_ring.ask_at s w.rings.back) ≡ false → back.ask_at b v ≡ back_ask.Wait → A
+  moving : {A : Type 0} (b : BackBusAsk) (s : BackStage) → r ≡ s → back.bus_moves b s ≡ false → back.ring_moves b s ≡ true → is_wait (back_ring.ask_at s w.rings.back) ≡ false → back.ask_at b v ≡ back_ask.Wait → A
   moving b s here quiet does on e = asks_on (back_ring.ask_at s w.rings.back) on (sym (ring_asks b s true here quiet does) ∙ e)
 
   -- a negotiation that speaks has the move, or its end of the ring is within a step
@@ -232,14 +232,14 @@ module _ (w : World) (c : Check) (k : Knows w c) where
       by_between true is = asks_on (back.key_ask b) (key_asks b says) (sym (ap (λ (t : Bool). if t then back.key_ask b else back.ring_ask (back.ring_moves b r) v) (moves_is true is)) ∙ e)
       by_between false is = let asks = within_asks r w.rings.back is in moving b r refl (moves_is false is) (within_moves b r is says ∙ asks.0) asks.1 e
 
-  abbrev Only : BackStage → Type 0
+  abbrev Only : BackBusStage → Type 0
   Only s = back.ask_at (bus.ask_at s w.back) v ≡ back_ask.Wait → bus.ask_at s w.back ≡ bus_ask.Wait
 
-  giving : (s : Stage) → r ≡ s → IsAborting s → Only stage.UnmapOthers
+  giving : (s : BackStage) → r ≡ s → IsAborting s → Only stage.UnmapOthers
   giving (ring_stage.Abort m) here is e = moving bus_ask.UnmapOthers (ring_stage.Abort m) here refl refl refl e
   giving s here is e = absurd is
 
-  unmapping : (s : Stage) (pages : List Mapping) → r ≡ s → w.back.pages ≡ pages → IsUnmapping s → 0 < length pages → back.ask_at (bus.unmap_ask pages) v ≡ back_ask.Wait → bus.unmap_ask pages ≡ bus_ask.Wait
+  unmapping : (s : BackStage) (pages : List Mapping) → r ≡ s → w.back.pages ≡ pages → IsUnmapping s → 0 < length pages → back.ask_at (bus.unmap_ask pages) v ≡ back_ask.Wait → bus.unmap_ask pages ≡ bus_ask.Wait
   unmapping s [] here same is some e = refl
   unmapping ring_stage.UnmapRing (page ∷ pages) here same is some e =
       moving (bus_ask.Unmap page) ring_stage.UnmapRing here refl refl (ap (λ (ps : List Mapping). is_wait (back_ring.unmap_ask ps)) (k.fit.pages ∙ same)) e
@@ -247,7 +247,7 @@ module _ (w : World) (c : Check) (k : Knows w c) where
       moving (bus_ask.Unmap page) ring_stage.UnmapUnbound here refl refl (ap (λ (ps : List Mapping). is_wait (back_ring.unmap_ask ps)) (k.fit.pages ∙ same)) e
   unmapping s (page ∷ pages) here same is some e = absurd is
 
-  begun : (s : BackStage) → BackGoesWith s w.back.state r → IsPlaced s w.back → Only s
+  begun : (s : BackBusStage) → BackGoesWith s w.back.state r → IsPlaced s w.back → Only s
   begun stage.Rest goes placed e = refl
   begun stage.Halted goes placed e = refl
   begun (stage.Publish key) goes placed e = speaking (bus.ask_at (stage.Publish key) w.back) refl e
@@ -270,25 +270,25 @@ module _ (w : World) (c : Check) (k : Knows w c) where
       by_test false e = begun w.back.stage k.fit.back k.fit.sound.placed e
 
   pub rests_so : w.back.stage ≡ stage.Rest → BackRests w.back.state r
-  rests_so here = subst (λ (s : BackStage). BackGoesWith s w.back.state r) here k.fit.back
+  rests_so here = subst (λ (s : BackBusStage). BackGoesWith s w.back.state r) here k.fit.back
 
   sleeps_so : back_asks w ≡ bus_ask.Wait → back.ask_of v ≡ back_ask.Wait → is_serving w.back.state ≡ true → serves_ring r ≡ true → MayWait w c
   sleeps_so rests e serves ring =
       let asks : back_ring.ask_at r w.rings.back ≡ back_ask.Wait = sym (ap (λ (b : BackBusAsk). back.ask_at b v) rests ∙ ring_asks bus_ask.Wait r true refl refl (serving_moves r ring)) ∙ e in
       let here : r ≡ ring_stage.Loop = serving_waits r w.rings.back ring asks in
-      let looped = loop_waits w.rings.back (sym (ap (λ (t : Stage). back_ring.ask_at t w.rings.back) here) ∙ asks) in
-      let sees = subst (λ (t : Stage). Sees t c w.rings.back.ring.asleep) here k.ring in
+      let looped = loop_waits w.rings.back (sym (ap (λ (t : BackStage). back_ring.ask_at t w.rings.back) here) ∙ asks) in
+      let sees = subst (λ (t : BackStage). Sees t c w.rings.back.ring.asleep) here k.ring in
       inr (inl (record { serves = serves; rests = rests; nothing_found = asleep_is c (sees.0 ∙ looped.1); none_done = looped.0; none_begun = ap back.is_between here }))
 
   pub unmaps_some : {A : Type 0} → w.back.stage ≡ stage.UnmapPage → w.back.pages ≡ [] → A
   unmaps_some here none =
-      let placed : IsPlaced stage.UnmapPage w.back = subst (λ (s : BackStage). IsPlaced s w.back) here k.fit.sound.placed in
+      let placed : IsPlaced stage.UnmapPage w.back = subst (λ (s : BackBusStage). IsPlaced s w.back) here k.fit.sound.placed in
       let some = placed.1 in
       let zero : length w.back.pages ≡ 0 = ap length none in
       absurd (omega (arith, some, zero))
 
   pub closed_so : w.back.stage ≡ stage.Halted → w.back.state ≡ state.Closed
-  closed_so here = (subst (λ (s : BackStage). BackGoesWith s w.back.state r) here k.fit.back).0
+  closed_so here = (subst (λ (s : BackBusStage). BackGoesWith s w.back.state r) here k.fit.back).0
 
   pub may_wait : back.ask_of v ≡ back_ask.Wait → MayWait w c
   may_wait e = by_bus (only_rests e) (bus_waits w.back (only_rests e))
@@ -307,15 +307,15 @@ module _ (w : World) (c : Check) (k : Knows w c) where
   -- a back that is closed waits
   halted_waits : w.back.stage ≡ stage.Halted → back.ask_of v ≡ back_ask.Wait
   halted_waits here =
-      let stands : r ≡ ring_stage.Halted = (subst (λ (s : BackStage). BackGoesWith s w.back.state r) here k.fit.back).1 in
-      let asks : back_asks w ≡ bus_ask.Wait = ap (λ (s : BackStage). if w.back.unplugged && bus.says_closing_at s w.back.state then bus_ask.SetState state.Closing else bus.ask_at s w.back) here ∙ never w.back.unplugged in
+      let stands : r ≡ ring_stage.Halted = (subst (λ (s : BackBusStage). BackGoesWith s w.back.state r) here k.fit.back).1 in
+      let asks : back_asks w ≡ bus_ask.Wait = ap (λ (s : BackBusStage). if w.back.unplugged && bus.says_closing_at s w.back.state then bus_ask.SetState state.Closing else bus.ask_at s w.back) here ∙ never w.back.unplugged in
       ap (λ (b : BackBusAsk). back.ask_at b v) asks ∙ ring_asks bus_ask.Wait ring_stage.Halted true stands refl refl
     where
       never : (unplugged : Bool) → (if unplugged && false then bus_ask.SetState state.Closing else bus_ask.Wait) ≡ bus_ask.Wait
       never true = refl
       never false = refl
 
-  closed_at : (s : BackStage) → w.back.stage ≡ s → BackGoesWith s w.back.state r → IsPlaced s w.back → w.back.state ≡ state.Closed → back.ask_of v ≡ back_ask.Wait
+  closed_at : (s : BackBusStage) → w.back.stage ≡ s → BackGoesWith s w.back.state r → IsPlaced s w.back → w.back.state ≡ state.Closed → back.ask_of v ≡ back_ask.Wait
   closed_at stage.Halted here goes placed own = halted_waits here
   closed_at (stage.Publish key) here goes placed own = differs w.back.state state.Initialising own goes.0 refl
   closed_at (stage.WriteState state.InitWait) here goes placed own = differs w.back.state state.Initialising own goes.0 refl
@@ -355,7 +355,7 @@ module _ (w : World) (c : Check) (k : Knows w c) where
 
   asleep_waits : back_asks w ≡ bus_ask.Wait → c ≡ Asleep → back_ring.next_reply w.rings.back ≡ None → r ≡ ring_stage.Loop → back.ask_of v ≡ back_ask.Wait
   asleep_waits rests found none here =
-      let sees = subst (λ (t : Stage). Sees t c w.rings.back.ring.asleep) here k.ring in
+      let sees = subst (λ (t : BackStage). Sees t c w.rings.back.ring.asleep) here k.ring in
       let asleep : w.rings.back.ring.asleep ≡ true = sym sees.0 ∙ ap sleeps found in
       ap (λ (b : BackBusAsk). back.ask_at b v) rests
       ∙ (ring_asks bus_ask.Wait ring_stage.Loop true here refl refl ∙ (ap (λ (next : Option Reply). back_ring.loop_ask w.rings.back next) none ∙ sleeping w.rings.back.ring.asleep asleep))

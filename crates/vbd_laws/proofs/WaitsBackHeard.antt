@@ -6,16 +6,16 @@ use Rattle.line_text.proofs.Both.{both_true}
 use Rattle.blk_base.specs.declared.parts.Mapping.{Mapping}
 use Rattle.blk_base.specs.declared.ask.BackAnswer.{BackAnswer}
 use Rattle.blk_base.specs.declared.ask.BackAnswer.TheVariants as answer
-use Rattle.blk_back.specs.declared.stage.Stage.{Stage as Ring}
-use Rattle.blk_back.specs.declared.stage.Stage.TheVariants as ring
+use Rattle.blk_back.specs.declared.stage.BackStage.{BackStage}
+use Rattle.blk_back.specs.declared.stage.BackStage.TheVariants as ring
 use Rattle.blk_back.specs.declared.told.Halt.{Halt}
 use Rattle.xenbus_state.specs.declared.keys.FrontKey.{FrontKey}
 use Rattle.xenbus_state.specs.declared.keys.FrontKey.TheVariants as front_key
 use Rattle.xenbus_state.specs.declared.keys.BackKey.{BackKey}
 use Rattle.xenbus_state.specs.declared.state.BusState.{BusState}
 use Rattle.xenbus_state.specs.declared.state.BusState.TheVariants as state
-use Rattle.xenbus_state.specs.declared.stage.BackStage.{BackStage}
-use Rattle.xenbus_state.specs.declared.stage.BackStage.TheVariants as stage
+use Rattle.xenbus_state.specs.declared.stage.BackBusStage.{BackBusStage}
+use Rattle.xenbus_state.specs.declared.stage.BackBusStage.TheVariants as stage
 use Rattle.xenbus_state.specs.declared.back.BackBusAsk.TheVariants as bus_ask
 use Rattle.xenbus_state.specs.declared.table.BackAction.TheVariants as action
 use Rattle.blk_base.specs.declared.parts.End.TheVariants.{Front}
@@ -51,7 +51,7 @@ Connects (Read (Some state.Initialised)) = Unit {0}
 Connects (Read (Some state.Connected)) = Unit {0}
 Connects h = ⊥
 
-abbrev pub HearsAt : BackStage → BusState → Heard → Type 0
+abbrev pub HearsAt : BackBusStage → BusState → Heard → Type 0
 HearsAt (stage.Publish key) own h = h ≡ Unwatched
 HearsAt (stage.WriteState state.InitWait) own h = h ≡ Unwatched
 HearsAt stage.Watch own h = h ≡ Unwatched
@@ -111,17 +111,17 @@ key_heard : (key : FrontKey) (text : Option (List ℕ)) (h : Heard) → back_hea
 key_heard key text h = ap (λ (b : Bool). if b then Read (state_read text) else h) (unlike_state key)
 
 -- a key of the front was read
-abbrev is_reading : BackStage → Bool
+abbrev is_reading : BackBusStage → Bool
 is_reading (stage.ReadKey key) = true
 is_reading stage.MapPage = true
 is_reading s = false
 
-early : (s : BackStage) → IsEarly s → is_reading s ≡ true
+early : (s : BackBusStage) → IsEarly s → is_reading s ≡ true
 early (stage.ReadKey front_key.FeaturePersistent) is = absurd is
 early (stage.ReadKey k) is = refl
 early s is = absurd is
 
-connects_at : (s : BackStage) (own : BusState) (h : Heard) → is_reading s ≡ true → Connects h → HearsAt s own h
+connects_at : (s : BackBusStage) (own : BusState) (h : Heard) → is_reading s ≡ true → Connects h → HearsAt s own h
 connects_at (stage.ReadKey key) own h is connects = connects
 connects_at stage.MapPage own h is connects = connects
 connects_at s own h is connects = absurd (true≢false (sym is))
@@ -151,11 +151,11 @@ connected_dealt (Read (Some state.Initialised)) is = refl
 connected_dealt (Read (Some state.Connected)) is = refl
 connected_dealt h is = absurd is
 
-stays : (s : BackStage) (v : BackView) (h : Heard) → v.stage ≡ s → HearsAt s v.state h → Hears v h
-stays s v h here is = subst (λ (t : BackStage). HearsAt t v.state h) (sym here) is
+stays : (s : BackBusStage) (v : BackView) (h : Heard) → v.stage ≡ s → HearsAt s v.state h → Hears v h
+stays s v h here is = subst (λ (t : BackBusStage). HearsAt t v.state h) (sym here) is
 
 -- its negotiation speaks
-says_at : (s : BackStage) (v : BackView) (r : Ring) (h : Heard) (a : BackAnswer) → v.stage ≡ s → BackGoesWith s v.state r → HearsAt s v.state h → back.speaks (ask_at s v) ≡ true → IsAnswer (ask_at s v) a
+says_at : (s : BackBusStage) (v : BackView) (r : BackStage) (h : Heard) (a : BackAnswer) → v.stage ≡ s → BackGoesWith s v.state r → HearsAt s v.state h → back.speaks (ask_at s v) ≡ true → IsAnswer (ask_at s v) a
     → Hears (step_at s v a) (back_hears (back.key_ask (ask_at s v)) a h)
 says_at (stage.Publish key) v r h answer.Done here goes is says allowed = feature_hears (next_feature key) v.state h is
 says_at (stage.WriteState state.InitWait) v r h answer.Done here goes is says allowed = is
@@ -182,7 +182,7 @@ says_at stage.UnmapPage v r h a here goes is says allowed = unmaps v.pages says
 says_at s v r h a here goes is says allowed = absurd (true≢false (sym says))
 
 -- it says that it closes
-closing_hears : (s : BackStage) (own : BusState) (h : Heard) → says_closing_at s own ≡ true → HearsAt s own h → HearsAt s state.Closing h
+closing_hears : (s : BackBusStage) (own : BusState) (h : Heard) → says_closing_at s own ≡ true → HearsAt s own h → HearsAt s state.Closing h
 closing_hears stage.Rest state.Connected h says is = dealt h is
   where
     dealt : (h : Heard) → IsDealt state.Connected h → IsDealt state.Closing h
@@ -196,7 +196,7 @@ closing_hears stage.Rest state.Connected h says is = dealt h is
 closing_hears stage.ReadState state.Connected h says is = is
 closing_hears s own h says is = absurd (true≢false (sym says))
 
-pub told_hears : (v : BackView) (r : Ring) (h : Heard) (a : BackAnswer) → BackGoesWith v.stage v.state r → Hears v h → back.speaks (ask_of v) ≡ true → IsAnswer (ask_of v) a → Hears (step_of v a) (back_hears (back.key_ask (ask_of v)) a h)
+pub told_hears : (v : BackView) (r : BackStage) (h : Heard) (a : BackAnswer) → BackGoesWith v.stage v.state r → Hears v h → back.speaks (ask_of v) ≡ true → IsAnswer (ask_of v) a → Hears (step_of v a) (back_hears (back.key_ask (ask_of v)) a h)
 told_hears v r h a goes is = by_test (says_closing v) refl
   where
     by_answer : (x : BackAnswer) → IsAnswer (bus_ask.SetState state.Closing) x → says_closing v ≡ true → HearsAt v.stage state.Closing (back_hears (back.key_ask (bus_ask.SetState state.Closing)) x h)
@@ -212,7 +212,7 @@ last_hears : (own now : BusState) (h : Heard) → HearsAt (stage.WriteState (las
 last_hears state.Closing now h = tt
 last_hears own now h = tt
 
-abbrev moves : BackStage → Bool
+abbrev moves : BackBusStage → Bool
 moves stage.MapPage = true
 moves stage.Bind = true
 moves stage.UnmapOthers = true
@@ -221,7 +221,7 @@ moves stage.ClosePort = true
 moves s = false
 
 -- a move of its end of the ring was answered, and no watch is taken
-moved_at : (s : BackStage) (v : BackView) (h : Heard) (a : BackAnswer) → v.stage ≡ s → HearsAt s v.state h → moves s ≡ true → Hears (step_at s v a) h
+moved_at : (s : BackBusStage) (v : BackView) (h : Heard) (a : BackAnswer) → v.stage ≡ s → HearsAt s v.state h → moves s ≡ true → Hears (step_at s v a) h
 moved_at stage.MapPage v h (answer.Mapped page) here is m = by_test (nat_lt (length v.pages + 1) (length v.grefs))
   where
     by_test : (b : Bool) → HearsAt (if b then stage.MapPage else stage.Bind) v.state h
@@ -245,7 +245,7 @@ moved_hears v h a quiet m is = subst (λ (b : Bool). Hears (if b then record v {
 
 -- the other mappings are unmapped, or its end of the ring halted
 step_gives : (v : BackView) (h : Heard) → v.stage ≡ stage.UnmapOthers → Hears (step_of v answer.Done) h
-step_gives v h here = by_test (v.unplugged && says_closing_at v.stage v.state) (ap (λ (s : BackStage). v.unplugged && says_closing_at s v.state) here ∙ never v.unplugged)
+step_gives v h here = by_test (v.unplugged && says_closing_at v.stage v.state) (ap (λ (s : BackBusStage). v.unplugged && says_closing_at s v.state) here ∙ never v.unplugged)
   where
     never : (b : Bool) → (b && false) ≡ false
     never true = refl
@@ -253,20 +253,20 @@ step_gives v h here = by_test (v.unplugged && says_closing_at v.stage v.state) (
 
     by_test : (b : Bool) → b ≡ false → Hears (if b then record v { state = state.Closing } else step_at v.stage v answer.Done) h
     by_test true e = absurd (true≢false e)
-    by_test false e = subst (λ (s : BackStage). Hears (step_at s v answer.Done) h) (sym here) (giving_hears v.pages v.bound v.state v.state h)
+    by_test false e = subst (λ (s : BackBusStage). Hears (step_at s v answer.Done) h) (sym here) (giving_hears v.pages v.bound v.state v.state h)
 
-pub settled_hears : (r : Ring) (v : BackView) (h : Heard) → Hears v h → Hears (settled r v) h
+pub settled_hears : (r : BackStage) (v : BackView) (h : Heard) → Hears v h → Hears (settled r v) h
 settled_hears r v h is = by_stage v.stage refl
   where
-    by_ring : (r : Ring) → v.stage ≡ stage.UnmapOthers → Hears (settled_at stage.UnmapOthers r v) h
+    by_ring : (r : BackStage) → v.stage ≡ stage.UnmapOthers → Hears (settled_at stage.UnmapOthers r v) h
     by_ring (ring.Abort m) here = is
     by_ring r here = step_gives v h here
 
-    by_stage : (s : BackStage) → v.stage ≡ s → Hears (settled_at s r v) h
+    by_stage : (s : BackBusStage) → v.stage ≡ s → Hears (settled_at s r v) h
     by_stage stage.UnmapOthers here = by_ring r here
     by_stage s here = is
 
-pub caught_hears : (r : Ring) (why : Option Halt) (v : BackView) (h : Heard) → Hears v h → Hears (settled r (bus_halted why v)) h
+pub caught_hears : (r : BackStage) (why : Option Halt) (v : BackView) (h : Heard) → Hears v h → Hears (settled r (bus_halted why v)) h
 caught_hears r None v h is = settled_hears r v h is
 caught_hears r (Some why) v h is = settled_hears r (stopped v) h (by_test (is_halting v.stage))
   where
@@ -287,7 +287,7 @@ follows_hears v h a is = by_test (says_closing v) refl
         woken_plain a = is
     unmapped (page ∷ pages) here quiet = moved_hears v h answer.Done quiet (ap moves here) is
 
-    by_stage : (s : BackStage) → v.stage ≡ s → says_closing v ≡ false → back.speaks (ask_at s v) ≡ false → is_rest (ask_at s v) ≡ false → Hears (followed (ask_at s v) v a) h
+    by_stage : (s : BackBusStage) → v.stage ≡ s → says_closing v ≡ false → back.speaks (ask_at s v) ≡ false → is_rest (ask_at s v) ≡ false → Hears (followed (ask_at s v) v a) h
     by_stage stage.MapPage here quiet says on = moved_hears v h a quiet (ap moves here) is
     by_stage stage.Bind here quiet says on = moved_hears v h a quiet (ap moves here) is
     by_stage stage.UnmapOthers here quiet says on = is
@@ -310,13 +310,13 @@ heard_waiting a h = h
 pub woken_hears : (v : BackView) (h : Heard) (a : BackAnswer) → Hears v h → ask_of v ≡ bus_ask.Wait → Hears (woken v a) (heard_waiting a h)
 woken_hears v h (answer.Watched path) is e = by_bus (bus_waits v e)
   where
-    told : (s : BackStage) → v.stage ≡ s → says_closing v ≡ false → Hears (step_at s v (answer.Watched path)) Fired → Hears (step_of v (answer.Watched path)) Fired
+    told : (s : BackBusStage) → v.stage ≡ s → says_closing v ≡ false → Hears (step_at s v (answer.Watched path)) Fired → Hears (step_of v (answer.Watched path)) Fired
     told s here quiet there =
         subst (λ (b : Bool). Hears (if b then record v { state = state.Closing } else step_at v.stage v (answer.Watched path)) Fired) (sym quiet)
-        (subst (λ (t : BackStage). Hears (step_at t v (answer.Watched path)) Fired) (sym here) there)
+        (subst (λ (t : BackBusStage). Hears (step_at t v (answer.Watched path)) Fired) (sym here) there)
 
-    quiet_at : (s : BackStage) → v.stage ≡ s → says_closing_at s v.state ≡ false → says_closing v ≡ false
-    quiet_at s here none = ap (λ (t : BackStage). v.unplugged && says_closing_at t v.state) here ∙ (ap (λ (b : Bool). v.unplugged && b) none ∙ never v.unplugged)
+    quiet_at : (s : BackBusStage) → v.stage ≡ s → says_closing_at s v.state ≡ false → says_closing v ≡ false
+    quiet_at s here none = ap (λ (t : BackBusStage). v.unplugged && says_closing_at t v.state) here ∙ (ap (λ (b : Bool). v.unplugged && b) none ∙ never v.unplugged)
       where
         never : (b : Bool) → (b && false) ≡ false
         never true = refl

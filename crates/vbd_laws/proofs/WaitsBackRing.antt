@@ -11,8 +11,8 @@ use Rattle.ring_words.specs.Ring.{requests_of, overruns, notifies}
 use Rattle.ring_words.specs.Shape.{Shape, entry_words_of}
 use Rattle.back_jobs.specs.Jobs.{first_mapping}
 use Rattle.blk_back.specs.declared.stage.Reply.{Reply}
-use Rattle.blk_back.specs.declared.stage.Stage.{Stage}
-use Rattle.blk_back.specs.declared.stage.Stage.TheVariants as stage
+use Rattle.blk_back.specs.declared.stage.BackStage.{BackStage}
+use Rattle.blk_back.specs.declared.stage.BackStage.TheVariants as stage
 use Rattle.blk_back.specs.declared.told.Halt.{Halt}
 use Rattle.blk_back.specs.View.{View, page_of}
 use Rattle.blk_back.specs.Ask.{ask_at, loop_ask, index_ask, entry_ask, next_reply, is_led, IsAnswer}
@@ -22,7 +22,7 @@ use Rattle.split_model.proofs.States.{halts_cases}
 use Rattle.vbd_laws.specs.Waits.{Check, Awake, Stored, Fenced, fences, looks, others, writes, is_page_word, back_checks}
 use Rattle.vbd_laws.proofs.WaitsFrontRing.{sleeps, is_fenced, others_sleep, others_unfenced, fences_sleep, writes_sleep, stored_awake, looks_awake, reads_awake, reads_unfenced, IsAwake, IsAlert, IsTold}
 
-abbrev pub Sees : Stage → Check → (asleep : Bool) → Type 0
+abbrev pub Sees : BackStage → Check → (asleep : Bool) → Type 0
 Sees stage.InitWait c asleep = IsAwake c asleep
 Sees stage.MapRing c asleep = IsAwake c asleep
 Sees stage.Bind c asleep = IsAwake c asleep
@@ -45,7 +45,7 @@ either : (b : Bool) (x y : View) (c : Check) → Stands x c → Stands y c → S
 either true x y c p q = p
 either false x y c p q = q
 
-either_at : (b : Bool) (x y : Stage) (c : Check) (asleep : Bool) → Sees x c asleep → Sees y c asleep → Sees (if b then x else y) c asleep
+either_at : (b : Bool) (x y : BackStage) (c : Check) (asleep : Bool) → Sees x c asleep → Sees y c asleep → Sees (if b then x else y) c asleep
 either_at true x y c asleep p q = p
 either_at false x y c asleep p q = q
 
@@ -90,8 +90,8 @@ loop_goes v (Some r) x c here is unfenced allowed = writes_sleep _ c ∙ is
 loop_goes v None x c here is unfenced allowed = by_test v.ring.asleep (requests_of v.ring.indices v.ring.seen == 0) refl refl x allowed
   where
     by_test : (sleeping none : Bool) → v.ring.asleep ≡ sleeping → (requests_of v.ring.indices v.ring.seen == 0) ≡ none → (x : BackAnswer) → IsAnswer (asks v sleeping none) x → Goes v (loop_step v None x) (asks v sleeping none) x c
-    by_test true none a n answer.Event allowed = subst (λ (s : Stage). Sees s Awake false) (sym here) (refl, refl)
-    by_test true none a n (answer.Watched path) allowed = subst (λ (s : Stage). Sees s c v.ring.asleep) (sym here) (is, unfenced)
+    by_test true none a n answer.Event allowed = subst (λ (s : BackStage). Sees s Awake false) (sym here) (refl, refl)
+    by_test true none a n (answer.Watched path) allowed = subst (λ (s : BackStage). Sees s c v.ring.asleep) (sym here) (is, unfenced)
     by_test true none a n x allowed = absurd allowed
     by_test false true a n (answer.Word word) allowed =
         let last : (if is_page_word (page_of v 0) (page_of v 0) 0 0 then looks c (word == v.ring.indices.cons) else others c) ≡ Awake = reads (page_of v 0) c (word == v.ring.indices.cons) ∙ looks_awake c (word == v.ring.indices.cons) unfenced in
@@ -118,15 +118,15 @@ last_goes v word c awake is =
 
 -- while it waits for the terms of its front
 waits_terms : (v : View) (x : BackAnswer) (c : Check) → v.stage ≡ stage.InitWait → IsAwake c v.ring.asleep → IsAnswer ask.Wait x → Goes v v ask.Wait x c
-waits_terms v answer.Event c here is allowed = subst (λ (s : Stage). Sees s Awake v.ring.asleep) (sym here) (is.0, refl)
-waits_terms v (answer.Watched path) c here is allowed = subst (λ (s : Stage). Sees s c v.ring.asleep) (sym here) is
+waits_terms v answer.Event c here is allowed = subst (λ (s : BackStage). Sees s Awake v.ring.asleep) (sym here) (is.0, refl)
+waits_terms v (answer.Watched path) c here is allowed = subst (λ (s : BackStage). Sees s c v.ring.asleep) (sym here) is
 waits_terms v x c here is allowed = absurd allowed
 
 -- a stage that no answer leaves
-stays : (s : Stage) (v : View) (c : Check) → v.stage ≡ s → Sees s c v.ring.asleep → Stands v c
-stays s v c here is = subst (λ (t : Stage). Sees t c v.ring.asleep) (sym here) is
+stays : (s : BackStage) (v : View) (c : Check) → v.stage ≡ s → Sees s c v.ring.asleep → Stands v c
+stays s v c here is = subst (λ (t : BackStage). Sees t c v.ring.asleep) (sym here) is
 
-sees_at : (s : Stage) (v : View) (x : BackAnswer) (c : Check) → v.stage ≡ s → Sees s c v.ring.asleep → IsAnswer (ask_at s v) x → Goes v (step_at s v x) (ask_at s v) x c
+sees_at : (s : BackStage) (v : View) (x : BackAnswer) (c : Check) → v.stage ≡ s → Sees s c v.ring.asleep → IsAnswer (ask_at s v) x → Goes v (step_at s v x) (ask_at s v) x c
 sees_at stage.InitWait v x c here is allowed = waits_terms v x c here is allowed
 sees_at stage.MapRing v (answer.Mapped m) c here is allowed =
     let up : IsAwake (others c) v.ring.asleep = (is.0, others_sleep c ∙ is.1) in
@@ -164,7 +164,7 @@ sees_step v x c is allowed = sees_at v.stage v x c refl is allowed
 pub sees_halts : (why : Halt) (v : View) (c : Check) → Stands v c → Stands (halts why v) c
 sees_halts why v c is = halts_cases (λ (u : View). Stands u c) why v (λ early. unbound_sees v.pages c v.ring.asleep) (λ here. given (first_mapping v.jobs.works) c v.ring.asleep) is
 
-led_at : (s : Stage) (c : Check) (asleep : Bool) → is_led s ≡ true → Sees s c asleep → IsAwake c asleep
+led_at : (s : BackStage) (c : Check) (asleep : Bool) → is_led s ≡ true → Sees s c asleep → IsAwake c asleep
 led_at stage.InitWait c asleep led is = is
 led_at s c asleep led is = absurd (true≢false (sym led))
 

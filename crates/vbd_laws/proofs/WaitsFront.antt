@@ -9,8 +9,8 @@ use Rattle.blk_base.specs.declared.ask.FrontAsk.TheVariants as front_ask
 use Rattle.blk_base.specs.declared.ask.FrontAnswer.{FrontAnswer}
 use Rattle.ring_words.specs.Ring.{responses_of}
 use Rattle.hypervisor.specs.Act.{FrontAct, BackAct, front_act, front_watched, watch_next}
-use Rattle.blk_front.specs.declared.stage.Stage.{Stage}
-use Rattle.blk_front.specs.declared.stage.Stage.TheVariants as ring_stage
+use Rattle.blk_front.specs.declared.stage.FrontStage.{FrontStage}
+use Rattle.blk_front.specs.declared.stage.FrontStage.TheVariants as ring_stage
 use Rattle.blk_front.specs.declared.stage.Ending.{Ending}
 use Rattle.blk_front.specs.declared.request.Request.{Request}
 use Rattle.blk_front.specs.declared.request.Transfer.{Transfer}
@@ -25,8 +25,8 @@ use Rattle.blk_front.specs.Suspend.{resumed}
 use Rattle.blk_front.specs.Submit.{is_ready, is_wait}
 use Rattle.xenbus_state.specs.declared.state.BusState.{BusState}
 use Rattle.xenbus_state.specs.declared.state.BusState.TheVariants as state
-use Rattle.xenbus_state.specs.declared.stage.FrontStage.{FrontStage}
-use Rattle.xenbus_state.specs.declared.stage.FrontStage.TheVariants as stage
+use Rattle.xenbus_state.specs.declared.stage.FrontBusStage.{FrontBusStage}
+use Rattle.xenbus_state.specs.declared.stage.FrontBusStage.TheVariants as stage
 use Rattle.xenbus_state.specs.declared.front.FrontBusAsk.{FrontBusAsk}
 use Rattle.xenbus_state.specs.declared.front.FrontBusAsk.TheVariants as bus_ask
 use Rattle.xenbus_state.specs.FrontView.{FrontView}
@@ -55,7 +55,7 @@ pub record Knows (w : World) (c : Check) : Type 0 where
   pub ring : Stands w.rings.front c
 
 -- data that are left are in hand
-hand_at : (s : Stage) (f : ends.View) (c : Check) → StandsAt s f c → HasInHand s f.ending
+hand_at : (s : FrontStage) (f : ends.View) (c : Check) → StandsAt s f c → HasInHand s f.ending
 hand_at (ring_stage.LeftData n) f c is = is.1
 hand_at s f c is = tt
 
@@ -63,7 +63,7 @@ pub in_hand : (w : World) (c : Check) → Knows w c → HasInHand w.rings.front.
 in_hand w c k = hand_at w.rings.front.stage w.rings.front c k.ring
 
 -- what it is to tell is heard
-heard_at : (s : Stage) (f : ends.View) (c : Check) → StandsAt s f c → StandsAt s (record f { told = None }) c
+heard_at : (s : FrontStage) (f : ends.View) (c : Check) → StandsAt s f c → StandsAt s (record f { told = None }) c
 heard_at (ring_stage.Data n) f c is = is
 heard_at s f c is = is
 
@@ -184,7 +184,7 @@ bus_waits v idle e = by_stage v.stage refl e
     by_test true here t e = by_state v.state here refl e
     by_test false here t e = inl (here, inl t)
 
-    by_stage : (s : FrontStage) → v.stage ≡ s → bus.ask_at (bus.due_at s v idle) v ≡ bus_ask.Wait → BusWaits v idle
+    by_stage : (s : FrontBusStage) → v.stage ≡ s → bus.ask_at (bus.due_at s v idle) v ≡ bus_ask.Wait → BusWaits v idle
     by_stage stage.Rest here e = by_test (v.closing && idle) here refl e
     by_stage stage.Closed here e = inr (inl here)
     by_stage (stage.Broken word) here e = inr (inr (word, here))
@@ -226,7 +226,7 @@ loop_waits f e = by_next (ends.next_request f) refl e
     by_next (Some r) n e = asks_on (front_ring.issue_ask f r r.transfer) (begins r r.transfer) e
     by_next None n e = (n, by_none (f.ring.asleep || front_ring.is_through f) (responses_of f.ring.indices f.ring.seen == 0) refl e)
 
-pub ready_waits : (s : Stage) (f : ends.View) (c : Check) → is_ready s ≡ true → StandsAt s f c → front_ring.ask_at s f ≡ front_ask.Wait → s ≡ ring_stage.Loop
+pub ready_waits : (s : FrontStage) (f : ends.View) (c : Check) → is_ready s ≡ true → StandsAt s f c → front_ring.ask_at s f ≡ front_ask.Wait → s ≡ ring_stage.Loop
 ready_waits ring_stage.Loop f c ready is e = refl
 ready_waits (ring_stage.Data n) f c ready is e = by_next (ends.next_request f) is.1 e
   where

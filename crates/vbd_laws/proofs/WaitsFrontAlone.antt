@@ -9,8 +9,8 @@ use Rattle.blk_base.specs.declared.ask.FrontAsk.{FrontAsk}
 use Rattle.blk_base.specs.declared.ask.FrontAsk.TheVariants as front_ask
 use Rattle.blk_base.specs.declared.ask.FrontAnswer.{FrontAnswer}
 use Rattle.hypervisor.specs.Act.{FrontAct, BackAct, front_act}
-use Rattle.blk_front.specs.declared.stage.Stage.{Stage}
-use Rattle.blk_front.specs.declared.stage.Stage.TheVariants as ring_stage
+use Rattle.blk_front.specs.declared.stage.FrontStage.{FrontStage}
+use Rattle.blk_front.specs.declared.stage.FrontStage.TheVariants as ring_stage
 use Rattle.blk_front.specs.declared.state.FrontState.TheVariants as enter
 use Rattle.blk_front.specs.View as ends
 use Rattle.blk_front.specs.Ask as front_ring
@@ -20,8 +20,8 @@ use Rattle.blk_front.specs.Submit.{is_ready, submit_one, submit_of, wish_of}
 use Rattle.blk_front.specs.declared.told.Refusal.TheVariants as refusal
 use Rattle.xenbus_state.specs.declared.state.BusState.{BusState}
 use Rattle.xenbus_state.specs.declared.state.BusState.TheVariants as state
-use Rattle.xenbus_state.specs.declared.stage.FrontStage.{FrontStage}
-use Rattle.xenbus_state.specs.declared.stage.FrontStage.TheVariants as stage
+use Rattle.xenbus_state.specs.declared.stage.FrontBusStage.{FrontBusStage}
+use Rattle.xenbus_state.specs.declared.stage.FrontBusStage.TheVariants as stage
 use Rattle.xenbus_state.specs.declared.table.FrontAction.TheVariants as action
 use Rattle.xenbus_state.specs.declared.front.FrontBusAsk.{FrontBusAsk}
 use Rattle.xenbus_state.specs.declared.front.FrontBusAsk.TheVariants as bus_ask
@@ -148,7 +148,7 @@ listens_after [] w c h k l = l
 listens_after (x ∷ hs) w c h k l = listens_after hs (happens w x) (front_check_in w x c) (front_heard_in w x h) (knows_on w x c k) (listens_on w x c h k l)
 
 -- where nothing of a request is left a front at nothing is unoccupied
-idle_early : (f : ends.View) (s : Stage) → f.stage ≡ s → front_view.is_still s ≡ true → IsFree f → front_view.is_unoccupied f ≡ true
+idle_early : (f : ends.View) (s : FrontStage) → f.stage ≡ s → front_view.is_still s ≡ true → IsFree f → front_view.is_unoccupied f ≡ true
 idle_early f s here still free = rw (free, here, still) refl
 
 module _ (w : World) (c : Check) (h : Heard) (k : Knows w c) (l : Listens w.front w.rings.front h) (whole : IsWhole w) where
@@ -198,7 +198,7 @@ module _ (w : World) (c : Check) (h : Heard) (k : Knows w c) (l : Listens w.fron
 
   rests_done : bus_asks w ≡ bus_ask.Wait → w.front.stage ≡ stage.Rest → waits.FrontRests w h
   rests_done e here = record {
-    done = done_by h (subst (λ (s : FrontStage). HearsAt (IsFree w.rings.front) s w.front.state w.front.closing w.front.gone h) here (l.bus whole)) (rest_gone w c h k l whole e here) (rests_whole w c k here whole);
+    done = done_by h (subst (λ (s : FrontBusStage). HearsAt (IsFree w.rings.front) s w.front.state w.front.closing w.front.gone h) here (l.bus whole)) (rest_gone w c h k l whole e here) (rests_whole w c k here whole);
     closes = λ both. by_bus (bus_waits w.front idle e) both;
   }
     where
@@ -264,15 +264,15 @@ module _ (w : World) (c : Check) (h : Heard) (k : Knows w c) (l : Listens w.fron
               by_gone true g = absurd (gone_undone h (dealt_gone (IsFree w.rings.front) w.front.state w.front.closing w.front.gone h dealt g) rests.done)
 
           by_test : (b : Bool) → (w.front.closing && idle) ≡ b → bus_asks w ≡ bus_ask.Wait
-          by_test false t = ap (λ (d : FrontStage). bus.ask_at d w.front) (rests_due w.front idle false here t)
+          by_test false t = ap (λ (d : FrontBusStage). bus.ask_at d w.front) (rests_due w.front idle false here t)
           by_test true t =
-              ap (λ (d : FrontStage). bus.ask_at d w.front) (rests_due w.front idle true here t)
+              ap (λ (d : FrontBusStage). bus.ask_at d w.front) (rests_due w.front idle true here t)
               ∙ (ap (λ (s : BusState). bus.ask_at (bus.closing_stage s w.front) w.front) (rests.closes t) ∙ leaving_waits w.front.gone w.front.port not_gone)
 
       unheard : (x : Heard) → h ≡ x → (waits.FrontHasDone w.front.state w.front.closing idle x → ⊥) → bus_asks w ≡ bus_ask.Wait
       unheard x e none = absurd (none (subst (λ (y : Heard). waits.FrontHasDone w.front.state w.front.closing idle y) e rests.done))
 
-      by_stage : (s : FrontStage) → w.front.stage ≡ s → HearsAt (IsFree w.rings.front) s w.front.state w.front.closing w.front.gone h → FrontGoesWith s w.front w.rings.front.stage → bus_asks w ≡ bus_ask.Wait
+      by_stage : (s : FrontBusStage) → w.front.stage ≡ s → HearsAt (IsFree w.rings.front) s w.front.state w.front.closing w.front.gone h → FrontGoesWith s w.front w.rings.front.stage → bus_asks w ≡ bus_ask.Wait
       by_stage stage.Rest here is goes = at_rest here is
       by_stage stage.Start here is goes = unheard Unwatched is.0 (λ done. done)
       by_stage stage.ReadState here is goes = unheard Fired is.0 (λ done. done)
@@ -298,8 +298,8 @@ module _ (w : World) (c : Check) (h : Heard) (k : Knows w c) (l : Listens w.fron
     where
       by_bus : BusWaits w.front idle → w.front.stage ≡ stage.Rest
       by_bus (inl found) = found.0
-      by_bus (inr (inl here)) = let goes : FrontGoesWith stage.Closed w.front w.rings.front.stage = subst (λ (s : FrontStage). FrontGoesWith s w.front w.rings.front.stage) here k.fit.front in absurd (unclosed goes.0)
-      by_bus (inr (inr found)) = let goes : FrontGoesWith (stage.Broken found.0) w.front w.rings.front.stage = subst (λ (s : FrontStage). FrontGoesWith s w.front w.rings.front.stage) found.1 k.fit.front in absurd (true≢false (sym goes ∙ whole))
+      by_bus (inr (inl here)) = let goes : FrontGoesWith stage.Closed w.front w.rings.front.stage = subst (λ (s : FrontBusStage). FrontGoesWith s w.front w.rings.front.stage) here k.fit.front in absurd (unclosed goes.0)
+      by_bus (inr (inr found)) = let goes : FrontGoesWith (stage.Broken found.0) w.front w.rings.front.stage = subst (λ (s : FrontBusStage). FrontGoesWith s w.front w.rings.front.stage) found.1 k.fit.front in absurd (true≢false (sym goes ∙ whole))
 
 -- what is open isn't closed
 unserved_open : (own : BusState) → is_unserved own ≡ true → own ≡ state.Closed → ⊥

@@ -5,8 +5,8 @@ use Rattle.std.proofs.lemmas.Bool.Decides.{nat_tests}
 use Rattle.line_text.proofs.Both.{both_true}
 use Rattle.blk_base.specs.declared.ask.FrontAsk.{FrontAsk}
 use Rattle.blk_base.specs.declared.ask.FrontAsk.TheVariants as front_ask
-use Rattle.blk_front.specs.declared.stage.Stage.{Stage}
-use Rattle.blk_front.specs.declared.stage.Stage.TheVariants as ring_stage
+use Rattle.blk_front.specs.declared.stage.FrontStage.{FrontStage}
+use Rattle.blk_front.specs.declared.stage.FrontStage.TheVariants as ring_stage
 use Rattle.blk_front.specs.declared.request.Request.{Request}
 use Rattle.blk_front.specs.View as ends
 use Rattle.blk_front.specs.Ask as front_ring
@@ -16,8 +16,8 @@ use Rattle.blk_front.specs.Suspend.{is_left}
 use Rattle.blk_front.specs.Submit.{is_ready, is_wait, is_connected, ending_of}
 use Rattle.xenbus_state.specs.declared.state.BusState.{BusState}
 use Rattle.xenbus_state.specs.declared.state.BusState.TheVariants as state
-use Rattle.xenbus_state.specs.declared.stage.FrontStage.{FrontStage}
-use Rattle.xenbus_state.specs.declared.stage.FrontStage.TheVariants as stage
+use Rattle.xenbus_state.specs.declared.stage.FrontBusStage.{FrontBusStage}
+use Rattle.xenbus_state.specs.declared.stage.FrontBusStage.TheVariants as stage
 use Rattle.xenbus_state.specs.declared.front.FrontBusAsk.{FrontBusAsk}
 use Rattle.xenbus_state.specs.declared.front.FrontBusAsk.TheVariants as bus_ask
 use Rattle.xenbus_state.specs.FrontAsk as bus
@@ -54,7 +54,7 @@ asleep_is Asleep is = refl
 asleep_is c is = absurd (true≢false (sym is))
 
 -- a stage that isn't broken
-unlike : {A : Type 0} (r s : Stage) → r ≡ s → front_view.is_broken s ≡ false → front_view.is_broken r ≡ true → A
+unlike : {A : Type 0} (r s : FrontStage) → r ≡ s → front_view.is_broken s ≡ false → front_view.is_broken r ≡ true → A
 unlike r s same whole is = absurd (true≢false (sym is ∙ (ap front_view.is_broken same ∙ whole)))
 
 abbrev is_closed : BusState → Bool
@@ -72,7 +72,7 @@ none_next f none = by_waiting (f.waiting == 0) f.requests none
     by_waiting false [] none = refl
     by_waiting false (r ∷ requests) none = absurd (grind (arith, nat_tests))
 
-loops_ready : (s : Stage) → is_ready s ≡ true → front_view.is_still s ≡ true → s ≡ ring_stage.Loop
+loops_ready : (s : FrontStage) → is_ready s ≡ true → front_view.is_still s ≡ true → s ≡ ring_stage.Loop
 loops_ready ring_stage.Loop ready still = refl
 loops_ready (ring_stage.RingWord k) ready still = absurd (true≢false (sym ready))
 loops_ready ring_stage.Initialised ready still = absurd (true≢false (sym ready))
@@ -83,7 +83,7 @@ loops_ready ring_stage.Left ready still = absurd (true≢false (sym ready))
 loops_ready ring_stage.Closed ready still = absurd (true≢false (sym ready))
 loops_ready s ready still = absurd (true≢false (sym still))
 
-ready_connected : (s : Stage) → is_ready s ≡ true → is_connected s ≡ true
+ready_connected : (s : FrontStage) → is_ready s ≡ true → is_connected s ≡ true
 ready_connected (ring_stage.RingWord n) is = absurd (true≢false (sym is))
 ready_connected (ring_stage.RingFrame n) is = absurd (true≢false (sym is))
 ready_connected (ring_stage.RingFence n) is = absurd (true≢false (sym is))
@@ -93,11 +93,11 @@ ready_connected (ring_stage.LeftData n) is = absurd (true≢false (sym is))
 ready_connected s is = refl
 
 -- and has the move where its negotiation rests
-ready_moves : (s : Stage) → is_ready s ≡ true → front.ring_moves bus_ask.Wait s ≡ true
+ready_moves : (s : FrontStage) → is_ready s ≡ true → front.ring_moves bus_ask.Wait s ≡ true
 ready_moves (ring_stage.LeftData n) is = absurd (true≢false (sym is))
 ready_moves s is = ready_connected s is
 
-broken_unleft : (s : Stage) → front_view.is_broken s ≡ true → is_left s ≡ false
+broken_unleft : (s : FrontStage) → front_view.is_broken s ≡ true → is_left s ≡ false
 broken_unleft (ring_stage.LeftData n) is = absurd (true≢false (sym is))
 broken_unleft s is = refl
 
@@ -105,41 +105,41 @@ module _ (w : World) (c : Check) (k : Knows w c) where
   abbrev v : front_view.View
   v = frontend_of w
 
-  abbrev r : Stage
+  abbrev r : FrontStage
   r = w.rings.front.stage
 
   abbrev idle : Bool
   idle = front_view.is_unoccupied w.rings.front
 
   -- what it asks where its negotiation leaves the move to its end of the ring
-  ring_asks : (b : FrontBusAsk) (s : Stage) (moves : Bool) → r ≡ s → front.speaks b ≡ false → front.ring_moves b s ≡ moves → front.ask_at b v ≡ (if moves then front_ring.ask_at s w.rings.front else front_ask.Wait)
+  ring_asks : (b : FrontBusAsk) (s : FrontStage) (moves : Bool) → r ≡ s → front.speaks b ≡ false → front.ring_moves b s ≡ moves → front.ask_at b v ≡ (if moves then front_ring.ask_at s w.rings.front else front_ask.Wait)
   ring_asks b s moves here quiet does =
       ap (λ (t : Bool). if t then front.key_ask b else front.ring_ask (front.ring_moves b r) v) quiet
-      ∙ (ap (λ (t : Stage). front.ring_ask (front.ring_moves b t) v) here ∙ (ap (λ (t : Bool). front.ring_ask t v) does ∙ by_moves moves))
+      ∙ (ap (λ (t : FrontStage). front.ring_ask (front.ring_moves b t) v) here ∙ (ap (λ (t : Bool). front.ring_ask t v) does ∙ by_moves moves))
     where
       by_moves : (m : Bool) → front.ring_ask m v ≡ (if m then front_ring.ask_at s w.rings.front else front_ask.Wait)
-      by_moves true = ap (λ (t : Stage). front_ring.ask_at t w.rings.front) here
+      by_moves true = ap (λ (t : FrontStage). front_ring.ask_at t w.rings.front) here
       by_moves false = refl
 
-  moving : {A : Type 0} (b : FrontBusAsk) (s : Stage) → r ≡ s → front.speaks b ≡ false → front.ring_moves b s ≡ true → is_wait (front_ring.ask_at s w.rings.front) ≡ false → front.ask_at b v ≡ front_ask.Wait → A
+  moving : {A : Type 0} (b : FrontBusAsk) (s : FrontStage) → r ≡ s → front.speaks b ≡ false → front.ring_moves b s ≡ true → is_wait (front_ring.ask_at s w.rings.front) ≡ false → front.ask_at b v ≡ front_ask.Wait → A
   moving b s here quiet does on e = asks_on (front_ring.ask_at s w.rings.front) on (sym (ring_asks b s true here quiet does) ∙ e)
 
   -- a front whose end of the ring isn't broken waits only as its negotiation does
-  abbrev Only : FrontStage → Type 0
+  abbrev Only : FrontBusStage → Type 0
   Only d = front.ask_at (bus.ask_at d w.front) v ≡ front_ask.Wait → bus.ask_at d w.front ≡ bus_ask.Wait
 
-  ending : (page : ℕ) (s : Stage) → r ≡ s → IsEndingPage page s → Only (stage.EndGrant page)
+  ending : (page : ℕ) (s : FrontStage) → r ≡ s → IsEndingPage page s → Only (stage.EndGrant page)
   ending page (ring_stage.RingRead n) here is e = moving (bus_ask.EndGrant page) (ring_stage.RingRead n) here refl refl refl e
   ending page (ring_stage.RingEnd n seen) here is e = moving (bus_ask.EndGrant page) (ring_stage.RingEnd n seen) here refl refl refl e
   ending page s here is e = absurd is
 
-  granting : (page : ℕ) (s : Stage) → r ≡ s → IsGranting page s → Only (stage.Grant page)
+  granting : (page : ℕ) (s : FrontStage) → r ≡ s → IsGranting page s → Only (stage.Grant page)
   granting page (ring_stage.RingFrame n) here is e = moving (bus_ask.Grant page) (ring_stage.RingFrame n) here refl refl refl e
   granting page (ring_stage.RingFence n) here is e = moving (bus_ask.Grant page) (ring_stage.RingFence n) here refl refl refl e
   granting page (ring_stage.RingFlags n) here is e = moving (bus_ask.Grant page) (ring_stage.RingFlags n) here refl refl refl e
   granting page s here is e = absurd is
 
-  begun : (s : FrontStage) → FrontGoesWith s w.front r → front_view.is_broken r ≡ false → Only s
+  begun : (s : FrontBusStage) → FrontGoesWith s w.front r → front_view.is_broken r ≡ false → Only s
   begun stage.Rest goes whole e = refl
   begun stage.Closed goes whole e = refl
   begun (stage.Broken word) goes whole e = refl
@@ -158,7 +158,7 @@ module _ (w : World) (c : Check) (k : Knows w c) where
 
   pub rests_whole : w.front.stage ≡ stage.Rest → front_view.is_broken r ≡ false → FrontRests w.front.state w.front.gone w.front.port r
   rests_whole here whole =
-      let goes : FrontGoesWith stage.Rest w.front r = subst (λ (s : FrontStage). FrontGoesWith s w.front r) here k.fit.front in
+      let goes : FrontGoesWith stage.Rest w.front r = subst (λ (s : FrontBusStage). FrontGoesWith s w.front r) here k.fit.front in
       elim goes [ inl rests ↦ rests | inr broken ↦ absurd (true≢false (sym broken ∙ whole)) ]
 
   pub only_rests : front_view.is_broken r ≡ false → front.ask_at (bus_asks w) v ≡ front_ask.Wait → bus_asks w ≡ bus_ask.Wait
@@ -182,8 +182,8 @@ module _ (w : World) (c : Check) (k : Knows w c) where
   sleeps_so rests e remains whole own ready =
       let asks : front_ring.ask_at r w.rings.front ≡ front_ask.Wait = ready_asks rests e ready in
       let here : r ≡ ring_stage.Loop = ready_waits r w.rings.front c ready k.ring asks in
-      let looped = loop_waits w.rings.front (sym (ap (λ (t : Stage). front_ring.ask_at t w.rings.front) here) ∙ asks) in
-      let stands = subst (λ (t : Stage). StandsAt t w.rings.front c) here k.ring in
+      let looped = loop_waits w.rings.front (sym (ap (λ (t : FrontStage). front_ring.ask_at t w.rings.front) here) ∙ asks) in
+      let stands = subst (λ (t : FrontStage). StandsAt t w.rings.front c) here k.ring in
       inr (inl (record { connected = own; rests = rests; nothing_found = asleep_is c (stands.0.0 ∙ slept here looped.1); none_waits = looped.0; none_begun = ap front_view.is_still here }))
     where
       -- a front that is through closes, and its negotiation with it
@@ -217,15 +217,15 @@ module _ (w : World) (c : Check) (k : Knows w c) where
     where
       by_bus : front_view.is_broken r ≡ false → bus_asks w ≡ bus_ask.Wait → BusWaits w.front idle → MayWait w c
       by_bus whole rests (inl at) = rests_may whole e rests at.1 (rests_whole at.0 whole)
-      by_bus whole rests (inr (inl here)) = let goes : FrontGoesWith stage.Closed w.front r = subst (λ (s : FrontStage). FrontGoesWith s w.front r) here k.fit.front in inr (inr (inl goes.0))
-      by_bus whole rests (inr (inr at)) = let goes : FrontGoesWith (stage.Broken at.0) w.front r = subst (λ (s : FrontStage). FrontGoesWith s w.front r) at.1 k.fit.front in absurd (true≢false (sym goes ∙ whole))
+      by_bus whole rests (inr (inl here)) = let goes : FrontGoesWith stage.Closed w.front r = subst (λ (s : FrontBusStage). FrontGoesWith s w.front r) here k.fit.front in inr (inr (inl goes.0))
+      by_bus whole rests (inr (inr at)) = let goes : FrontGoesWith (stage.Broken at.0) w.front r = subst (λ (s : FrontBusStage). FrontGoesWith s w.front r) at.1 k.fit.front in absurd (true≢false (sym goes ∙ whole))
 
       by_broken : (b : Bool) → front_view.is_broken r ≡ b → MayWait w c
       by_broken true is = inr (inr (inr is))
       by_broken false whole = let rests = only_rests whole e in by_bus whole rests (bus_waits w.front idle rests)
 
   -- a front that is broken waits
-  broken_at : (b : FrontBusAsk) (s : Stage) → r ≡ s → front_view.is_broken s ≡ true → front.speaks b ≡ false → front.ask_at b v ≡ front_ask.Wait
+  broken_at : (b : FrontBusAsk) (s : FrontStage) → r ≡ s → front_view.is_broken s ≡ true → front.speaks b ≡ false → front.ask_at b v ≡ front_ask.Wait
   broken_at b (ring_stage.Broken word) here is quiet = ring_asks b (ring_stage.Broken word) (front.ring_moves b (ring_stage.Broken word)) here quiet refl ∙ either_waits (front.ring_moves b (ring_stage.Broken word))
     where
       either_waits : (m : Bool) → (if m then front_ring.ask_at (ring_stage.Broken word) w.rings.front else front_ask.Wait) ≡ front_ask.Wait
@@ -233,10 +233,10 @@ module _ (w : World) (c : Check) (k : Knows w c) where
       either_waits false = refl
   broken_at b s here is quiet = absurd (true≢false (sym is))
 
-  abbrev Broken : FrontStage → Type 0
+  abbrev Broken : FrontBusStage → Type 0
   Broken d = front.ask_at (bus.ask_at d w.front) v ≡ front_ask.Wait
 
-  broken_begun : (s : FrontStage) → FrontGoesWith s w.front r → front_view.is_broken r ≡ true → Broken s
+  broken_begun : (s : FrontBusStage) → FrontGoesWith s w.front r → front_view.is_broken r ≡ true → Broken s
   broken_begun stage.Rest goes is = broken_at bus_ask.Wait r refl is refl
   broken_begun (stage.EndGrant page) goes is = broken_at (bus_ask.EndGrant page) r refl is refl
   broken_begun (stage.Broken word) goes is = broken_at bus_ask.Wait r refl is refl
@@ -244,21 +244,21 @@ module _ (w : World) (c : Check) (k : Knows w c) where
   broken_begun stage.Start goes is = elim goes.1 [ inl begins ↦ unlike r (ring_stage.RingWord 0) begins refl is | inr left ↦ absurd (true≢false (sym left ∙ broken_unleft r is)) ]
   broken_begun stage.ReadState goes is = absurd (rests_unbroken w.front.state w.front.gone w.front.port r goes is)
     where
-      made_unbroken : (s : Stage) → is_made s ≡ true → front_view.is_broken s ≡ true → ⊥
+      made_unbroken : (s : FrontStage) → is_made s ≡ true → front_view.is_broken s ≡ true → ⊥
       made_unbroken ring_stage.Initialised made is = true≢false (sym is)
       made_unbroken ring_stage.Loop made is = true≢false (sym is)
       made_unbroken s made is = true≢false (sym made)
 
-      ready_unbroken : (s : Stage) → is_ready s ≡ true → front_view.is_broken s ≡ true → ⊥
+      ready_unbroken : (s : FrontStage) → is_ready s ≡ true → front_view.is_broken s ≡ true → ⊥
       ready_unbroken (ring_stage.Broken word) ready is = true≢false (sym ready)
       ready_unbroken s ready is = true≢false (sym is)
 
-      ends_unbroken : (s : Stage) → IsEndingPage 0 s → front_view.is_broken s ≡ true → ⊥
+      ends_unbroken : (s : FrontStage) → IsEndingPage 0 s → front_view.is_broken s ≡ true → ⊥
       ends_unbroken (ring_stage.RingRead page) ends is = true≢false (sym is)
       ends_unbroken (ring_stage.RingEnd page seen) ends is = true≢false (sym is)
       ends_unbroken s ends is = ends
 
-      rests_unbroken : (own : BusState) (gone : Bool) (port : Option ℕ) (s : Stage) → FrontRests own gone port s → front_view.is_broken s ≡ true → ⊥
+      rests_unbroken : (own : BusState) (gone : Bool) (port : Option ℕ) (s : FrontStage) → FrontRests own gone port s → front_view.is_broken s ≡ true → ⊥
       rests_unbroken state.Initialising gone port s rests is = unlike s (ring_stage.RingWord 0) rests.0 refl is
       rests_unbroken state.Initialised gone port s rests is = unlike s ring_stage.Initialised rests.0 refl is
       rests_unbroken state.Connected gone port s rests is = ready_unbroken s rests.0 is
@@ -270,7 +270,7 @@ module _ (w : World) (c : Check) (k : Knows w c) where
   broken_begun (stage.RingWord word) goes is = unlike r (ring_stage.RingWord word) goes.2 refl is
   broken_begun (stage.Grant page) goes is = absurd (by_ring r goes.1 is)
     where
-      by_ring : (s : Stage) → IsGranting page s → front_view.is_broken s ≡ true → ⊥
+      by_ring : (s : FrontStage) → IsGranting page s → front_view.is_broken s ≡ true → ⊥
       by_ring (ring_stage.RingFrame n) grants is = true≢false (sym is)
       by_ring (ring_stage.RingFence n) grants is = true≢false (sym is)
       by_ring (ring_stage.RingFlags n) grants is = true≢false (sym is)
@@ -282,7 +282,7 @@ module _ (w : World) (c : Check) (k : Knows w c) where
   broken_begun (stage.WriteState state.Connected) goes is = unlike r ring_stage.Initialised goes.1 refl is
   broken_begun (stage.WriteState state.Closed) goes is = absurd (by_ring r goes.1 is)
     where
-      by_ring : (s : Stage) → is_bare s ≡ true → front_view.is_broken s ≡ true → ⊥
+      by_ring : (s : FrontStage) → is_bare s ≡ true → front_view.is_broken s ≡ true → ⊥
       by_ring (ring_stage.Broken word) bare is = true≢false (sym bare)
       by_ring s bare is = true≢false (sym is)
   broken_begun (stage.WriteState s) goes is = absurd goes
@@ -293,9 +293,9 @@ module _ (w : World) (c : Check) (k : Knows w c) where
   broken_waits is = due_cases Broken w.front idle (broken_begun w.front.stage k.fit.front is) (λ here closing is_idle. let free = unoccupied w.rings.front is_idle in absurd (true≢false (sym is ∙ free.whole)))
 
   -- one that is closed does
-  closed_at : (s : FrontStage) → w.front.stage ≡ s → FrontGoesWith s w.front r → front_view.is_broken r ≡ false → w.front.state ≡ state.Closed → front.ask_at (bus_asks w) v ≡ front_ask.Wait
+  closed_at : (s : FrontBusStage) → w.front.stage ≡ s → FrontGoesWith s w.front r → front_view.is_broken r ≡ false → w.front.state ≡ state.Closed → front.ask_at (bus_asks w) v ≡ front_ask.Wait
   closed_at stage.Closed here goes whole own =
-      ap (λ (s : FrontStage). front.ask_at (bus.ask_at (bus.due_at s w.front idle) w.front) v) here ∙ ring_asks bus_ask.Wait ring_stage.Closed true goes.1 refl refl
+      ap (λ (s : FrontBusStage). front.ask_at (bus.ask_at (bus.due_at s w.front idle) w.front) v) here ∙ ring_asks bus_ask.Wait ring_stage.Closed true goes.1 refl refl
   closed_at (stage.Broken word) here goes whole own = absurd (true≢false (sym goes ∙ whole))
   closed_at stage.Rest here goes whole own = absurd (subst (λ (s : BusState). FrontRests s w.front.gone w.front.port r) own (rests_whole here whole))
   closed_at stage.ReadState here goes whole own = absurd (subst (λ (s : BusState). FrontRests s w.front.gone w.front.port r) own goes)
@@ -315,7 +315,7 @@ module _ (w : World) (c : Check) (k : Knows w c) where
   closed_at stage.EndOtherGrants here goes whole own = absurd goes
 
   -- and one whose negotiation rests, where nothing is served
-  unserved_at : (own : BusState) (gone : Bool) (port : Option ℕ) (s : Stage) → r ≡ s → w.front.state ≡ own → is_unserved own ≡ true → (own ≡ state.Closing → gone ≡ false) → FrontRests own gone port s → front.ask_at bus_ask.Wait v ≡ front_ask.Wait
+  unserved_at : (own : BusState) (gone : Bool) (port : Option ℕ) (s : FrontStage) → r ≡ s → w.front.state ≡ own → is_unserved own ≡ true → (own ≡ state.Closing → gone ≡ false) → FrontRests own gone port s → front.ask_at bus_ask.Wait v ≡ front_ask.Wait
   unserved_at state.Initialising gone port s here own is remains rests = ring_asks bus_ask.Wait (ring_stage.RingWord 0) false (here ∙ rests.0) refl refl
   unserved_at state.Initialised gone port s here own is remains rests = ring_asks bus_ask.Wait ring_stage.Initialised true (here ∙ rests.0) refl refl
   unserved_at state.Closing true port s here own is remains rests = absurd (true≢false (remains refl))
@@ -337,7 +337,7 @@ module _ (w : World) (c : Check) (k : Knows w c) where
   -- as it sleeps
   asleep_waits : bus_asks w ≡ bus_ask.Wait → c ≡ Asleep → ends.next_request w.rings.front ≡ None → r ≡ ring_stage.Loop → front.ask_at (bus_asks w) v ≡ front_ask.Wait
   asleep_waits rests found none here =
-      let stands = subst (λ (t : Stage). StandsAt t w.rings.front c) here k.ring in
+      let stands = subst (λ (t : FrontStage). StandsAt t w.rings.front c) here k.ring in
       let asleep : w.rings.front.ring.asleep ≡ true = sym stands.0.0 ∙ ap sleeps found in
       ap (λ (b : FrontBusAsk). front.ask_at b v) rests
       ∙ (ring_asks bus_ask.Wait ring_stage.Loop true here refl refl ∙ (ap (λ (next : Option Request). front_ring.loop_ask w.rings.front next) none ∙ sleeping w.rings.front.ring.asleep asleep))
@@ -361,7 +361,7 @@ module _ (w : World) (c : Check) (k : Knows w c) where
               through : front_ring.is_through w.rings.front ≡ true
               through = k.fit.through own whole
 
-              free : (s : Stage) → IsEndingPage 0 s → (length w.rings.front.requests + ending_of s == 0 && front_view.is_still s) ≡ true
+              free : (s : FrontStage) → IsEndingPage 0 s → (length w.rings.front.requests + ending_of s == 0 && front_view.is_still s) ≡ true
               free (ring_stage.RingRead page) ends = let zero = (both_true w.rings.front.closing (length w.rings.front.requests == 0) through).1 in let none : length w.rings.front.requests ≡ 0 = grind (arith, nat_tests) in rw none refl
               free (ring_stage.RingEnd page seen) ends = let zero = (both_true w.rings.front.closing (length w.rings.front.requests == 0) through).1 in let none : length w.rings.front.requests ≡ 0 = grind (arith, nat_tests) in rw none refl
               free s ends = absurd ends
@@ -373,13 +373,13 @@ module _ (w : World) (c : Check) (k : Knows w c) where
                   let closes : w.front.closing ≡ true = sym (k.fit.closing whole) ∙ (both_true w.rings.front.closing (length w.rings.front.requests == 0) through).0 in
                   let unoccupied_is : idle ≡ true = free r rests in
                   absurd (true≢false (sym (rw (closes, unoccupied_is) refl) ∙ still))
-      at_rest whole rests is (inr (inl here)) = let goes : FrontGoesWith stage.Closed w.front r = subst (λ (s : FrontStage). FrontGoesWith s w.front r) here k.fit.front in absurd (true≢false (sym is ∙ ap is_unserved goes.0))
-      at_rest whole rests is (inr (inr at)) = let goes : FrontGoesWith (stage.Broken at.0) w.front r = subst (λ (s : FrontStage). FrontGoesWith s w.front r) at.1 k.fit.front in absurd (true≢false (sym goes ∙ whole))
+      at_rest whole rests is (inr (inl here)) = let goes : FrontGoesWith stage.Closed w.front r = subst (λ (s : FrontBusStage). FrontGoesWith s w.front r) here k.fit.front in absurd (true≢false (sym is ∙ ap is_unserved goes.0))
+      at_rest whole rests is (inr (inr at)) = let goes : FrontGoesWith (stage.Broken at.0) w.front r = subst (λ (s : FrontBusStage). FrontGoesWith s w.front r) at.1 k.fit.front in absurd (true≢false (sym goes ∙ whole))
 
       ready_at : front_view.is_broken r ≡ false → w.front.state ≡ state.Connected → BusWaits w.front idle → is_ready r ≡ true
       ready_at whole own (inl at) = let rests = subst (λ (s : BusState). FrontRests s w.front.gone w.front.port r) own (rests_whole at.0 whole) in rests.0
-      ready_at whole own (inr (inl here)) = let goes : FrontGoesWith stage.Closed w.front r = subst (λ (s : FrontStage). FrontGoesWith s w.front r) here k.fit.front in differs w.front.state state.Connected goes.0 own refl
-      ready_at whole own (inr (inr at)) = let goes : FrontGoesWith (stage.Broken at.0) w.front r = subst (λ (s : FrontStage). FrontGoesWith s w.front r) at.1 k.fit.front in absurd (true≢false (sym goes ∙ whole))
+      ready_at whole own (inr (inl here)) = let goes : FrontGoesWith stage.Closed w.front r = subst (λ (s : FrontBusStage). FrontGoesWith s w.front r) here k.fit.front in differs w.front.state state.Connected goes.0 own refl
+      ready_at whole own (inr (inr at)) = let goes : FrontGoesWith (stage.Broken at.0) w.front r = subst (λ (s : FrontBusStage). FrontGoesWith s w.front r) at.1 k.fit.front in absurd (true≢false (sym goes ∙ whole))
 
       by_broken : (b : Bool) → front_view.is_broken r ≡ b → MayWait w c → front.ask_at (bus_asks w) v ≡ front_ask.Wait
       by_broken true is may = broken_waits is
@@ -411,12 +411,12 @@ module _ (w : World) (c : Check) (k : Knows w c) where
   begun_unleft other = none_left w.front.stage w.front r k.fit.front other
 
   pub rests_unleft : bus_asks w ≡ bus_ask.Wait → is_left r ≡ false
-  rests_unleft rests = begun_unleft (λ here. bus_asks_on bus_ask.Watch refl (sym (ap (λ (s : FrontStage). bus.ask_at (bus.due_at s w.front idle) w.front) here) ∙ rests))
+  rests_unleft rests = begun_unleft (λ here. bus_asks_on bus_ask.Watch refl (sym (ap (λ (s : FrontBusStage). bus.ask_at (bus.due_at s w.front idle) w.front) here) ∙ rests))
 
   unleft : MayWait w c → is_left r ≡ false
   unleft (inl may) = rests_unleft may.1
   unleft (inr (inl may)) = rests_unleft may.rests
-  unleft (inr (inr (inl own))) = begun_unleft (λ here. let goes : FrontGoesWith stage.Start w.front r = subst (λ (s : FrontStage). FrontGoesWith s w.front r) here k.fit.front in differs w.front.state state.Initialising own goes.0 refl)
+  unleft (inr (inr (inl own))) = begun_unleft (λ here. let goes : FrontGoesWith stage.Start w.front r = subst (λ (s : FrontBusStage). FrontGoesWith s w.front r) here k.fit.front in differs w.front.state state.Initialising own goes.0 refl)
   unleft (inr (inr (inr is))) = broken_unleft r is
 
   pub waits : MayWait w c → front.ask_of v ≡ front_ask.Wait

@@ -7,14 +7,14 @@ use Rattle.line_text.proofs.Both.{both_true}
 use Rattle.blk_base.specs.declared.parts.End.TheVariants.{Back}
 use Rattle.blk_base.specs.declared.ask.FrontAnswer.{FrontAnswer}
 use Rattle.blk_base.specs.declared.ask.FrontAnswer.TheVariants as answer
-use Rattle.blk_front.specs.declared.stage.Stage.{Stage as Ring}
+use Rattle.blk_front.specs.declared.stage.FrontStage.{FrontStage}
 use Rattle.xenbus_state.specs.declared.keys.BackKey.{BackKey}
 use Rattle.xenbus_state.specs.declared.keys.BackKey.TheVariants as back_key
 use Rattle.xenbus_state.specs.declared.keys.FrontKey.{FrontKey}
 use Rattle.xenbus_state.specs.declared.state.BusState.{BusState}
 use Rattle.xenbus_state.specs.declared.state.BusState.TheVariants as state
-use Rattle.xenbus_state.specs.declared.stage.FrontStage.{FrontStage}
-use Rattle.xenbus_state.specs.declared.stage.FrontStage.TheVariants as stage
+use Rattle.xenbus_state.specs.declared.stage.FrontBusStage.{FrontBusStage}
+use Rattle.xenbus_state.specs.declared.stage.FrontBusStage.TheVariants as stage
 use Rattle.xenbus_state.specs.declared.front.FrontBusAsk.TheVariants as bus_ask
 use Rattle.xenbus_state.specs.declared.table.FrontAction.TheVariants as action
 use Rattle.xenbus_state.specs.Keys.{back_name, path_under}
@@ -66,7 +66,7 @@ module _ (free : Type 0) where
   abbrev pub Connects : (closing gone : Bool) → Heard → Type 0
   Connects closing gone h = ((h ≡ Read (Some state.Connected)) ⊎ ((h ≡ Read (Some state.Closing)) × (closing ≡ true))) × (gone ≡ false)
 
-  abbrev pub HearsAt : FrontStage → BusState → (closing gone : Bool) → Heard → Type 0
+  abbrev pub HearsAt : FrontBusStage → BusState → (closing gone : Bool) → Heard → Type 0
   HearsAt stage.Start own closing gone h = (h ≡ Unwatched) × (gone ≡ false)
   HearsAt stage.Rest own closing gone h = IsDealt own closing gone h
   HearsAt stage.ReadState own closing gone h = (h ≡ Fired) × (gone ≡ false)
@@ -185,7 +185,7 @@ module _ (free : Type 0) where
   published_hears None own closing gone h is = is
 
   -- its negotiation speaks at a stage that it has begun
-  pub says_at : (s : FrontStage) (v : FrontView) (idle : Bool) (r : Ring) (h : Heard) (a : FrontAnswer) → (idle ≡ true → free) → FrontGoesWith s v r → HearsAt s v.state v.closing v.gone h → front.speaks (ask_at s v) ≡ true → IsAnswer (ask_at s v) a
+  pub says_at : (s : FrontBusStage) (v : FrontView) (idle : Bool) (r : FrontStage) (h : Heard) (a : FrontAnswer) → (idle ≡ true → free) → FrontGoesWith s v r → HearsAt s v.state v.closing v.gone h → front.speaks (ask_at s v) ≡ true → IsAnswer (ask_at s v) a
       → Hears (step_at s (at s v) idle a) (front_hears (front.key_ask (ask_at s v)) a h)
   says_at stage.Start v idle r h answer.Done may goes is says allowed = is.1
   says_at stage.ReadState v idle r h (answer.Key text) may goes is says allowed = acted_hears (at stage.ReadState v) idle (state_read text) is.1 may
@@ -250,7 +250,7 @@ module _ (free : Type 0) where
   connects_closed : (closing gone : Bool) (h : Heard) → Connects closing gone h → Connects true gone h
   connects_closed closing gone h is = (elim is.0 [ inl e ↦ inl e | inr e ↦ inr (e.0, refl) ], is.1)
 
-  pub hears_closed : (s : FrontStage) (own : BusState) (closing gone : Bool) (h : Heard) → HearsAt s own closing gone h → HearsAt s own true gone h
+  pub hears_closed : (s : FrontBusStage) (own : BusState) (closing gone : Bool) (h : Heard) → HearsAt s own closing gone h → HearsAt s own true gone h
   hears_closed stage.Rest own closing gone h is = dealt_closed own closing gone h is
   hears_closed (stage.ReadFact key) own closing gone h is = connects_closed closing gone h is
   hears_closed (stage.WriteState state.Connected) own closing gone h is = connects_closed closing gone h is
@@ -263,12 +263,12 @@ module _ (free : Type 0) where
 
   pub settled_hears : (idle : Bool) (u : FrontView) (h : Heard) → Hears u h → Hears (settled idle u) h
   settled_hears idle u h is =
-      due_cases (λ (d : FrontStage). due u idle ≡ d → Hears (settled_at (ask_at d u) idle u) h) u idle (λ e. begun u.stage e is) (λ here closing is_idle. by_state u.state here) refl
+      due_cases (λ (d : FrontBusStage). due u idle ≡ d → Hears (settled_at (ask_at d u) idle u) h) u idle (λ e. begun u.stage e is) (λ here closing is_idle. by_state u.state here) refl
     where
       ends : due u idle ≡ stage.EndOtherGrants → IsGone h → Hears (step_of u idle answer.Done) h
-      ends e gone = subst (λ (d : FrontStage). Hears (step_at d (at d u) idle answer.Done) h) (sym e) (after_hears u.port u.state u.closing u.gone h gone)
+      ends e gone = subst (λ (d : FrontBusStage). Hears (step_at d (at d u) idle answer.Done) h) (sym e) (after_hears u.port u.state u.closing u.gone h gone)
 
-      begun : (s : FrontStage) → due u idle ≡ s → HearsAt s u.state u.closing u.gone h → Hears (settled_at (ask_at s u) idle u) h
+      begun : (s : FrontBusStage) → due u idle ≡ s → HearsAt s u.state u.closing u.gone h → Hears (settled_at (ask_at s u) idle u) h
       begun stage.EndOtherGrants e gone = ends e gone
       begun s e there = is
 
@@ -278,7 +278,7 @@ module _ (free : Type 0) where
           by_port : (gone : Bool) (port : Option ℕ) → u.gone ≡ gone → due u idle ≡ leaving gone port → Hears (settled_at (ask_at (leaving gone port) u) idle u) h
           by_port false port g e = is
           by_port true (Some p) g e = is
-          by_port true None g e = ends e (dealt_gone u.state u.closing u.gone h (subst (λ (s : FrontStage). HearsAt s u.state u.closing u.gone h) here is) g)
+          by_port true None g e = ends e (dealt_gone u.state u.closing u.gone h (subst (λ (s : FrontBusStage). HearsAt s u.state u.closing u.gone h) here is) g)
       by_state own here e = is
 
 -- what was left no more isn't left
@@ -292,7 +292,7 @@ dealt_as P Q own closing gone (Read (Some state.InitWait)) into is = (is.0, λ e
 dealt_as P Q own closing gone (Read (Some state.Connected)) into is = (is.0, λ e. let both = is.1 e in (both.0, into both.0 both.1))
 dealt_as P Q own closing gone (Read (Some s)) into is = is
 
-pub hears_as : (P Q : Type 0) (s : FrontStage) (own : BusState) (closing gone : Bool) (h : Heard) → (closing ≡ true → P → Q) → HearsAt P s own closing gone h → HearsAt Q s own closing gone h
+pub hears_as : (P Q : Type 0) (s : FrontBusStage) (own : BusState) (closing gone : Bool) (h : Heard) → (closing ≡ true → P → Q) → HearsAt P s own closing gone h → HearsAt Q s own closing gone h
 hears_as P Q stage.Rest own closing gone h into is = dealt_as P Q own closing gone h into is
 hears_as P Q (stage.WriteState state.Initialised) own closing gone h into is = is
 hears_as P Q (stage.WriteState state.Connected) own closing gone h into is = is

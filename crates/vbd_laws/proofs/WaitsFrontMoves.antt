@@ -7,8 +7,8 @@ use Rattle.blk_base.specs.declared.ask.FrontAsk.{FrontAsk}
 use Rattle.blk_base.specs.declared.ask.FrontAsk.TheVariants as front_ask
 use Rattle.blk_base.specs.declared.ask.FrontAnswer.{FrontAnswer}
 use Rattle.blk_base.specs.declared.ask.FrontAnswer.TheVariants as answer
-use Rattle.blk_front.specs.declared.stage.Stage.{Stage}
-use Rattle.blk_front.specs.declared.stage.Stage.TheVariants as ring_stage
+use Rattle.blk_front.specs.declared.stage.FrontStage.{FrontStage}
+use Rattle.blk_front.specs.declared.stage.FrontStage.TheVariants as ring_stage
 use Rattle.blk_front.specs.declared.state.FrontState.TheVariants as enter
 use Rattle.blk_front.specs.View as ends
 use Rattle.blk_front.specs.Ask as front_ring
@@ -19,8 +19,8 @@ use Rattle.blk_front.specs.Suspend.{is_left}
 use Rattle.blk_front.specs.Submit.{is_wait, ending_of, unfinished}
 use Rattle.xenbus_state.specs.declared.state.BusState.{BusState}
 use Rattle.xenbus_state.specs.declared.state.BusState.TheVariants as state
-use Rattle.xenbus_state.specs.declared.stage.FrontStage.{FrontStage}
-use Rattle.xenbus_state.specs.declared.stage.FrontStage.TheVariants as stage
+use Rattle.xenbus_state.specs.declared.stage.FrontBusStage.{FrontBusStage}
+use Rattle.xenbus_state.specs.declared.stage.FrontBusStage.TheVariants as stage
 use Rattle.xenbus_state.specs.declared.table.FrontAction.{FrontAction}
 use Rattle.xenbus_state.specs.declared.table.FrontAction.TheVariants as action
 use Rattle.xenbus_state.specs.declared.front.FrontNews.{FrontNews}
@@ -120,13 +120,13 @@ unwatched front_ask.ClosePort answer.Done h on allowed = refl
 unwatched a x h on allowed = absurd allowed
 
 -- once its grants are being ended nothing of a request is left
-ending_idle : (f : ends.View) (s : Stage) → f.stage ≡ s → IsEndingPage 0 s → front_ring.is_through f ≡ true → front_view.is_unoccupied f ≡ true
+ending_idle : (f : ends.View) (s : FrontStage) → f.stage ≡ s → IsEndingPage 0 s → front_ring.is_through f ≡ true → front_view.is_unoccupied f ≡ true
 ending_idle f s here ends through = rw here (by_stage s ends)
   where
     none : length f.requests ≡ 0
     none = let zero = (both_true f.closing (length f.requests == 0) through).1 in grind (arith, nat_tests)
 
-    by_stage : (s : Stage) → IsEndingPage 0 s → (length f.requests + ending_of s == 0 && front_view.is_still s) ≡ true
+    by_stage : (s : FrontStage) → IsEndingPage 0 s → (length f.requests + ending_of s == 0 && front_view.is_still s) ≡ true
     by_stage (ring_stage.RingRead page) ends = rw none refl
     by_stage (ring_stage.RingEnd page seen) ends = rw none refl
     by_stage s ends = absurd ends
@@ -177,10 +177,10 @@ module _ (w : World) (c : Check) (h : Heard) (k : Knows w c) (l : Listens w.fron
       late : (own : BusState) → w.front.state ≡ own → is_early own ≡ false → ⊥
       late own at_own is = true≢false (sym early ∙ (ap is_early at_own ∙ is))
 
-      by_stage : (s : FrontStage) → w.front.stage ≡ s → HearsAt (IsFree w.rings.front) s w.front.state w.front.closing w.front.gone h → FrontGoesWith s w.front w.rings.front.stage → ⊥
+      by_stage : (s : FrontBusStage) → w.front.stage ≡ s → HearsAt (IsFree w.rings.front) s w.front.state w.front.closing w.front.gone h → FrontGoesWith s w.front w.rings.front.stage → ⊥
       by_stage stage.Rest here is goes =
           let e = rests_due w.front idle true here (l.leaves whole gone early) in
-          true≢false (sym (ap (λ (d : FrontStage). front.speaks (bus.ask_at d w.front)) e ∙ closes w.front.state early) ∙ quiet)
+          true≢false (sym (ap (λ (d : FrontBusStage). front.speaks (bus.ask_at d w.front)) e ∙ closes w.front.state early) ∙ quiet)
       by_stage stage.Start here is goes = true≢false (sym gone ∙ is.1)
       by_stage stage.ReadState here is goes = true≢false (sym gone ∙ is.1)
       by_stage (stage.ReadFeature key) here is goes = true≢false (sym gone ∙ is.1)
@@ -203,7 +203,7 @@ module _ (w : World) (c : Check) (h : Heard) (k : Knows w c) (l : Listens w.fron
   abbrev f_after : FrontView → Option FrontNews → ends.View
   f_after u n = front_step.all_entered (front_step.states_entered (front_step.offers_of (settled idle u)) n (bus.ask_of (settled idle u) idle) (ring_order (settled idle u))) w.rings.front
 
-  abbrev Ends : FrontAnswer → FrontStage → Type 0
+  abbrev Ends : FrontAnswer → FrontBusStage → Type 0
   Ends x d =
       front.speaks (bus.ask_at d w.front) ≡ true → bus.IsAnswer (bus.ask_at d w.front) x
       → let u = step_at d (at d w.front) idle x in u.gone ≡ true → is_early u.state ≡ true → ((settled idle u).closing && front_view.is_unoccupied (f_after u (news_at d (at d w.front) idle x))) ≡ true
@@ -222,7 +222,7 @@ module _ (w : World) (c : Check) (h : Heard) (k : Knows w c) (l : Listens w.fron
       by_state own is = absurd (true≢false (sym is))
 
       asks : bus.ask_of u idle ≡ bus_ask.SetState state.Closing
-      asks = ap (λ (d : FrontStage). bus.ask_at d u) (rests_due u idle true here (rw (closing, free) refl)) ∙ by_state u.state early
+      asks = ap (λ (d : FrontBusStage). bus.ask_at d u) (rests_due u idle true here (rw (closing, free) refl)) ∙ by_state u.state early
 
       same : settled idle u ≡ u
       same = ap (λ (b : FrontBusAsk). settled_at b idle u) asks
@@ -253,7 +253,7 @@ module _ (w : World) (c : Check) (h : Heard) (k : Knows w c) (l : Listens w.fron
   fact_gone key None v = refl
   fact_gone key (Some n) v = refl
 
-  begun_ends : (s : FrontStage) (x : FrontAnswer) → HearsAt (IsFree w.rings.front) s w.front.state w.front.closing w.front.gone h → FrontGoesWith s w.front w.rings.front.stage → Ends x s
+  begun_ends : (s : FrontBusStage) (x : FrontAnswer) → HearsAt (IsFree w.rings.front) s w.front.state w.front.closing w.front.gone h → FrontGoesWith s w.front w.rings.front.stage → Ends x s
   begun_ends stage.Start answer.Done is goes says allowed gone early = absurd (true≢false (sym gone ∙ is.1))
   begun_ends stage.ReadState (answer.Key text) is goes says allowed gone early =
       acted_ends (front_action w.front.state w.front.closing idle (state_read text)) (action_leaves w.front.state w.front.closing idle (state_read text)) is.1 gone early
@@ -394,7 +394,7 @@ module _ (w : World) (c : Check) (h : Heard) (k : Knows w c) (l : Listens w.fron
   left_goes x left allowed =
       subst (λ (v : FrontView). Listens v (ring_step.step_of w.rings.front x) (front_hears (front_ring.ask_of w.rings.front) x h)) (sym (unwoken (front_view.is_broken (ring_step.step_of w.rings.front x).stage) x))
       (subst (λ (t : Heard). Listens w.front (ring_step.step_of w.rings.front x) t) (sym same) (record {
-        bus = λ still. subst (λ (s : FrontStage). HearsAt (IsFree (ring_step.step_of w.rings.front x)) s w.front.state w.front.closing w.front.gone h) (sym here) heard;
+        bus = λ still. subst (λ (s : FrontBusStage). HearsAt (IsFree (ring_step.step_of w.rings.front x)) s w.front.state w.front.closing w.front.gone h) (sym here) heard;
         leaves = λ still gone early. absurd (true≢false (sym gone ∙ heard.1));
       }))
     where
@@ -404,12 +404,12 @@ module _ (w : World) (c : Check) (h : Heard) (k : Knows w c) (l : Listens w.fron
       whole : IsWhole w
       whole = by_stage w.rings.front.stage left
         where
-          by_stage : (s : Stage) → is_left s ≡ true → front_view.is_broken s ≡ false
+          by_stage : (s : FrontStage) → is_left s ≡ true → front_view.is_broken s ≡ false
           by_stage (ring_stage.LeftData n) is = refl
           by_stage s is = absurd (true≢false (sym is))
 
       heard : HearsAt (IsFree w.rings.front) stage.Start w.front.state w.front.closing w.front.gone h
-      heard = subst (λ (s : FrontStage). HearsAt (IsFree w.rings.front) s w.front.state w.front.closing w.front.gone h) here (l.bus whole)
+      heard = subst (λ (s : FrontBusStage). HearsAt (IsFree w.rings.front) s w.front.state w.front.closing w.front.gone h) here (l.bus whole)
 
       same : front_hears (front_ring.ask_of w.rings.front) x h ≡ h
       same =
@@ -419,7 +419,7 @@ module _ (w : World) (c : Check) (h : Heard) (k : Knows w c) (l : Listens w.fron
       -- it takes no watch yet
       unwoken : (broken : Bool) (x : FrontAnswer) → front_step.woken broken idle w.front x ≡ w.front
       unwoken false (answer.Watched path) =
-          ap (λ (d : FrontStage). settled idle (step_at d (at d w.front) idle (answer.Watched path))) (ap (λ (s : FrontStage). bus.due_at s w.front idle) here) ∙ ap (λ (s : FrontStage). at s w.front) (sym here)
+          ap (λ (d : FrontBusStage). settled idle (step_at d (at d w.front) idle (answer.Watched path))) (ap (λ (s : FrontBusStage). bus.due_at s w.front idle) here) ∙ ap (λ (s : FrontBusStage). at s w.front) (sym here)
       unwoken false answer.Event = refl
       unwoken false answer.Done = refl
       unwoken false (answer.Word word) = refl

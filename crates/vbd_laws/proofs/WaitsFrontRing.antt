@@ -16,8 +16,8 @@ use Rattle.ring_words.specs.Ring.{responses_of, notifies}
 use Rattle.ring_words.specs.Shape.{entry_words_of, entries_of}
 use Rattle.blk_layout.specs.declared.response.Response.{Response}
 use Rattle.blk_layout.specs.Response.{response_of}
-use Rattle.blk_front.specs.declared.stage.Stage.{Stage}
-use Rattle.blk_front.specs.declared.stage.Stage.TheVariants as stage
+use Rattle.blk_front.specs.declared.stage.FrontStage.{FrontStage}
+use Rattle.blk_front.specs.declared.stage.FrontStage.TheVariants as stage
 use Rattle.blk_front.specs.declared.stage.Ending.{Ending}
 use Rattle.blk_front.specs.declared.request.Request.{Request}
 use Rattle.blk_front.specs.declared.request.Transfer.{Transfer}
@@ -93,7 +93,7 @@ IsAlert c asleep = (asleep ≡ false) × (sleeps c ≡ false) × (is_fenced c �
 abbrev pub IsTold : Check → Bool → Type 0
 IsTold c asleep = sleeps c ≡ asleep
 
-abbrev pub Sees : Stage → Check → (asleep : Bool) → Type 0
+abbrev pub Sees : FrontStage → Check → (asleep : Bool) → Type 0
 Sees (stage.RingWord k) c asleep = IsAwake c asleep
 Sees (stage.RingFrame page) c asleep = IsAwake c asleep
 Sees (stage.RingFence page) c asleep = IsAwake c asleep
@@ -119,7 +119,7 @@ Sees (stage.Broken word) c asleep = Unit {0}
 Sees s c asleep = IsTold c asleep
 
 -- a request that is issued, and one that ends
-abbrev pub Has : Stage → View → Type 0
+abbrev pub Has : FrontStage → View → Type 0
 Has (stage.Data n) v = IsSome (next_request v)
 Has (stage.Pages n) v = IsSome (next_request v)
 Has (stage.GrantFrame place) v = IsSome (next_request v)
@@ -131,7 +131,7 @@ Has (stage.ReadData n) v = IsSome v.ending
 Has (stage.LeftData n) v = IsSome v.ending
 Has s v = Unit {0}
 
-abbrev pub StandsAt : Stage → View → Check → Type 0
+abbrev pub StandsAt : FrontStage → View → Check → Type 0
 StandsAt s v c = Sees s c v.ring.asleep × Has s v
 
 abbrev pub Stands : View → Check → Type 0
@@ -141,7 +141,7 @@ either : (b : Bool) (x y : View) (c : Check) → Stands x c → Stands y c → S
 either true x y c p q = p
 either false x y c p q = q
 
-either_at : (b : Bool) (x y : Stage) (v : View) (c : Check) → Stands (at x v) c → Stands (at y v) c → Stands (at (if b then x else y) v) c
+either_at : (b : Bool) (x y : FrontStage) (v : View) (c : Check) → Stands (at x v) c → Stands (at y v) c → Stands (at (if b then x else y) v) c
 either_at true x y v c p q = p
 either_at false x y v c p q = q
 
@@ -174,12 +174,12 @@ loop_goes v (Some r) x c here e is unfenced allowed = issue_goes v r r.transfer 
 loop_goes v None x c here e is unfenced allowed = by_test (v.ring.asleep || is_through v) (responses_of v.ring.indices v.ring.seen == 0) refl refl x allowed
   where
     kept : (d : Check) → IsTold d v.ring.asleep → is_fenced d ≡ false → Stands v d
-    kept d told un = subst (λ (s : Stage). StandsAt s v d) (sym here) ((told, un), tt)
+    kept d told un = subst (λ (s : FrontStage). StandsAt s v d) (sym here) ((told, un), tt)
 
     by_test : (waits none : Bool) → (v.ring.asleep || is_through v) ≡ waits → (responses_of v.ring.indices v.ring.seen == 0) ≡ none → (x : FrontAnswer)
         → IsAnswer (if waits then ask.Wait else (if none then ask.Read ring_frame 2 else ask.Read (slot_frame v.shape v.ring.indices.cons 0) (slot_word v.shape v.ring.indices.cons 0))) x
         → Goes v (loop_step v None x) (if waits then ask.Wait else (if none then ask.Read ring_frame 2 else ask.Read (slot_frame v.shape v.ring.indices.cons 0) (slot_word v.shape v.ring.indices.cons 0))) x c
-    by_test true none w n answer.Event allowed = subst (λ (s : Stage). StandsAt s (record v { ring = record v.ring { asleep = false } }) Awake) (sym here) ((refl, refl), tt)
+    by_test true none w n answer.Event allowed = subst (λ (s : FrontStage). StandsAt s (record v { ring = record v.ring { asleep = false } }) Awake) (sym here) ((refl, refl), tt)
     by_test true none w n (answer.Watched path) allowed = kept c is unfenced
     by_test true none w n x allowed = absurd allowed
     by_test false true w n (answer.Word word) allowed =
@@ -306,15 +306,15 @@ last_goes v word c awake is =
     by_same false = ((sym awake, refl), tt)
 
 -- a stage that no answer leaves
-stays : (s : Stage) (v : View) (c : Check) → v.stage ≡ s → StandsAt s v c → Stands v c
-stays s v c here is = subst (λ (t : Stage). StandsAt t v c) (sym here) is
+stays : (s : FrontStage) (v : View) (c : Check) → v.stage ≡ s → StandsAt s v c → Stands v c
+stays s v c here is = subst (λ (t : FrontStage). StandsAt t v c) (sym here) is
 
 waits_initialised : (v : View) (x : FrontAnswer) (c : Check) → v.stage ≡ stage.Initialised → StandsAt stage.Initialised v c → IsAnswer ask.Wait x → Goes v v ask.Wait x c
 waits_initialised v answer.Event c here is allowed = let known = is.0 in stays stage.Initialised v Awake here ((known.0, refl, refl), is.1)
 waits_initialised v (answer.Watched path) c here is allowed = stays stage.Initialised v c here is
 waits_initialised v x c here is allowed = absurd allowed
 
-stands_at : (s : Stage) (v : View) (x : FrontAnswer) (c : Check) → v.stage ≡ s → StandsAt s v c → IsAnswer (ask_at s v) x → Goes v (step_at s v x) (ask_at s v) x c
+stands_at : (s : FrontStage) (v : View) (x : FrontAnswer) (c : Check) → v.stage ≡ s → StandsAt s v c → IsAnswer (ask_at s v) x → Goes v (step_at s v x) (ask_at s v) x c
 stands_at (stage.RingWord k) v x c here is allowed =
     let known = is.0 in
     let up : IsAwake (writes (is_ring_word ring_frame k 3) c) v.ring.asleep = (known.0, writes_sleep _ c ∙ known.1) in
@@ -368,15 +368,15 @@ pub stands_step : (v : View) (x : FrontAnswer) (c : Check) → Stands v c → Is
 stands_step v x c is allowed = stands_at v.stage v x c refl is allowed
 
 -- a state that it enters
-agrees_at : (s : Stage) (v : View) (u : View) (c : Check) → is_unmade s ≡ true → u.ring.asleep ≡ v.ring.asleep → StandsAt s v c → StandsAt s u c
+agrees_at : (s : FrontStage) (v : View) (u : View) (c : Check) → is_unmade s ≡ true → u.ring.asleep ≡ v.ring.asleep → StandsAt s v c → StandsAt s u c
 agrees_at (stage.RingWord k) v u c may asleep is = let known = is.0 in ((asleep ∙ known.0, known.1), tt)
 agrees_at s v u c may asleep is = absurd (true≢false (sym may))
 
-connects_at : (s : Stage) (v : View) (c : Check) → is_initialised s ≡ true → StandsAt s v c → (IsTold c v.ring.asleep) × (is_fenced c ≡ false)
+connects_at : (s : FrontStage) (v : View) (c : Check) → is_initialised s ≡ true → StandsAt s v c → (IsTold c v.ring.asleep) × (is_fenced c ≡ false)
 connects_at stage.Initialised v c may is = let known = is.0 in (known.1 ∙ sym known.0, known.2)
 connects_at s v c may is = absurd (true≢false (sym may))
 
-closing_at : (s : Stage) (v : View) (c : Check) → StandsAt s v c → StandsAt s (record v { closing = true }) c
+closing_at : (s : FrontStage) (v : View) (c : Check) → StandsAt s v c → StandsAt s (record v { closing = true }) c
 closing_at (stage.Data n) v c is = is
 closing_at s v c is = is
 
@@ -420,7 +420,7 @@ next_kept v wish frames some = by_waiting v.waiting refl some
         by_zero false true z nz is = absurd (true≢false nz)
         by_zero false false z nz is = found n is
 
-accepts_at : (s : Stage) (v : View) (wish : Wish) (frames : List ℕ × List Bool) (c : Check) → is_ready s ≡ true → StandsAt s v c → StandsAt s (accepted v wish frames) c
+accepts_at : (s : FrontStage) (v : View) (wish : Wish) (frames : List ℕ × List Bool) (c : Check) → is_ready s ≡ true → StandsAt s v c → StandsAt s (accepted v wish frames) c
 accepts_at (stage.RingWord k) v wish frames c ready is = absurd (true≢false (sym ready))
 accepts_at (stage.RingFrame page) v wish frames c ready is = absurd (true≢false (sym ready))
 accepts_at (stage.RingFence page) v wish frames c ready is = absurd (true≢false (sym ready))
@@ -460,7 +460,7 @@ stands_submit v job c is =
     (λ t. either_submit v.closing c _ _ is (λ t. either_submit (not (is_ready v.stage)) c _ _ is (λ ready. submit_wish v (wish_of v.offers job) c (unready (is_ready v.stage) ready) is)))
 
 -- a suspend
-resumed_at : (s : Stage) (v : View) (c : Check) → v.stage ≡ s → StandsAt s v c → StandsAt (stage_after s) (resumed v) Awake
+resumed_at : (s : FrontStage) (v : View) (c : Check) → v.stage ≡ s → StandsAt s v c → StandsAt (stage_after s) (resumed v) Awake
 resumed_at (stage.ReadData n) v c here is = ((refl, refl, refl), rw here is.1)
 resumed_at (stage.LeftData n) v c here is = ((refl, refl, refl), rw here is.1)
 resumed_at s v c here is = ((refl, refl), tt)
@@ -469,7 +469,7 @@ pub stands_resumed : (v : View) (c : Check) → Stands v c → Stands (resumed v
 stands_resumed v c is = resumed_at v.stage v c refl is
 
 -- data that are left are read at once
-pub left_asks : (s : Stage) (v : View) (c : Check) → is_left s ≡ true → StandsAt s v c → ask_at s v ≡ ask.Wait → ⊥
+pub left_asks : (s : FrontStage) (v : View) (c : Check) → is_left s ≡ true → StandsAt s v c → ask_at s v ≡ ask.Wait → ⊥
 left_asks (stage.LeftData n) v c left is e = by_ending v.ending is.1 e
   where
     by_ending : (o : Option Ending) → IsSome o → read_ask o n ≡ ask.Wait → ⊥

@@ -3,12 +3,12 @@ use Rattle.std.proofs.Common.{inl, inr, ◌≡◌, ◌∙◌, ap, sym, subst, re
 use Rattle.std.specs.Prelude.{Option, Some, None, nat_lt, ◌==◌}
 use Rattle.blk_base.specs.declared.ask.FrontAnswer.{FrontAnswer}
 use Rattle.blk_base.specs.declared.ask.FrontAnswer.TheVariants as answer
-use Rattle.blk_front.specs.declared.stage.Stage.{Stage}
-use Rattle.blk_front.specs.declared.stage.Stage.TheVariants as ring_stage
+use Rattle.blk_front.specs.declared.stage.FrontStage.{FrontStage}
+use Rattle.blk_front.specs.declared.stage.FrontStage.TheVariants as ring_stage
 use Rattle.xenbus_state.specs.declared.state.BusState.{BusState}
 use Rattle.xenbus_state.specs.declared.state.BusState.TheVariants as state
-use Rattle.xenbus_state.specs.declared.stage.FrontStage.{FrontStage}
-use Rattle.xenbus_state.specs.declared.stage.FrontStage.TheVariants as stage
+use Rattle.xenbus_state.specs.declared.stage.FrontBusStage.{FrontBusStage}
+use Rattle.xenbus_state.specs.declared.stage.FrontBusStage.TheVariants as stage
 use Rattle.xenbus_state.specs.declared.front.FrontBusAsk.TheVariants as bus_ask
 use Rattle.xenbus_state.specs.FrontView.{FrontView, pages_of}
 use Rattle.xenbus_state.specs.FrontAsk as bus
@@ -24,7 +24,7 @@ use Rattle.vbd_laws.proofs.WaitsFront.{bus_asks_on, BusWaits, bus_waits}
 use Rattle.vbd_laws.proofs.WaitsFrontHeard.{IsGone, HearsAt, Hears, says_at, dealt_closing, dealt_gone, settled_hears}
 
 -- a stage whose moves its end of the ring makes
-abbrev makes : FrontStage → Bool
+abbrev makes : FrontBusStage → Bool
 makes (stage.RingWord word) = true
 makes (stage.Grant page) = true
 makes stage.NewPort = true
@@ -39,12 +39,12 @@ heard_waiting a h = h
 
 module _ (free : Type 0) where
   -- told what it asked for
-  pub told_hears : (v : FrontView) (idle : Bool) (r : Stage) (h : Heard) (a : FrontAnswer) → (idle ≡ true → free) → FrontGoesWith v.stage v r → Hears free v h → front.speaks (bus.ask_of v idle) ≡ true → bus.IsAnswer (bus.ask_of v idle) a
+  pub told_hears : (v : FrontView) (idle : Bool) (r : FrontStage) (h : Heard) (a : FrontAnswer) → (idle ≡ true → free) → FrontGoesWith v.stage v r → Hears free v h → front.speaks (bus.ask_of v idle) ≡ true → bus.IsAnswer (bus.ask_of v idle) a
       → Hears free (step_of v idle a) (front_hears (front.key_ask (bus.ask_of v idle)) a h)
   told_hears v idle r h a may goes is =
       due_cases Told v idle (λ says allowed. says_at free v.stage v idle r h a may goes is says allowed) (λ here closing is_idle. by_state v.state here closing)
     where
-      Told : FrontStage → Type 0
+      Told : FrontBusStage → Type 0
       Told d = front.speaks (bus.ask_at d v) ≡ true → bus.IsAnswer (bus.ask_at d v) a → Hears free (step_at d (at d v) idle a) (front_hears (front.key_ask (bus.ask_at d v)) a h)
 
       by_port : (gone : Bool) (port : Option ℕ) → Told (bus.leaving gone port)
@@ -54,18 +54,18 @@ module _ (free : Type 0) where
 
       writes : v.stage ≡ stage.Rest → v.closing ≡ true → (x : FrontAnswer) → bus.IsAnswer (bus_ask.SetState state.Closing) x
           → Hears free (step_at (stage.WriteState state.Closing) (at (stage.WriteState state.Closing) v) idle x) (front_hears (front.key_ask (bus_ask.SetState state.Closing)) x h)
-      writes here closing answer.Done allowed = dealt_closing free v.state v.closing v.gone h (subst (λ (s : FrontStage). HearsAt free s v.state v.closing v.gone h) here is) closing
+      writes here closing answer.Done allowed = dealt_closing free v.state v.closing v.gone h (subst (λ (s : FrontBusStage). HearsAt free s v.state v.closing v.gone h) here is) closing
       writes here closing x allowed = absurd allowed
 
       by_state : (own : BusState) → v.stage ≡ stage.Rest → v.closing ≡ true → Told (bus.closing_stage own v)
       by_state state.Closing here closing = by_port v.gone v.port
       by_state own here closing = λ says allowed. writes here closing a allowed
 
-  either_at : (b : Bool) (x y : FrontStage) (own : BusState) (closing gone : Bool) (h : Heard) → HearsAt free x own closing gone h → HearsAt free y own closing gone h → HearsAt free (if b then x else y) own closing gone h
+  either_at : (b : Bool) (x y : FrontBusStage) (own : BusState) (closing gone : Bool) (h : Heard) → HearsAt free x own closing gone h → HearsAt free y own closing gone h → HearsAt free (if b then x else y) own closing gone h
   either_at true x y own closing gone h p q = p
   either_at false x y own closing gone h p q = q
 
-  makes_hears : (s : FrontStage) (v : FrontView) (idle : Bool) (h : Heard) (a : FrontAnswer) → makes s ≡ true → HearsAt free s v.state v.closing v.gone h → Hears free (step_at s (at s v) idle a) h
+  makes_hears : (s : FrontBusStage) (v : FrontView) (idle : Bool) (h : Heard) (a : FrontAnswer) → makes s ≡ true → HearsAt free s v.state v.closing v.gone h → Hears free (step_at s (at s v) idle a) h
   makes_hears (stage.RingWord word) v idle h answer.Done is there = either_at (word == 15) (stage.Grant 0) (stage.RingWord (word + 1)) v.state v.closing v.gone h there there
   makes_hears (stage.RingWord word) v idle h a is there = there
   makes_hears (stage.Grant page) v idle h answer.Done is there = either_at (nat_lt (page + 1) (pages_of v)) (stage.Grant (page + 1)) stage.NewPort v.state v.closing v.gone h there there
@@ -80,28 +80,28 @@ module _ (free : Type 0) where
   makes_hears s v idle h a is there = absurd (true≢false (sym is))
 
   -- what its negotiation learns of a move of the ring's end, where that asks for more than a wait
-  abbrev Follows : (later : Stage) (idle : Bool) (v : FrontView) (a : FrontAnswer) (h : Heard) → FrontStage → Type 0
+  abbrev Follows : (later : FrontStage) (idle : Bool) (v : FrontView) (a : FrontAnswer) (h : Heard) → FrontBusStage → Type 0
   Follows later idle v a h d = bus.due v idle ≡ d → front.speaks (bus.ask_at d v) ≡ false → front_view.rests (bus.ask_at d v) ≡ false → Hears free (front_step.followed (bus.ask_at d v) later idle v a) h
 
-  pub follows_hears : (v : FrontView) (idle : Bool) (later : Stage) (h : Heard) (a : FrontAnswer) → Hears free v h → front.speaks (bus.ask_of v idle) ≡ false → front_view.rests (bus.ask_of v idle) ≡ false
+  pub follows_hears : (v : FrontView) (idle : Bool) (later : FrontStage) (h : Heard) (a : FrontAnswer) → Hears free v h → front.speaks (bus.ask_of v idle) ≡ false → front_view.rests (bus.ask_of v idle) ≡ false
       → Hears free (front_step.followed (bus.ask_of v idle) later idle v a) h
   follows_hears v idle later h a is quiet on =
       due_cases (Follows later idle v a h) v idle (begun v.stage is) (λ here closing is_idle. by_state v.state here) refl quiet on
     where
-      told : (d : FrontStage) (x : FrontAnswer) → makes d ≡ true → HearsAt free d v.state v.closing v.gone h → bus.due v idle ≡ d → Hears free (front_step.bus_told idle v x) h
-      told d x moves there e = settled_hears free idle (step_of v idle x) h (subst (λ (s : FrontStage). Hears free (step_at s (at s v) idle x) h) (sym e) (makes_hears d v idle h x moves there))
+      told : (d : FrontBusStage) (x : FrontAnswer) → makes d ≡ true → HearsAt free d v.state v.closing v.gone h → bus.due v idle ≡ d → Hears free (front_step.bus_told idle v x) h
+      told d x moves there e = settled_hears free idle (step_of v idle x) h (subst (λ (s : FrontBusStage). Hears free (step_at s (at s v) idle x) h) (sym e) (makes_hears d v idle h x moves there))
 
-      granted : (page : ℕ) (s : Stage) → HearsAt free (stage.Grant page) v.state v.closing v.gone h → bus.due v idle ≡ stage.Grant page → Hears free (front_step.followed (bus_ask.Grant page) s idle v a) h
+      granted : (page : ℕ) (s : FrontStage) → HearsAt free (stage.Grant page) v.state v.closing v.gone h → bus.due v idle ≡ stage.Grant page → Hears free (front_step.followed (bus_ask.Grant page) s idle v a) h
       granted page (ring_stage.RingFrame k) there e = told (stage.Grant page) a refl there e
       granted page ring_stage.NewPort there e = told (stage.Grant page) a refl there e
       granted page s there e = is
 
-      ended : (page : ℕ) (s : Stage) → IsGone h → bus.due v idle ≡ stage.EndGrant page → Hears free (front_step.followed (bus_ask.EndGrant page) s idle v a) h
+      ended : (page : ℕ) (s : FrontStage) → IsGone h → bus.due v idle ≡ stage.EndGrant page → Hears free (front_step.followed (bus_ask.EndGrant page) s idle v a) h
       ended page (ring_stage.RingRead k) there e = told (stage.EndGrant page) answer.Done refl there e
       ended page ring_stage.ClosePort there e = told (stage.EndGrant page) answer.Done refl there e
       ended page s there e = is
 
-      begun : (s : FrontStage) → HearsAt free s v.state v.closing v.gone h → Follows later idle v a h s
+      begun : (s : FrontBusStage) → HearsAt free s v.state v.closing v.gone h → Follows later idle v a h s
       begun (stage.RingWord word) there e quiet on = told (stage.RingWord word) a refl there e
       begun (stage.Grant page) there e quiet on = granted page later there e
       begun stage.NewPort there e quiet on = told stage.NewPort a refl there e
@@ -121,13 +121,13 @@ module _ (free : Type 0) where
       by_port : (gone : Bool) (port : Option ℕ) → v.stage ≡ stage.Rest → v.gone ≡ gone → Follows later idle v a h (bus.leaving gone port)
       by_port false port here g e quiet on = absurd (true≢false on)
       by_port true None here g e quiet on = is
-      by_port true (Some p) here g e quiet on = ended 0 later (dealt_gone free v.state v.closing v.gone h (subst (λ (s : FrontStage). HearsAt free s v.state v.closing v.gone h) here is) g) e
+      by_port true (Some p) here g e quiet on = ended 0 later (dealt_gone free v.state v.closing v.gone h (subst (λ (s : FrontBusStage). HearsAt free s v.state v.closing v.gone h) here is) g) e
 
       by_state : (own : BusState) → v.stage ≡ stage.Rest → Follows later idle v a h (bus.closing_stage own v)
       by_state state.Closing here = by_port v.gone v.port here refl
       by_state own here = λ e quiet on. absurd (true≢false quiet)
 
-  waits_at : (d : FrontStage) (v : FrontView) (idle : Bool) (path : List ℕ) → bus.ask_at d v ≡ bus_ask.Wait → v.gone ≡ false → Hears free (step_at d (at d v) idle (answer.Watched path)) Fired
+  waits_at : (d : FrontBusStage) (v : FrontView) (idle : Bool) (path : List ℕ) → bus.ask_at d v ≡ bus_ask.Wait → v.gone ≡ false → Hears free (step_at d (at d v) idle (answer.Watched path)) Fired
   waits_at stage.Rest v idle path e gone = (refl, gone)
   waits_at stage.Closed v idle path e gone = tt
   waits_at (stage.Broken word) v idle path e gone = tt
@@ -148,8 +148,8 @@ module _ (free : Type 0) where
   woken_hears true idle v h a whole is e gone = absurd (true≢false whole)
   woken_hears false idle v h (answer.Watched path) whole is e gone = settled_hears free idle (step_of v idle (answer.Watched path)) Fired (by_bus (bus_waits v idle e))
     where
-      over : (s : FrontStage) → v.stage ≡ s → bus.due_at s v idle ≡ s → Hears free (step_at s (at s v) idle (answer.Watched path)) Fired → Hears free (step_of v idle (answer.Watched path)) Fired
-      over s here same there = subst (λ (d : FrontStage). Hears free (step_at d (at d v) idle (answer.Watched path)) Fired) (sym (ap (λ (t : FrontStage). bus.due_at t v idle) here ∙ same)) there
+      over : (s : FrontBusStage) → v.stage ≡ s → bus.due_at s v idle ≡ s → Hears free (step_at s (at s v) idle (answer.Watched path)) Fired → Hears free (step_of v idle (answer.Watched path)) Fired
+      over s here same there = subst (λ (d : FrontBusStage). Hears free (step_at d (at d v) idle (answer.Watched path)) Fired) (sym (ap (λ (t : FrontBusStage). bus.due_at t v idle) here ∙ same)) there
 
       by_bus : BusWaits v idle → Hears free (step_of v idle (answer.Watched path)) Fired
       by_bus (inl at_rest) = waits_at (bus.due v idle) v idle path e (gone at_rest.0)
@@ -169,12 +169,12 @@ kept_after : (v u x : FrontView) → IsKept v u → IsKept u x → IsKept v x
 kept_after v u x p q = (q.0 ∙ p.0, q.1 ∙ p.1, q.2 ∙ p.2)
 
 pub settled_kept : (idle : Bool) (u : FrontView) → IsKept u (settled idle u)
-settled_kept idle u = due_cases (λ (d : FrontStage). bus.due u idle ≡ d → IsKept u (settled_at (bus.ask_at d u) idle u)) u idle (begun u.stage) (λ here closing is_idle. by_state u.state) refl
+settled_kept idle u = due_cases (λ (d : FrontBusStage). bus.due u idle ≡ d → IsKept u (settled_at (bus.ask_at d u) idle u)) u idle (begun u.stage) (λ here closing is_idle. by_state u.state) refl
   where
     ends : bus.due u idle ≡ stage.EndOtherGrants → IsKept u (step_of u idle answer.Done)
-    ends e = subst (λ (d : FrontStage). IsKept u (step_at d (at d u) idle answer.Done)) (sym e) (refl, refl, refl)
+    ends e = subst (λ (d : FrontBusStage). IsKept u (step_at d (at d u) idle answer.Done)) (sym e) (refl, refl, refl)
 
-    begun : (s : FrontStage) → bus.due u idle ≡ s → IsKept u (settled_at (bus.ask_at s u) idle u)
+    begun : (s : FrontBusStage) → bus.due u idle ≡ s → IsKept u (settled_at (bus.ask_at s u) idle u)
     begun stage.EndOtherGrants e = ends e
     begun s e = (refl, refl, refl)
 
@@ -187,7 +187,7 @@ settled_kept idle u = due_cases (λ (d : FrontStage). bus.due u idle ≡ d → I
     by_state state.Closing e = by_port u.gone u.port e
     by_state own e = (refl, refl, refl)
 
-makes_kept : (s : FrontStage) (v : FrontView) (idle : Bool) (a : FrontAnswer) → makes s ≡ true → IsKept v (step_at s (at s v) idle a)
+makes_kept : (s : FrontBusStage) (v : FrontView) (idle : Bool) (a : FrontAnswer) → makes s ≡ true → IsKept v (step_at s (at s v) idle a)
 makes_kept stage.NewPort v idle (answer.Port port) is = (refl, refl, refl)
 makes_kept stage.NewPort v idle answer.Done is = (refl, refl, refl)
 makes_kept stage.NewPort v idle a is = (refl, refl, refl)
@@ -201,27 +201,27 @@ makes_kept (stage.EndGrant page) v idle answer.Done is = (refl, refl, refl)
 makes_kept (stage.EndGrant page) v idle a is = (refl, refl, refl)
 makes_kept s v idle a is = absurd (true≢false (sym is))
 
-abbrev Keeps : (later : Stage) (idle : Bool) (v : FrontView) (a : FrontAnswer) → FrontStage → Type 0
+abbrev Keeps : (later : FrontStage) (idle : Bool) (v : FrontView) (a : FrontAnswer) → FrontBusStage → Type 0
 Keeps later idle v a d = bus.due v idle ≡ d → front_view.rests (bus.ask_at d v) ≡ false → IsKept v (front_step.followed (bus.ask_at d v) later idle v a)
 
-pub follows_kept : (v : FrontView) (idle : Bool) (later : Stage) (a : FrontAnswer) → front_view.rests (bus.ask_of v idle) ≡ false → IsKept v (front_step.followed (bus.ask_of v idle) later idle v a)
+pub follows_kept : (v : FrontView) (idle : Bool) (later : FrontStage) (a : FrontAnswer) → front_view.rests (bus.ask_of v idle) ≡ false → IsKept v (front_step.followed (bus.ask_of v idle) later idle v a)
 follows_kept v idle later a on = due_cases (Keeps later idle v a) v idle (begun v.stage) (λ here closing is_idle. by_state v.state) refl on
   where
-    told : (d : FrontStage) (x : FrontAnswer) → makes d ≡ true → bus.due v idle ≡ d → IsKept v (front_step.bus_told idle v x)
+    told : (d : FrontBusStage) (x : FrontAnswer) → makes d ≡ true → bus.due v idle ≡ d → IsKept v (front_step.bus_told idle v x)
     told d x moves e =
-        kept_after v (step_of v idle x) (front_step.bus_told idle v x) (subst (λ (s : FrontStage). IsKept v (step_at s (at s v) idle x)) (sym e) (makes_kept d v idle x moves)) (settled_kept idle (step_of v idle x))
+        kept_after v (step_of v idle x) (front_step.bus_told idle v x) (subst (λ (s : FrontBusStage). IsKept v (step_at s (at s v) idle x)) (sym e) (makes_kept d v idle x moves)) (settled_kept idle (step_of v idle x))
 
-    granted : (page : ℕ) (s : Stage) → bus.due v idle ≡ stage.Grant page → IsKept v (front_step.followed (bus_ask.Grant page) s idle v a)
+    granted : (page : ℕ) (s : FrontStage) → bus.due v idle ≡ stage.Grant page → IsKept v (front_step.followed (bus_ask.Grant page) s idle v a)
     granted page (ring_stage.RingFrame k) e = told (stage.Grant page) a refl e
     granted page ring_stage.NewPort e = told (stage.Grant page) a refl e
     granted page s e = (refl, refl, refl)
 
-    ended : (page : ℕ) (s : Stage) → bus.due v idle ≡ stage.EndGrant page → IsKept v (front_step.followed (bus_ask.EndGrant page) s idle v a)
+    ended : (page : ℕ) (s : FrontStage) → bus.due v idle ≡ stage.EndGrant page → IsKept v (front_step.followed (bus_ask.EndGrant page) s idle v a)
     ended page (ring_stage.RingRead k) e = told (stage.EndGrant page) answer.Done refl e
     ended page ring_stage.ClosePort e = told (stage.EndGrant page) answer.Done refl e
     ended page s e = (refl, refl, refl)
 
-    begun : (s : FrontStage) → Keeps later idle v a s
+    begun : (s : FrontBusStage) → Keeps later idle v a s
     begun (stage.RingWord word) e on = told (stage.RingWord word) a refl e
     begun (stage.Grant page) e on = granted page later e
     begun stage.NewPort e on = told stage.NewPort a refl e
@@ -245,7 +245,7 @@ pub woken_kept : (broken idle : Bool) (v : FrontView) (a : FrontAnswer) → bus.
 woken_kept true idle v a e = (refl, refl, refl)
 woken_kept false idle v (answer.Watched path) e = kept_after v (step_of v idle (answer.Watched path)) (front_step.bus_told idle v (answer.Watched path)) (by_due (bus.due v idle) e) (settled_kept idle (step_of v idle (answer.Watched path)))
   where
-    by_due : (d : FrontStage) → bus.ask_at d v ≡ bus_ask.Wait → IsKept v (step_at d (at d v) idle (answer.Watched path))
+    by_due : (d : FrontBusStage) → bus.ask_at d v ≡ bus_ask.Wait → IsKept v (step_at d (at d v) idle (answer.Watched path))
     by_due stage.Rest e = (refl, refl, refl)
     by_due (stage.ReadFeature key) e = (refl, refl, refl)
     by_due s e = (refl, refl, refl)

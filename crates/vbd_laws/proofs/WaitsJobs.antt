@@ -29,10 +29,10 @@ use Rattle.blk_base.specs.declared.operation.Op.TheVariants as op
 use Rattle.blk_base.specs.Operation.{op_code}
 use Rattle.segment_list.specs.Verdict.{first_of as tested, planned, kind_within, indirect_verdict, verdict_of}
 use Rattle.segment_list.proofs.Served.{transfer_served}
-use Rattle.back_jobs.specs.declared.stage.Stage.{Stage}
-use Rattle.back_jobs.specs.declared.stage.Stage.TheVariants as stage
-use Rattle.back_jobs.specs.Task.{Work, passes, judged, page_done, copied, is_copied_out, paging, moving, ended, frameless, sector_stage, next_sector, next_segment, counted, first_of, rest_of, last_of, step_at, step_of, begun, served, served_indirect, map_ask, page_ask, ask_at, ask_of}
-use Rattle.back_jobs.specs.Jobs.{Held, mapping_at, work_at, work_of, place_of, told_at, complete_job, start_job, removed_at, without_done, after_mapping, is_done, is_done_at}
+use Rattle.back_jobs.specs.declared.stage.JobStage.{JobStage}
+use Rattle.back_jobs.specs.declared.stage.JobStage.TheVariants as stage
+use Rattle.back_jobs.specs.Work.{Work, passes, judged, page_done, copied, is_copied_out, paging, moving, ended, frameless, sector_stage, next_sector, next_segment, counted, first_of, rest_of, last_of, step_at, step_of, begun, served, served_indirect, map_ask, page_ask, ask_at, ask_of}
+use Rattle.back_jobs.specs.Jobs.{HeldJobs, mapping_at, work_at, work_of, place_of, told_at, complete_job, start_job, removed_at, without_done, after_mapping, is_done, is_done_at}
 use Rattle.blk_back.specs.Ask.{is_wait}
 use Rattle.back_jobs.proofs.Served.{transfer_kind}
 
@@ -41,7 +41,7 @@ abbrev Names : (left pages named : ℕ) → Type 0
 Names left pages named = (left < named) × (named ≤ left / 512 * 512 + 512 * pages)
 
 -- what a job at this stage has
-abbrev IsSuppliedAt : Stage → Work → Type 0
+abbrev IsSuppliedAt : JobStage → Work → Type 0
 IsSuppliedAt stage.MapPage t = Names (length t.rest) (length t.pages) t.named
 IsSuppliedAt (stage.PageReference m) t = Names (length t.rest) (length t.pages) t.named
 IsSuppliedAt (stage.PageSectors m gref) t = Names (length t.rest) (length t.pages) t.named
@@ -100,10 +100,10 @@ copied_supplied t m segments longer names = by_test (length segments == t.named)
         let most = names.1 in
         (omega (arith, low, longer, apart), omega (arith, low, most, longer))
 
-stays : (s : Stage) (t : Work) → t.stage ≡ s → IsSuppliedAt s t → IsSupplied t
-stays s t here is = subst (λ (x : Stage). IsSuppliedAt x t) (sym here) is
+stays : (s : JobStage) (t : Work) → t.stage ≡ s → IsSuppliedAt s t → IsSupplied t
+stays s t here is = subst (λ (x : JobStage). IsSuppliedAt x t) (sym here) is
 
-supplied_at : (s : Stage) (t : Work) (a : BackAnswer) → t.stage ≡ s → IsSuppliedAt s t → IsSupplied (step_at s t a)
+supplied_at : (s : JobStage) (t : Work) (a : BackAnswer) → t.stage ≡ s → IsSuppliedAt s t → IsSupplied (step_at s t a)
 supplied_at stage.MapPage t (answer.Mapped m) here is = is
 supplied_at stage.MapPage t (answer.MapRefused status) here is = tt
 supplied_at (stage.PageReference m) t (answer.Word word) here is = is
@@ -232,7 +232,7 @@ begun_supplied number size request info verdict.Unsupported e whole = tt
 abbrev pub AreSupplied : List Work → Type 0
 AreSupplied works = All IsSupplied works
 
-pub supplied_started : (h : Held) (number : ℕ) (abi : Abi) (words : List ℕ) → AreSupplied h.works → AreSupplied (start_job h number (request_of abi words)).works
+pub supplied_started : (h : HeldJobs) (number : ℕ) (abi : Abi) (words : List ℕ) → AreSupplied h.works → AreSupplied (start_job h number (request_of abi words)).works
 supplied_started h number abi words all =
     let request : RawRequest = request_of abi words in
     All-push IsSupplied h.works (begun number request h.info.sectors (verdict_of request h.info)) all (begun_supplied number h.info.sectors request h.info (verdict_of request h.info) refl (read_whole abi words))
@@ -246,14 +246,14 @@ told_all works (Some place) (Some t) a h all =
     let this = subst IsSupplied same (All-get_or IsSupplied works place t within all) in
     All-set IsSupplied works place (step_of t a) (supplied_step t a this) all
 
-pub supplied_told : (h : Held) (number : ℕ) (a : BackAnswer) → AreSupplied h.works → AreSupplied (complete_job h number a).works
+pub supplied_told : (h : HeldJobs) (number : ℕ) (a : BackAnswer) → AreSupplied h.works → AreSupplied (complete_job h number a).works
 supplied_told h number a all = told_all h.works (place_of h.works number) (work_of h.works number) a refl all
 
 removed_all : (works : List Work) (place : Option ℕ) → AreSupplied works → AreSupplied (removed_at works place)
 removed_all works None all = all
 removed_all works (Some place) all = All-append IsSupplied _ _ (All-take IsSupplied place works all) (All-drop IsSupplied (suc place) works all)
 
-pub supplied_without : (h : Held) → AreSupplied h.works → AreSupplied (without_done h).works
+pub supplied_without : (h : HeldJobs) → AreSupplied h.works → AreSupplied (without_done h).works
 supplied_without h all = removed_all h.works (position (λ (t : Work). is_done t) h.works) all
 
 after_at : (b : Bool) (works : List Work) → AreSupplied works → AreSupplied (after_mapping works) → AreSupplied (cond b works (after_mapping works))
@@ -275,7 +275,7 @@ page_asks : (pages : List ℕ) (left named : ℕ) → Names left (length pages) 
 page_asks [] left named names = let low = names.0 in let most = names.1 in absurd (omega (arith, low, most))
 page_asks (gref ∷ pages) left named names = refl
 
-asks_at : (s : Stage) (t : Work) → IsSuppliedAt s t → is_wait (ask_at s t) ≡ is_done_at s
+asks_at : (s : JobStage) (t : Work) → IsSuppliedAt s t → is_wait (ask_at s t) ≡ is_done_at s
 asks_at stage.MapPage t is = page_asks t.pages (length t.rest) t.named is
 asks_at stage.Map t is = map_asks t.rest t.writes is
 asks_at (stage.PageReference m) t is = refl

@@ -12,11 +12,11 @@ use Rattle.blk_base.specs.declared.moves.BackMover.TheVariants as back_mover
 use Rattle.hypervisor.specs.Act.{FrontAct, BackAct, Took, back_act}
 use Rattle.ring_words.specs.Ring.{requests_of, overruns}
 use Rattle.ring_words.specs.Shape.{entry_words_of}
-use Rattle.back_jobs.specs.Task.{Work, ask_of}
+use Rattle.back_jobs.specs.Work.{Work, ask_of}
 use Rattle.back_jobs.specs.Jobs.{is_done, asked, place_of, work_at, work_of, waits}
 use Rattle.blk_back.specs.declared.stage.Reply.{Reply}
-use Rattle.blk_back.specs.declared.stage.Stage.{Stage}
-use Rattle.blk_back.specs.declared.stage.Stage.TheVariants as stage
+use Rattle.blk_back.specs.declared.stage.BackStage.{BackStage}
+use Rattle.blk_back.specs.declared.stage.BackStage.TheVariants as stage
 use Rattle.blk_back.specs.declared.told.Halt.{Halt}
 use Rattle.blk_back.specs.declared.told.Halt.TheVariants as halt
 use Rattle.blk_back.specs.View as ends
@@ -68,7 +68,7 @@ fetch_supplies v k word all =
     (supplied_started v.jobs (next_number v) v.shape.abi (v.ring.entry ++ word ∷ []) all) all
 
 -- a move of the ring's end
-supplies_at : (s : Stage) (v : ends.View) (x : BackAnswer) → Supplies v → Supplies (step_at s v x)
+supplies_at : (s : BackStage) (v : ends.View) (x : BackAnswer) → Supplies v → Supplies (step_at s v x)
 supplies_at stage.MapRing v (answer.Mapped m) all = all
 supplies_at stage.MapRing v (answer.MapRefused status) all = all
 supplies_at stage.Bind v answer.Done all = all

@@ -21,7 +21,7 @@ use Rattle.xenbus_state.specs.declared.table.FrontAction.TheVariants as front_ac
 use Rattle.xenbus_state.specs.States.{state_read}
 use Rattle.xenbus_state.specs.Tables as tables
 use Rattle.xenbus_state.specs.declared.table.BackAction.TheVariants as back_action
-use Rattle.back_jobs.specs.Task.{Work}
+use Rattle.back_jobs.specs.Work.{Work}
 use Rattle.back_jobs.specs.Jobs.{is_done, work_of, waits as is_held_up}
 use Rattle.split_model.specs.World.{may_suspend}
 use Rattle.blk_back.specs.View as ring

@@ -32,10 +32,10 @@ use Rattle.grant_table.specs.Table.{GrantTable, frame_of, verdict_at}
 use Rattle.hypervisor.specs.Hypervisor.{Hypervisor}
 use Rattle.hypervisor.specs.Act.{FrontAct, BackAct, Outcome, Took, Gave, Failed, back_act, map_act, with_pages, with_keys}
 use Rattle.xen_pages.specs.Pages.{word_of, with_word}
-use Rattle.back_jobs.specs.declared.stage.Stage.{Stage as JobStage}
-use Rattle.back_jobs.specs.declared.stage.Stage.TheVariants as job_stage
-use Rattle.back_jobs.specs.Task as task
-use Rattle.back_jobs.specs.Task.{Work}
+use Rattle.back_jobs.specs.declared.stage.JobStage.{JobStage}
+use Rattle.back_jobs.specs.declared.stage.JobStage.TheVariants as job_stage
+use Rattle.back_jobs.specs.Work as task
+use Rattle.back_jobs.specs.Work.{Work}
 use Rattle.back_jobs.specs.Jobs.{asked, waits, place_of, work_at, work_of, told_at, removed_at, is_done, first_mapping, after_mapping, mapping_at}
 use Rattle.back_jobs.proofs.Hands.{place_among}
 use Rattle.ring_words.specs.Shape.{Shape, entry_words_of}
@@ -46,8 +46,8 @@ use Rattle.blk_layout.specs.Places.{places_of}
 use Rattle.blk_layout.specs.declared.places.Places.{Places}
 use Rattle.blk_layout.specs.Entry.{request_of, double_at, segment_of, segments_at, pages_at}
 use Rattle.blk_back.specs.declared.stage.Reply.{Reply}
-use Rattle.blk_back.specs.declared.stage.Stage.{Stage}
-use Rattle.blk_back.specs.declared.stage.Stage.TheVariants as stage
+use Rattle.blk_back.specs.declared.stage.BackStage.{BackStage}
+use Rattle.blk_back.specs.declared.stage.BackStage.TheVariants as stage
 use Rattle.blk_back.specs.declared.told.Halt.{Halt}
 use Rattle.blk_back.specs.declared.told.Halt.TheVariants as halt
 use Rattle.blk_back.specs.View.{View}
@@ -275,10 +275,10 @@ abbrev due : View → ℕ
 due v = all_left v.jobs.works + 40 * words_copied v.stage
 
 -- stages in which it copies none
-abbrev CopiesNone : Stage → Type 0
+abbrev CopiesNone : BackStage → Type 0
 CopiesNone s = words_copied s ≡ 0
 
-none_either : (b : Bool) (s t : Stage) → CopiesNone s → CopiesNone t → CopiesNone (if b then s else t)
+none_either : (b : Bool) (s t : BackStage) → CopiesNone s → CopiesNone t → CopiesNone (if b then s else t)
 none_either true s t p q = p
 none_either false s t p q = q
 
@@ -341,7 +341,7 @@ fetch_few v k word here = by_last (k + 1 == entry_words_of v.shape.abi) refl
         omega (arith, copied, one, both, alone, last, long)
     by_last false e = omega (arith, copied)
 
-step_few : (s : Stage) (v : View) (x : BackAnswer) → v.stage ≡ s → due (step_at s v x) ≤ due v + 40
+step_few : (s : BackStage) (v : View) (x : BackAnswer) → v.stage ≡ s → due (step_at s v x) ≤ due v + 40
 step_few stage.MapRing v (answer.Mapped m) here = let none = none_either (nat_lt (length v.pages + 1) (length v.grefs)) stage.MapRing stage.Bind refl refl in omega arith
 step_few stage.MapRing v (answer.MapRefused status) here = let none = none_unbound v.pages in omega arith
 step_few stage.Bind v answer.Done here = omega arith

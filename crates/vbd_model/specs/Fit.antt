@@ -5,21 +5,21 @@ use Rattle.segment_list.specs.declared.verdict.DiskInfo.{DiskInfo}
 use Rattle.key_directory.specs.Directory.{Directory, key_of}
 use Rattle.ring_words.specs.Shape.{entries_of}
 use Rattle.event_channel.specs.Channels.{ChannelState, is_bound}
-use Rattle.blk_front.specs.declared.stage.Stage.{Stage as FrontRing}
-use Rattle.blk_front.specs.declared.stage.Stage.TheVariants as front_ring
+use Rattle.blk_front.specs.declared.stage.FrontStage.{FrontStage}
+use Rattle.blk_front.specs.declared.stage.FrontStage.TheVariants as front_ring
 use Rattle.blk_front.specs.Ask.{is_through}
 use Rattle.blk_front.specs.Submit.{is_ready, unfinished}
 use Rattle.blk_front.specs.State.{is_made, is_bare}
 use Rattle.blk_front.specs.Suspend.{is_left}
-use Rattle.blk_back.specs.declared.stage.Stage.{Stage as BackRing}
-use Rattle.blk_back.specs.declared.stage.Stage.TheVariants as back_ring
+use Rattle.blk_back.specs.declared.stage.BackStage.{BackStage}
+use Rattle.blk_back.specs.declared.stage.BackStage.TheVariants as back_ring
 use Rattle.blk_back.specs.View as ends
 use Rattle.xenbus_state.specs.declared.state.BusState.{BusState}
 use Rattle.xenbus_state.specs.declared.state.BusState.TheVariants as state
-use Rattle.xenbus_state.specs.declared.stage.FrontStage.{FrontStage}
-use Rattle.xenbus_state.specs.declared.stage.FrontStage.TheVariants as front
-use Rattle.xenbus_state.specs.declared.stage.BackStage.{BackStage}
-use Rattle.xenbus_state.specs.declared.stage.BackStage.TheVariants as back
+use Rattle.xenbus_state.specs.declared.stage.FrontBusStage.{FrontBusStage}
+use Rattle.xenbus_state.specs.declared.stage.FrontBusStage.TheVariants as front
+use Rattle.xenbus_state.specs.declared.stage.BackBusStage.{BackBusStage}
+use Rattle.xenbus_state.specs.declared.stage.BackBusStage.TheVariants as back
 use Rattle.xenbus_state.specs.declared.keys.FrontKey.TheVariants as front_key
 use Rattle.xenbus_state.specs.declared.keys.BackKey.{BackKey}
 use Rattle.xenbus_state.specs.declared.keys.BackKey.TheVariants as back_key
@@ -40,13 +40,13 @@ use Rattle.vbd_back.specs.Step.{shape_read}
 use Rattle.vbd_model.specs.World.{World}
 
 -- the grant of this page of the ring is being ended
-abbrev pub IsEndingPage : (page : ℕ) → FrontRing → Type 0
+abbrev pub IsEndingPage : (page : ℕ) → FrontStage → Type 0
 IsEndingPage page (front_ring.RingRead k) = k ≡ page
 IsEndingPage page (front_ring.RingEnd k seen) = k ≡ page
 IsEndingPage page r = ⊥
 
 -- where the front's end of the ring stands as its negotiation rests after it wrote this state, has read that the back is gone or not, and has this port
-abbrev pub FrontRests : BusState → (gone : Bool) → Option ℕ → FrontRing → Type 0
+abbrev pub FrontRests : BusState → (gone : Bool) → Option ℕ → FrontStage → Type 0
 FrontRests state.Initialising gone port r = (r ≡ front_ring.RingWord 0) × (port ≡ None)
 FrontRests state.Initialised gone port r = (r ≡ front_ring.Initialised) × IsSome port
 FrontRests state.Connected gone port r = (is_ready r ≡ true) × IsSome port
@@ -56,18 +56,18 @@ FrontRests state.Closing true (Some port) r = IsEndingPage 0 r
 FrontRests s gone port r = ⊥
 
 -- the three moves of a page's grant: the frame, a fence, the flags
-abbrev pub IsGranting : (page : ℕ) → FrontRing → Type 0
+abbrev pub IsGranting : (page : ℕ) → FrontStage → Type 0
 IsGranting page (front_ring.RingFrame k) = k ≡ page
 IsGranting page (front_ring.RingFence k) = k ≡ page
 IsGranting page (front_ring.RingFlags k) = k ≡ page
 IsGranting page r = ⊥
 
 -- the ring is made next; or data are left in hand after a suspend, which are told first
-abbrev pub IsUnbegun : FrontRing → Type 0
+abbrev pub IsUnbegun : FrontStage → Type 0
 IsUnbegun r = (r ≡ front_ring.RingWord 0) ⊎ (is_left r ≡ true)
 
 -- and as it is at this; a ring that is broken leaves it at rest
-abbrev pub FrontGoesWith : FrontStage → FrontView → FrontRing → Type 0
+abbrev pub FrontGoesWith : FrontBusStage → FrontView → FrontStage → Type 0
 FrontGoesWith front.Start v r = (v.state ≡ state.Initialising) × IsUnbegun r × (v.port ≡ None)
 FrontGoesWith front.Rest v r = FrontRests v.state v.gone v.port r ⊎ (is_broken r ≡ true)
 FrontGoesWith front.ReadState v r = FrontRests v.state v.gone v.port r
@@ -100,14 +100,14 @@ PortOrdered None wished offered order = IsWished wished offered order
 PortOrdered (Some port) wished offered order = IsAgreed wished offered order
 
 -- the order is agreed as the ring is begun
-abbrev pub FrontOrdered : FrontStage → FrontView → (order : ℕ) → Type 0
+abbrev pub FrontOrdered : FrontBusStage → FrontView → (order : ℕ) → Type 0
 FrontOrdered (front.RingWord word) v order = IsAgreed v.order v.features.order order
 FrontOrdered (front.Grant page) v order = IsAgreed v.order v.features.order order
 FrontOrdered front.NewPort v order = IsAgreed v.order v.features.order order
 FrontOrdered s v order = PortOrdered v.port v.order v.features.order order
 
 -- the back's end of the ring has its pages and its port, and hasn't halted
-abbrev pub is_serving : BackRing → Bool
+abbrev pub is_serving : BackStage → Bool
 is_serving back_ring.InitWait = false
 is_serving back_ring.MapRing = false
 is_serving back_ring.Bind = false
@@ -119,30 +119,30 @@ is_serving back_ring.Halted = false
 is_serving r = true
 
 -- where it stands as its negotiation rests after it wrote this state, and as that reads the front's
-abbrev pub BackRests : BusState → BackRing → Type 0
+abbrev pub BackRests : BusState → BackStage → Type 0
 BackRests state.InitWait r = r ≡ back_ring.InitWait
 BackRests state.Connected r = is_serving r ≡ true
 BackRests state.Closing r = is_serving r ≡ true
 BackRests s r = ⊥
 
-abbrev pub BackReads : BusState → BackRing → Type 0
+abbrev pub BackReads : BusState → BackStage → Type 0
 BackReads state.InitWait r = r ≡ back_ring.InitWait
 BackReads state.Connected r = r ≡ back_ring.Loop
 BackReads state.Closing r = r ≡ back_ring.Loop
 BackReads s r = ⊥
 
 -- a mapping of a job is unmapped; the ring's pages are
-abbrev pub IsAborting : BackRing → Type 0
+abbrev pub IsAborting : BackStage → Type 0
 IsAborting (back_ring.Abort m) = Unit {0}
 IsAborting r = ⊥
 
-abbrev pub IsUnmapping : BackRing → Type 0
+abbrev pub IsUnmapping : BackStage → Type 0
 IsUnmapping back_ring.UnmapRing = Unit {0}
 IsUnmapping back_ring.UnmapUnbound = Unit {0}
 IsUnmapping r = ⊥
 
 -- before anything of the front is mapped; after its port is bound; and after a halt
-abbrev pub BackGoesWith : BackStage → BusState → BackRing → Type 0
+abbrev pub BackGoesWith : BackBusStage → BusState → BackStage → Type 0
 BackGoesWith (back.Publish key) s r = (s ≡ state.Initialising) × (r ≡ back_ring.InitWait)
 BackGoesWith (back.WriteState state.InitWait) s r = (s ≡ state.Initialising) × (r ≡ back_ring.InitWait)
 BackGoesWith (back.WriteState state.Connected) s r = (s ≡ state.InitWait) × (r ≡ back_ring.Loop)
@@ -163,7 +163,7 @@ BackGoesWith back.Halted s r = (s ≡ state.Closed) × (r ≡ back_ring.Halted)
 BackGoesWith b s r = ⊥
 
 -- the port that the negotiation counts is the one that the end of the ring has, and so are the pages
-abbrev pub BackHolds : BackRing → (order pages : ℕ) → (bound : Bool) → Type 0
+abbrev pub BackHolds : BackStage → (order pages : ℕ) → (bound : Bool) → Type 0
 BackHolds back_ring.InitWait order pages bound = (pages ≡ 0) × (bound ≡ false)
 BackHolds back_ring.MapRing order pages bound = (pages < 2 ^ order) × (bound ≡ false)
 BackHolds back_ring.Bind order pages bound = (pages ≡ 2 ^ order) × (bound ≡ false)
@@ -174,7 +174,7 @@ BackHolds back_ring.Halted order pages bound = (pages ≡ 0) × (bound ≡ false
 BackHolds r order pages bound = (pages ≡ 2 ^ order) × (bound ≡ true)
 
 -- once the layout is read the end of the ring has the terms that the negotiation read: the shape of the ring, the references of its pages, and the port
-abbrev pub has_terms : BackRing → Bool
+abbrev pub has_terms : BackStage → Bool
 has_terms back_ring.InitWait = false
 has_terms r = true
 
@@ -212,7 +212,7 @@ SaidBefore says back_key.MaxRingPageOrder = says back_key.FeatureBarrier × says
 SaidBefore says k = IsServiceSaid says
 
 -- a back that has halted promises nothing of its keys: it may have halted from its beginning
-abbrev pub SaidAt : (says : BackKey → Type 0) → BackStage → Type 0
+abbrev pub SaidAt : (says : BackKey → Type 0) → BackBusStage → Type 0
 SaidAt says (back.Publish k) = SaidBefore says k
 SaidAt says back.Halted = Unit {0}
 SaidAt says b = IsServiceSaid says
@@ -222,12 +222,12 @@ abbrev pub IsAnnounced : (says : BackKey → Type 0) → Directory → Type 0
 IsAnnounced says d = state_read (key_of d.keys other_state) ≡ Some state.InitWait → IsServiceSaid says
 
 -- a front that reads what the back offers reads a key that says some of it, once they all do
-abbrev pub ReadsOffer : (says : BackKey → Type 0) → FrontStage → Type 0
+abbrev pub ReadsOffer : (says : BackKey → Type 0) → FrontBusStage → Type 0
 ReadsOffer says (front.ReadFeature k) = IsFeature k × IsServiceSaid says
 ReadsOffer says s = Unit {0}
 
 -- no port is bound, and no event is pending at the back, before it binds
-abbrev pub IsUnbound : BackRing → ChannelState → Type 0
+abbrev pub IsUnbound : BackStage → ChannelState → Type 0
 IsUnbound back_ring.InitWait c = (is_bound c ≡ false) × (c.back_pending ≡ false)
 IsUnbound back_ring.MapRing c = (is_bound c ≡ false) × (c.back_pending ≡ false)
 IsUnbound back_ring.Bind c = (is_bound c ≡ false) × (c.back_pending ≡ false)

@@ -1,10 +1,10 @@
 -- How many mappings were made, and how many more may come: those of the jobs that are held, and of the one whose entry is being copied.
 use Rattle.std.specs.Prelude.{ℕ, ◌+◌, ◌*◌, length, drop, sum_by}
-use Rattle.back_jobs.specs.declared.stage.Stage.{Stage}
-use Rattle.back_jobs.specs.declared.stage.Stage.TheVariants as stage
-use Rattle.back_jobs.specs.Task.{Work}
-use Rattle.blk_back.specs.declared.stage.Stage.{Stage as BackStage}
-use Rattle.blk_back.specs.declared.stage.Stage.TheVariants.{Fetch}
+use Rattle.back_jobs.specs.declared.stage.JobStage.{JobStage}
+use Rattle.back_jobs.specs.declared.stage.JobStage.TheVariants as stage
+use Rattle.back_jobs.specs.Work.{Work}
+use Rattle.blk_back.specs.declared.stage.BackStage.{BackStage}
+use Rattle.blk_back.specs.declared.stage.BackStage.TheVariants.{Fetch}
 use Rattle.split_model.specs.World as rings
 use Rattle.vbd_model.specs.World.{World}
 
@@ -12,7 +12,7 @@ use Rattle.vbd_model.specs.World.{World}
 abbrev pub maps_copying : (pages : ℕ) → Work → ℕ
 maps_copying pages t = pages + t.named + 1
 
-abbrev pub maps_at : Stage → Work → ℕ
+abbrev pub maps_at : JobStage → Work → ℕ
 maps_at stage.MapPage t = maps_copying (length t.pages) t
 maps_at (stage.PageReference m) t = maps_copying (length (drop 1 t.pages)) t
 maps_at (stage.PageSectors m gref) t = maps_copying (length (drop 1 t.pages)) t

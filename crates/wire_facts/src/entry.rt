@@ -2,7 +2,9 @@
 
 use crate::numbers::{decimals, low, words};
 use blk_base::Abi;
-use blk_layout::{DirectOp, IndirectOp, RawRequest, Request, Segment, read_request, request_words};
+use blk_layout::{
+    DirectOp, IndirectOp, RawRequest, Segment, WrittenRequest, read_request, request_words,
+};
 
 /// The request that the lines so far speak of.
 #[derive(Drop)]
@@ -87,7 +89,7 @@ impl Pending {
     }
 
     // The request as it is read, and as it is written where a front writes such a one.
-    fn request(&self) -> Option<(RawRequest, Option<Request>)> {
+    fn request(&self) -> Option<(RawRequest, Option<WrittenRequest>)> {
         let [op, second, ..] = self.numbers;
         match op {
             5 => self.discard(),
@@ -97,7 +99,7 @@ impl Pending {
     }
 
     // entry op O count C device D id I sector S
-    fn direct(&self, op: u64, count: u64) -> Option<(RawRequest, Option<Request>)> {
+    fn direct(&self, op: u64, count: u64) -> Option<(RawRequest, Option<WrittenRequest>)> {
         let [_, _, device, id, sector, _] = self.numbers;
         let count = u8::try_from(count).ok()?;
         let device = u16::try_from(device).ok()?;
@@ -116,7 +118,7 @@ impl Pending {
             3 => DirectOp::Flush,
             _ => return Some((raw, None)),
         };
-        let request = Request::Direct {
+        let request = WrittenRequest::Direct {
             op,
             count,
             device,
@@ -128,7 +130,7 @@ impl Pending {
     }
 
     // entry op 5 flag F device D id I sector S count C
-    fn discard(&self) -> Option<(RawRequest, Option<Request>)> {
+    fn discard(&self) -> Option<(RawRequest, Option<WrittenRequest>)> {
         let [_, flag, device, id, sector, count] = self.numbers;
         let flag = u8::try_from(flag).ok()?;
         let device = u16::try_from(device).ok()?;
@@ -139,7 +141,7 @@ impl Pending {
             sector,
             count,
         };
-        let request = Request::Discard {
+        let request = WrittenRequest::Discard {
             flag,
             device,
             id,
@@ -150,7 +152,7 @@ impl Pending {
     }
 
     // entry op 6 inner O count C device D id I sector S
-    fn indirect(&self) -> Option<(RawRequest, Option<Request>)> {
+    fn indirect(&self) -> Option<(RawRequest, Option<WrittenRequest>)> {
         let [_, inner, count, device, id, sector] = self.numbers;
         let count = u16::try_from(count).ok()?;
         let device = u16::try_from(device).ok()?;
@@ -167,7 +169,7 @@ impl Pending {
             1 => IndirectOp::Write,
             _ => return Some((raw, None)),
         };
-        let request = Request::Indirect {
+        let request = WrittenRequest::Indirect {
             op,
             count,
             device,

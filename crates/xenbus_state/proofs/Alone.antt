@@ -9,8 +9,8 @@ use Rattle.xenbus_state.specs.declared.keys.FrontKey.TheVariants as key
 use Rattle.xenbus_state.specs.declared.offer.Features.{Features}
 use Rattle.xenbus_state.specs.declared.offer.DiskFacts.{DiskFacts}
 use Rattle.xenbus_state.specs.declared.state.BusState.TheVariants as state
-use Rattle.xenbus_state.specs.declared.stage.BackStage.{BackStage}
-use Rattle.xenbus_state.specs.declared.stage.BackStage.TheVariants as stage
+use Rattle.xenbus_state.specs.declared.stage.BackBusStage.{BackBusStage}
+use Rattle.xenbus_state.specs.declared.stage.BackBusStage.TheVariants as stage
 use Rattle.xenbus_state.specs.declared.table.BackAction.{BackAction}
 use Rattle.xenbus_state.specs.declared.table.BackAction.TheVariants as action
 use Rattle.xenbus_state.specs.States.{state_read}
@@ -53,7 +53,7 @@ key_alone key.EventChannel (Some text) f d v = kept_alone with_port (number_of t
 key_alone key.Protocol text f d v = kept_alone with_layout (layout_read text) f d v (λ x. refl)
 key_alone key.FeaturePersistent text f d v = kept_alone with_persistent (count_read text) f d v (λ x. refl)
 
-step_alone : (s : BackStage) (v : BackView) (a : BackAnswer) (f : Features) (d : DiskFacts) → step_at s (offering f d v) a ≡ offering f d (step_at s v a)
+step_alone : (s : BackBusStage) (v : BackView) (a : BackAnswer) (f : Features) (d : DiskFacts) → step_at s (offering f d v) a ≡ offering f d (step_at s v a)
 step_alone stage.ReadState v (answer.Key text) f d = acted_alone (back_action v.state v.unplugged (state_read text)) f d v
 step_alone (stage.ReadKey k) v (answer.Key text) f d = key_alone k text f d v
 step_alone stage.Watch v answer.Event f d = refl

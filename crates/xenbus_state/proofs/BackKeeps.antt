@@ -13,8 +13,8 @@ use Rattle.xenbus_state.specs.declared.keys.FrontKey.TheVariants as key
 use Rattle.xenbus_state.specs.declared.keys.BackKey.{BackKey}
 use Rattle.xenbus_state.specs.declared.state.BusState.{BusState}
 use Rattle.xenbus_state.specs.declared.state.BusState.TheVariants as state
-use Rattle.xenbus_state.specs.declared.stage.BackStage.{BackStage}
-use Rattle.xenbus_state.specs.declared.stage.BackStage.TheVariants as stage
+use Rattle.xenbus_state.specs.declared.stage.BackBusStage.{BackBusStage}
+use Rattle.xenbus_state.specs.declared.stage.BackBusStage.TheVariants as stage
 use Rattle.xenbus_state.specs.declared.table.BackAction.{BackAction}
 use Rattle.xenbus_state.specs.declared.table.BackAction.TheVariants as action
 use Rattle.xenbus_state.specs.declared.back.BackBusAsk.TheVariants as ask
@@ -56,16 +56,16 @@ action_suits own unplugged (Some state.Reconfigured) = tt
 action_suits own unplugged None = tt
 
 -- the facts of a view whose stage or state alone is another
-fresh_as : (s : BackStage) (own : BusState) (v : BackView) → IsFresh v → IsFresh (record v { stage = s; state = own })
+fresh_as : (s : BackBusStage) (own : BusState) (v : BackView) → IsFresh v → IsFresh (record v { stage = s; state = own })
 fresh_as s own v h = record { grefs = h.grefs; pages = h.pages; bound = h.bound }
 
-mapped_as : (s : BackStage) (own : BusState) (v : BackView) → IsMapped v → IsMapped (record v { stage = s; state = own })
+mapped_as : (s : BackBusStage) (own : BusState) (v : BackView) → IsMapped v → IsMapped (record v { stage = s; state = own })
 mapped_as s own v h = record { grefs = h.grefs; pages = h.pages }
 
-nothing_held_as : (s : BackStage) (own : BusState) (v : BackView) → HoldsNothing v → HoldsNothing (record v { stage = s; state = own })
+nothing_held_as : (s : BackBusStage) (own : BusState) (v : BackView) → HoldsNothing v → HoldsNothing (record v { stage = s; state = own })
 nothing_held_as s own v h = record { pages = h.pages; bound = h.bound }
 
-resting_as : (own : BusState) (s : BackStage) (v : BackView) → IsResting own v → IsResting own (record v { stage = s })
+resting_as : (own : BusState) (s : BackBusStage) (v : BackView) → IsResting own v → IsResting own (record v { stage = s })
 resting_as state.InitWait s v h = fresh_as s v.state v h
 resting_as state.Connected s v h = (mapped_as s v.state v h.0, h.1)
 resting_as state.Closing s v h = (mapped_as s v.state v h.0, h.1)
@@ -233,7 +233,7 @@ fact_sound : (next : Option BackKey) (v : BackView) → v.terms.order ≤ 4 → 
 fact_sound None v order own h bound = record { order = order; placed = (own, mapped_as (stage.WriteState state.Connected) v.state v h, bound) }
 fact_sound (Some k) v order own h bound = record { order = order; placed = (own, mapped_as (stage.PublishFact k) v.state v h, bound) }
 
-keeps_at : (s : BackStage) (v : BackView) (a : BackAnswer) → IsAnswer (ask_at s v) a → v.terms.order ≤ 4 → IsPlaced s v → IsSound v → IsSound (step_at s v a)
+keeps_at : (s : BackBusStage) (v : BackView) (a : BackAnswer) → IsAnswer (ask_at s v) a → v.terms.order ≤ 4 → IsPlaced s v → IsSound v → IsSound (step_at s v a)
 keeps_at (stage.Publish k) v answer.Done lawful order h whole = offered_sound (next_feature k) v order h.0 h.1
 keeps_at (stage.WriteState s) v answer.Done lawful order h whole = written_sound s v order h
 keeps_at stage.Watch v answer.Done lawful order h whole = record { order = order; placed = subst (λ (own : BusState). IsResting own (at stage.Rest v)) (sym h.0) (fresh_as stage.Rest v.state v h.1) }
@@ -254,15 +254,15 @@ keeps_at s v a lawful order h whole = whole
 closing_rest : (v : BackView) → IsResting state.Connected v → IsResting state.Closing (record v { state = state.Closing })
 closing_rest v r = (record { grefs = r.0.grefs; pages = r.0.pages }, r.1)
 
-says_sound : (s : BackStage) (own : BusState) (v : BackView) → v.stage ≡ s → v.state ≡ own → says_closing_at s own ≡ true → IsSound v → IsSound (record v { state = state.Closing })
+says_sound : (s : BackBusStage) (own : BusState) (v : BackView) → v.stage ≡ s → v.state ≡ own → says_closing_at s own ≡ true → IsSound v → IsSound (record v { state = state.Closing })
 says_sound stage.Rest state.Connected v e f g h =
-    let rests : IsResting v.state v = subst (λ (s : BackStage). IsPlaced s v) e h.placed in
+    let rests : IsResting v.state v = subst (λ (s : BackBusStage). IsPlaced s v) e h.placed in
     let connected : IsResting state.Connected v = subst (λ (own : BusState). IsResting own v) f rests in
-    record { order = h.order; placed = subst (λ (s : BackStage). IsPlaced s (record v { state = state.Closing })) (sym e) (closing_rest v connected) }
+    record { order = h.order; placed = subst (λ (s : BackBusStage). IsPlaced s (record v { state = state.Closing })) (sym e) (closing_rest v connected) }
 says_sound stage.ReadState state.Connected v e f g h =
-    let rests : IsResting v.state v = subst (λ (s : BackStage). IsPlaced s v) e h.placed in
+    let rests : IsResting v.state v = subst (λ (s : BackBusStage). IsPlaced s v) e h.placed in
     let connected : IsResting state.Connected v = subst (λ (own : BusState). IsResting own v) f rests in
-    record { order = h.order; placed = subst (λ (s : BackStage). IsPlaced s (record v { state = state.Closing })) (sym e) (closing_rest v connected) }
+    record { order = h.order; placed = subst (λ (s : BackBusStage). IsPlaced s (record v { state = state.Closing })) (sym e) (closing_rest v connected) }
 says_sound s own v e f g h = absurd (cc)
 
 pub says_where : (v : BackView) → says_closing v ≡ true → says_closing_at v.stage v.state ≡ true

@@ -9,8 +9,8 @@ use Rattle.xenbus_state.specs.declared.keys.FrontKey.{FrontKey}
 use Rattle.xenbus_state.specs.declared.keys.FrontKey.TheVariants as key
 use Rattle.xenbus_state.specs.declared.state.BusState.{BusState}
 use Rattle.xenbus_state.specs.declared.state.BusState.TheVariants as state
-use Rattle.xenbus_state.specs.declared.stage.BackStage.{BackStage}
-use Rattle.xenbus_state.specs.declared.stage.BackStage.TheVariants as stage
+use Rattle.xenbus_state.specs.declared.stage.BackBusStage.{BackBusStage}
+use Rattle.xenbus_state.specs.declared.stage.BackBusStage.TheVariants as stage
 use Rattle.xenbus_state.specs.declared.back.BackBusAsk.{BackBusAsk}
 use Rattle.xenbus_state.specs.declared.back.BackBusAsk.TheVariants as ask
 use Rattle.xenbus_state.specs.declared.table.BackAction.{BackAction}
@@ -68,7 +68,7 @@ unfolding own_after
 unmap_state [] own = refl
 unmap_state (page ∷ pages) own = refl
 
-state_at : (s : BackStage) (v : BackView) (a : BackAnswer) → IsAnswer (ask_at s v) a → (step_at s v a).state ≡ own_after (ask_at s v) v.state
+state_at : (s : BackBusStage) (v : BackView) (a : BackAnswer) → IsAnswer (ask_at s v) a → (step_at s v a).state ≡ own_after (ask_at s v) v.state
 unfolding own_after
 state_at stage.ReadState v (answer.Key text) lawful = acted_state (back_action v.state v.unplugged (state_read text)) v
 state_at (stage.ReadKey k) v (answer.Key text) lawful = key_state k text v

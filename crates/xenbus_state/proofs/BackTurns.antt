@@ -7,8 +7,8 @@ use Rattle.xenbus_state.specs.declared.offer.Features.{Features}
 use Rattle.xenbus_state.specs.declared.offer.DiskFacts.{DiskFacts}
 use Rattle.xenbus_state.specs.declared.state.BusState.{BusState}
 use Rattle.xenbus_state.specs.declared.state.BusState.TheVariants as state
-use Rattle.xenbus_state.specs.declared.stage.BackStage.{BackStage}
-use Rattle.xenbus_state.specs.declared.stage.BackStage.TheVariants as stage
+use Rattle.xenbus_state.specs.declared.stage.BackBusStage.{BackBusStage}
+use Rattle.xenbus_state.specs.declared.stage.BackBusStage.TheVariants as stage
 use Rattle.xenbus_state.specs.declared.back.BackBusAsk.TheVariants as ask
 use Rattle.xenbus_state.specs.States.{state_number}
 use Rattle.xenbus_state.specs.BackView.{BackView, start_of, halted, is_halting}
@@ -18,7 +18,7 @@ use Rattle.xenbus_state.specs.Runs.{BackTurn, Hears, Unplugs, Stops, back_turned
 use Rattle.xenbus_state.proofs.Early.{resting_early}
 use Rattle.xenbus_state.proofs.BackKeeps.{halted_sound, says_where, back_keeps}
 
-stopped_sound : (s : BackStage) (v : BackView) → IsPlaced s v → v.terms.order ≤ 4 → IsSound v → IsSound (if is_halting s then v else halted v)
+stopped_sound : (s : BackBusStage) (v : BackView) → IsPlaced s v → v.terms.order ≤ 4 → IsSound v → IsSound (if is_halting s then v else halted v)
 stopped_sound (stage.Publish k) v h order whole = halted_sound v order (rw h.0 (omega arith))
 stopped_sound (stage.WriteState state.InitWait) v h order whole = halted_sound v order (rw h.0 (omega arith))
 stopped_sound (stage.WriteState state.Connected) v h order whole = halted_sound v order (rw h.0 (omega arith))
@@ -39,9 +39,9 @@ stopped_sound (stage.PublishFact k) v h order whole = halted_sound v order (rw h
 stopped_sound s v h order whole = whole
 
 -- nothing that is true of the back's end looks at whether it was asked to close
-asked_sound : (s : BackStage) (v : BackView) (halts : Bool) → v.stage ≡ s → IsPlaced s v → IsSound v → IsSound (if halts then v else record v { unplugged = true })
+asked_sound : (s : BackBusStage) (v : BackView) (halts : Bool) → v.stage ≡ s → IsPlaced s v → IsSound v → IsSound (if halts then v else record v { unplugged = true })
 asked_sound s v true e h whole = whole
-asked_sound s v false e h whole = record { order = whole.order; placed = subst (λ (t : BackStage). IsPlaced t (record v { unplugged = true })) (sym e) (asked_placed s v h) }
+asked_sound s v false e h whole = record { order = whole.order; placed = subst (λ (t : BackBusStage). IsPlaced t (record v { unplugged = true })) (sym e) (asked_placed s v h) }
   where
     fresh : (v : BackView) → IsFresh v → IsFresh (record v { unplugged = true })
     fresh v h = record { grefs = h.grefs; pages = h.pages; bound = h.bound }
@@ -82,7 +82,7 @@ asked_sound s v false e h whole = record { order = whole.order; placed = subst (
     reading key.Protocol v h = h
     reading key.FeaturePersistent v h = h
 
-    asked_placed : (s : BackStage) (v : BackView) → IsPlaced s v → IsPlaced s (record v { unplugged = true })
+    asked_placed : (s : BackBusStage) (v : BackView) → IsPlaced s v → IsPlaced s (record v { unplugged = true })
     asked_placed (stage.Publish k) v h = (h.0, fresh v h.1)
     asked_placed (stage.WriteState s) v h = writing s v h
     asked_placed stage.Watch v h = (h.0, fresh v h.1)
@@ -121,7 +121,7 @@ writing_rises state.Initialised v h = absurd h
 writing_rises state.Reconfiguring v h = absurd h
 writing_rises state.Reconfigured v h = absurd h
 
-says_rises : (s : BackStage) (own : BusState) → says_closing_at s own ≡ true → state_number own < 5
+says_rises : (s : BackBusStage) (own : BusState) → says_closing_at s own ≡ true → state_number own < 5
 says_rises stage.Rest state.Connected e = omega arith
 says_rises stage.ReadState state.Connected e = omega arith
 says_rises s own e = absurd (cc)
@@ -134,7 +134,7 @@ unmap_due : (v : BackView) (pages : List Mapping) → IsDue v (unmap_ask pages)
 unmap_due v [] = tt
 unmap_due v (page ∷ pages) = tt
 
-rises_at : (s : BackStage) (v : BackView) → IsPlaced s v → Rises v.state (ask_at s v)
+rises_at : (s : BackBusStage) (v : BackView) → IsPlaced s v → Rises v.state (ask_at s v)
 rises_at (stage.WriteState s) v h = writing_rises s v h
 rises_at stage.UnmapPage v h = unmap_rises v.state v.pages
 rises_at s v h = tt
@@ -151,7 +151,7 @@ writing_due state.Connected v h = (h.1, h.2)
 writing_due state.Closed v h = h.1
 writing_due s v h = tt
 
-due_at : (s : BackStage) (v : BackView) → IsPlaced s v → IsDue v (ask_at s v)
+due_at : (s : BackBusStage) (v : BackView) → IsPlaced s v → IsDue v (ask_at s v)
 due_at (stage.WriteState s) v h = writing_due s v h
 due_at stage.UnmapPage v h = unmap_due v v.pages
 due_at s v h = tt

@@ -10,8 +10,8 @@ use Rattle.xenbus_state.specs.declared.keys.BackKey.{BackKey}
 use Rattle.xenbus_state.specs.declared.keys.BackKey.TheVariants as key
 use Rattle.xenbus_state.specs.declared.state.BusState.{BusState}
 use Rattle.xenbus_state.specs.declared.state.BusState.TheVariants as state
-use Rattle.xenbus_state.specs.declared.stage.FrontStage.{FrontStage}
-use Rattle.xenbus_state.specs.declared.stage.FrontStage.TheVariants as stage
+use Rattle.xenbus_state.specs.declared.stage.FrontBusStage.{FrontBusStage}
+use Rattle.xenbus_state.specs.declared.stage.FrontBusStage.TheVariants as stage
 use Rattle.xenbus_state.specs.declared.table.FrontAction.{FrontAction}
 use Rattle.xenbus_state.specs.declared.table.FrontAction.TheVariants as action
 use Rattle.xenbus_state.specs.declared.front.FrontBusAsk.{FrontBusAsk}
@@ -81,7 +81,7 @@ action_suits own closing idle (Some state.Reconfigured) = tt
 action_suits own closing idle None = tt
 
 -- what is true of a front's end, whatever stage its view shows
-record IsSoundAt (s : FrontStage) (v : FrontView) : Type 0 where
+record IsSoundAt (s : FrontBusStage) (v : FrontView) : Type 0 where
   order : v.order ≤ 4
   placed : IsPlaced s v
   timely : IsTimely s v.state
@@ -145,7 +145,7 @@ end_sound : (page : ℕ) (v : FrontView) (more : Bool) → nat_lt (page + 1) (pa
 end_sound page v true e order timely = record { order = order; placed = grind (arith, nat_tests); timely = timely; port = tt }
 end_sound page v false e order timely = record { order = order; placed = tt; timely = timely; port = tt }
 
-keeps_at : (s : FrontStage) (v : FrontView) (idle : Bool) (a : FrontAnswer) → IsAnswer (ask_at s v) a → IsSoundAt s v → IsSound v → IsSound (step_at s v idle a)
+keeps_at : (s : FrontBusStage) (v : FrontView) (idle : Bool) (a : FrontAnswer) → IsAnswer (ask_at s v) a → IsSoundAt s v → IsSound v → IsSound (step_at s v idle a)
 keeps_at stage.Start v idle answer.Done lawful h whole = record { order = h.order; placed = tt; timely = early v.state state.Initialising h.timely (omega arith); port = tt }
 keeps_at stage.Rest v idle (answer.Watched path) lawful h whole = record { order = h.order; placed = tt; timely = h.timely; port = tt }
 keeps_at stage.Rest v idle answer.Event lawful h whole = whole
@@ -196,15 +196,15 @@ resting_sound : (closes : Bool) (v : FrontView) → state_number v.state < 6 →
 resting_sound true v early h = closing_sound v.state v refl early h
 resting_sound false v early h = record { order = h.order; placed = tt; timely = early; port = tt }
 
-due_sound_at : (s : FrontStage) (v : FrontView) (idle : Bool) → v.stage ≡ s → IsSoundAt s v → IsSound v → IsSound (at (due_at s v idle) v)
+due_sound_at : (s : FrontBusStage) (v : FrontView) (idle : Bool) → v.stage ≡ s → IsSoundAt s v → IsSound v → IsSound (at (due_at s v idle) v)
 due_sound_at stage.Rest v idle e h whole = resting_sound (v.closing && idle) v h.timely whole
-due_sound_at s v idle e h whole = subst (λ (t : FrontStage). IsSound (at t v)) e whole
+due_sound_at s v idle e h whole = subst (λ (t : FrontBusStage). IsSound (at t v)) e whole
 
 due_sound : (v : FrontView) (idle : Bool) → IsSound v → IsSound (at (due v idle) v)
 due_sound v idle h = due_sound_at v.stage v idle refl (own_sound v h) h
 
 -- what is asked at a stage doesn't depend on the stage that the view shows
-pub ask_same : (s t : FrontStage) (v : FrontView) → ask_at s v ≡ ask_at s (at t v)
+pub ask_same : (s t : FrontBusStage) (v : FrontView) → ask_at s v ≡ ask_at s (at t v)
 ask_same stage.Start t v = refl
 ask_same stage.Rest t v = refl
 ask_same stage.ReadState t v = refl
@@ -229,7 +229,7 @@ front_keeps v idle a lawful h =
     keeps_at (due v idle) w idle a same (own_sound w sound) sound
 
 -- a state that is asked for is above the one that was written before
-rises_at : (s : FrontStage) (v : FrontView) → IsTimely s v.state → Rises v.state (ask_at s v)
+rises_at : (s : FrontBusStage) (v : FrontView) → IsTimely s v.state → Rises v.state (ask_at s v)
 rises_at (stage.WriteState next) v h = h.0
 rises_at s v h = tt
 

@@ -5,8 +5,8 @@ use Rattle.blk_base.specs.declared.ask.FrontAnswer.{FrontAnswer}
 use Rattle.blk_base.specs.declared.ask.FrontAnswer.TheVariants as answer
 use Rattle.xenbus_state.specs.declared.keys.BackKey.{BackKey}
 use Rattle.xenbus_state.specs.declared.state.BusState.{BusState}
-use Rattle.xenbus_state.specs.declared.stage.FrontStage.{FrontStage}
-use Rattle.xenbus_state.specs.declared.stage.FrontStage.TheVariants as stage
+use Rattle.xenbus_state.specs.declared.stage.FrontBusStage.{FrontBusStage}
+use Rattle.xenbus_state.specs.declared.stage.FrontBusStage.TheVariants as stage
 use Rattle.xenbus_state.specs.declared.front.FrontBusAsk.{FrontBusAsk}
 use Rattle.xenbus_state.specs.declared.front.FrontBusAsk.TheVariants as ask
 use Rattle.xenbus_state.specs.declared.table.FrontAction.{FrontAction}
@@ -43,7 +43,7 @@ fact_state : (k : BackKey) (n : Option ℕ) (v : FrontView) → (fact_step k n v
 fact_state k None v = refl
 fact_state k (Some n) v = refl
 
-state_at : (s : FrontStage) (v : FrontView) (idle : Bool) (a : FrontAnswer) → IsAnswer (ask_at s v) a → (step_at s v idle a).state ≡ own_after (ask_at s v) v.state
+state_at : (s : FrontBusStage) (v : FrontView) (idle : Bool) (a : FrontAnswer) → IsAnswer (ask_at s v) a → (step_at s v idle a).state ≡ own_after (ask_at s v) v.state
 unfolding own_after
 state_at stage.ReadState v idle (answer.Key text) lawful = acted_state (front_action v.state v.closing idle (state_read text)) v
 state_at (stage.ReadFeature k) v idle (answer.Key text) lawful = feature_state k (count_read text) v
@@ -84,16 +84,16 @@ rises_more own ask.EndOtherGrants asks rises h = h
 rises_more own ask.ClosePort asks rises h = h
 
 -- to be asked to close changes nothing that must be true
-closing_sound : (s : FrontStage) (v : FrontView) (already : Bool) → v.stage ≡ s → IsPlaced s v → HasPort s v → IsSound v → IsSound (if already then v else record v { closing = true })
+closing_sound : (s : FrontBusStage) (v : FrontView) (already : Bool) → v.stage ≡ s → IsPlaced s v → HasPort s v → IsSound v → IsSound (if already then v else record v { closing = true })
 closing_sound s v true e placed port h = h
 closing_sound s v false e placed port h = record {
   order = h.order;
-  placed = subst (λ (t : FrontStage). IsPlaced t (record v { closing = true })) (sym e) (place s v placed);
+  placed = subst (λ (t : FrontBusStage). IsPlaced t (record v { closing = true })) (sym e) (place s v placed);
   timely = h.timely;
-  port = subst (λ (t : FrontStage). HasPort t (record v { closing = true })) (sym e) (has s v port);
+  port = subst (λ (t : FrontBusStage). HasPort t (record v { closing = true })) (sym e) (has s v port);
 }
   where
-    place : (s : FrontStage) (v : FrontView) → IsPlaced s v → IsPlaced s (record v { closing = true })
+    place : (s : FrontBusStage) (v : FrontView) → IsPlaced s v → IsPlaced s (record v { closing = true })
     place (stage.ReadFeature k) v h = h
     place (stage.ReadFact k) v h = h
     place (stage.RingWord word) v h = h
@@ -101,7 +101,7 @@ closing_sound s v false e placed port h = record {
     place (stage.EndGrant page) v h = h
     place s v h = tt
 
-    has : (s : FrontStage) (v : FrontView) → HasPort s v → HasPort s (record v { closing = true })
+    has : (s : FrontBusStage) (v : FrontView) → HasPort s v → HasPort s (record v { closing = true })
     has (stage.Publish key) v h = h
     has s v h = tt
 

@@ -7,8 +7,8 @@ use Rattle.blk_base.specs.declared.ask.BackAnswer.{BackAnswer}
 use Rattle.blk_base.specs.declared.ask.BackAnswer.TheVariants.{Done, Mapped}
 use Rattle.xenbus_state.specs.declared.offer.Features.{Features}
 use Rattle.xenbus_state.specs.declared.offer.DiskFacts.{DiskFacts}
-use Rattle.xenbus_state.specs.declared.stage.BackStage.{BackStage}
-use Rattle.xenbus_state.specs.declared.stage.BackStage.TheVariants as stage
+use Rattle.xenbus_state.specs.declared.stage.BackBusStage.{BackBusStage}
+use Rattle.xenbus_state.specs.declared.stage.BackBusStage.TheVariants as stage
 use Rattle.xenbus_state.specs.declared.back.BackBusAsk.{BackBusAsk}
 use Rattle.xenbus_state.specs.declared.back.BackBusAsk.TheVariants as ask
 use Rattle.xenbus_state.specs.BackView.{BackView, start_of}
@@ -18,7 +18,7 @@ pub offers_in_order : (features : Features) (disk : DiskFacts) → AsksInOrder (
 offers_in_order features disk = record { lawful = (tt, (tt, (tt, (tt, (tt, (tt, (tt, (tt, tt)))))))); asked = refl; ends = refl }
 
 -- a back that has these pages mapped, of these references
-maps : List Mapping → (unplugged : Bool) → List ℕ → BackStage → BackView → BackView
+maps : List Mapping → (unplugged : Bool) → List ℕ → BackBusStage → BackView → BackView
 maps pages unplugged grefs s v = record v { pages = pages; unplugged = unplugged; grefs = grefs; stage = s }
 
 connected : (pages : List Mapping) (unplugged : Bool) (grefs : List ℕ) (v : BackView) → AsksInOrder (maps pages unplugged grefs stage.Bind v) (map (λ (a : BackBusAsk). Done) (publish_facts v)) (publish_facts v) stage.Rest

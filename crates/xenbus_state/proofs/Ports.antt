@@ -7,8 +7,8 @@ use Rattle.blk_base.specs.declared.ask.FrontAnswer.TheVariants as answer
 use Rattle.xenbus_state.specs.declared.keys.FrontKey.{FrontKey}
 use Rattle.xenbus_state.specs.declared.state.BusState.{BusState}
 use Rattle.xenbus_state.specs.declared.state.BusState.TheVariants as state
-use Rattle.xenbus_state.specs.declared.stage.FrontStage.{FrontStage}
-use Rattle.xenbus_state.specs.declared.stage.FrontStage.TheVariants as stage
+use Rattle.xenbus_state.specs.declared.stage.FrontBusStage.{FrontBusStage}
+use Rattle.xenbus_state.specs.declared.stage.FrontBusStage.TheVariants as stage
 use Rattle.xenbus_state.specs.declared.front.FrontBusAsk.{FrontBusAsk}
 use Rattle.xenbus_state.specs.declared.front.FrontBusAsk.TheVariants as ask
 use Rattle.xenbus_state.specs.States.{state_number}
@@ -23,13 +23,13 @@ use Rattle.xenbus_state.proofs.FrontKeeps.{front_keeps, front_rises}
 use Rattle.xenbus_state.proofs.FrontRuns.{own_after, state_after, front_turn_keeps}
 
 -- the port was asked for
-IsPast : FrontStage → BusState → Type 0
+IsPast : FrontBusStage → BusState → Type 0
 IsPast (stage.Publish k) own = Unit {0}
 IsPast (stage.WriteState state.Initialised) own = Unit {0}
 IsPast (stage.Broken word) own = Unit {0}
 IsPast s own = 1 < state_number own
 
-past_from : (s : FrontStage) (own : BusState) → 1 < state_number own → IsPast s own
+past_from : (s : FrontBusStage) (own : BusState) → 1 < state_number own → IsPast s own
 unfolding IsPast
 past_from (stage.Publish k) own h = tt
 past_from (stage.WriteState state.Initialised) own h = tt
@@ -53,7 +53,7 @@ resting_asks false v = refl
 too_low : (own : BusState) → own ≡ state.Initialising → 1 < state_number own → ⊥
 too_low own e h = let low : 1 < 1 = subst (λ (s : BusState). 1 < state_number s) e h in omega arith
 
-asks_at : (s : FrontStage) (v : FrontView) (idle : Bool) → IsTimely s v.state → IsPast s v.state → is_new_port (ask_at (due_at s v idle) v) ≡ false
+asks_at : (s : FrontBusStage) (v : FrontView) (idle : Bool) → IsTimely s v.state → IsPast s v.state → is_new_port (ask_at (due_at s v idle) v) ≡ false
 unfolding IsPast
 asks_at stage.NewPort v idle timely past = absurd (too_low v.state timely past)
 asks_at stage.Rest v idle timely past = resting_asks (v.closing && idle) v
@@ -84,7 +84,7 @@ stays_high v idle a h lawful high =
     past_from (step_of v idle a).stage (step_of v idle a).state (subst (λ (s : BusState). 1 < state_number s) (sym (state_after v idle a lawful)) more)
 
 -- the front once it was told an answer at this stage
-told_at : FrontStage → FrontView → Bool → FrontAnswer → FrontView
+told_at : FrontBusStage → FrontView → Bool → FrontAnswer → FrontView
 told_at s v idle a = step_at (due_at s v idle) (at (due_at s v idle) v) idle a
 
 published_past : (next : Option FrontKey) (own : BusState) → IsPast (after_published next) own
@@ -119,11 +119,11 @@ broken_past word v idle (answer.Word w) lawful = elim lawful [ ]
 broken_past word v idle (answer.Port port) lawful = elim lawful [ ]
 broken_past word v idle (answer.Key text) lawful = elim lawful [ ]
 
-past_by : (s : FrontStage) (v : FrontView) (idle : Bool) (a : FrontAnswer) → v.stage ≡ s → IsSound v → IsAnswer (ask_of v idle) a → IsAnswer (ask_at (due_at s v idle) v) a → IsPast s v.state → IsPast (told_at v.stage v idle a).stage (told_at v.stage v idle a).state
+past_by : (s : FrontBusStage) (v : FrontView) (idle : Bool) (a : FrontAnswer) → v.stage ≡ s → IsSound v → IsAnswer (ask_of v idle) a → IsAnswer (ask_at (due_at s v idle) v) a → IsPast s v.state → IsPast (told_at v.stage v idle a).stage (told_at v.stage v idle a).state
 unfolding IsPast told_at
-past_by (stage.Publish k) v idle a e h lawful same past = subst (λ (t : FrontStage). IsPast (told_at t v idle a).stage (told_at t v idle a).state) (sym e) (publish_past k v idle a same)
-past_by (stage.WriteState state.Initialised) v idle a e h lawful same past = subst (λ (t : FrontStage). IsPast (told_at t v idle a).stage (told_at t v idle a).state) (sym e) (write_past v idle a same)
-past_by (stage.Broken word) v idle a e h lawful same past = subst (λ (t : FrontStage). IsPast (told_at t v idle a).stage (told_at t v idle a).state) (sym e) (broken_past word v idle a same)
+past_by (stage.Publish k) v idle a e h lawful same past = subst (λ (t : FrontBusStage). IsPast (told_at t v idle a).stage (told_at t v idle a).state) (sym e) (publish_past k v idle a same)
+past_by (stage.WriteState state.Initialised) v idle a e h lawful same past = subst (λ (t : FrontBusStage). IsPast (told_at t v idle a).stage (told_at t v idle a).state) (sym e) (write_past v idle a same)
+past_by (stage.Broken word) v idle a e h lawful same past = subst (λ (t : FrontBusStage). IsPast (told_at t v idle a).stage (told_at t v idle a).state) (sym e) (broken_past word v idle a same)
 past_by s v idle a e h lawful same past = stays_high v idle a h lawful past
 
 stays_past : (v : FrontView) (idle : Bool) (a : FrontAnswer) → IsSound v → IsAnswer (ask_of v idle) a → IsPast v.stage v.state → IsPast (step_of v idle a).stage (step_of v idle a).state
@@ -131,7 +131,7 @@ unfolding told_at
 stays_past v idle a h lawful past = past_by v.stage v idle a refl h lawful lawful past
 
 -- once the port was asked for, the publishing begins
-new_port_at : (s : FrontStage) (v : FrontView) (idle : Bool) (a : FrontAnswer) → is_new_port (ask_at (due_at s v idle) v) ≡ true → IsAnswer (ask_at (due_at s v idle) v) a → IsPast (told_at s v idle a).stage (told_at s v idle a).state
+new_port_at : (s : FrontBusStage) (v : FrontView) (idle : Bool) (a : FrontAnswer) → is_new_port (ask_at (due_at s v idle) v) ≡ true → IsAnswer (ask_at (due_at s v idle) v) a → IsPast (told_at s v idle a).stage (told_at s v idle a).state
 unfolding told_at IsPast
 new_port_at stage.NewPort v idle (answer.Port port) asks lawful = tt
 new_port_at stage.NewPort v idle answer.Event asks lawful = elim lawful [ ]

@@ -6,8 +6,8 @@ use Rattle.std.proofs.lemmas.Nat.{pow_pos}
 use Rattle.xenbus_state.specs.declared.keys.FrontKey.{FrontKey}
 use Rattle.xenbus_state.specs.declared.keys.FrontKey.TheVariants as key
 use Rattle.xenbus_state.specs.declared.state.BusState.TheVariants as state
-use Rattle.xenbus_state.specs.declared.stage.FrontStage.{FrontStage}
-use Rattle.xenbus_state.specs.declared.stage.FrontStage.TheVariants as stage
+use Rattle.xenbus_state.specs.declared.stage.FrontBusStage.{FrontBusStage}
+use Rattle.xenbus_state.specs.declared.stage.FrontBusStage.TheVariants as stage
 use Rattle.xenbus_state.specs.declared.front.FrontBusAsk.{FrontBusAsk}
 use Rattle.xenbus_state.specs.declared.front.FrontBusAsk.TheVariants as ask
 use Rattle.xenbus_state.specs.Values.{front_value}
@@ -86,7 +86,7 @@ unfolding says
 starts_in_order v idle port = words 15 0 idle port v refl
 
 -- the grants that are ended from this page on
-leaver : FrontView → ℕ → FrontStage → FrontView
+leaver : FrontView → ℕ → FrontBusStage → FrontView
 leaver v port s = record v { stage = s; state = state.Closing; closing = true; gone = true; port = Some port }
 
 end_step : (port page : ℕ) (v : FrontView) (more : Bool) (asks : List FrontBusAsk) → nat_lt (page + 1) (pages_of v) ≡ more → DoesInOrder true port (leaver v port (if more then stage.EndGrant (page + 1) else stage.EndOtherGrants)) asks stage.Closed → DoesInOrder true port (leaver v port (stage.EndGrant page)) (ask.EndGrant page ∷ asks) stage.Closed

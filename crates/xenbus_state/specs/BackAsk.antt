@@ -5,15 +5,15 @@ use Rattle.blk_base.specs.declared.ask.BackAnswer.TheVariants as answer
 use Rattle.blk_base.specs.declared.parts.Mapping.{Mapping}
 use Rattle.xenbus_state.specs.declared.state.BusState.{BusState}
 use Rattle.xenbus_state.specs.declared.state.BusState.TheVariants as state
-use Rattle.xenbus_state.specs.declared.stage.BackStage.{BackStage}
-use Rattle.xenbus_state.specs.declared.stage.BackStage.TheVariants as stage
+use Rattle.xenbus_state.specs.declared.stage.BackBusStage.{BackBusStage}
+use Rattle.xenbus_state.specs.declared.stage.BackBusStage.TheVariants as stage
 use Rattle.xenbus_state.specs.declared.back.BackBusAsk.{BackBusAsk}
 use Rattle.xenbus_state.specs.declared.back.BackBusAsk.TheVariants as ask
 use Rattle.xenbus_state.specs.Values.{back_value}
 use Rattle.xenbus_state.specs.BackView.{BackView}
 
 -- a connected back that was asked to close says so as soon as no other step is begun, also between a watch and the read that it calls for
-abbrev pub says_closing_at : BackStage → BusState → Bool
+abbrev pub says_closing_at : BackBusStage → BusState → Bool
 says_closing_at stage.Rest state.Connected = true
 says_closing_at stage.ReadState state.Connected = true
 says_closing_at s own = false
@@ -30,7 +30,7 @@ abbrev pub unmap_ask : List Mapping → BackBusAsk
 unmap_ask [] = ask.Wait
 unmap_ask (page ∷ pages) = ask.Unmap page
 
-abbrev pub ask_at : BackStage → BackView → BackBusAsk
+abbrev pub ask_at : BackBusStage → BackView → BackBusAsk
 ask_at (stage.Publish key) v = ask.SetKey key (back_value v.features v.disk key)
 ask_at (stage.WriteState s) v = ask.SetState s
 ask_at stage.Watch v = ask.Watch

@@ -4,8 +4,8 @@ use Rattle.xenbus_state.specs.declared.keys.FrontKey.{FrontKey}
 use Rattle.xenbus_state.specs.declared.keys.FrontKey.TheVariants as key
 use Rattle.xenbus_state.specs.declared.state.BusState.{BusState}
 use Rattle.xenbus_state.specs.declared.state.BusState.TheVariants as state
-use Rattle.xenbus_state.specs.declared.stage.BackStage.{BackStage}
-use Rattle.xenbus_state.specs.declared.stage.BackStage.TheVariants as stage
+use Rattle.xenbus_state.specs.declared.stage.BackBusStage.{BackBusStage}
+use Rattle.xenbus_state.specs.declared.stage.BackBusStage.TheVariants as stage
 use Rattle.xenbus_state.specs.declared.back.BackBusAsk.{BackBusAsk}
 use Rattle.xenbus_state.specs.declared.back.BackBusAsk.TheVariants as ask
 use Rattle.xenbus_state.specs.States.{state_number}
@@ -57,12 +57,12 @@ IsFirst order key.RingRef = order ≡ 0
 IsFirst order k = ⊥
 
 -- the reference of a page is read, and this key next
-abbrev pub IsGrefRead : BackStage → FrontKey → ℕ → Type 0
+abbrev pub IsGrefRead : BackBusStage → FrontKey → ℕ → Type 0
 IsGrefRead (stage.ReadKey (key.RingRefOf page)) next order = next ≡ after_page order page
 IsGrefRead (stage.ReadKey key.RingRef) next order = next ≡ key.EventChannel
 IsGrefRead s next order = ⊥
 
-abbrev pub IsPlaced : BackStage → BackView → Type 0
+abbrev pub IsPlaced : BackBusStage → BackView → Type 0
 IsPlaced (stage.Publish k) v = (v.state ≡ state.Initialising) × IsFresh v
 IsPlaced (stage.WriteState s) v = IsWriting s v
 IsPlaced stage.Watch v = (v.state ≡ state.InitWait) × IsFresh v

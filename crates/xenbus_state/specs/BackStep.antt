@@ -9,8 +9,8 @@ use Rattle.xenbus_state.specs.declared.keys.FrontKey.{FrontKey}
 use Rattle.xenbus_state.specs.declared.keys.FrontKey.TheVariants as key
 use Rattle.xenbus_state.specs.declared.state.BusState.{BusState}
 use Rattle.xenbus_state.specs.declared.state.BusState.TheVariants as state
-use Rattle.xenbus_state.specs.declared.stage.BackStage.{BackStage}
-use Rattle.xenbus_state.specs.declared.stage.BackStage.TheVariants as stage
+use Rattle.xenbus_state.specs.declared.stage.BackBusStage.{BackBusStage}
+use Rattle.xenbus_state.specs.declared.stage.BackBusStage.TheVariants as stage
 use Rattle.xenbus_state.specs.declared.table.BackAction.{BackAction}
 use Rattle.xenbus_state.specs.declared.table.BackAction.TheVariants as action
 use Rattle.xenbus_state.specs.declared.table.BackHalt.{BackHalt}
@@ -22,7 +22,7 @@ use Rattle.xenbus_state.specs.BackView.{BackView, halted}
 use Rattle.xenbus_state.specs.BackAsk.{says_closing, next_gref}
 use Rattle.xenbus_state.specs.BackReading.{key_read}
 
-abbrev pub at : BackStage → BackView → BackView
+abbrev pub at : BackBusStage → BackView → BackView
 at s v = record v { stage = s }
 
 -- the front's state was read, and the table says this
@@ -49,7 +49,7 @@ abbrev pub mapped : Mapping → BackView → BackView
 mapped page v = record v { pages = v.pages ++ page ∷ []; stage = if nat_lt (length v.pages + 1) (length v.grefs) then stage.MapPage else stage.Bind }
 
 -- its own state was written
-abbrev pub after_state : BusState → BackStage
+abbrev pub after_state : BusState → BackBusStage
 after_state state.InitWait = stage.Watch
 after_state state.Closing = stage.WriteState state.Closed
 after_state state.Closed = stage.Halted
@@ -60,7 +60,7 @@ abbrev pub last_state : BusState → BusState
 last_state state.Closing = state.Closed
 last_state own = state.Closing
 
-abbrev pub unmapping_next : List Mapping → Bool → BusState → BackStage
+abbrev pub unmapping_next : List Mapping → Bool → BusState → BackBusStage
 unmapping_next (page ∷ pages) bound own = stage.UnmapPage
 unmapping_next [] true own = stage.ClosePort
 unmapping_next [] false own = stage.WriteState (last_state own)
@@ -70,15 +70,15 @@ other_pages [] = []
 other_pages (page ∷ pages) = pages
 
 -- what is done after a key that was set
-abbrev pub after_feature : Option BackKey → BackStage
+abbrev pub after_feature : Option BackKey → BackBusStage
 after_feature (Some k) = stage.Publish k
 after_feature None = stage.WriteState state.InitWait
 
-abbrev pub after_fact : Option BackKey → BackStage
+abbrev pub after_fact : Option BackKey → BackBusStage
 after_fact (Some k) = stage.PublishFact k
 after_fact None = stage.WriteState state.Connected
 
-abbrev pub step_at : BackStage → BackView → BackAnswer → BackView
+abbrev pub step_at : BackBusStage → BackView → BackAnswer → BackView
 step_at (stage.Publish k) v answer.Done = at (after_feature (next_feature k)) v
 step_at (stage.WriteState s) v answer.Done = record v { state = s; stage = after_state s }
 step_at stage.Watch v answer.Done = at stage.Rest v
@@ -95,7 +95,7 @@ step_at stage.UnmapPage v answer.Done = record v { pages = other_pages v.pages; 
 step_at stage.ClosePort v answer.Done = record v { bound = false; stage = stage.WriteState (last_state v.state) }
 step_at s v a = v
 
-abbrev pub halt_at : BackStage → BackView → BackAnswer → Option BackHalt
+abbrev pub halt_at : BackBusStage → BackView → BackAnswer → Option BackHalt
 halt_at stage.ReadState v (answer.Key text) = action_halt (back_action v.state v.unplugged (state_read text))
 halt_at (stage.ReadKey k) v (answer.Key text) = key_halt k (key_read k text v)
 halt_at stage.MapPage v (answer.MapRefused status) = Some (halt.MapRefused (next_gref v) status)

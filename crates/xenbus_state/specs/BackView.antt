@@ -8,14 +8,14 @@ use Rattle.xenbus_state.specs.declared.state.BusState.TheVariants as state
 use Rattle.xenbus_state.specs.declared.offer.Features.{Features}
 use Rattle.xenbus_state.specs.declared.offer.DiskFacts.{DiskFacts}
 use Rattle.xenbus_state.specs.declared.values.FrontTerms.{FrontTerms}
-use Rattle.xenbus_state.specs.declared.stage.BackStage.{BackStage}
-use Rattle.xenbus_state.specs.declared.stage.BackStage.TheVariants as stage
+use Rattle.xenbus_state.specs.declared.stage.BackBusStage.{BackBusStage}
+use Rattle.xenbus_state.specs.declared.stage.BackBusStage.TheVariants as stage
 
 -- The back's end: what it offers, and what the disk is; what it does; the state that it wrote last; whether it was asked to close; what it read of the front's terms, and the references of the ring's pages; the pages of the ring that it has mapped; and whether the port is bound.
 pub record BackView : Type 0 where
   pub features : Features
   pub disk : DiskFacts
-  pub stage : BackStage
+  pub stage : BackBusStage
   pub state : BusState
   pub unplugged : Bool
   pub terms : FrontTerms
@@ -49,7 +49,7 @@ is_last state.Closing = true
 is_last state.Closed = true
 is_last s = false
 
-abbrev pub is_halting : BackStage → Bool
+abbrev pub is_halting : BackBusStage → Bool
 is_halting (stage.WriteState s) = is_last s
 is_halting stage.UnmapOthers = true
 is_halting stage.UnmapPage = true

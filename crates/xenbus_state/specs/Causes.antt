@@ -9,10 +9,10 @@ use Rattle.xenbus_state.specs.declared.keys.FrontKey.TheVariants as key
 use Rattle.xenbus_state.specs.declared.keys.BackKey.{BackKey}
 use Rattle.xenbus_state.specs.declared.keys.BackKey.TheVariants as back_key
 use Rattle.xenbus_state.specs.declared.state.BusState.TheVariants as state
-use Rattle.xenbus_state.specs.declared.stage.FrontStage.{FrontStage}
-use Rattle.xenbus_state.specs.declared.stage.FrontStage.TheVariants as front_stage
-use Rattle.xenbus_state.specs.declared.stage.BackStage.{BackStage}
-use Rattle.xenbus_state.specs.declared.stage.BackStage.TheVariants as back_stage
+use Rattle.xenbus_state.specs.declared.stage.FrontBusStage.{FrontBusStage}
+use Rattle.xenbus_state.specs.declared.stage.FrontBusStage.TheVariants as front_stage
+use Rattle.xenbus_state.specs.declared.stage.BackBusStage.{BackBusStage}
+use Rattle.xenbus_state.specs.declared.stage.BackBusStage.TheVariants as back_stage
 use Rattle.xenbus_state.specs.declared.front.FrontBusAsk.{FrontBusAsk}
 use Rattle.xenbus_state.specs.declared.front.FrontBusAsk.TheVariants as front_ask
 use Rattle.xenbus_state.specs.declared.front.FrontNews.{FrontNews}
@@ -85,14 +85,14 @@ DoesBack back_action.Connect w told = (back.ask_of w ≡ ask.GetKey key.RingPage
 DoesBack (back_action.Halt reason) w told = (back.ask_of w ≡ ask.UnmapOthers) × (told ≡ Some reason)
 
 -- The front waits where nothing is begun, unless it must close: a closing front without unfinished requests writes Closing, and leaves once the back is gone. And it waits where it is closed or broken.
-abbrev pub FrontMayWait : FrontStage → FrontView → Bool → Type 0
+abbrev pub FrontMayWait : FrontBusStage → FrontView → Bool → Type 0
 FrontMayWait front_stage.Rest v idle = (v.closing && idle ≡ false) ⊎ ((v.state ≡ state.Closing) × (v.gone ≡ false))
 FrontMayWait front_stage.Closed v idle = Unit {0}
 FrontMayWait (front_stage.Broken word) v idle = Unit {0}
 FrontMayWait s v idle = ⊥
 
 -- The back waits where nothing is begun, unless it is connected, was asked to close and hasn't said so. And it waits where it has halted.
-abbrev pub BackMayWait : BackStage → BackView → Type 0
+abbrev pub BackMayWait : BackBusStage → BackView → Type 0
 BackMayWait back_stage.Rest v = back.says_closing v ≡ false
 BackMayWait back_stage.Halted v = Unit {0}
 BackMayWait s v = ⊥

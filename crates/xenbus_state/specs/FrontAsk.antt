@@ -4,32 +4,32 @@ use Rattle.blk_base.specs.declared.ask.FrontAnswer.{FrontAnswer}
 use Rattle.blk_base.specs.declared.ask.FrontAnswer.TheVariants as answer
 use Rattle.xenbus_state.specs.declared.state.BusState.{BusState}
 use Rattle.xenbus_state.specs.declared.state.BusState.TheVariants as state
-use Rattle.xenbus_state.specs.declared.stage.FrontStage.{FrontStage}
-use Rattle.xenbus_state.specs.declared.stage.FrontStage.TheVariants as stage
+use Rattle.xenbus_state.specs.declared.stage.FrontBusStage.{FrontBusStage}
+use Rattle.xenbus_state.specs.declared.stage.FrontBusStage.TheVariants as stage
 use Rattle.xenbus_state.specs.declared.front.FrontBusAsk.{FrontBusAsk}
 use Rattle.xenbus_state.specs.declared.front.FrontBusAsk.TheVariants as ask
 use Rattle.xenbus_state.specs.Values.{front_value}
 use Rattle.xenbus_state.specs.FrontView.{FrontView, terms_of}
 
 -- a front that has written Closing leaves once the back is gone: it ends its grants, those of the ring first if it has made one
-abbrev pub leaving : Bool → Option ℕ → FrontStage
+abbrev pub leaving : Bool → Option ℕ → FrontBusStage
 leaving false port = stage.Rest
 leaving true (Some port) = stage.EndGrant 0
 leaving true None = stage.EndOtherGrants
 
-abbrev pub closing_stage : BusState → FrontView → FrontStage
+abbrev pub closing_stage : BusState → FrontView → FrontBusStage
 closing_stage state.Closing v = leaving v.gone v.port
 closing_stage s v = stage.WriteState state.Closing
 
 -- what is begun; where nothing is, a closing front without unfinished requests closes
-abbrev pub due_at : FrontStage → FrontView → Bool → FrontStage
+abbrev pub due_at : FrontBusStage → FrontView → Bool → FrontBusStage
 due_at stage.Rest v idle = if v.closing && idle then closing_stage v.state v else stage.Rest
 due_at s v idle = s
 
-abbrev pub due : FrontView → Bool → FrontStage
+abbrev pub due : FrontView → Bool → FrontBusStage
 due v idle = due_at v.stage v idle
 
-abbrev pub ask_at : FrontStage → FrontView → FrontBusAsk
+abbrev pub ask_at : FrontBusStage → FrontView → FrontBusAsk
 ask_at stage.Start v = ask.Watch
 ask_at stage.Rest v = ask.Wait
 ask_at stage.ReadState v = ask.GetState

@@ -2,8 +2,8 @@
 use Rattle.std.specs.Prelude.{◌≡◌, ◌<◌, ◌≤◌, IsSome}
 use Rattle.xenbus_state.specs.declared.state.BusState.{BusState}
 use Rattle.xenbus_state.specs.declared.state.BusState.TheVariants as state
-use Rattle.xenbus_state.specs.declared.stage.FrontStage.{FrontStage}
-use Rattle.xenbus_state.specs.declared.stage.FrontStage.TheVariants as stage
+use Rattle.xenbus_state.specs.declared.stage.FrontBusStage.{FrontBusStage}
+use Rattle.xenbus_state.specs.declared.stage.FrontBusStage.TheVariants as stage
 use Rattle.xenbus_state.specs.declared.front.FrontBusAsk.{FrontBusAsk}
 use Rattle.xenbus_state.specs.declared.front.FrontBusAsk.TheVariants as ask
 use Rattle.xenbus_state.specs.States.{state_number}
@@ -11,7 +11,7 @@ use Rattle.xenbus_state.specs.Programs.{IsFeature, IsFact}
 use Rattle.xenbus_state.specs.FrontView.{FrontView, pages_of}
 
 -- the word, page or key that a stage is at is one of those that it goes through
-abbrev pub IsPlaced : FrontStage → FrontView → Type 0
+abbrev pub IsPlaced : FrontBusStage → FrontView → Type 0
 IsPlaced (stage.ReadFeature key) v = IsFeature key
 IsPlaced (stage.ReadFact key) v = IsFact key
 IsPlaced (stage.RingWord word) v = word < 16
@@ -20,7 +20,7 @@ IsPlaced (stage.EndGrant page) v = page < pages_of v
 IsPlaced s v = Unit {0}
 
 -- the state that the front wrote last: nothing before it is Initialised, Initialised before it is connected, Closing before it leaves
-abbrev pub IsTimely : FrontStage → BusState → Type 0
+abbrev pub IsTimely : FrontBusStage → BusState → Type 0
 IsTimely stage.Rest s = state_number s < 6
 IsTimely stage.ReadState s = state_number s < 6
 IsTimely (stage.ReadFact key) s = s ≡ state.Initialised
@@ -33,7 +33,7 @@ IsTimely (stage.Broken word) s = Unit {0}
 IsTimely making s = s ≡ state.Initialising
 
 -- a ring is published with a port
-abbrev pub HasPort : FrontStage → FrontView → Type 0
+abbrev pub HasPort : FrontBusStage → FrontView → Type 0
 HasPort (stage.Publish key) v = IsSome v.port
 HasPort s v = Unit {0}
 

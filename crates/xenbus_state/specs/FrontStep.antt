@@ -7,8 +7,8 @@ use Rattle.xenbus_state.specs.declared.keys.BackKey.TheVariants as key
 use Rattle.xenbus_state.specs.declared.keys.FrontKey.{FrontKey}
 use Rattle.xenbus_state.specs.declared.state.BusState.{BusState}
 use Rattle.xenbus_state.specs.declared.state.BusState.TheVariants as state
-use Rattle.xenbus_state.specs.declared.stage.FrontStage.{FrontStage}
-use Rattle.xenbus_state.specs.declared.stage.FrontStage.TheVariants as stage
+use Rattle.xenbus_state.specs.declared.stage.FrontBusStage.{FrontBusStage}
+use Rattle.xenbus_state.specs.declared.stage.FrontBusStage.TheVariants as stage
 use Rattle.xenbus_state.specs.declared.front.FrontNews.{FrontNews}
 use Rattle.xenbus_state.specs.declared.front.FrontNews.TheVariants as news
 use Rattle.xenbus_state.specs.declared.table.FrontAction.{FrontAction}
@@ -20,7 +20,7 @@ use Rattle.xenbus_state.specs.Reading.{count_read, fact_read, with_feature, with
 use Rattle.xenbus_state.specs.FrontView.{FrontView, ring_order, pages_of, broken}
 use Rattle.xenbus_state.specs.FrontAsk.{due}
 
-abbrev pub at : FrontStage → FrontView → FrontView
+abbrev pub at : FrontBusStage → FrontView → FrontView
 at s v = record v { stage = s }
 
 -- the back's state was read, and the table says this
@@ -46,7 +46,7 @@ action_news (action.Break word) closing = Some (news.Broken word)
 action_news a closing = None
 
 -- a key of the back was read: one that is malformed, or missing where it may not be, breaks the front
-abbrev pub after_feature : Option BackKey → FrontStage
+abbrev pub after_feature : Option BackKey → FrontBusStage
 after_feature (Some k) = stage.ReadFeature k
 after_feature None = stage.RingWord 0
 
@@ -54,7 +54,7 @@ abbrev pub feature_step : BackKey → Option ℕ → FrontView → FrontView
 feature_step k None v = broken 9 v
 feature_step k (Some n) v = record v { features = with_feature v.features k n; stage = after_feature (next_feature k) }
 
-abbrev pub after_fact : Option BackKey → FrontStage
+abbrev pub after_fact : Option BackKey → FrontBusStage
 after_fact (Some k) = stage.ReadFact k
 after_fact None = stage.WriteState state.Connected
 
@@ -67,7 +67,7 @@ read_news None = Some (news.Broken 9)
 read_news (Some n) = None
 
 -- its own state was written
-abbrev pub after_state : BusState → FrontStage
+abbrev pub after_state : BusState → FrontBusStage
 after_state state.Closed = stage.Closed
 after_state s = stage.Rest
 
@@ -80,15 +80,15 @@ written_news state.Closed = Some news.Closed
 written_news s = None
 
 -- what is done after a thing that was done
-abbrev pub after_published : Option FrontKey → FrontStage
+abbrev pub after_published : Option FrontKey → FrontBusStage
 after_published (Some k) = stage.Publish k
 after_published None = stage.WriteState state.Initialised
 
-abbrev pub after_grants : Option ℕ → FrontStage
+abbrev pub after_grants : Option ℕ → FrontBusStage
 after_grants (Some port) = stage.ClosePort
 after_grants None = stage.WriteState state.Closed
 
-abbrev pub after : FrontStage → FrontView → FrontStage
+abbrev pub after : FrontBusStage → FrontView → FrontBusStage
 after stage.Start v = stage.Rest
 after (stage.RingWord word) v = if word == 15 then stage.Grant 0 else stage.RingWord (word + 1)
 after (stage.Grant page) v = if nat_lt (page + 1) (pages_of v) then stage.Grant (page + 1) else stage.NewPort
@@ -97,7 +97,7 @@ after (stage.EndGrant page) v = if nat_lt (page + 1) (pages_of v) then stage.End
 after stage.EndOtherGrants v = after_grants v.port
 after s v = s
 
-abbrev pub step_at : FrontStage → FrontView → Bool → FrontAnswer → FrontView
+abbrev pub step_at : FrontBusStage → FrontView → Bool → FrontAnswer → FrontView
 step_at stage.Rest v idle (answer.Watched path) = at stage.ReadState v
 step_at stage.ReadState v idle (answer.Key text) = acted (front_action v.state v.closing idle (state_read text)) v
 step_at (stage.ReadFeature k) v idle (answer.Key text) = feature_step k (count_read text) v
@@ -108,7 +108,7 @@ step_at stage.ClosePort v idle answer.Done = record v { port = None; stage = sta
 step_at s v idle answer.Done = at (after s v) v
 step_at s v idle a = v
 
-abbrev pub news_at : FrontStage → FrontView → Bool → FrontAnswer → Option FrontNews
+abbrev pub news_at : FrontBusStage → FrontView → Bool → FrontAnswer → Option FrontNews
 news_at stage.ReadState v idle (answer.Key text) = action_news (front_action v.state v.closing idle (state_read text)) v.closing
 news_at (stage.ReadFeature k) v idle (answer.Key text) = read_news (count_read text)
 news_at (stage.ReadFact k) v idle (answer.Key text) = read_news (fact_read k text)

@@ -7,8 +7,8 @@ use Rattle.xenbus_state.specs.declared.state.BusState.TheVariants.{Initialising}
 use Rattle.xenbus_state.specs.declared.offer.Features.{Features}
 use Rattle.xenbus_state.specs.declared.offer.DiskFacts.{DiskFacts}
 use Rattle.xenbus_state.specs.declared.values.FrontTerms.{FrontTerms}
-use Rattle.xenbus_state.specs.declared.stage.FrontStage.{FrontStage}
-use Rattle.xenbus_state.specs.declared.stage.FrontStage.TheVariants as stage
+use Rattle.xenbus_state.specs.declared.stage.FrontBusStage.{FrontBusStage}
+use Rattle.xenbus_state.specs.declared.stage.FrontBusStage.TheVariants as stage
 use Rattle.xenbus_state.specs.declared.front.FrontNews.{FrontNews}
 use Rattle.xenbus_state.specs.declared.front.FrontNews.TheVariants as news
 
@@ -17,7 +17,7 @@ pub record FrontView : Type 0 where
   pub abi : Abi
   pub order : ℕ
   pub persistent : Bool
-  pub stage : FrontStage
+  pub stage : FrontBusStage
   pub state : BusState
   pub closing : Bool
   pub gone : Bool
@@ -64,7 +64,7 @@ keeps_grants v = v.persistent && v.features.persistent
 abbrev pub broken : ℕ → FrontView → FrontView
 broken word v = record v { stage = stage.Broken word }
 
-abbrev pub is_broken : FrontStage → Bool
+abbrev pub is_broken : FrontBusStage → Bool
 is_broken (stage.Broken word) = true
 is_broken s = false
 
@@ -76,7 +76,7 @@ abbrev pub close_news : FrontView → Option FrontNews
 close_news v = if v.closing || is_broken v.stage then None else Some news.Closing
 
 -- a new epoch begins; nothing follows where the front is closed or broken
-abbrev pub suspended_at : FrontStage → FrontView → FrontView
+abbrev pub suspended_at : FrontBusStage → FrontView → FrontView
 suspended_at stage.Closed v = v
 suspended_at (stage.Broken word) v = v
 suspended_at s v = record v { stage = stage.Start; state = Initialising; gone = false; port = None }

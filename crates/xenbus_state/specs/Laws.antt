@@ -7,8 +7,8 @@ use Rattle.blk_base.specs.declared.ask.BackAnswer.TheVariants as back_answer
 use Rattle.xenbus_state.specs.declared.offer.Features.{Features}
 use Rattle.xenbus_state.specs.declared.offer.DiskFacts.{DiskFacts}
 use Rattle.xenbus_state.specs.declared.state.BusState.TheVariants as state
-use Rattle.xenbus_state.specs.declared.stage.FrontStage.TheVariants as front_stage
-use Rattle.xenbus_state.specs.declared.stage.BackStage.TheVariants as stage
+use Rattle.xenbus_state.specs.declared.stage.FrontBusStage.TheVariants as front_stage
+use Rattle.xenbus_state.specs.declared.stage.BackBusStage.TheVariants as stage
 use Rattle.xenbus_state.specs.declared.table.BackHalt.{BackHalt}
 use Rattle.xenbus_state.specs.States.{state_read}
 use Rattle.xenbus_state.specs.Tables.{front_action, back_action}

@@ -7,10 +7,10 @@ use Rattle.xenbus_state.specs.declared.keys.BackKey.{BackKey}
 use Rattle.xenbus_state.specs.declared.keys.BackKey.TheVariants as back_key
 use Rattle.xenbus_state.specs.declared.offer.Features.{Features}
 use Rattle.xenbus_state.specs.declared.offer.DiskFacts.{DiskFacts}
-use Rattle.xenbus_state.specs.declared.stage.BackStage.{BackStage}
+use Rattle.xenbus_state.specs.declared.stage.BackBusStage.{BackBusStage}
 use Rattle.xenbus_state.specs.declared.state.BusState.{BusState}
 use Rattle.xenbus_state.specs.declared.state.BusState.TheVariants as state
-use Rattle.xenbus_state.specs.declared.stage.BackStage.TheVariants as stage
+use Rattle.xenbus_state.specs.declared.stage.BackBusStage.TheVariants as stage
 use Rattle.xenbus_state.specs.declared.front.FrontBusAsk.{FrontBusAsk}
 use Rattle.xenbus_state.specs.declared.front.FrontBusAsk.TheVariants as front
 use Rattle.xenbus_state.specs.declared.back.BackBusAsk.{BackBusAsk}
@@ -18,8 +18,8 @@ use Rattle.xenbus_state.specs.declared.back.BackBusAsk.TheVariants as back
 use Rattle.blk_base.specs.declared.ask.FrontAnswer.TheVariants as front_answer
 use Rattle.xenbus_state.specs.declared.keys.FrontKey.{FrontKey}
 use Rattle.xenbus_state.specs.declared.keys.FrontKey.TheVariants as key
-use Rattle.xenbus_state.specs.declared.stage.FrontStage.{FrontStage}
-use Rattle.xenbus_state.specs.declared.stage.FrontStage.TheVariants as front_stage
+use Rattle.xenbus_state.specs.declared.stage.FrontBusStage.{FrontBusStage}
+use Rattle.xenbus_state.specs.declared.stage.FrontBusStage.TheVariants as front_stage
 use Rattle.xenbus_state.specs.Values.{front_value, back_value}
 use Rattle.xenbus_state.specs.FrontView.{FrontView, pages_of, ring_order, terms_of}
 use Rattle.xenbus_state.specs.FrontSound.{IsSound}
@@ -92,7 +92,7 @@ done_by idle port front.NewPort = Told idle (front_answer.Port port)
 done_by idle port a = Told idle front_answer.Done
 
 -- the front asks for these, one after the other, and is then at this stage
-pub record DoesInOrder (idle : Bool) (port : ℕ) (v : FrontView) (asks : List FrontBusAsk) (s : FrontStage) : Type 0 where
+pub record DoesInOrder (idle : Bool) (port : ℕ) (v : FrontView) (asks : List FrontBusAsk) (s : FrontBusStage) : Type 0 where
   pub lawful : AreFrontTurns (map (done_by idle port) asks) v
   pub asked : front_asks (map (done_by idle port) asks) v ≡ asks
   pub ends : (front_after (map (done_by idle port) asks) v).stage ≡ s
@@ -104,7 +104,7 @@ abbrev pub LeavesInOrder : Type 0
 LeavesInOrder = (v : FrontView) (port : ℕ) → DoesInOrder true port (record v { stage = front_stage.Rest; state = state.Closing; closing = true; gone = true; port = Some port }) (leave_order v) front_stage.Closed
 
 -- the back is told these answers, asks for these one after the other, and is then at this stage
-pub record AsksInOrder (v : BackView) (answers : List BackAnswer) (asks : List BackBusAsk) (s : BackStage) : Type 0 where
+pub record AsksInOrder (v : BackView) (answers : List BackAnswer) (asks : List BackBusAsk) (s : BackBusStage) : Type 0 where
   pub lawful : AreBackTurns (map (λ a. Hears a) answers) v
   pub asked : back_asks (map (λ a. Hears a) answers) v ≡ asks
   pub ends : (back_after (map (λ a. Hears a) answers) v).stage ≡ s

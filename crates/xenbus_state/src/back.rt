@@ -13,7 +13,7 @@ mod steps;
 
 use crate::keys::{BackKey, FrontKey};
 use crate::offer::{DiskFacts, Features};
-use crate::stage::BackStage;
+use crate::stage::BackBusStage;
 use crate::state::BusState;
 use crate::table::BackHalt;
 use crate::values::{FrontTerms, KeyValue, back_value};
@@ -55,7 +55,7 @@ pub enum BackBusAsk {
 pub struct BackBus {
     features: Features,
     disk: DiskFacts,
-    stage: BackStage,
+    stage: BackBusStage,
     state: BusState,
     unplugged: bool,
     terms: FrontTerms,
@@ -84,7 +84,7 @@ impl BackBus {
         BackBus {
             features,
             disk,
-            stage: BackStage::Publish(BackKey::FeatureBarrier),
+            stage: BackBusStage::Publish(BackKey::FeatureBarrier),
             state: BusState::Initialising,
             unplugged: false,
             terms: FrontTerms {
@@ -104,7 +104,7 @@ impl BackBus {
         ensures { result ≡ halted_of features disk }
     {
         let mut back = BackBus::new(features, disk);
-        back.stage = BackStage::Halted;
+        back.stage = BackBusStage::Halted;
         back.state = BusState::Closed;
         back
     }
@@ -137,19 +137,19 @@ impl BackBus {
             return BackBusAsk::SetState(BusState::Closing);
         }
         match self.stage {
-            BackStage::Publish(key) => self.set(key),
-            BackStage::WriteState(state) => BackBusAsk::SetState(state),
-            BackStage::Watch => BackBusAsk::Watch,
-            BackStage::Rest => BackBusAsk::Wait,
-            BackStage::ReadState => BackBusAsk::GetState,
-            BackStage::ReadKey(key) => BackBusAsk::GetKey(key),
-            BackStage::MapPage => BackBusAsk::Map(self.next_gref()),
-            BackStage::Bind => BackBusAsk::Bind(self.terms.port),
-            BackStage::PublishFact(key) => self.set(key),
-            BackStage::UnmapOthers => BackBusAsk::UnmapOthers,
-            BackStage::UnmapPage => self.unmap(),
-            BackStage::ClosePort => BackBusAsk::ClosePort,
-            BackStage::Halted => BackBusAsk::Wait,
+            BackBusStage::Publish(key) => self.set(key),
+            BackBusStage::WriteState(state) => BackBusAsk::SetState(state),
+            BackBusStage::Watch => BackBusAsk::Watch,
+            BackBusStage::Rest => BackBusAsk::Wait,
+            BackBusStage::ReadState => BackBusAsk::GetState,
+            BackBusStage::ReadKey(key) => BackBusAsk::GetKey(key),
+            BackBusStage::MapPage => BackBusAsk::Map(self.next_gref()),
+            BackBusStage::Bind => BackBusAsk::Bind(self.terms.port),
+            BackBusStage::PublishFact(key) => self.set(key),
+            BackBusStage::UnmapOthers => BackBusAsk::UnmapOthers,
+            BackBusStage::UnmapPage => self.unmap(),
+            BackBusStage::ClosePort => BackBusAsk::ClosePort,
+            BackBusStage::Halted => BackBusAsk::Wait,
         }
     }
 
@@ -181,7 +181,7 @@ impl BackBus {
         ensures { self.new ≡ stopped self.old }
     {
         if !self.is_halted() {
-            self.stage = BackStage::UnmapOthers;
+            self.stage = BackBusStage::UnmapOthers;
         }
     }
 }
@@ -199,11 +199,14 @@ impl BackBus {
         ensures { result ≡ is_halting self.now.stage }
     {
         match self.stage {
-            BackStage::WriteState(state) => matches!(state, BusState::Closing | BusState::Closed),
-            BackStage::UnmapOthers
-            | BackStage::UnmapPage
-            | BackStage::ClosePort
-            | BackStage::Halted => true,
+            BackBusStage::WriteState(state) => matches!(
+                state,
+                BusState::Closing | BusState::Closed
+            ),
+            BackBusStage::UnmapOthers
+            | BackBusStage::UnmapPage
+            | BackBusStage::ClosePort
+            | BackBusStage::Halted => true,
             _ => false,
         }
     }
@@ -250,7 +253,7 @@ impl BackBus {
     {
         self.unplugged
             && self.state == BusState::Connected
-            && matches!(self.stage, BackStage::Rest | BackStage::ReadState)
+            && matches!(self.stage, BackBusStage::Rest | BackBusStage::ReadState)
     }
 
     // The reference of the page that is mapped next.

@@ -10,7 +10,7 @@ mod steps;
 
 use crate::keys::{BackKey, FrontKey};
 use crate::offer::{DiskFacts, Features};
-use crate::stage::FrontStage;
+use crate::stage::FrontBusStage;
 use crate::state::BusState;
 use crate::values::{FrontTerms, KeyValue, front_value};
 use blk_base::{Abi, Config, FrontAnswer};
@@ -66,7 +66,7 @@ pub struct FrontBus {
     abi: Abi,
     order: u32,
     persistent: bool,
-    stage: FrontStage,
+    stage: FrontBusStage,
     state: BusState,
     closing: bool,
     gone: bool,
@@ -96,7 +96,7 @@ impl FrontBus {
             abi: config.abi,
             order: config.order,
             persistent: config.persistent != 0,
-            stage: FrontStage::Start,
+            stage: FrontBusStage::Start,
             state: BusState::Initialising,
             closing: false,
             gone: false,
@@ -114,20 +114,23 @@ impl FrontBus {
         ensures page { IsPage self.now result }
     {
         match self.due(idle) {
-            FrontStage::Start => FrontBusAsk::Watch,
-            FrontStage::Rest => FrontBusAsk::Wait,
-            FrontStage::ReadState => FrontBusAsk::GetState,
-            FrontStage::ReadFeature(key) => FrontBusAsk::GetKey(key),
-            FrontStage::RingWord(word) => FrontBusAsk::WriteRingWord(word),
-            FrontStage::Grant(page) => FrontBusAsk::Grant(page),
-            FrontStage::NewPort => FrontBusAsk::NewPort,
-            FrontStage::Publish(key) => FrontBusAsk::SetKey(key, front_value(&self.terms(), key)),
-            FrontStage::ReadFact(key) => FrontBusAsk::GetKey(key),
-            FrontStage::WriteState(state) => FrontBusAsk::SetState(state),
-            FrontStage::EndGrant(page) => FrontBusAsk::EndGrant(page),
-            FrontStage::EndOtherGrants => FrontBusAsk::EndOtherGrants,
-            FrontStage::ClosePort => FrontBusAsk::ClosePort,
-            FrontStage::Closed | FrontStage::Broken(_) => FrontBusAsk::Wait,
+            FrontBusStage::Start => FrontBusAsk::Watch,
+            FrontBusStage::Rest => FrontBusAsk::Wait,
+            FrontBusStage::ReadState => FrontBusAsk::GetState,
+            FrontBusStage::ReadFeature(key) => FrontBusAsk::GetKey(key),
+            FrontBusStage::RingWord(word) => FrontBusAsk::WriteRingWord(word),
+            FrontBusStage::Grant(page) => FrontBusAsk::Grant(page),
+            FrontBusStage::NewPort => FrontBusAsk::NewPort,
+            FrontBusStage::Publish(key) => FrontBusAsk::SetKey(
+                key,
+                front_value(&self.terms(), key),
+            ),
+            FrontBusStage::ReadFact(key) => FrontBusAsk::GetKey(key),
+            FrontBusStage::WriteState(state) => FrontBusAsk::SetState(state),
+            FrontBusStage::EndGrant(page) => FrontBusAsk::EndGrant(page),
+            FrontBusStage::EndOtherGrants => FrontBusAsk::EndOtherGrants,
+            FrontBusStage::ClosePort => FrontBusAsk::ClosePort,
+            FrontBusStage::Closed | FrontBusStage::Broken(_) => FrontBusAsk::Wait,
         }
     }
 
@@ -157,17 +160,17 @@ impl FrontBus {
     pub fn break_off(&mut self, word: u32)
         ensures { self.new ≡ broken word self.old }
     {
-        self.stage = FrontStage::Broken(word);
+        self.stage = FrontBusStage::Broken(word);
     }
 
     /// A new epoch begins: all is negotiated anew, unless the front is closed or broken.
     pub fn suspend(&mut self)
         ensures { self.new ≡ suspended self.old }
     {
-        if matches!(self.stage, FrontStage::Closed | FrontStage::Broken(_)) {
+        if matches!(self.stage, FrontBusStage::Closed | FrontBusStage::Broken(_)) {
             return;
         }
-        self.stage = FrontStage::Start;
+        self.stage = FrontBusStage::Start;
         self.state = BusState::Initialising;
         self.gone = false;
         self.port = None;
@@ -193,7 +196,7 @@ impl FrontBus {
     pub fn is_broken(&self) -> bool
         ensures { result ≡ is_broken self.now.stage }
     {
-        matches!(self.stage, FrontStage::Broken(_))
+        matches!(self.stage, FrontBusStage::Broken(_))
     }
 
     /// What the back offered, as last read.
@@ -246,20 +249,20 @@ impl FrontBus {
     }
 
     // What is begun, or due where nothing is.
-    fn due(&self, idle: bool) -> FrontStage
+    fn due(&self, idle: bool) -> FrontBusStage
         ensures value { result ≡ due self.now idle }
         ensures sound { IsSound (record self.now { stage = result }) }
     {
-        if self.stage != FrontStage::Rest || !self.closing || !idle {
+        if self.stage != FrontBusStage::Rest || !self.closing || !idle {
             return self.stage;
         }
         if self.state != BusState::Closing {
-            return FrontStage::WriteState(BusState::Closing);
+            return FrontBusStage::WriteState(BusState::Closing);
         }
         match (self.gone, self.port) {
-            (false, _) => FrontStage::Rest,
-            (true, Some(_)) => FrontStage::EndGrant(0),
-            (true, None) => FrontStage::EndOtherGrants,
+            (false, _) => FrontBusStage::Rest,
+            (true, Some(_)) => FrontBusStage::EndGrant(0),
+            (true, None) => FrontBusStage::EndOtherGrants,
         }
     }
 }

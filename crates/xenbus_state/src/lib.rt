@@ -32,7 +32,7 @@ pub use laws::{
 };
 pub use numbers::{read_long, read_number};
 pub use offer::{DiskFacts, Features};
-pub use stage::{BackStage, FrontStage};
+pub use stage::{BackBusStage, FrontBusStage};
 pub use state::{BusState, read_state};
 pub use table::{BackAction, BackHalt, FrontAction, back_action, front_action};
 pub use values::{FrontTerms, KeyValue, back_value, front_value};

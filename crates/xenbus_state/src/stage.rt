@@ -4,7 +4,7 @@ use crate::state::BusState;
 
 /// What the front is doing. Each has exactly one thing to ask next.
 #[derive(Clone, Copy, Debug, PartialEq, Eq)]
-pub enum FrontStage {
+pub enum FrontBusStage {
     /// Sets its watch on the back's state.
     Start,
     /// Has begun nothing: it waits, or closes.
@@ -35,7 +35,7 @@ pub enum FrontStage {
 
 /// What the back is doing. Each has exactly one thing to ask next.
 #[derive(Clone, Copy, Debug, PartialEq, Eq)]
-pub enum BackStage {
+pub enum BackBusStage {
     /// Publishes what it offers.
     Publish(BackKey),
     /// Writes its own state.

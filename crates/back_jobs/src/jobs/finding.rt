@@ -4,44 +4,44 @@ ghost use Rattle.back_jobs.specs.Order.{IsFirstFrom, IsNumberAt, number_at, is_a
 ghost use Rattle.back_jobs.specs.Sound.{AreAscending};
 ghost use Rattle.back_jobs.specs.Jobs.{place_of, next_in};
 
-use crate::task::Task;
+use crate::held_job::HeldJob;
 
 // Where the job of a number stands.
-pub(super) fn place_in(tasks: &[Task], number: u64) -> Option<usize>
-    ensures place { result ≡ place_of tasks.now number }
-    ensures within { IfSome result (λ place. place < length tasks.now) }
+pub(super) fn place_in(held: &[HeldJob], number: u64) -> Option<usize>
+    ensures place { result ≡ place_of held.now number }
+    ensures within { IfSome result (λ place. place < length held.now) }
 {
-    tasks.iter().position(|t| t.number() == number)
+    held.iter().position(|job| job.number() == number)
 }
 
 // The least number above this one.
-pub(super) fn next_in(tasks: &[Task], number: u64) -> Option<u64>
-    ensures { result ≡ next_in tasks.now number }
+pub(super) fn next_in(held: &[HeldJob], number: u64) -> Option<u64>
+    ensures { result ≡ next_in held.now number }
 {
-    match tasks.iter().find(|t| number < t.number()) {
+    match held.iter().find(|job| number < job.number()) {
         None => None,
-        Some(task) => Some(task.number()),
+        Some(job) => Some(job.number()),
     }
 }
 
 // Whether the first job has this number.
 #[inline(always)]
-pub(super) fn is_first(tasks: &[Task], number: u64) -> bool
-    ensures { IsTrue result ↔ (number_at tasks.now 0 ≡ Some number) }
+pub(super) fn is_first(held: &[HeldJob], number: u64) -> bool
+    ensures { IsTrue result ↔ (number_at held.now 0 ≡ Some number) }
 {
-    match tasks.first() {
+    match held.first() {
         None => false,
-        Some(task) => task.number() == number,
+        Some(job) => job.number() == number,
     }
 }
 
 // The number of the job at a place.
 #[inline(always)]
-pub(super) fn number_at(tasks: &[Task], place: usize) -> Option<u64>
-    ensures { result ≡ number_at tasks.now place }
+pub(super) fn number_at(held: &[HeldJob], place: usize) -> Option<u64>
+    ensures { result ≡ number_at held.now place }
 {
-    if place < tasks.len() {
-        Some(tasks[place].number())
+    if place < held.len() {
+        Some(held[place].number())
     } else {
         None
     }
@@ -49,82 +49,82 @@ pub(super) fn number_at(tasks: &[Task], place: usize) -> Option<u64>
 
 // The place of the first job whose number isn't below this one, among jobs whose numbers ascend; how
 // many there are where there is none.
-pub(super) fn first_from(tasks: &[Task], number: u64) -> usize
-    requires { AreAscending tasks.now }
-    ensures { IsFirstFrom number tasks.now result }
+pub(super) fn first_from(held: &[HeldJob], number: u64) -> usize
+    requires { AreAscending held.now }
+    ensures { IsFirstFrom number held.now result }
 {
-    match guess(tasks, number) {
+    match guess(held, number) {
         Some(place) => place,
-        None => by_halves(tasks, number),
+        None => by_halves(held, number),
     }
 }
 
 // The same, found by halves.
-pub(super) fn by_halves(tasks: &[Task], number: u64) -> usize
-    requires { AreAscending tasks.now }
-    ensures { IsFirstFrom number tasks.now result }
+pub(super) fn by_halves(held: &[HeldJob], number: u64) -> usize
+    requires { AreAscending held.now }
+    ensures { IsFirstFrom number held.now result }
 {
-    tasks.partition_point(|t| t.number() < number)
+    held.partition_point(|job| job.number() < number)
 }
 
 // The place of the first job whose number is above this one, among such jobs.
-pub(super) fn first_above(tasks: &[Task], number: u64) -> usize
-    requires { AreAscending tasks.now }
-    ensures { IsFirstFrom (number + 1) tasks.now result }
+pub(super) fn first_above(held: &[HeldJob], number: u64) -> usize
+    requires { AreAscending held.now }
+    ensures { IsFirstFrom (number + 1) held.now result }
 {
-    if is_below(tasks, number) {
+    if is_below(held, number) {
         return 0;
     }
-    if is_past(tasks, number) {
-        return tasks.len();
+    if is_past(held, number) {
+        return held.len();
     }
-    if let Some(place) = guess(tasks, number) {
+    if let Some(place) = guess(held, number) {
         return place + 1;
     }
-    tasks.partition_point(|t| t.number() <= number)
+    held.partition_point(|job| job.number() <= number)
 }
 
 // Whether a number is below that of the first job; also where there is no job.
-fn is_below(tasks: &[Task], number: u64) -> bool
-    ensures { result ≡ is_below tasks.now number }
+fn is_below(held: &[HeldJob], number: u64) -> bool
+    ensures { result ≡ is_below held.now number }
 {
-    match tasks.first() {
+    match held.first() {
         None => true,
-        Some(task) => number < task.number(),
+        Some(job) => number < job.number(),
     }
 }
 
 // Whether no job has a number above this one, among jobs whose numbers ascend; also where there is no job.
 #[inline(always)]
-fn is_past(tasks: &[Task], number: u64) -> bool
-    ensures { result ≡ is_above tasks.now (number + 1) }
+fn is_past(held: &[HeldJob], number: u64) -> bool
+    ensures { result ≡ is_above held.now (number + 1) }
 {
-    match tasks.last() {
+    match held.last() {
         None => true,
-        Some(task) => task.number() <= number,
+        Some(job) => job.number() <= number,
     }
 }
 
 // The place of the job of a number where all jobs from the first one's number to it are held, as they
 // mostly are.
 #[inline(always)]
-pub(super) fn guess(tasks: &[Task], number: u64) -> Option<usize>
-    ensures { IfSome result (λ place. IsNumberAt number tasks.now place) }
+pub(super) fn guess(held: &[HeldJob], number: u64) -> Option<usize>
+    ensures { IfSome result (λ place. IsNumberAt number held.now place) }
 {
-    let first = tasks.first()?.number();
+    let first = held.first()?.number();
     let place = number.wrapping_sub(first) as usize;
-    match number_at(tasks, place) {
+    match number_at(held, place) {
         Some(found) if found == number => Some(place),
         _ => None,
     }
 }
 
 // Whether numbers that ascended, or not, ascend with this one after them.
-pub(super) fn goes_on_ascending(ascending: bool, tasks: &[Task], number: u64) -> bool
-    ensures { result ≡ (ascending && is_above tasks.now number) }
+pub(super) fn goes_on_ascending(ascending: bool, held: &[HeldJob], number: u64) -> bool
+    ensures { result ≡ (ascending && is_above held.now number) }
 {
-    match tasks.last() {
+    match held.last() {
         None => ascending,
-        Some(task) => ascending && task.number() < number,
+        Some(job) => ascending && job.number() < number,
     }
 }

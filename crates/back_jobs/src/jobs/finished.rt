@@ -4,24 +4,24 @@ ghost use Rattle.std.specs.List.Sorted.{IsNonDecreasing};
 ghost use Rattle.back_jobs.specs.Order.{put, done_with};
 ghost use Rattle.back_jobs.specs.Sound.{AreAscending, done_place, done_numbers};
 ghost use Rattle.back_jobs.specs.Jobs.{is_done};
-ghost use Rattle.back_jobs.specs.Task.{Work};
+ghost use Rattle.back_jobs.specs.Work.{Work};
 
 use super::finding::first_from;
-use crate::task::Task;
+use crate::held_job::HeldJob;
 
 // The place of the lowest job that is done, where these are the numbers of those that are; by a walk
 // where numbers don't ascend.
-pub(super) fn lowest_done(tasks: &[Task], ascending: bool, finished: &[u64]) -> usize
-    requires in_order { ascending ≡ true → AreAscending tasks.now }
-    requires listed { ascending ≡ true → finished.now ≡ done_numbers tasks.now }
-    ensures { result ≡ done_place tasks.now }
+pub(super) fn lowest_done(held: &[HeldJob], ascending: bool, finished: &[u64]) -> usize
+    requires in_order { ascending ≡ true → AreAscending held.now }
+    requires listed { ascending ≡ true → finished.now ≡ done_numbers held.now }
+    ensures { result ≡ done_place held.now }
 {
     if !ascending {
-        return first_done(tasks);
+        return first_done(held);
     }
     match finished.first() {
-        None => tasks.len(),
-        Some(number) => first_from(tasks, *number),
+        None => held.len(),
+        Some(number) => first_from(held, *number),
     }
 }
 
@@ -50,20 +50,20 @@ pub(super) fn drop_first(numbers: &mut Vec<u64>)
 }
 
 // The place of the lowest job that is done; how many there are where none is.
-pub(super) fn first_done(tasks: &[Task]) -> usize
-    ensures { result ≡ done_place tasks.now }
+pub(super) fn first_done(held: &[HeldJob]) -> usize
+    ensures { result ≡ done_place held.now }
 {
-    match done_in(tasks) {
-        None => tasks.len(),
+    match done_in(held) {
+        None => held.len(),
         Some(place) => place,
     }
 }
 
 // Where the lowest job that is done stands.
-fn done_in(tasks: &[Task]) -> Option<usize>
-    ensures { result ≡ position (λ (t : Work). is_done t) tasks.now }
+fn done_in(held: &[HeldJob]) -> Option<usize>
+    ensures { result ≡ position (λ (t : Work). is_done t) held.now }
 {
-    tasks.iter().position(|t| t.is_done())
+    held.iter().position(|job| job.is_done())
 }
 
 // The place of the lowest job that is done after one more was begun, which is done at once or not.

@@ -2,19 +2,19 @@
 ghost use Rattle.std.specs.Prelude.{◌≡◌, ◌≤◌, ◌+◌, IfOk, cond, length, vec_capacity};
 ghost use Rattle.back_jobs.specs.Segments.{is_paged, vecs_for};
 
+use crate::held_job::HeldJob;
 use crate::segments::SegmentVec;
-use crate::task::Task;
 use arrayvec::ArrayVec;
 use blk_base::OutOfMemory;
 use std::alloc::Global;
 
 // The vector of a job that is over is spare again.
-pub(super) fn give_back(spare: &mut Vec<SegmentVec>, task: Task)
-    requires { length spare.old.items + cond (is_paged task) 1 0 ≤ vec_capacity spare.old }
-    ensures spare { length spare.new.items ≡ length spare.old.items + cond (is_paged task) 1 0 }
+pub(super) fn give_back(spare: &mut Vec<SegmentVec>, job: HeldJob)
+    requires { length spare.old.items + cond (is_paged job) 1 0 ≤ vec_capacity spare.old }
+    ensures spare { length spare.new.items ≡ length spare.old.items + cond (is_paged job) 1 0 }
     ensures capacity { vec_capacity spare.new ≡ vec_capacity spare.old }
 {
-    if let Some(segments) = task.into_vec() {
+    if let Some(segments) = job.into_vec() {
         spare.push_reserved(segments);
     }
 }

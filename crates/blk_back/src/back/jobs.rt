@@ -3,12 +3,12 @@ ghost use Rattle.std.specs.Prelude.{◌≡◌, ◌<◌, ◌≤◌, None, Some, I
 ghost use Rattle.blk_back.specs.Ask.{is_waiting, is_idle};
 ghost use Rattle.blk_back.specs.Step.{job_step, told_effect, job_ask_of, next_job_of};
 ghost use Rattle.blk_back.specs.Hands.{hands_of};
-ghost use Rattle.back_jobs.specs.Task.{IsAnswer};
+ghost use Rattle.back_jobs.specs.Work.{IsAnswer};
 ghost use Rattle.back_jobs.specs.Sound.{StaysInPageAndDisk};
 ghost use Rattle.back_jobs.specs.Hands.{Names, HandsAfter};
 
 use super::Back;
-use crate::stage::Stage;
+use crate::stage::BackStage;
 use crate::told::{BackTold, Halt};
 use back_jobs::Effect;
 use blk_base::{BackAnswer, BackAsk};
@@ -65,17 +65,17 @@ impl Back {
     pub fn waits(&self) -> bool
         ensures { result ≡ is_waiting self.now }
     {
-        if let Stage::Loop = self.stage {
+        if let BackStage::Loop = self.stage {
             return self.ring.asleep && self.next_reply().is_none();
         }
-        matches!(self.stage, Stage::InitWait | Stage::Halted)
+        matches!(self.stage, BackStage::InitWait | BackStage::Halted)
     }
 
     /// Whether it asks for nothing but an event, waits for no terms, and no job is held.
     pub fn idle(&self) -> bool
         ensures { result ≡ is_idle self.now }
     {
-        !matches!(self.stage, Stage::InitWait) && self.waits() && self.jobs.count() == 0
+        !matches!(self.stage, BackStage::InitWait) && self.waits() && self.jobs.count() == 0
     }
 
     /// What happened in the last move, once; `None` exactly where nothing is left to tell.
@@ -92,7 +92,7 @@ impl Back {
 
     /// What it is doing.
     #[inline(always)]
-    pub fn stage(&self) -> Stage
+    pub fn stage(&self) -> BackStage
         ensures { result ≡ self.now.stage }
     {
         self.stage

@@ -3,12 +3,12 @@ ghost use Rattle.std.specs.Prelude.{◌≡◌, ◌+◌, ◌^◌, ◌<◌, [], �
 ghost use Rattle.ring_words.specs.Shape.{entry_words_of};
 ghost use Rattle.blk_base.specs.declared.parts.Mode.TheVariants.{ReadWrite};
 ghost use Rattle.blk_base.specs.declared.ask.BackAnswer.TheVariants.{Word, Done, Mapped, MapRefused, BindRefused};
-ghost use Rattle.blk_back.specs.declared.stage.Stage.TheVariants as stage;
+ghost use Rattle.blk_back.specs.declared.stage.BackStage.TheVariants as stage;
 ghost use Rattle.blk_back.specs.Ask.{loop_ask, next_reply, IsAnswer};
 ghost use Rattle.blk_back.specs.Step.{step_at, attaches, loop_step, loop_word, looked, halts, halts_at, overrun, abort, unbound, bound, other_pages, fetched, fetch_step, replied};
 
 use super::Back;
-use crate::stage::{Reply, Stage};
+use crate::stage::{BackStage, Reply};
 use crate::told::{BackTold, Halt};
 use arrayvec::ArrayVec;
 use blk_base::{Abi, BackAnswer, Mapping};
@@ -24,9 +24,9 @@ impl Back {
     {
         self.pages.push(mapping);
         self.stage = if self.pages.len() < self.grefs.len() {
-            Stage::MapRing
+            BackStage::MapRing
         } else {
-            Stage::Bind
+            BackStage::Bind
         };
     }
 
@@ -54,9 +54,9 @@ impl Back {
     {
         let _ = self.pages.remove(0);
         self.stage = if self.pages.is_empty() {
-            Stage::ClosePort
+            BackStage::ClosePort
         } else {
-            Stage::UnmapRing
+            BackStage::UnmapRing
         };
     }
 
@@ -76,7 +76,7 @@ impl Back {
     pub fn attach(&mut self, abi: Abi, order: u32, grefs: &[u32], port: u32)
         ensures { self.new ≡ attaches (record { abi = abi; order = order }) grefs.now port self.old }
     {
-        if !matches!(self.stage, Stage::InitWait) || order > 4 || grefs.len() != 1 << order {
+        if !matches!(self.stage, BackStage::InitWait) || order > 4 || grefs.len() != 1 << order {
             return;
         }
         self.abi = abi;
@@ -85,7 +85,7 @@ impl Back {
         let _ = self.grefs.try_extend_from_slice(grefs);
         self.ring.port = port;
         self.ring.indices = BackRing::attach(RingShape::of(abi, order), self.ring.indices.prod());
-        self.stage = Stage::MapRing;
+        self.stage = BackStage::MapRing;
     }
 
     /// Begins the next step of the loop.
@@ -111,7 +111,7 @@ impl Back {
         ensures { self.new ≡ loop_step self.old (Some r) Done }
     {
         let _ = self.jobs.take_done();
-        self.stage = Stage::ReplyHigh(r);
+        self.stage = BackStage::ReplyHigh(r);
     }
 
     // A word was read: of the requests' producer, or of an entry.
@@ -124,7 +124,7 @@ impl Back {
         } else {
             self.ring.entry = ArrayVec::new();
             self.ring.entry.push(word);
-            self.stage = Stage::Fetch(1);
+            self.stage = BackStage::Fetch(1);
         }
     }
 
@@ -138,9 +138,9 @@ impl Back {
         } else {
             self.ring.seen = prod;
             self.stage = if prod == self.ring.indices.cons() {
-                Stage::StoreEvent
+                BackStage::StoreEvent
             } else {
-                Stage::Loop
+                BackStage::Loop
             };
         }
     }
@@ -155,7 +155,7 @@ impl Back {
             self.overrun(prod);
         } else {
             self.ring.seen = prod;
-            self.stage = Stage::Loop;
+            self.stage = BackStage::Loop;
             if prod == self.ring.indices.cons() {
                 self.ring.asleep = true;
             }
@@ -173,11 +173,11 @@ impl Back {
             return;
         }
         match self.stage {
-            Stage::InitWait | Stage::MapRing => {
+            BackStage::InitWait | BackStage::MapRing => {
                 self.halted = Some(why);
                 self.stage = unbound(self.pages.as_slice());
             }
-            Stage::Loop => {
+            BackStage::Loop => {
                 self.halted = Some(why);
                 self.abort();
             }
@@ -206,8 +206,8 @@ impl Back {
         ensures { self.new ≡ abort self.old }
     {
         self.stage = match self.jobs.abort() {
-            None => Stage::UnmapRing,
-            Some(mapping) => Stage::Abort(mapping),
+            None => BackStage::UnmapRing,
+            Some(mapping) => BackStage::Abort(mapping),
         };
     }
 
@@ -221,7 +221,7 @@ impl Back {
             self.fetched(k, word);
         } else {
             self.ring.entry.push(word);
-            self.stage = Stage::Fetch(k + 1);
+            self.stage = BackStage::Fetch(k + 1);
         }
     }
 
@@ -237,7 +237,7 @@ impl Back {
         self.fetched = self.fetched.wrapping_add(1);
         self.ring.indices.consume();
         self.jobs.start(self.fetched, &request);
-        self.stage = Stage::Loop;
+        self.stage = BackStage::Loop;
     }
 
     #[inline(never)]
@@ -251,7 +251,7 @@ impl Back {
             id: r.id,
             status: r.status,
         });
-        self.stage = Stage::ProducerFence(old);
+        self.stage = BackStage::ProducerFence(old);
     }
 
     pub(super) fn notify(&mut self, old: u32, event: u32)
@@ -259,20 +259,20 @@ impl Back {
         ensures { self.new ≡ step_at (stage.ResponseEvent old) self.old (Word event) }
     {
         self.stage = if notify(old, self.ring.indices.prod(), event) {
-            Stage::Send
+            BackStage::Send
         } else {
-            Stage::Loop
+            BackStage::Loop
         };
     }
 }
 
 // A back whose port isn't bound unmaps the pages that it has mapped.
-fn unbound(pages: &[Mapping]) -> Stage
+fn unbound(pages: &[Mapping]) -> BackStage
     ensures { result ≡ unbound pages.now }
 {
     if pages.is_empty() {
-        Stage::Halted
+        BackStage::Halted
     } else {
-        Stage::UnmapUnbound
+        BackStage::UnmapUnbound
     }
 }

@@ -1,12 +1,12 @@
 // What the front's negotiation has it enter.
 ghost use Rattle.std.specs.Prelude.{◌≡◌, ◌≤◌, ◌&&◌, nat_le, length};
 ghost use Rattle.ring_words.specs.Shape.{entries_of};
-ghost use Rattle.blk_front.specs.declared.stage.Stage.TheVariants as stage;
+ghost use Rattle.blk_front.specs.declared.stage.FrontStage.TheVariants as stage;
 ghost use Rattle.blk_front.specs.declared.state.FrontState.TheVariants as state;
 ghost use Rattle.blk_front.specs.State.{may_enter, in_state, enters};
 
 use super::Front;
-use crate::stage::Stage;
+use crate::stage::FrontStage;
 use crate::state::FrontState;
 use ring_words::{FrontRing, RingShape};
 
@@ -26,12 +26,12 @@ impl Front {
                 FrontState::Agreed(order) => self.agree(order),
                 FrontState::Connected(offers) => {
                     self.offers = offers;
-                    self.stage = Stage::Loop;
+                    self.stage = FrontStage::Loop;
                 }
                 FrontState::Closing => self.closing = true,
-                FrontState::Leaving => self.stage = Stage::RingRead(0),
-                FrontState::Closed => self.stage = Stage::Closed,
-                FrontState::Broken(word) => self.stage = Stage::Broken(word),
+                FrontState::Leaving => self.stage = FrontStage::RingRead(0),
+                FrontState::Closed => self.stage = FrontStage::Closed,
+                FrontState::Broken(word) => self.stage = FrontStage::Broken(word),
             }
         }
         may
@@ -62,18 +62,20 @@ impl Front {
     fn may_enter(&self, state: FrontState) -> bool
         ensures { result ≡ may_enter state self.now }
     {
-        let open = !matches!(self.stage, Stage::Closed | Stage::Broken(_));
+        let open = !matches!(self.stage, FrontStage::Closed | FrontStage::Broken(_));
         match state {
             FrontState::Agreed(order) => {
-                matches!(self.stage, Stage::RingWord(0)) && self.may_have(order)
+                matches!(self.stage, FrontStage::RingWord(0)) && self.may_have(order)
             }
-            FrontState::Connected(_) => matches!(self.stage, Stage::Initialised),
+            FrontState::Connected(_) => matches!(self.stage, FrontStage::Initialised),
             FrontState::Closing => !self.closing && open,
             FrontState::Leaving => {
-                self.is_through() && matches!(self.stage, Stage::Initialised | Stage::Loop)
+                self.is_through()
+                    && matches!(self.stage, FrontStage::Initialised | FrontStage::Loop)
             }
             FrontState::Closed => {
-                self.is_through() && matches!(self.stage, Stage::RingWord(_) | Stage::Left)
+                self.is_through()
+                    && matches!(self.stage, FrontStage::RingWord(_) | FrontStage::Left)
             }
             FrontState::Broken(_) => open,
         }

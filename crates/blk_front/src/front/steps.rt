@@ -1,7 +1,7 @@
 // What the front makes of each answer.
 ghost use Rattle.std.specs.Prelude.{◌≡◌, ◌<◌, ◌≤◌, ◌+◌, ◌-◌, ◌*◌, ◌/◌, ◌^◌, length, position, slice_get, IfSome, Some, ◌==◌, true};
 ghost use Rattle.blk_base.specs.declared.ask.FrontAnswer.TheVariants.{Word, Done};
-ghost use Rattle.blk_front.specs.declared.stage.Stage.TheVariants as stage;
+ghost use Rattle.blk_front.specs.declared.stage.FrontStage.TheVariants as stage;
 ghost use Rattle.blk_front.specs.View.{next_request};
 ghost use Rattle.blk_front.specs.Ask.{loop_ask, IsAnswer};
 ghost use Rattle.blk_front.specs.Sound.{AreAscending};
@@ -18,10 +18,10 @@ ghost use Rattle.blk_front.specs.declared.request.Request.{Request};
 use super::Front;
 use crate::frames::SpareLists;
 use crate::request::{Request, SECTOR_WORDS, Transfer, frames_for, is_indirect};
-use crate::stage::{Ending, Stage};
+use crate::stage::{Ending, FrontStage};
 use crate::told::Told;
 use blk_base::{FrontAnswer, Status};
-use blk_layout::{DirectOp, IndirectOp, Request as Wire, read_response, request_words};
+use blk_layout::{DirectOp, IndirectOp, WrittenRequest, read_response, request_words};
 use ring_words::notify;
 
 impl Front {
@@ -31,9 +31,9 @@ impl Front {
         ensures { self.new ≡ step_at (stage.RingWord word) self.old Done }
     {
         self.stage = if word == 15 {
-            Stage::RingFrame(0)
+            FrontStage::RingFrame(0)
         } else {
-            Stage::RingWord(word + 1)
+            FrontStage::RingWord(word + 1)
         };
     }
 
@@ -46,9 +46,9 @@ impl Front {
     {
         let pages = self.pages();
         self.stage = if page + 1 < pages {
-            Stage::RingFrame(page + 1)
+            FrontStage::RingFrame(page + 1)
         } else {
-            Stage::NewPort
+            FrontStage::NewPort
         };
     }
 
@@ -75,12 +75,12 @@ impl Front {
             return;
         };
         match r.transfer {
-            Transfer::Write(_) | Transfer::Barrier(_) => self.stage = Stage::Data(1),
-            Transfer::Read if is_indirect(r.count) => self.stage = Stage::Pages(1),
-            Transfer::Read => self.stage = Stage::GrantFence(0),
+            Transfer::Write(_) | Transfer::Barrier(_) => self.stage = FrontStage::Data(1),
+            Transfer::Read if is_indirect(r.count) => self.stage = FrontStage::Pages(1),
+            Transfer::Read => self.stage = FrontStage::GrantFence(0),
             Transfer::Flush | Transfer::Discard(_) => {
                 self.ring.entry = request_words(self.abi, &wire(r));
-                self.stage = Stage::Slot(1);
+                self.stage = FrontStage::Slot(1);
             }
         }
     }
@@ -93,7 +93,7 @@ impl Front {
         if self.ring.indices.unconsumed(self.ring.seen) == 0 {
             self.look(word);
         } else {
-            self.stage = Stage::ResponseHigh(word);
+            self.stage = FrontStage::ResponseHigh(word);
         }
     }
 
@@ -109,9 +109,9 @@ impl Front {
         } else {
             self.ring.seen = prod;
             self.stage = if prod == self.ring.indices.cons() {
-                Stage::StoreEvent
+                FrontStage::StoreEvent
             } else {
-                Stage::Loop
+                FrontStage::Loop
             };
         }
     }
@@ -128,7 +128,7 @@ impl Front {
             self.break_with(prod);
         } else {
             self.ring.seen = prod;
-            self.stage = Stage::Loop;
+            self.stage = FrontStage::Loop;
             if prod == self.ring.indices.cons() {
                 self.ring.asleep = true;
             }
@@ -145,7 +145,7 @@ impl Front {
         if word / 8 % 4 != 0 {
             self.break_with(word);
         } else {
-            self.stage = Stage::RingEnd(page, word);
+            self.stage = FrontStage::RingEnd(page, word);
         }
     }
 
@@ -160,9 +160,9 @@ impl Front {
         if word != seen {
             self.break_with(word);
         } else if page + 1 < pages {
-            self.stage = Stage::RingRead(page + 1);
+            self.stage = FrontStage::RingRead(page + 1);
         } else {
-            self.stage = Stage::ClosePort;
+            self.stage = FrontStage::ClosePort;
         }
     }
 
@@ -170,7 +170,7 @@ impl Front {
     fn break_with(&mut self, word: u32)
         ensures { self.new ≡ broken word self.old }
     {
-        self.stage = Stage::Broken(word);
+        self.stage = FrontStage::Broken(word);
         self.told = Some(Told::Broken(word));
     }
 
@@ -184,11 +184,11 @@ impl Front {
             return;
         };
         self.stage = if n + 1 < SECTOR_WORDS * r.count {
-            Stage::Data(n + 1)
+            FrontStage::Data(n + 1)
         } else if is_indirect(r.count) {
-            Stage::Pages(0)
+            FrontStage::Pages(0)
         } else {
-            Stage::GrantFrame(0)
+            FrontStage::GrantFrame(0)
         };
     }
 
@@ -202,9 +202,9 @@ impl Front {
             return;
         };
         self.stage = if n + 1 < r.naming_words() {
-            Stage::Pages(n + 1)
+            FrontStage::Pages(n + 1)
         } else {
-            Stage::GrantFrame(0)
+            FrontStage::GrantFrame(0)
         };
     }
 
@@ -218,10 +218,10 @@ impl Front {
             return;
         };
         if place + 1 < r.frames.len() as u32 {
-            self.stage = Stage::GrantFrame(place + 1);
+            self.stage = FrontStage::GrantFrame(place + 1);
         } else {
             self.ring.entry = request_words(self.abi, &wire(r));
-            self.stage = Stage::Slot(0);
+            self.stage = FrontStage::Slot(0);
         }
     }
 
@@ -231,9 +231,9 @@ impl Front {
         ensures { self.new ≡ step_at (stage.Slot word) self.old Done }
     {
         self.stage = if word + 1 == self.shape().entry_words() {
-            Stage::Producer
+            FrontStage::Producer
         } else {
-            Stage::Slot(word + 1)
+            FrontStage::Slot(word + 1)
         };
     }
 
@@ -244,7 +244,7 @@ impl Front {
         let old = self.ring.indices.prod();
         self.ring.indices.produce();
         self.waiting -= 1;
-        self.stage = Stage::ProducerFence(old);
+        self.stage = FrontStage::ProducerFence(old);
     }
 
     pub(super) fn notify(&mut self, old: u32, event: u32)
@@ -252,9 +252,9 @@ impl Front {
         ensures { self.new ≡ step_at (stage.RequestEvent old) self.old (Word event) }
     {
         self.stage = if notify(old, self.ring.indices.prod(), event) {
-            Stage::Send
+            FrontStage::Send
         } else {
-            Stage::Loop
+            FrontStage::Loop
         };
     }
 
@@ -294,12 +294,12 @@ impl Front {
         if request.frames.is_empty() {
             let id = request.number;
             self.spare.give(request.frames);
-            self.stage = Stage::Loop;
+            self.stage = FrontStage::Loop;
             self.told = Some(Told::Answer { id, status });
         } else {
             let ending = Ending { request, status };
             replace(&mut self.spare, &mut self.ending, ending);
-            self.stage = Stage::GrantRead(0);
+            self.stage = FrontStage::GrantRead(0);
         }
     }
 
@@ -313,7 +313,7 @@ impl Front {
         if word / 8 % 4 != 0 {
             self.break_with(word);
         } else {
-            self.stage = Stage::GrantEnd(place, word);
+            self.stage = FrontStage::GrantEnd(place, word);
         }
     }
 
@@ -332,7 +332,7 @@ impl Front {
             return;
         };
         if place + 1 < ending.request.frames.len() as u32 {
-            self.stage = Stage::GrantRead(place + 1);
+            self.stage = FrontStage::GrantRead(place + 1);
         } else {
             self.answer();
         }
@@ -351,7 +351,7 @@ impl Front {
             status: ending.status,
         });
         match (ending.request.transfer, ending.status) {
-            (Transfer::Read, Status::Okay) => self.stage = Stage::ReadData(0),
+            (Transfer::Read, Status::Okay) => self.stage = FrontStage::ReadData(0),
             _ => self.finish(),
         }
     }
@@ -364,7 +364,7 @@ impl Front {
         if let Some(ending) = self.ending.take() {
             self.pool.free_all(ending.request.frames.as_slice());
             self.spare.give(ending.request.frames);
-            self.stage = Stage::Loop;
+            self.stage = FrontStage::Loop;
         }
     }
 
@@ -382,7 +382,7 @@ impl Front {
         let place = n % SECTOR_WORDS;
         if place != SECTOR_WORDS - 1 && n + 1 < SECTOR_WORDS * ending.request.count {
             self.words[place as usize] = word;
-            self.stage = Stage::ReadData(n + 1);
+            self.stage = FrontStage::ReadData(n + 1);
         } else {
             self.read_last(n, word);
         }
@@ -404,7 +404,7 @@ impl Front {
             self.told = Some(sector(id, n, self.words));
         }
         if n + 1 < all {
-            self.stage = Stage::ReadData(n + 1);
+            self.stage = FrontStage::ReadData(n + 1);
         } else {
             self.finish();
         }
@@ -426,10 +426,10 @@ impl Front {
             self.told = Some(sector(id, n, self.words));
         }
         if n + 1 < all {
-            self.stage = Stage::LeftData(n + 1);
+            self.stage = FrontStage::LeftData(n + 1);
         } else {
             self.finish();
-            self.stage = Stage::RingWord(0);
+            self.stage = FrontStage::RingWord(0);
         }
     }
 }
@@ -465,7 +465,7 @@ fn id_of(low: u32, high: u32) -> u64
 }
 
 // The request as its entry has it.
-pub(super) fn wire(r: &Request) -> Wire
+pub(super) fn wire(r: &Request) -> WrittenRequest
     requires { IsShaped r.now }
     ensures { raw_of result ≡ entry_request r.now }
 {
@@ -479,7 +479,7 @@ pub(super) fn wire(r: &Request) -> Wire
         Transfer::Flush => DirectOp::Flush,
         Transfer::Discard(sectors) => return discard(r, sectors),
     };
-    Wire::Direct {
+    WrittenRequest::Direct {
         op,
         count: frames_for(r.count) as u8,
         device: 51712,
@@ -490,7 +490,7 @@ pub(super) fn wire(r: &Request) -> Wire
 }
 
 // A read or a write as its entry has it where its segments lie in indirect pages.
-fn indirect(r: &Request) -> Wire
+fn indirect(r: &Request) -> WrittenRequest
     requires shaped { IsShaped r.now }
     requires indirect { is_indirect r.now.count ≡ true }
     ensures { raw_of result ≡ entry_request r.now }
@@ -499,7 +499,7 @@ fn indirect(r: &Request) -> Wire
         Transfer::Write(_) => IndirectOp::Write,
         _ => IndirectOp::Read,
     };
-    Wire::Indirect {
+    WrittenRequest::Indirect {
         op,
         count: frames_for(r.count) as u16,
         device: 51712,
@@ -510,10 +510,10 @@ fn indirect(r: &Request) -> Wire
 }
 
 // A discard as its entry has it, which isn't secure.
-fn discard(r: &Request, sectors: u32) -> Wire
+fn discard(r: &Request, sectors: u32) -> WrittenRequest
     ensures { raw_of result ≡ Discard 0 51712 r.now.number r.now.sector sectors }
 {
-    Wire::Discard {
+    WrittenRequest::Discard {
         flag: 0,
         device: 51712,
         id: u64::from(r.number),

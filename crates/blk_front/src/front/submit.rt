@@ -14,7 +14,7 @@ use crate::pool::Pool;
 use crate::request::{
     MAX_INDIRECT_SEGMENTS, MAX_SEGMENTS, Request, Transfer, Wish, frames_for, pages_for,
 };
-use crate::stage::Stage;
+use crate::stage::FrontStage;
 use crate::state::Offers;
 use crate::told::{Refusal, Told};
 use blk_base::{Endpoint, FrontAsk, Job};
@@ -102,7 +102,7 @@ impl Front {
 
     /// What it is doing.
     #[inline(always)]
-    pub fn stage(&self) -> Stage
+    pub fn stage(&self) -> FrontStage
         ensures { result ≡ self.now.stage }
     {
         self.stage
@@ -114,12 +114,12 @@ impl Front {
     {
         !matches!(
             self.stage,
-            Stage::RingWord(_)
-                | Stage::RingFrame(_)
-                | Stage::RingFence(_)
-                | Stage::RingFlags(_)
-                | Stage::NewPort
-                | Stage::LeftData(_)
+            FrontStage::RingWord(_)
+                | FrontStage::RingFrame(_)
+                | FrontStage::RingFence(_)
+                | FrontStage::RingFlags(_)
+                | FrontStage::NewPort
+                | FrontStage::LeftData(_)
         )
     }
 
@@ -130,7 +130,7 @@ impl Front {
     {
         // Opens the front, for what is true of it at every moment.
         let _ = &self.ending;
-        matches!(self.stage, Stage::LeftData(_))
+        matches!(self.stage, FrontStage::LeftData(_))
     }
 
     /// Whether it is connected, closed or broken, and asks for nothing but an event.
@@ -139,10 +139,10 @@ impl Front {
         ensures { result ≡ is_idle self.now }
     {
         // Most moves are of a sector's words, and no such move waits.
-        if let Stage::Data(_) = self.stage {
+        if let FrontStage::Data(_) = self.stage {
             return self.waiting == 0;
         }
-        if let Stage::ReadData(_) = self.stage {
+        if let FrontStage::ReadData(_) = self.stage {
             return self.ending.is_none();
         }
         self.waits()
@@ -153,7 +153,7 @@ impl Front {
     fn waits(&self) -> bool
         ensures { result ≡ is_idle self.now }
     {
-        !matches!(self.stage, Stage::Initialised | Stage::Left)
+        !matches!(self.stage, FrontStage::Initialised | FrontStage::Left)
             && matches!(self.ask(), FrontAsk::Wait)
     }
 
@@ -201,13 +201,13 @@ impl Front {
 }
 
 // A request whose grants are being ended, or whose data are told, is unfinished still.
-fn ending_of(stage: Stage) -> u32
+fn ending_of(stage: FrontStage) -> u32
     ensures value { result ≡ ending_of stage }
     ensures few { result ≤ 1 }
 {
     match stage {
-        Stage::GrantRead(_) | Stage::GrantEnd(_, _) => 1,
-        Stage::ReadData(_) | Stage::LeftData(_) => 1,
+        FrontStage::GrantRead(_) | FrontStage::GrantEnd(_, _) => 1,
+        FrontStage::ReadData(_) | FrontStage::LeftData(_) => 1,
         _ => 0,
     }
 }
@@ -227,23 +227,23 @@ fn sectors_of(requests: &[Request]) -> u64
 }
 
 // Whether a front at this stage is connected and not broken.
-fn is_ready(stage: Stage) -> bool
+fn is_ready(stage: FrontStage) -> bool
     ensures { result ≡ is_ready stage }
 {
     match stage {
-        Stage::RingWord(_)
-        | Stage::RingFrame(_)
-        | Stage::RingFence(_)
-        | Stage::RingFlags(_)
-        | Stage::NewPort
-        | Stage::Initialised
-        | Stage::LeftData(_) => false,
-        Stage::RingRead(_)
-        | Stage::RingEnd(_, _)
-        | Stage::ClosePort
-        | Stage::Left
-        | Stage::Closed
-        | Stage::Broken(_) => false,
+        FrontStage::RingWord(_)
+        | FrontStage::RingFrame(_)
+        | FrontStage::RingFence(_)
+        | FrontStage::RingFlags(_)
+        | FrontStage::NewPort
+        | FrontStage::Initialised
+        | FrontStage::LeftData(_) => false,
+        FrontStage::RingRead(_)
+        | FrontStage::RingEnd(_, _)
+        | FrontStage::ClosePort
+        | FrontStage::Left
+        | FrontStage::Closed
+        | FrontStage::Broken(_) => false,
         _ => true,
     }
 }

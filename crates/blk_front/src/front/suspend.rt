@@ -6,7 +6,7 @@ ghost use Rattle.blk_front.specs.Suspend.{with_ending, requests_after, ending_af
 
 use super::Front;
 use crate::request::Request;
-use crate::stage::{Ending, Stage};
+use crate::stage::{Ending, FrontStage};
 use crate::state::Offers;
 use resume_shadow::Shadow;
 use ring_words::{FrontRing, RingShape};
@@ -20,7 +20,7 @@ impl Front {
     pub fn suspend(&mut self)
         ensures { self.new ≡ suspended self.old }
     {
-        if matches!(self.stage, Stage::Closed | Stage::Broken(_)) {
+        if matches!(self.stage, FrontStage::Closed | FrontStage::Broken(_)) {
             return;
         }
         put_back(self.stage, &mut self.requests, &mut self.ending);
@@ -34,24 +34,24 @@ impl Front {
 }
 
 // Where the front goes on.
-fn stage_after(stage: Stage) -> Stage
+fn stage_after(stage: FrontStage) -> FrontStage
     ensures { result ≡ stage_after stage }
 {
     match stage {
-        Stage::ReadData(n) | Stage::LeftData(n) => Stage::LeftData(n),
-        _ => Stage::RingWord(0),
+        FrontStage::ReadData(n) | FrontStage::LeftData(n) => FrontStage::LeftData(n),
+        _ => FrontStage::RingWord(0),
     }
 }
 
 // A request whose grants were being ended is one of the others again.
-fn put_back(stage: Stage, requests: &mut Shadow<Request>, ending: &mut Option<Ending>)
+fn put_back(stage: FrontStage, requests: &mut Shadow<Request>, ending: &mut Option<Ending>)
     requires room { length requests.old.held + ending_of stage ≤ requests.old.room }
     requires apart { IfSome ending.old (IsOther requests.old.held) }
     ensures requests { requests.new.held ≡ requests_after stage ending.old requests.old.held }
     ensures ending { ending.new ≡ ending_after stage ending.old }
     ensures room { requests.new.room ≡ requests.old.room }
 {
-    if let Stage::GrantRead(_) | Stage::GrantEnd(..) = stage {
+    if let FrontStage::GrantRead(_) | FrontStage::GrantEnd(..) = stage {
         put_ending_back(requests, ending);
     }
 }

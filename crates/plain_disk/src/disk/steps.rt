@@ -7,7 +7,7 @@ ghost use Rattle.plain_disk.specs.Stands.{Steps};
 
 use super::{PlainDisk, Stand};
 use crate::looking;
-use crate::request::{Noted, Place, Request, Stage, Written};
+use crate::request::{DiskRequest, Noted, Place, RequestStage, Written};
 use blk_base::{Job, OutOfMemory, SectorWords, Status};
 
 impl PlainDisk {
@@ -17,17 +17,17 @@ impl PlainDisk {
         if id == 0 || id - 1 != self.requests.len() as u64 {
             return Ok(Stand::Falls);
         }
-        self.requests.push(Request {
+        self.requests.push(DiskRequest {
             job,
             faulted: false,
             reply: None,
-            stage: Stage::Open,
+            stage: RequestStage::Open,
         })?;
         Ok(Stand::Stands)
     }
 
     // Whether the requests before this one that a barrier orders with it are settled.
-    fn is_in_order(&self, id: u64, r: &Request) -> bool
+    fn is_in_order(&self, id: u64, r: &DiskRequest) -> bool
         requires { id - 1 ≤ length self.now.requests }
         ensures { result ≡ is_in_order self.now id r.now }
     {
@@ -167,7 +167,7 @@ impl PlainDisk {
     }
 
     // Whether a reply may say this.
-    fn may_reply(&self, id: u64, r: &Request, status: Status) -> bool
+    fn may_reply(&self, id: u64, r: &DiskRequest, status: Status) -> bool
         ensures { result ≡ may_reply self.now id r.now status }
     {
         match status {
@@ -254,7 +254,7 @@ fn all_sectors(job: &Job, words: Option<SectorWords>) -> Written
 }
 
 // Forgets what this epoch's faults and replies were.
-fn reopen(requests: &mut [Request])
+fn reopen(requests: &mut [DiskRequest])
     ensures { requests.new ≡ map reopened requests.old }
 {
     for i in 0..requests.len() {

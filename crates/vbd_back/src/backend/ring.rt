@@ -1,7 +1,7 @@
 // What the backend passes on to its end of the ring, and whether it waits.
 ghost use Rattle.std.specs.Prelude.{◌≡◌, ◌<◌, ◌≤◌, None, IfSome, length};
 ghost use Rattle.blk_back.specs.Hands.{hands_of};
-ghost use Rattle.back_jobs.specs.Task.{IsAnswer};
+ghost use Rattle.back_jobs.specs.Work.{IsAnswer};
 ghost use Rattle.back_jobs.specs.Sound.{StaysInPageAndDisk};
 ghost use Rattle.back_jobs.specs.Hands.{Names, HandsAfter};
 ghost use Rattle.vbd_back.specs.View.{heard};
@@ -10,7 +10,7 @@ ghost use Rattle.vbd_back.specs.Step.{job_ask_of, job_step, next_job_of};
 
 use super::Backend;
 use crate::turn::Turn;
-use blk_back::{BackTold, Halt, Stage};
+use blk_back::{BackStage, BackTold, Halt};
 use blk_base::{BackAnswer, BackAsk};
 
 impl Backend {
@@ -72,7 +72,7 @@ impl Backend {
     pub fn idle(&self) -> bool
         ensures { result ≡ is_idle self.now }
     {
-        self.waits() && (matches!(self.ring.stage(), Stage::InitWait) || self.ring.idle())
+        self.waits() && (matches!(self.ring.stage(), BackStage::InitWait) || self.ring.idle())
     }
 
     /// What happened at the ring in the last move, once; `None` exactly where nothing is left to tell.

@@ -3,7 +3,7 @@ ghost use Rattle.std.specs.Prelude.{◌≡◌, unwrap_or, is_some, Some, None, t
 ghost use Rattle.std.specs.Option.{option_map};
 ghost use Rattle.xenbus_state.specs.Numbers.{number_of};
 ghost use Rattle.xenbus_state.specs.declared.keys.FrontKey.TheVariants as key;
-ghost use Rattle.xenbus_state.specs.declared.stage.BackStage.TheVariants as stage;
+ghost use Rattle.xenbus_state.specs.declared.stage.BackBusStage.TheVariants as stage;
 ghost use Rattle.xenbus_state.specs.BackReading.{key_read, layout_read, with_gref, with_order};
 ghost use Rattle.xenbus_state.specs.BackSound.{IsGrefRead, IsFirst};
 
@@ -12,7 +12,7 @@ use crate::keys::FrontKey;
 use crate::numbers::read_number;
 use crate::programs::after_page;
 use crate::reading::read_count;
-use crate::stage::BackStage;
+use crate::stage::BackBusStage;
 use blk_base::{Abi, Lent, Text};
 
 /// The layout of entries that a text says; an absent one is that of 64-bit guests.
@@ -74,7 +74,7 @@ impl BackBus {
         ensures good { result ≡ true }
     {
         self.terms.order = order;
-        self.stage = BackStage::ReadKey(first);
+        self.stage = BackBusStage::ReadKey(first);
         true
     }
 
@@ -87,7 +87,7 @@ impl BackBus {
         if self.terms.order != 0 {
             return false;
         }
-        self.stage = BackStage::ReadKey(FrontKey::RingRef);
+        self.stage = BackBusStage::ReadKey(FrontKey::RingRef);
         true
     }
 
@@ -102,7 +102,7 @@ impl BackBus {
             return false;
         };
         self.grefs.push(gref);
-        self.stage = BackStage::ReadKey(next);
+        self.stage = BackBusStage::ReadKey(next);
         true
     }
 
@@ -115,7 +115,7 @@ impl BackBus {
             return false;
         };
         self.terms.port = port;
-        self.stage = BackStage::ReadKey(FrontKey::Protocol);
+        self.stage = BackBusStage::ReadKey(FrontKey::Protocol);
         true
     }
 
@@ -128,7 +128,7 @@ impl BackBus {
             return false;
         };
         self.terms.abi = abi;
-        self.stage = BackStage::ReadKey(FrontKey::FeaturePersistent);
+        self.stage = BackBusStage::ReadKey(FrontKey::FeaturePersistent);
         true
     }
 
@@ -141,7 +141,7 @@ impl BackBus {
             return false;
         };
         self.terms.persistent = number == 1;
-        self.stage = BackStage::MapPage;
+        self.stage = BackBusStage::MapPage;
         true
     }
 }

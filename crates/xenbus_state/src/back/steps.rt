@@ -1,7 +1,7 @@
 // What the back's end makes of each answer.
 ghost use Rattle.std.specs.Prelude.{◌≡◌, ◌<◌, Some};
 ghost use Rattle.blk_base.specs.declared.ask.BackAnswer.{BackAnswer};
-ghost use Rattle.xenbus_state.specs.declared.stage.BackStage.TheVariants as stage;
+ghost use Rattle.xenbus_state.specs.declared.stage.BackBusStage.TheVariants as stage;
 ghost use Rattle.xenbus_state.specs.States.{state_number};
 ghost use Rattle.xenbus_state.specs.Tables.{SuitsBack};
 ghost use Rattle.xenbus_state.specs.BackView.{halted};
@@ -12,7 +12,7 @@ ghost use Rattle.xenbus_state.specs.BackStep.{step_at, halt_at, acted, action_ha
 use super::BackBus;
 use crate::keys::{BackKey, FrontKey};
 use crate::programs::{next_fact, next_feature};
-use crate::stage::BackStage;
+use crate::stage::BackBusStage;
 use crate::state::{BusState, read_state};
 use crate::table::{BackAction, BackHalt, back_action};
 use blk_base::{BackAnswer, Lent, Mapping, Text};
@@ -26,25 +26,25 @@ impl BackBus {
         ensures halt { result ≡ halt_at self.old.stage self.old answer.now }
     {
         match (self.stage, answer) {
-            (BackStage::ReadState, BackAnswer::Key(text)) => {
+            (BackBusStage::ReadState, BackAnswer::Key(text)) => {
                 self.act(back_action(self.state, self.unplugged, read_state(text)))
             }
-            (BackStage::ReadKey(key), BackAnswer::Key(text)) => self.take_key(key, text),
-            (BackStage::MapPage, BackAnswer::MapRefused(status)) => {
+            (BackBusStage::ReadKey(key), BackAnswer::Key(text)) => self.take_key(key, text),
+            (BackBusStage::MapPage, BackAnswer::MapRefused(status)) => {
                 let gref = self.next_gref();
                 self.halt(BackHalt::MapRefused {
                     gref,
                     status: *status,
                 })
             }
-            (BackStage::Bind, BackAnswer::BindRefused) => {
+            (BackBusStage::Bind, BackAnswer::BindRefused) => {
                 self.halt(BackHalt::BadPort(self.terms.port))
             }
-            (BackStage::Rest, BackAnswer::Watched(_)) => {
-                self.stage = BackStage::ReadState;
+            (BackBusStage::Rest, BackAnswer::Watched(_)) => {
+                self.stage = BackBusStage::ReadState;
                 None
             }
-            (BackStage::MapPage, BackAnswer::Mapped(page)) => {
+            (BackBusStage::MapPage, BackAnswer::Mapped(page)) => {
                 self.mapped(*page);
                 None
             }
@@ -62,31 +62,31 @@ impl BackBus {
         ensures { self.new ≡ step_at self.old.stage self.old BackAnswer.Done }
     {
         match self.stage {
-            BackStage::Publish(key) => {
+            BackBusStage::Publish(key) => {
                 self.stage = match next_feature(key) {
-                    Some(key) => BackStage::Publish(key),
-                    None => BackStage::WriteState(BusState::InitWait),
+                    Some(key) => BackBusStage::Publish(key),
+                    None => BackBusStage::WriteState(BusState::InitWait),
                 }
             }
-            BackStage::WriteState(state) => self.wrote(state),
-            BackStage::Watch => self.stage = BackStage::Rest,
-            BackStage::Bind => {
+            BackBusStage::WriteState(state) => self.wrote(state),
+            BackBusStage::Watch => self.stage = BackBusStage::Rest,
+            BackBusStage::Bind => {
                 self.bound = true;
-                self.stage = BackStage::PublishFact(BackKey::Sectors);
+                self.stage = BackBusStage::PublishFact(BackKey::Sectors);
             }
-            BackStage::PublishFact(key) => {
+            BackBusStage::PublishFact(key) => {
                 self.stage = match next_fact(key) {
-                    Some(key) => BackStage::PublishFact(key),
-                    None => BackStage::WriteState(BusState::Connected),
+                    Some(key) => BackBusStage::PublishFact(key),
+                    None => BackBusStage::WriteState(BusState::Connected),
                 }
             }
-            BackStage::UnmapOthers => {
+            BackBusStage::UnmapOthers => {
                 self.stage = unmapping_next(self.pages.as_slice(), self.bound, self.state);
             }
-            BackStage::UnmapPage => self.unmapped(),
-            BackStage::ClosePort => {
+            BackBusStage::UnmapPage => self.unmapped(),
+            BackBusStage::ClosePort => {
                 self.bound = false;
-                self.stage = BackStage::WriteState(last_state(self.state));
+                self.stage = BackBusStage::WriteState(last_state(self.state));
             }
             _ => {}
         }
@@ -101,8 +101,8 @@ impl BackBus {
         ensures halt { result ≡ action_halt action }
     {
         match action {
-            BackAction::Nothing => self.stage = BackStage::Rest,
-            BackAction::Connect => self.stage = BackStage::ReadKey(FrontKey::RingPageOrder),
+            BackAction::Nothing => self.stage = BackBusStage::Rest,
+            BackAction::Connect => self.stage = BackBusStage::ReadKey(FrontKey::RingPageOrder),
             BackAction::Halt(reason) => return self.halt(reason),
         }
         None
@@ -128,7 +128,7 @@ impl BackBus {
         ensures halted { self.new ≡ halted self.old }
         ensures reason { result ≡ Some reason }
     {
-        self.stage = BackStage::UnmapOthers;
+        self.stage = BackBusStage::UnmapOthers;
         Some(reason)
     }
 
@@ -140,9 +140,9 @@ impl BackBus {
     {
         self.pages.push(page);
         self.stage = if self.pages.len() < self.grefs.len() {
-            BackStage::MapPage
+            BackBusStage::MapPage
         } else {
-            BackStage::Bind
+            BackBusStage::Bind
         };
     }
 
@@ -153,10 +153,10 @@ impl BackBus {
     {
         self.state = state;
         self.stage = match state {
-            BusState::InitWait => BackStage::Watch,
-            BusState::Closing => BackStage::WriteState(BusState::Closed),
-            BusState::Closed => BackStage::Halted,
-            _ => BackStage::Rest,
+            BusState::InitWait => BackBusStage::Watch,
+            BusState::Closing => BackBusStage::WriteState(BusState::Closed),
+            BusState::Closed => BackBusStage::Halted,
+            _ => BackBusStage::Rest,
         };
     }
 
@@ -181,14 +181,14 @@ fn last_state(own: BusState) -> BusState
 }
 
 // What a halted back does next that has these pages mapped.
-fn unmapping_next(pages: &[Mapping], bound: bool, own: BusState) -> BackStage
+fn unmapping_next(pages: &[Mapping], bound: bool, own: BusState) -> BackBusStage
     ensures { result ≡ unmapping_next pages.now bound own }
 {
     if !pages.is_empty() {
-        BackStage::UnmapPage
+        BackBusStage::UnmapPage
     } else if bound {
-        BackStage::ClosePort
+        BackBusStage::ClosePort
     } else {
-        BackStage::WriteState(last_state(own))
+        BackBusStage::WriteState(last_state(own))
     }
 }

@@ -1,7 +1,7 @@
 // What the front's end makes of each answer.
 ghost use Rattle.std.specs.Prelude.{◌≡◌, ◌<◌};
 ghost use Rattle.blk_base.specs.declared.ask.FrontAnswer.TheVariants as told;
-ghost use Rattle.xenbus_state.specs.declared.stage.FrontStage.TheVariants as stage;
+ghost use Rattle.xenbus_state.specs.declared.stage.FrontBusStage.TheVariants as stage;
 ghost use Rattle.xenbus_state.specs.FrontAsk.{ask_at, IsAnswer};
 ghost use Rattle.xenbus_state.specs.FrontSound.{IsSound};
 ghost use Rattle.xenbus_state.specs.FrontStep.{step_at, news_at, acted, action_news, feature_step, read_news, fact_step, written, written_news, after};
@@ -12,7 +12,7 @@ use super::{FrontBus, FrontNews};
 use crate::keys::BackKey;
 use crate::programs::{first_published, next_fact, next_feature, next_published};
 use crate::reading::{read_count, read_fact};
-use crate::stage::FrontStage;
+use crate::stage::FrontBusStage;
 use crate::state::{BusState, read_state};
 use crate::table::{FrontAction, front_action};
 use blk_base::{FrontAnswer, Lent, Text};
@@ -25,24 +25,26 @@ impl FrontBus {
         ensures news { result ≡ news_at self.old.stage self.old idle answer.now }
     {
         match (self.stage, answer) {
-            (FrontStage::Rest, FrontAnswer::Watched(_)) => {
-                self.stage = FrontStage::ReadState;
+            (FrontBusStage::Rest, FrontAnswer::Watched(_)) => {
+                self.stage = FrontBusStage::ReadState;
                 None
             }
-            (FrontStage::ReadState, FrontAnswer::Key(text)) => {
+            (FrontBusStage::ReadState, FrontAnswer::Key(text)) => {
                 self.act(front_action(self.state, self.closing, idle, read_state(text)))
             }
-            (FrontStage::ReadFeature(key), FrontAnswer::Key(text)) => self.read_feature(key, text),
-            (FrontStage::NewPort, FrontAnswer::Port(port)) => {
+            (FrontBusStage::ReadFeature(key), FrontAnswer::Key(text)) => self.read_feature(
+                key, text,
+            ),
+            (FrontBusStage::NewPort, FrontAnswer::Port(port)) => {
                 self.port = Some(*port);
-                self.stage = FrontStage::Publish(first_published(self.ring_order()));
+                self.stage = FrontBusStage::Publish(first_published(self.ring_order()));
                 None
             }
-            (FrontStage::ReadFact(key), FrontAnswer::Key(text)) => self.read_fact(key, text),
-            (FrontStage::WriteState(state), FrontAnswer::Done) => self.wrote(state),
-            (FrontStage::ClosePort, FrontAnswer::Done) => {
+            (FrontBusStage::ReadFact(key), FrontAnswer::Key(text)) => self.read_fact(key, text),
+            (FrontBusStage::WriteState(state), FrontAnswer::Done) => self.wrote(state),
+            (FrontBusStage::ClosePort, FrontAnswer::Done) => {
                 self.port = None;
-                self.stage = FrontStage::WriteState(BusState::Closed);
+                self.stage = FrontBusStage::WriteState(BusState::Closed);
                 None
             }
             (_, FrontAnswer::Done) => {
@@ -54,24 +56,26 @@ impl FrontBus {
     }
 
     // What is done after what was done.
-    fn after(&self) -> FrontStage
+    fn after(&self) -> FrontBusStage
         ensures value { result ≡ after self.now.stage self.now }
         ensures sound { IsSound (record self.now { stage = result }) }
     {
         match self.stage {
-            FrontStage::Start => FrontStage::Rest,
-            FrontStage::RingWord(15) => FrontStage::Grant(0),
-            FrontStage::RingWord(word) => FrontStage::RingWord(word + 1),
-            FrontStage::Grant(page) if page + 1 < self.pages() => FrontStage::Grant(page + 1),
-            FrontStage::Grant(_) => FrontStage::NewPort,
-            FrontStage::Publish(key) => match next_published(self.ring_order(), key) {
-                Some(key) => FrontStage::Publish(key),
-                None => FrontStage::WriteState(BusState::Initialised),
+            FrontBusStage::Start => FrontBusStage::Rest,
+            FrontBusStage::RingWord(15) => FrontBusStage::Grant(0),
+            FrontBusStage::RingWord(word) => FrontBusStage::RingWord(word + 1),
+            FrontBusStage::Grant(page) if page + 1 < self.pages() => FrontBusStage::Grant(page + 1),
+            FrontBusStage::Grant(_) => FrontBusStage::NewPort,
+            FrontBusStage::Publish(key) => match next_published(self.ring_order(), key) {
+                Some(key) => FrontBusStage::Publish(key),
+                None => FrontBusStage::WriteState(BusState::Initialised),
             },
-            FrontStage::EndGrant(page) if page + 1 < self.pages() => FrontStage::EndGrant(page + 1),
-            FrontStage::EndGrant(_) => FrontStage::EndOtherGrants,
-            FrontStage::EndOtherGrants if self.port.is_some() => FrontStage::ClosePort,
-            FrontStage::EndOtherGrants => FrontStage::WriteState(BusState::Closed),
+            FrontBusStage::EndGrant(page) if page + 1 < self.pages() => FrontBusStage::EndGrant(
+                page + 1,
+            ),
+            FrontBusStage::EndGrant(_) => FrontBusStage::EndOtherGrants,
+            FrontBusStage::EndOtherGrants if self.port.is_some() => FrontBusStage::ClosePort,
+            FrontBusStage::EndOtherGrants => FrontBusStage::WriteState(BusState::Closed),
             stage => stage,
         }
     }
@@ -84,12 +88,12 @@ impl FrontBus {
         ensures news { result ≡ action_news action self.old.closing }
     {
         self.stage = match action {
-            FrontAction::Nothing | FrontAction::Close | FrontAction::Leave => FrontStage::Rest,
-            FrontAction::Publish => FrontStage::ReadFeature(BackKey::FeatureBarrier),
+            FrontAction::Nothing | FrontAction::Close | FrontAction::Leave => FrontBusStage::Rest,
+            FrontAction::Publish => FrontBusStage::ReadFeature(BackKey::FeatureBarrier),
             FrontAction::Connect | FrontAction::CloseAndConnect => {
-                FrontStage::ReadFact(BackKey::Sectors)
+                FrontBusStage::ReadFact(BackKey::Sectors)
             }
-            FrontAction::Break(word) => FrontStage::Broken(word),
+            FrontAction::Break(word) => FrontBusStage::Broken(word),
         };
         match action {
             FrontAction::Nothing | FrontAction::Publish | FrontAction::Connect => None,
@@ -109,13 +113,13 @@ impl FrontBus {
         ensures news { result ≡ read_news (count_read text.now) }
     {
         let Some(number) = read_count(text) else {
-            self.stage = FrontStage::Broken(9);
+            self.stage = FrontBusStage::Broken(9);
             return Some(FrontNews::Broken(9));
         };
         self.features.read(key, number);
         self.stage = match next_feature(key) {
-            Some(key) => FrontStage::ReadFeature(key),
-            None => FrontStage::RingWord(0),
+            Some(key) => FrontBusStage::ReadFeature(key),
+            None => FrontBusStage::RingWord(0),
         };
         None
     }
@@ -127,13 +131,13 @@ impl FrontBus {
         ensures news { result ≡ read_news (fact_read key text.now) }
     {
         let Some(number) = read_fact(key, text) else {
-            self.stage = FrontStage::Broken(9);
+            self.stage = FrontBusStage::Broken(9);
             return Some(FrontNews::Broken(9));
         };
         self.disk.read(key, number);
         self.stage = match next_fact(key) {
-            Some(key) => FrontStage::ReadFact(key),
-            None => FrontStage::WriteState(BusState::Connected),
+            Some(key) => FrontBusStage::ReadFact(key),
+            None => FrontBusStage::WriteState(BusState::Connected),
         };
         None
     }
@@ -146,8 +150,8 @@ impl FrontBus {
     {
         self.state = state;
         self.stage = match state {
-            BusState::Closed => FrontStage::Closed,
-            _ => FrontStage::Rest,
+            BusState::Closed => FrontBusStage::Closed,
+            _ => FrontBusStage::Rest,
         };
         match state {
             BusState::Connected => Some(FrontNews::Ready),

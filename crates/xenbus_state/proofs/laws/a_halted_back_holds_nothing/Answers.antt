@@ -1,6 +1,6 @@
 use Rattle.std.proofs.Common.{subst}
-use Rattle.xenbus_state.specs.declared.stage.BackStage.{BackStage}
-use Rattle.xenbus_state.specs.declared.stage.BackStage.TheVariants as stage
+use Rattle.xenbus_state.specs.declared.stage.BackBusStage.{BackBusStage}
+use Rattle.xenbus_state.specs.declared.stage.BackBusStage.TheVariants as stage
 use Rattle.xenbus_state.specs.BackView.{start_of}
 use Rattle.xenbus_state.specs.BackSound.{IsPlaced}
 use Rattle.xenbus_state.specs.Runs.{back_after}
@@ -11,5 +11,5 @@ pub returns : goal.returns
 returns c features disk turns lawful halts =
     let v = back_after turns (start_of features disk) in
     let sound = back_runs turns (start_of features disk) lawful (back_starts features disk) in
-    let placed : IsPlaced stage.Halted v = subst (λ (s : BackStage). IsPlaced s v) halts sound.placed in
+    let placed : IsPlaced stage.Halted v = subst (λ (s : BackBusStage). IsPlaced s v) halts sound.placed in
     (placed.1, placed.0)

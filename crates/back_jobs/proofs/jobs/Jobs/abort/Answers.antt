@@ -8,9 +8,9 @@ use Rattle.back_jobs.proofs.jobs.Jobs.abort.Goals as goal
 pub invariant_of-self : goal.invariant_of-self
 invariant_of-self c =
     let h = c.abort_first-mapping.ensures in
-    let works = c.self.inside.tasks.items in
-    let left = c.abort_first-mapping.new.tasks.items in
-    let seen : c.as_slice-tasks.result.now ≡ left = c.as_slice-tasks.ensures.value in
+    let works = c.self.inside.held.items in
+    let left = c.abort_first-mapping.new.held.items in
+    let seen : c.as_slice-held.result.now ≡ left = c.as_slice-held.ensures.value in
     let none : c.is_empty-self-inside.result ≡ true → left ≡ [] = λ test. none_left left c.is_empty-self-inside.result (rw seen at c.is_empty-self-inside.ensures) test in (
       record {
         has_room = rw h.capacity c.self.invariant.0.has_room;
@@ -32,7 +32,7 @@ invariant_of-self c =
     )
 
 pub returns-clause-no_more : goal.returns-clause-no_more
-returns-clause-no_more c = rw (c.abort_first-mapping.ensures.rest, ← c.self.view_is) (few_after c.self.inside.tasks.items)
+returns-clause-no_more c = rw (c.abort_first-mapping.ensures.rest, ← c.self.view_is) (few_after c.self.inside.held.items)
 
 pub abort_first-mapping-requires : goal.abort_first-mapping-requires
 abort_first-mapping-requires c = omega (arith, c.self.invariant.2.has_space, c.self.invariant.2.shared)

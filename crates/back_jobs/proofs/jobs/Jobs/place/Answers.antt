@@ -7,42 +7,42 @@ use Rattle.back_jobs.proofs.jobs.Jobs.place.Goals as goal
 
 pub returns-then-is_first-clause-place : goal.returns-then-is_first-clause-place
 returns-then-is_first-clause-place c =
-    let tasks = c.as_slice-tasks.result.now in
-    let at : number_at tasks 0 ≡ Some c.args.number = search rules in
-    rw (← c.self.view_is, ← c.as_slice-tasks.ensures.value) (sym (placed_first tasks c.args.number at))
+    let held = c.as_slice-held.result.now in
+    let at : number_at held 0 ≡ Some c.args.number = search rules in
+    rw (← c.self.view_is, ← c.as_slice-held.ensures.value) (sym (placed_first held c.args.number at))
 
 pub returns-in-Some-clause-place : goal.returns-in-Some-clause-place
 returns-in-Some-clause-place c =
-    let tasks = c.as_slice-tasks.result.now in
+    let held = c.as_slice-held.result.now in
     let place = c.in-Some.place in
-    let ordered : AreAscending tasks = rw c.as_slice-tasks.ensures.value (c.self.invariant.0.in_order (search rules)) in
-    rw (← c.self.view_is, ← c.as_slice-tasks.ensures.value) (sym (placed tasks c.args.number place (guessed tasks c.args.number place ordered c.in-Some.ensures) c.in-Some.ensures))
+    let ordered : AreAscending held = rw c.as_slice-held.ensures.value (c.self.invariant.0.in_order (search rules)) in
+    rw (← c.self.view_is, ← c.as_slice-held.ensures.value) (sym (placed held c.args.number place (guessed held c.args.number place ordered c.in-Some.ensures) c.in-Some.ensures))
 
 pub returns-in-Some-number_at-clause-place : goal.returns-in-Some-number_at-clause-place
 returns-in-Some-number_at-clause-place c =
-    let tasks = c.as_slice-tasks.result.now in
+    let held = c.as_slice-held.result.now in
     let place = c.by_halves-place.result in
-    let at : number_at tasks place ≡ Some c.args.number = search rules in
-    rw (← c.self.view_is, ← c.as_slice-tasks.ensures.value) (sym (placed tasks c.args.number place c.by_halves-place.ensures (numbered tasks place c.args.number at)))
+    let at : number_at held place ≡ Some c.args.number = search rules in
+    rw (← c.self.view_is, ← c.as_slice-held.ensures.value) (sym (placed held c.args.number place c.by_halves-place.ensures (numbered held place c.args.number at)))
 
 pub returns-in-Some-number_at-clause-within : goal.returns-in-Some-number_at-clause-within
 returns-in-Some-number_at-clause-within c =
-    let tasks = c.as_slice-tasks.result.now in
+    let held = c.as_slice-held.result.now in
     let place = c.by_halves-place.result in
-    let at : number_at tasks place ≡ Some c.args.number = search rules in
-    rw (← c.self.view_is, ← c.as_slice-tasks.ensures.value) ((numbered tasks place c.args.number at).0)
+    let at : number_at held place ≡ Some c.args.number = search rules in
+    rw (← c.self.view_is, ← c.as_slice-held.ensures.value) ((numbered held place c.args.number at).0)
 
 pub returns-in_default-number_at-clause-place : goal.returns-in_default-number_at-clause-place
 returns-in_default-number_at-clause-place c =
-    let tasks = c.as_slice-tasks.result.now in
+    let held = c.as_slice-held.result.now in
     let place = c.by_halves-place.result in
-    let at : number_at tasks place ≡ Some c.in-Some-number_at.found = search rules in
-    let ordered : AreAscending tasks = rw c.as_slice-tasks.ensures.value (c.self.invariant.0.in_order (search rules)) in
-    rw (← c.self.view_is, ← c.as_slice-tasks.ensures.value) (sym (placed_between tasks c.args.number c.in-Some-number_at.found place ordered c.by_halves-place.ensures (numbered tasks place c.in-Some-number_at.found at) c.if-found-number.false))
+    let at : number_at held place ≡ Some c.in-Some-number_at.found = search rules in
+    let ordered : AreAscending held = rw c.as_slice-held.ensures.value (c.self.invariant.0.in_order (search rules)) in
+    rw (← c.self.view_is, ← c.as_slice-held.ensures.value) (sym (placed_between held c.args.number c.in-Some-number_at.found place ordered c.by_halves-place.ensures (numbered held place c.in-Some-number_at.found at) c.if-found-number.false))
 
 pub returns-in_default-number_at-2-clause-place : goal.returns-in_default-number_at-2-clause-place
 returns-in_default-number_at-2-clause-place c =
-    let tasks = c.as_slice-tasks.result.now in
+    let held = c.as_slice-held.result.now in
     let place = c.by_halves-place.result in
-    let at : number_at tasks place ≡ None = search rules in
-    rw (← c.self.view_is, ← c.as_slice-tasks.ensures.value) (sym (placed_nowhere tasks c.args.number place c.by_halves-place.ensures at))
+    let at : number_at held place ≡ None = search rules in
+    rw (← c.self.view_is, ← c.as_slice-held.ensures.value) (sym (placed_nowhere held c.args.number place c.by_halves-place.ensures at))

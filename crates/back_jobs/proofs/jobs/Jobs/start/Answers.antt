@@ -1,7 +1,7 @@
 use Rattle.std.proofs.Common.{◌≡◌, ◌<◌, ◌≤◌, ◌++◌, ◌∷◌, ℕ, List, [], true, false, Bool, refl, arith, rules, sym, ap, ◌∙◌, subst, length, vec_capacity}
 use Rattle.std.proofs.Math.ListN.{length-append}
 use Rattle.segment_list.specs.Verdict.{verdict_of}
-use Rattle.back_jobs.specs.Jobs.{Held, is_done}
+use Rattle.back_jobs.specs.Jobs.{HeldJobs, is_done}
 use Rattle.back_jobs.specs.Order.{is_above}
 use Rattle.back_jobs.specs.Segments.{AreShared}
 use Rattle.back_jobs.specs.Sound.{IsKept, AreFirst, done_numbers}
@@ -16,16 +16,16 @@ use Rattle.back_jobs.proofs.jobs.Jobs.start.Goals as goal
 
 -- what is known of the jobs stays true, where the number is listed if its job is done
 kept : (c : After-push) (b : Bool) (now : List ℕ) (listed : ℕ) → b ≡ c.is_done-is_done.result → (c.goes_on_ascending-self-inside.result ≡ true → now ≡ noted b c.args.number c.self.inside.finished.items) → vec_capacity c.self.inside.finished ≤ listed → IsKept c.goes_on_ascending-self-inside.result now c.done_with-self-inside.result c.self.inside.room (vec_capacity c.push.new.self) listed c.self.inside.info.sectors c.push.new.self.items × AreFirst c.done_with-self-inside-2.result c.done_with-self-inside-3.result c.push.new.self.items
-    × AreShared (length c.begin-task.new.spare.items) (vec_capacity c.begin-task.new.spare) c.self.inside.room c.self.inside.info.max_indirect c.push.new.self.items
+    × AreShared (length c.begin-job.new.spare.items) (vec_capacity c.begin-job.new.spare) c.self.inside.room c.self.inside.info.max_indirect c.push.new.self.items
 kept c b now listed test noted_now more =
-    let works = c.self.inside.tasks.items in
+    let works = c.self.inside.held.items in
     let size = c.self.inside.info.sectors in
     let v = verdict_of c.args.request.now c.self.inside.info in
-    let t = c.begin-task.result in
-    let known : t.size ≡ size = rw c.begin-task.ensures.value (begun_size c.args.number c.args.request.now size v) in
-    let numbered : t.number ≡ c.args.number = rw c.begin-task.ensures.value (begun_number c.args.number c.args.request.now size v) in
+    let t = c.begin-job.result in
+    let known : t.size ≡ size = rw c.begin-job.ensures.value (begun_size c.args.number c.args.request.now size v) in
+    let numbered : t.number ≡ c.args.number = rw c.begin-job.ensures.value (begun_number c.args.number c.args.request.now size v) in
     let grown : c.push.new.self.items ≡ works ++ t ∷ [] = search rules in
-    let below : length works < c.self.inside.room = subst (λ (h : Held). length h.works < h.room) (sym c.self.view_is) c.requires in
+    let below : length works < c.self.inside.room = subst (λ (h : HeldJobs). length h.works < h.room) (sym c.self.view_is) c.requires in
     let ordered = began_ascending c.self.inside.ascending c.goes_on_ascending-self-inside.result works c.as_slice.result.now t c.args.number c.self.invariant.0.in_order c.as_slice.ensures.value numbered c.goes_on_ascending-self-inside.ensures in
     let counted : c.len-count.result ≡ length works = c.len-count.ensures ∙ (sym c.as_slice.ensures.len ∙ ap length c.as_slice.ensures.value) in (
       record {
@@ -38,7 +38,7 @@ kept c b now listed test noted_now more =
         is_done = rw grown (began_done works t c.self.inside.done_place c.done_with-self-inside.result c.len-count.result c.is_done-is_done.result c.self.invariant.0.is_done counted c.is_done-is_done.ensures c.done_with-self-inside.ensures);
       },
       rw grown (began_first works t c.self.inside.ordered c.self.inside.barrier c.done_with-self-inside-2.result c.done_with-self-inside-3.result c.len-count.result c.holds.result c.holds-2.result c.self.invariant.1 counted c.holds.ensures c.holds-2.ensures c.done_with-self-inside-2.ensures c.done_with-self-inside-3.ensures),
-      rw grown (began_shared (length c.self.inside.spare.items) (length c.begin-task.new.spare.items) (vec_capacity c.self.inside.spare) (vec_capacity c.begin-task.new.spare) c.self.inside.room c.self.inside.info.max_indirect works t c.begin-task.ensures.spare c.begin-task.ensures.capacity c.self.invariant.2),
+      rw grown (began_shared (length c.self.inside.spare.items) (length c.begin-job.new.spare.items) (vec_capacity c.self.inside.spare) (vec_capacity c.begin-job.new.spare) c.self.inside.room c.self.inside.info.max_indirect works t c.begin-job.ensures.spare c.begin-job.ensures.capacity c.self.invariant.2),
     )
 
 pub invariant_of-self : goal.invariant_of-self
@@ -50,17 +50,17 @@ invariant_of-self-else-is_done c = kept (goal.at.invariant_of-self-else-is_done 
 pub note-requires-clause-ascending : goal.note-requires-clause-ascending
 note-requires-clause-ascending c = λ test.
     let was = was_ascending c.self.inside.ascending c.goes_on_ascending-self-inside.result (is_above c.as_slice.result.now c.args.number) c.goes_on_ascending-self-inside.ensures test in
-    kept_rise c.self.inside.tasks.items c.self.inside.finished.items (c.self.invariant.0.in_order was) (c.self.invariant.0.is_listed was)
+    kept_rise c.self.inside.held.items c.self.inside.finished.items (c.self.invariant.0.in_order was) (c.self.invariant.0.is_listed was)
 
 pub note-requires-clause-has_room : goal.note-requires-clause-has_room
 note-requires-clause-has_room c = λ test.
-    let works = c.self.inside.tasks.items in
-    let below : length works < c.self.inside.room = subst (λ (h : Held). length h.works < h.room) (sym c.self.view_is) c.requires in
+    let works = c.self.inside.held.items in
+    let below : length works < c.self.inside.room = subst (λ (h : HeldJobs). length h.works < h.room) (sym c.self.view_is) c.requires in
     let was = was_ascending c.self.inside.ascending c.goes_on_ascending-self-inside.result (is_above c.as_slice.result.now c.args.number) c.goes_on_ascending-self-inside.ensures test in
     let same : length c.self.inside.finished.items ≡ length (done_numbers works) = ap length (c.self.invariant.0.is_listed was) in
     omega (arith, below, same, listed_fits works, c.self.invariant.0.has_list_room)
 
-pub begin-task-requires : goal.begin-task-requires
-begin-task-requires c = λ some.
-    let below : length c.self.inside.tasks.items < c.self.inside.room = subst (λ (h : Held). length h.works < h.room) (sym c.self.view_is) c.requires in
-    has_spare (length c.self.inside.spare.items) (vec_capacity c.self.inside.spare) c.self.inside.room c.self.inside.info.max_indirect c.self.inside.tasks.items c.self.invariant.2 below some
+pub begin-job-requires : goal.begin-job-requires
+begin-job-requires c = λ some.
+    let below : length c.self.inside.held.items < c.self.inside.room = subst (λ (h : HeldJobs). length h.works < h.room) (sym c.self.view_is) c.requires in
+    has_spare (length c.self.inside.spare.items) (vec_capacity c.self.inside.spare) c.self.inside.room c.self.inside.info.max_indirect c.self.inside.held.items c.self.invariant.2 below some

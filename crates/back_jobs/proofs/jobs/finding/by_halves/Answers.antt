@@ -6,6 +6,6 @@ use Rattle.back_jobs.proofs.jobs.finding.by_halves.Goals as goal
 
 pub returns : goal.returns
 returns c =
-    let works = c.args.tasks.now in
+    let works = c.args.held.now in
     parted works c.args.number c.partition_point.result c.partition_point.ensures.bound
     (IsPartitionPoint-from_clause (λ t. nat_lt t.number c.args.number) works c.partition_point.result c.partition_point.ensures.partitioned (lower works c.args.number c.requires) (λ a r f called. search rules))

@@ -7,15 +7,15 @@ use Rattle.back_jobs.proofs.jobs.finding.first_above.Goals as goal
 
 pub returns-then-is_past : goal.returns-then-is_past
 returns-then-is_past c =
-    let works = c.args.tasks.now in
+    let works = c.args.held.now in
     let test : is_above works (c.args.number + 1) ≡ true = search rules in
     ends works (c.args.number + 1) c.requires test
 
 pub returns-in-Some : goal.returns-in-Some
-returns-in-Some c = guessed_above c.args.tasks.now c.args.number c.in-Some.place c.requires c.in-Some.ensures
+returns-in-Some c = guessed_above c.args.held.now c.args.number c.in-Some.place c.requires c.in-Some.ensures
 
 pub returns : goal.returns
 returns c =
-    let works = c.args.tasks.now in
+    let works = c.args.held.now in
     parted_above works c.args.number c.partition_point.result c.partition_point.ensures.bound
     (IsPartitionPoint-from_clause (λ t. nat_le t.number c.args.number) works c.partition_point.result c.partition_point.ensures.partitioned (not_above works c.args.number c.requires) (λ a r f called. search rules))

@@ -7,5 +7,5 @@ use Rattle.back_jobs.proofs.jobs.finding.guess.Goals as goal
 pub returns-in-Some : goal.returns-in-Some
 returns-in-Some c =
     let place = (c.args.number + (18446744073709551616 - c.number-first.result)) % 18446744073709551616 in
-    let at : number_at c.args.tasks.now place ≡ Some c.args.number = search rules in
-    numbered c.args.tasks.now place c.args.number at
+    let at : number_at c.args.held.now place ≡ Some c.args.number = search rules in
+    numbered c.args.held.now place c.args.number at

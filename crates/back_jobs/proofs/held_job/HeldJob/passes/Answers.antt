@@ -7,10 +7,10 @@ use Rattle.segment_list.specs.declared.verdict.Verdict.TheVariants.{Serve}
 use Rattle.segment_list.specs.Segments.{IsSound}
 use Rattle.segment_list.specs.Verdict.{finished_verdict}
 use Rattle.segment_list.proofs.Served.{finished_on_disk}
-use Rattle.back_jobs.specs.Task.{Work}
+use Rattle.back_jobs.specs.Work.{Work}
 use Rattle.back_jobs.specs.Sound.{AreMovable}
 use Rattle.back_jobs.proofs.Served.{movable}
-use Rattle.back_jobs.proofs.task.Task.passes.Goals as goal
+use Rattle.back_jobs.proofs.held_job.HeldJob.passes.Goals as goal
 
 pub returns-in-Serve-clause-movable : goal.returns-in-Serve-clause-movable
 returns-in-Serve-clause-movable c = λ served.

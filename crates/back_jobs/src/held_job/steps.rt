@@ -1,20 +1,20 @@
 // What an answer makes of a job.
 ghost use Rattle.std.specs.Prelude.{◌≡◌, ◌<◌, ◌++◌, [], ◌∷◌, true, length};
-ghost use Rattle.back_jobs.specs.Task.{at_word, step_at, next_sector, next_segment, copied, page_done, passes, counted, sector_stage, rest_of, last_of, IsUnmap};
+ghost use Rattle.back_jobs.specs.Work.{at_word, step_at, next_sector, next_segment, copied, page_done, passes, counted, sector_stage, rest_of, last_of, IsUnmap};
 ghost use Rattle.back_jobs.specs.Segments.{IsUnmapPage};
 ghost use Rattle.back_jobs.specs.Sound.{IsInMode, AreMovable};
 ghost use Rattle.blk_layout.specs.Entry.{segment_of};
-ghost use Rattle.back_jobs.specs.declared.stage.Stage.TheVariants as stage;
+ghost use Rattle.back_jobs.specs.declared.stage.JobStage.TheVariants as stage;
 ghost use Rattle.blk_base.specs.declared.ask.BackAnswer.TheVariants.{Word, Done};
 
 use super::begun::first_of;
-use super::{PAGE_SEGMENTS, Task};
-use crate::stage::Stage;
+use super::{HeldJob, PAGE_SEGMENTS};
+use crate::stage::JobStage;
 use blk_base::{Mapping, SectorWords, Status};
 use blk_layout::{Segment, read_segment};
 use segment_list::{DiskInfo, Kind, Plan, Verdict, finish_indirect};
 
-impl Task {
+impl HeldJob {
     // Both words of a segment are read from an indirect page.
     #[inline(never)]
     pub(super) fn copied(&mut self, mapping: Mapping, gref: u32, sectors: u32)
@@ -24,9 +24,9 @@ impl Task {
         self.rest.push(read_segment([gref, sectors]));
         let count = self.rest.as_slice().len();
         if count == self.named as usize || count % PAGE_SEGMENTS == 0 {
-            self.stage = Stage::UnmapPage(mapping);
+            self.stage = JobStage::UnmapPage(mapping);
         } else {
-            self.stage = Stage::PageReference(mapping);
+            self.stage = JobStage::PageReference(mapping);
         }
     }
 
@@ -40,12 +40,12 @@ impl Task {
             if !self.pages.is_empty() {
                 self.pages.remove(0);
             }
-            self.stage = Stage::MapPage;
+            self.stage = JobStage::MapPage;
         } else if self.passes() {
             self.within = first_of(self.rest.as_slice());
-            self.stage = Stage::Map;
+            self.stage = JobStage::Map;
         } else {
-            self.stage = Stage::Done(Status::Error);
+            self.stage = JobStage::Done(Status::Error);
         }
     }
 
@@ -95,7 +95,7 @@ impl Task {
     {
         // The stage comes first: after a write at some place of the words the built code would look at it anew.
         if k == 127 {
-            self.stage = Stage::DiskWrite(mapping);
+            self.stage = JobStage::DiskWrite(mapping);
         } else {
             next_word(&mut self.stage, k + 1);
         }
@@ -110,7 +110,7 @@ impl Task {
         self.disk += 1;
         self.moved = self.moved.wrapping_add(1);
         if self.within == last {
-            self.stage = Stage::Unmap(mapping);
+            self.stage = JobStage::Unmap(mapping);
         } else {
             self.within += 1;
             self.stage = sector_stage(self.writes, mapping);
@@ -124,7 +124,7 @@ impl Task {
         self.disk += 1;
         self.moved = self.moved.wrapping_add(1);
         self.words = *words;
-        self.stage = Stage::WriteWord(mapping, 0);
+        self.stage = JobStage::WriteWord(mapping, 0);
     }
 
     #[inline(always)]
@@ -136,7 +136,7 @@ impl Task {
         if k != 127 {
             next_word(&mut self.stage, k + 1);
         } else if self.within == last_of(self.rest.as_slice()) {
-            self.stage = Stage::Unmap(mapping);
+            self.stage = JobStage::Unmap(mapping);
         } else {
             self.within += 1;
             self.stage = sector_stage(self.writes, mapping);
@@ -150,10 +150,10 @@ impl Task {
     {
         self.rest.remove_first();
         match self.rest.as_slice().first() {
-            None => self.stage = Stage::Done(Status::Okay),
+            None => self.stage = JobStage::Done(Status::Okay),
             Some(segment) => {
                 self.within = u32::from(segment.first);
-                self.stage = Stage::Map;
+                self.stage = JobStage::Map;
             }
         }
     }
@@ -162,12 +162,12 @@ impl Task {
 // The word of this number is read or written next, through the same mapping: the mapping stays where it
 // is, and only the number is written.
 #[inline(always)]
-fn next_word(stage: &mut Stage, k: u32)
+fn next_word(stage: &mut JobStage, k: u32)
     ensures { stage.new ≡ at_word k stage.old }
 {
     match stage {
-        Stage::ReadWord(_, word) => *word = k,
-        Stage::WriteWord(_, word) => *word = k,
+        JobStage::ReadWord(_, word) => *word = k,
+        JobStage::WriteWord(_, word) => *word = k,
         _ => {}
     }
 }
@@ -183,12 +183,12 @@ fn last_of(rest: &[Segment]) -> u32
 }
 
 // A sector is begun.
-fn sector_stage(writes: bool, mapping: Mapping) -> Stage
+fn sector_stage(writes: bool, mapping: Mapping) -> JobStage
     ensures { result ≡ sector_stage writes mapping }
 {
     if writes {
-        Stage::ReadWord(mapping, 0)
+        JobStage::ReadWord(mapping, 0)
     } else {
-        Stage::DiskRead(mapping)
+        JobStage::DiskRead(mapping)
     }
 }

@@ -1,6 +1,6 @@
 // One job.
 ghost use Rattle.std.specs.Prelude.{◌≡◌, ◌≢◌, ◌<◌, ◌+◌, cond, length, is_some, vec_capacity};
-ghost use Rattle.back_jobs.specs.Task.{ask_of, map_ask, page_ask, page_word, step_of, IsAnswer, begun};
+ghost use Rattle.back_jobs.specs.Work.{ask_of, map_ask, page_ask, page_word, step_of, IsAnswer, begun};
 ghost use Rattle.back_jobs.specs.Segments.{is_paged};
 ghost use Rattle.back_jobs.specs.Order.{holds};
 ghost use Rattle.back_jobs.specs.Sound.{StaysInPageAndDisk};
@@ -14,7 +14,7 @@ mod steps;
 
 use crate::effect::Effect;
 use crate::segments::{SegmentList, SegmentVec};
-use crate::stage::Stage;
+use crate::stage::JobStage;
 use arrayvec::ArrayVec;
 use begun::{ended, served};
 use blk_base::{BackAnswer, BackAsk, Lent, Mapping, Mode, SectorWords, Status};
@@ -29,7 +29,7 @@ const PAGE_SEGMENTS: usize = 512;
 /// pages that it isn't done with, and `named` is how many segments they name; `rest` are the segments
 /// that it isn't done with, or while they are copied those that were.
 #[derive(Drop)]
-pub struct Task {
+pub struct HeldJob {
     number: u64,
     id: u64,
     op: u8,
@@ -42,12 +42,12 @@ pub struct Task {
     named: u32,
     within: u32,
     words: SectorWords,
-    stage: Stage,
+    stage: JobStage,
 }
 
-impl Model for Task {
+impl Model for HeldJob {
     ghost use Rattle.std.specs.Prelude.{◌≡◌};
-    ghost use Rattle.back_jobs.specs.Task.{Work};
+    ghost use Rattle.back_jobs.specs.Work.{Work};
     ghost use Rattle.back_jobs.specs.Segments.{is_paged};
     ghost use Rattle.back_jobs.specs.Inside.{view_of};
     ghost use Rattle.back_jobs.specs.Sound.{IsPlaced};
@@ -59,7 +59,7 @@ impl Model for Task {
     ghost invariant = { λ t. IsPlaced t.stage (view_of t) × (t.rest.is_long ≡ is_paged (view_of t)) };
 }
 
-impl Task {
+impl HeldJob {
     /// The job of a request that was fetched as the `number`-th, on a disk of this kind: by the
     /// verdict on it, it moves the request's sectors, flushes or trims the disk, or is done at once.
     /// One that copies segments takes one of these vectors for them.
@@ -68,7 +68,7 @@ impl Task {
         request: &RawRequest,
         info: &DiskInfo,
         spare: &mut Vec<SegmentVec>,
-    ) -> Task
+    ) -> HeldJob
         requires { info.now.max_indirect ≢ 0 → 0 < length spare.old.items }
         ensures value { result ≡ begun number request.now info.now.sectors (verdict_of request.now info.now) }
         ensures spare { length spare.new.items + cond (is_paged result) 1 0 ≡ length spare.old.items }
@@ -76,13 +76,18 @@ impl Task {
     {
         match check(request, info) {
             Verdict::Serve(_) => served(number, request, info, spare),
-            Verdict::Error(_) => ended(number, request, info.sectors, Stage::Done(Status::Error)),
+            Verdict::Error(_) => ended(
+                number,
+                request,
+                info.sectors,
+                JobStage::Done(Status::Error),
+            ),
             Verdict::Unsupported => {
                 ended(
                     number,
                     request,
                     info.sectors,
-                    Stage::Done(Status::Unsupported),
+                    JobStage::Done(Status::Unsupported),
                 )
             }
         }
@@ -113,7 +118,7 @@ impl Task {
     pub fn is_done(&self) -> bool
         ensures { result ≡ is_done self.now }
     {
-        matches!(self.stage, Stage::Done(_))
+        matches!(self.stage, JobStage::Done(_))
     }
 
     /// The vector that its segments were copied into.
@@ -130,9 +135,9 @@ impl Task {
         ensures { result ≡ is_fresh_at self.now.stage self.now.moved }
     {
         match self.stage {
-            Stage::MapPage => true,
-            Stage::Map => self.moved == 0,
-            Stage::Trim(_) => true,
+            JobStage::MapPage => true,
+            JobStage::Map => self.moved == 0,
+            JobStage::Trim(_) => true,
             _ => false,
         }
     }
@@ -170,7 +175,7 @@ impl Task {
         ensures { result ≡ response_of self.now }
     {
         match self.stage {
-            Stage::Done(status) => Some((self.number, self.id, self.op, status)),
+            JobStage::Done(status) => Some((self.number, self.id, self.op, status)),
             _ => None,
         }
     }
@@ -182,14 +187,14 @@ impl Task {
     {
         let (id, index) = (self.id, self.moved);
         match (self.stage, answer) {
-            (Stage::DiskWrite(_), BackAnswer::Done) => Some(Effect::Moved { id, index }),
-            (Stage::DiskWrite(_), BackAnswer::DiskFailed) => Some(Effect::Failed { id, index }),
-            (Stage::DiskRead(_), BackAnswer::Sector(_)) => Some(Effect::Moved { id, index }),
-            (Stage::DiskRead(_), BackAnswer::DiskFailed) => Some(Effect::Failed { id, index }),
-            (Stage::Flush, BackAnswer::Done) => Some(Effect::Flushed { id }),
-            (Stage::Flush, BackAnswer::DiskFailed) => Some(Effect::Failed { id, index }),
-            (Stage::Trim(_), BackAnswer::Done) => Some(Effect::Trimmed { id }),
-            (Stage::Trim(_), BackAnswer::DiskFailed) => Some(Effect::Failed { id, index }),
+            (JobStage::DiskWrite(_), BackAnswer::Done) => Some(Effect::Moved { id, index }),
+            (JobStage::DiskWrite(_), BackAnswer::DiskFailed) => Some(Effect::Failed { id, index }),
+            (JobStage::DiskRead(_), BackAnswer::Sector(_)) => Some(Effect::Moved { id, index }),
+            (JobStage::DiskRead(_), BackAnswer::DiskFailed) => Some(Effect::Failed { id, index }),
+            (JobStage::Flush, BackAnswer::Done) => Some(Effect::Flushed { id }),
+            (JobStage::Flush, BackAnswer::DiskFailed) => Some(Effect::Failed { id, index }),
+            (JobStage::Trim(_), BackAnswer::Done) => Some(Effect::Trimmed { id }),
+            (JobStage::Trim(_), BackAnswer::DiskFailed) => Some(Effect::Failed { id, index }),
             _ => None,
         }
     }
@@ -199,16 +204,20 @@ impl Task {
         ensures { result ≡ mapping_at self.now.stage }
     {
         match self.stage {
-            Stage::PageReference(mapping) => Some(mapping),
-            Stage::PageSectors(mapping, _) => Some(mapping),
-            Stage::UnmapPage(mapping) => Some(mapping),
-            Stage::ReadWord(mapping, _) => Some(mapping),
-            Stage::DiskWrite(mapping) => Some(mapping),
-            Stage::DiskRead(mapping) => Some(mapping),
-            Stage::WriteWord(mapping, _) => Some(mapping),
-            Stage::Unmap(mapping) => Some(mapping),
-            Stage::Abort(mapping) => Some(mapping),
-            Stage::MapPage | Stage::Map | Stage::Flush | Stage::Trim(_) | Stage::Done(_) => None,
+            JobStage::PageReference(mapping) => Some(mapping),
+            JobStage::PageSectors(mapping, _) => Some(mapping),
+            JobStage::UnmapPage(mapping) => Some(mapping),
+            JobStage::ReadWord(mapping, _) => Some(mapping),
+            JobStage::DiskWrite(mapping) => Some(mapping),
+            JobStage::DiskRead(mapping) => Some(mapping),
+            JobStage::WriteWord(mapping, _) => Some(mapping),
+            JobStage::Unmap(mapping) => Some(mapping),
+            JobStage::Abort(mapping) => Some(mapping),
+            JobStage::MapPage
+            | JobStage::Map
+            | JobStage::Flush
+            | JobStage::Trim(_)
+            | JobStage::Done(_) => None,
         }
     }
 
@@ -220,27 +229,27 @@ impl Task {
         ensures names { Names (hand_of self.now) result }
     {
         match self.stage {
-            Stage::MapPage => self.map_page(),
-            Stage::PageReference(mapping) => self.read_page(mapping, 0),
-            Stage::PageSectors(mapping, _) => self.read_page(mapping, 1),
-            Stage::UnmapPage(mapping) => BackAsk::Unmap(mapping),
-            Stage::Map => self.map(),
-            Stage::ReadWord(mapping, k) => BackAsk::Read {
+            JobStage::MapPage => self.map_page(),
+            JobStage::PageReference(mapping) => self.read_page(mapping, 0),
+            JobStage::PageSectors(mapping, _) => self.read_page(mapping, 1),
+            JobStage::UnmapPage(mapping) => BackAsk::Unmap(mapping),
+            JobStage::Map => self.map(),
+            JobStage::ReadWord(mapping, k) => BackAsk::Read {
                 mapping,
                 word: self.within * 128 + k,
             },
-            Stage::DiskWrite(_) => BackAsk::DiskWrite(self.disk, Lent::at(&self.words)),
-            Stage::DiskRead(_) => BackAsk::DiskRead(self.disk),
-            Stage::WriteWord(mapping, k) => BackAsk::Write {
+            JobStage::DiskWrite(_) => BackAsk::DiskWrite(self.disk, Lent::at(&self.words)),
+            JobStage::DiskRead(_) => BackAsk::DiskRead(self.disk),
+            JobStage::WriteWord(mapping, k) => BackAsk::Write {
                 mapping,
                 word: self.within * 128 + k,
                 value: self.words[k as usize],
             },
-            Stage::Unmap(mapping) => BackAsk::Unmap(mapping),
-            Stage::Abort(mapping) => BackAsk::Unmap(mapping),
-            Stage::Flush => BackAsk::Flush,
-            Stage::Trim(count) => BackAsk::Trim(self.disk, count),
-            Stage::Done(_) => BackAsk::Wait,
+            JobStage::Unmap(mapping) => BackAsk::Unmap(mapping),
+            JobStage::Abort(mapping) => BackAsk::Unmap(mapping),
+            JobStage::Flush => BackAsk::Flush,
+            JobStage::Trim(count) => BackAsk::Trim(self.disk, count),
+            JobStage::Done(_) => BackAsk::Wait,
         }
     }
 
@@ -300,42 +309,42 @@ impl Task {
         ensures { self.new ≡ step_of self.old answer.now }
     {
         match (self.stage, answer) {
-            (Stage::MapPage, BackAnswer::Mapped(mapping)) => {
-                self.stage = Stage::PageReference(*mapping);
+            (JobStage::MapPage, BackAnswer::Mapped(mapping)) => {
+                self.stage = JobStage::PageReference(*mapping);
             }
-            (Stage::MapPage | Stage::Map, BackAnswer::MapRefused(_)) => {
-                self.stage = Stage::Done(Status::Error);
+            (JobStage::MapPage | JobStage::Map, BackAnswer::MapRefused(_)) => {
+                self.stage = JobStage::Done(Status::Error);
             }
-            (Stage::PageReference(mapping), BackAnswer::Word(word)) => {
-                self.stage = Stage::PageSectors(mapping, *word);
+            (JobStage::PageReference(mapping), BackAnswer::Word(word)) => {
+                self.stage = JobStage::PageSectors(mapping, *word);
             }
-            (Stage::PageSectors(mapping, gref), BackAnswer::Word(word)) => self.copied(
+            (JobStage::PageSectors(mapping, gref), BackAnswer::Word(word)) => self.copied(
                 mapping, gref, *word,
             ),
-            (Stage::UnmapPage(_), BackAnswer::Done) => self.page_done(),
-            (Stage::Map, BackAnswer::Mapped(mapping)) => self.begin_sector(*mapping),
-            (Stage::ReadWord(mapping, k), BackAnswer::Word(word)) => self.read_word(
+            (JobStage::UnmapPage(_), BackAnswer::Done) => self.page_done(),
+            (JobStage::Map, BackAnswer::Mapped(mapping)) => self.begin_sector(*mapping),
+            (JobStage::ReadWord(mapping, k), BackAnswer::Word(word)) => self.read_word(
                 mapping, k, *word,
             ),
-            (Stage::DiskWrite(mapping), BackAnswer::Done) => self.wrote_sector(mapping),
-            (Stage::DiskWrite(mapping), BackAnswer::DiskFailed) => self.stage = Stage::Abort(
+            (JobStage::DiskWrite(mapping), BackAnswer::Done) => self.wrote_sector(mapping),
+            (JobStage::DiskWrite(mapping), BackAnswer::DiskFailed) => self.stage = JobStage::Abort(
                 mapping,
             ),
-            (Stage::DiskRead(mapping), BackAnswer::Sector(words)) => self.got_sector(
+            (JobStage::DiskRead(mapping), BackAnswer::Sector(words)) => self.got_sector(
                 mapping,
                 words.get(),
             ),
-            (Stage::DiskRead(mapping), BackAnswer::DiskFailed) => self.stage = Stage::Abort(
+            (JobStage::DiskRead(mapping), BackAnswer::DiskFailed) => self.stage = JobStage::Abort(
                 mapping,
             ),
-            (Stage::WriteWord(mapping, k), BackAnswer::Done) => self.wrote_word(mapping, k),
-            (Stage::Unmap(_), BackAnswer::Done) => self.next_segment(),
-            (Stage::Abort(_), BackAnswer::Done) => self.stage = Stage::Done(Status::Error),
-            (Stage::Flush | Stage::Trim(_), BackAnswer::Done) => {
-                self.stage = Stage::Done(Status::Okay);
+            (JobStage::WriteWord(mapping, k), BackAnswer::Done) => self.wrote_word(mapping, k),
+            (JobStage::Unmap(_), BackAnswer::Done) => self.next_segment(),
+            (JobStage::Abort(_), BackAnswer::Done) => self.stage = JobStage::Done(Status::Error),
+            (JobStage::Flush | JobStage::Trim(_), BackAnswer::Done) => {
+                self.stage = JobStage::Done(Status::Okay);
             }
-            (Stage::Flush | Stage::Trim(_), BackAnswer::DiskFailed) => {
-                self.stage = Stage::Done(Status::Error);
+            (JobStage::Flush | JobStage::Trim(_), BackAnswer::DiskFailed) => {
+                self.stage = JobStage::Done(Status::Error);
             }
             _ => {}
         }

@@ -16,8 +16,8 @@ use Rattle.blk_layout.specs.Entry.{segment_of}
 use Rattle.segment_list.specs.Segments.{fails_test, sectors_of}
 use Rattle.segment_list.specs.declared.verdict.Verdict.{Verdict}
 use Rattle.segment_list.specs.declared.verdict.Verdict.TheVariants as verdict
-use Rattle.back_jobs.specs.declared.stage.Stage.{Stage}
-use Rattle.back_jobs.specs.declared.stage.Stage.TheVariants as stage
+use Rattle.back_jobs.specs.declared.stage.JobStage.{JobStage}
+use Rattle.back_jobs.specs.declared.stage.JobStage.TheVariants as stage
 
 -- A job: its number; the id and the operation that its response names; whether it writes to the disk; the size of the disk; the disk sector that it comes to next, and how many it moved; the segments that it isn't done with, the present one first (while they are copied from indirect pages, those that were copied); the references of the indirect pages that it isn't done with, the present one first, and how many segments they name; the sector in its frame; the words in hand; what it does.
 pub record Work : Type 0 where
@@ -33,7 +33,7 @@ pub record Work : Type 0 where
   pub named : ℕ
   pub within : ℕ
   pub words : List ℕ
-  pub stage : Stage
+  pub stage : JobStage
 
 -- a frame is mapped for reading alone where its words go to the disk
 abbrev pub mode_of : Bool → Mode
@@ -57,7 +57,7 @@ page_word t k = 2 * (length t.rest % 512) + k
 abbrev pub word_at : Work → ℕ → ℕ
 word_at t k = t.within * 128 + k
 
-abbrev pub ask_at : Stage → Work → BackAsk
+abbrev pub ask_at : JobStage → Work → BackAsk
 ask_at stage.MapPage t = page_ask t.pages
 ask_at (stage.PageReference m) t = ask.Read m (page_word t 0)
 ask_at (stage.PageSectors m gref) t = ask.Read m (page_word t 1)
@@ -90,7 +90,7 @@ rest_of [] = []
 rest_of (s ∷ rest) = rest
 
 -- a sector is begun
-abbrev pub sector_stage : Bool → Mapping → Stage
+abbrev pub sector_stage : Bool → Mapping → JobStage
 sector_stage true m = stage.ReadWord m 0
 sector_stage false m = stage.DiskRead m
 
@@ -128,12 +128,12 @@ abbrev pub counted : Work → Work
 counted t = record t { disk = t.disk + 1; moved = (t.moved + 1) % 2 ^ 32 }
 
 -- the word of this number is read or written next, through the same mapping
-abbrev pub at_word : ℕ → Stage → Stage
+abbrev pub at_word : ℕ → JobStage → JobStage
 at_word k (stage.ReadWord m before) = stage.ReadWord m k
 at_word k (stage.WriteWord m before) = stage.WriteWord m k
 at_word k s = s
 
-abbrev pub step_at : Stage → Work → BackAnswer → Work
+abbrev pub step_at : JobStage → Work → BackAnswer → Work
 step_at stage.MapPage t (Mapped m) = record t { stage = stage.PageReference m }
 step_at stage.MapPage t (MapRefused status) = record t { stage = stage.Done Error }
 step_at (stage.PageReference m) t (Word word) = record t { stage = stage.PageSectors m word }
@@ -160,12 +160,12 @@ abbrev pub step_of : Work → BackAnswer → Work
 step_of t answer = step_at t.stage t answer
 
 -- a segment is done, and its frame is unmapped now
-abbrev pub IsUnmap : Stage → Type 0
+abbrev pub IsUnmap : JobStage → Type 0
 IsUnmap (stage.Unmap m) = Unit {0}
 IsUnmap s = ⊥
 
 -- the job is done
-abbrev pub IsDoneStage : Stage → Type 0
+abbrev pub IsDoneStage : JobStage → Type 0
 IsDoneStage (stage.Done status) = Unit {0}
 IsDoneStage s = ⊥
 
@@ -198,7 +198,7 @@ response_op (Discard flag device id sector count) = 5
 response_op (Indirect op count device id sector pages) = op
 
 -- a job that moves no sectors between frames and the disk: one that flushes or trims, or is done before it began
-abbrev pub frameless : ℕ → RawRequest → ℕ → ℕ → Stage → Work
+abbrev pub frameless : ℕ → RawRequest → ℕ → ℕ → JobStage → Work
 frameless number request size sector s = record {
   number = number;
   id = id_of request;
@@ -215,7 +215,7 @@ frameless number request size sector s = record {
   stage = s;
 }
 
-abbrev pub ended : ℕ → RawRequest → ℕ → Stage → Work
+abbrev pub ended : ℕ → RawRequest → ℕ → JobStage → Work
 ended number request size s = frameless number request size 0 s
 
 -- a job that reads or writes these segments

@@ -1,17 +1,17 @@
 // The job of a request that was fetched, before its first move.
 ghost use Rattle.std.specs.Prelude.{◌≡◌, ◌≢◌, ◌<◌, ◌≤◌, ◌+◌, cond, length, take, vec_capacity};
-ghost use Rattle.back_jobs.specs.Task.{first_of, IsDoneStage, id_of, response_op, served, served_paged, moving, paging, ended, frameless};
+ghost use Rattle.back_jobs.specs.Work.{first_of, IsDoneStage, id_of, response_op, served, served_paged, moving, paging, ended, frameless};
 ghost use Rattle.back_jobs.specs.Segments.{is_paged};
 ghost use Rattle.back_jobs.specs.Sound.{AreMovable, IsFrameless};
 ghost use Rattle.segment_list.specs.declared.verdict.Plan.{Plan};
 ghost use Rattle.segment_list.specs.Verdict.{verdict_of, transfer_verdict};
 ghost use Rattle.segment_list.specs.declared.verdict.Kind.{Kind};
-ghost use Rattle.back_jobs.specs.declared.stage.Stage.TheVariants as stage;
+ghost use Rattle.back_jobs.specs.declared.stage.JobStage.TheVariants as stage;
 ghost use Rattle.blk_base.specs.declared.operation.Status.TheVariants.{Error};
 
-use super::Task;
+use super::HeldJob;
 use crate::segments::{SegmentList, SegmentVec};
-use crate::stage::Stage;
+use crate::stage::JobStage;
 use arrayvec::ArrayVec;
 use blk_base::Status;
 use blk_layout::{RawRequest, Segment};
@@ -23,7 +23,7 @@ pub(super) fn served(
     request: &RawRequest,
     info: &DiskInfo,
     spare: &mut Vec<SegmentVec>,
-) -> Task
+) -> HeldJob
     requires served { (plan : Plan) × (verdict_of request.now info.now ≡ Verdict.Serve plan) }
     requires has_spare { info.now.max_indirect ≢ 0 → 0 < length spare.old.items }
     ensures value { result ≡ served number request.now info.now.sectors }
@@ -42,9 +42,9 @@ pub(super) fn served(
                 let writes = *op != 0;
                 transfer(number, request, info, writes, *count, *sector, segments)
             } else if *op == 3 {
-                frameless(number, request, info.sectors, *sector, Stage::Flush)
+                frameless(number, request, info.sectors, *sector, JobStage::Flush)
             } else {
-                ended(number, request, info.sectors, Stage::Done(Status::Error))
+                ended(number, request, info.sectors, JobStage::Done(Status::Error))
             }
         }
         RawRequest::Discard { sector, count, .. } => frameless(
@@ -52,7 +52,7 @@ pub(super) fn served(
             request,
             info.sectors,
             *sector,
-            Stage::Trim(*count),
+            JobStage::Trim(*count),
         ),
         RawRequest::Indirect {
             op,
@@ -85,7 +85,7 @@ fn transfer(
     count: u8,
     sector: u64,
     segments: &[Segment],
-) -> Task
+) -> HeldJob
     requires long { length segments.now ≡ 11 }
     requires served { (kind : Kind) × (plan : Plan) × (transfer_verdict kind count sector segments.now info.now ≡ Verdict.Serve plan) }
     ensures { result ≡ moving number request.now info.now.sectors writes sector (take count segments.now) }
@@ -110,7 +110,7 @@ fn served_indirect(
     sector: u64,
     pages: &[u32; 8],
     spare: &mut Vec<SegmentVec>,
-) -> Task
+) -> HeldJob
     requires some { 0 < count }
     requires has_spare { 0 < length spare.old.items }
     ensures value { result ≡ served_paged number request.now size writes sector count pages.now }
@@ -118,10 +118,10 @@ fn served_indirect(
     ensures capacity { vec_capacity spare.new ≡ vec_capacity spare.old }
 {
     if count > 960 {
-        return ended(number, request, size, Stage::Done(Status::Error));
+        return ended(number, request, size, JobStage::Done(Status::Error));
     }
     match spare.pop() {
-        None => ended(number, request, size, Stage::Done(Status::Error)),
+        None => ended(number, request, size, JobStage::Done(Status::Error)),
         Some(segments) => paging(
             number, request, size, writes, sector, count, pages, segments,
         ),
@@ -138,12 +138,12 @@ fn paging(
     count: u16,
     pages: &[u32; 8],
     segments: SegmentVec,
-) -> Task
+) -> HeldJob
     requires some { 0 < count }
     requires few { count ≤ 960 }
     ensures { result ≡ paging number request.now size writes disk count pages.now }
 {
-    Task {
+    HeldJob {
         number,
         id: id_of(request),
         op: response_op(request),
@@ -156,7 +156,7 @@ fn paging(
         named: u32::from(count),
         within: 0,
         words: [0; 128],
-        stage: Stage::MapPage,
+        stage: JobStage::MapPage,
     }
 }
 
@@ -178,12 +178,12 @@ fn moving(
     writes: bool,
     disk: u64,
     segments: &[Segment],
-) -> Task
+) -> HeldJob
     requires few { length segments.now ≤ 11 }
     requires movable { AreMovable size disk segments.now }
     ensures { result ≡ moving number request.now size writes disk segments.now }
 {
-    Task {
+    HeldJob {
         number,
         id: id_of(request),
         op: response_op(request),
@@ -196,12 +196,12 @@ fn moving(
         named: 0,
         within: first_of(segments),
         words: [0; 128],
-        stage: Stage::Map,
+        stage: JobStage::Map,
     }
 }
 
 // A job that is done before it began.
-pub(super) fn ended(number: u64, request: &RawRequest, size: u64, stage: Stage) -> Task
+pub(super) fn ended(number: u64, request: &RawRequest, size: u64, stage: JobStage) -> HeldJob
     requires { IsDoneStage stage }
     ensures { result ≡ ended number request.now size stage }
 {
@@ -209,11 +209,11 @@ pub(super) fn ended(number: u64, request: &RawRequest, size: u64, stage: Stage) 
 }
 
 // A job that moves no sectors between frames and the disk.
-fn frameless(number: u64, request: &RawRequest, size: u64, disk: u64, stage: Stage) -> Task
+fn frameless(number: u64, request: &RawRequest, size: u64, disk: u64, stage: JobStage) -> HeldJob
     requires { IsFrameless stage disk size }
     ensures { result ≡ frameless number request.now size disk stage }
 {
-    Task {
+    HeldJob {
         number,
         id: id_of(request),
         op: response_op(request),
