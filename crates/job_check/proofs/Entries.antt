@@ -1,5 +1,5 @@
 -- The entries that the back read in this epoch: those that are whole, one after another, and the words of the one that is being read.
-use Rattle.std.proofs.Common.{◌≡◌, ◌≢◌, ℕ, zero, suc, ◌+◌, ◌-◌, ◌*◌, ◌<◌, ◌≤◌, ◌&&◌, Bool, true, false, cond, if◌then◌else◌, List, [], ◌∷◌, ◌++◌, length, take, drop, count_by, refl, ap, sym, ◌∙◌, subst, append-nil, length-append, arith}
+use Rattle.std.proofs.Common.{◌≡◌, ◌≢◌, ℕ, zero, suc, ◌+◌, ◌-◌, ◌*◌, ◌<◌, ◌≤◌, ◌&&◌, Bool, true, false, cond, if◌then◌else◌, List, [], ◌∷◌, ◌++◌, length, take, drop, count_by, refl, ap, sym, ◌∙◌, subst, append-nil, length-append, add-mul, arith}
 use Rattle.std.specs.Prelude.{fold, nat_lt, nat_le, Option, Some, None, is_some}
 use Rattle.std.specs.List.{filter_map, cons_option, list_any}
 use Rattle.std.specs.Option.{option_to_list}
@@ -23,6 +23,7 @@ use Rattle.report_rules.specs.Standing.{is_epoch, this_epoch}
 use Rattle.report_rules.specs.Ring.{page_made, ring_pages, ring_order, order_of, abi_after, ring_abi, shape_of, ring_shape}
 use Rattle.report_rules.specs.Stretch.{of_entries, entry_word_read, words_read}
 use Rattle.report_rules.specs.Job.{when, entry_value, entry_values, entry_of, fetched_of}
+use Rattle.report_rules.specs.Reply.{fewest_entry_words}
 use Rattle.report_rules.proofs.Prefixes.{fetched_more}
 use Rattle.memory_check.proofs.Counts.{count_cons}
 use Rattle.ring_check.specs.State.{word_on}
@@ -129,45 +130,45 @@ words_are before =
     ∙ count_same (λ (x : Line). is_some (value_on (ring_pages before) x)) (λ (x : Line). is_some (entry_word_read before x)) (this_epoch before) (λ x. sym (read_is before x)))
 
 -- ---- the entry of a job
--- how many words an entry has, if there is a layout
+-- how many words an entry has under a layout, or the fewest if there is none
 abbrev pub size_by : Option Abi → ℕ
-size_by None = 27
+size_by None = fewest_entry_words
 size_by (Some abi) = entry_words_of abi
 
-size_some : (abi : Option Abi) → 0 < size_by abi
-size_some None = omega arith
-size_some (Some X64) = omega arith
-size_some (Some X32) = omega arith
+pub least_size : (abi : Option Abi) → fewest_entry_words ≤ size_by abi
+least_size None = omega arith
+least_size (Some X64) = omega arith
+least_size (Some X32) = omega arith
 
-told_at : (f : List ℕ → RawRequest) (size at many n : ℕ) (whole entry : List ℕ) → length whole ≡ at → many ≡ at + size
-    → (if nat_le many (length (whole ++ entry)) then Some (f (take size (drop at (whole ++ entry)))) else None) ≡ (if nat_le size (length entry) then Some (f (take size entry)) else None)
-told_at f size at many n whole entry long is =
+pub size_some : (abi : Option Abi) → 0 < size_by abi
+size_some abi = let least = least_size abi in omega arith
+
+told_next : (f : List ℕ → RawRequest) (size n : ℕ) (whole entry : List ℕ) → length whole ≡ n * size
+    → (if nat_le ((n + 1) * size) (length (whole ++ entry)) then Some (f (take size (drop (n * size) (whole ++ entry)))) else None) ≡ (if nat_le size (length entry) then Some (f (take size entry)) else None)
+told_next f size n whole entry long =
     let both = length-append whole entry in
-    let tests : nat_le many (length (whole ++ entry)) ≡ nat_le size (length entry) = grind (arith, nat_tests) in
-    let words : drop at (whole ++ entry) ≡ entry = ap (λ (m : ℕ). drop m (whole ++ entry)) (sym long) ∙ drop-append_seam whole entry in
+    let more = add-mul n 1 size in
+    let tests : nat_le ((n + 1) * size) (length (whole ++ entry)) ≡ nat_le size (length entry) = grind (arith, nat_tests) in
+    let words : drop (n * size) (whole ++ entry) ≡ entry = ap (λ (m : ℕ). drop m (whole ++ entry)) (sym long) ∙ drop-append_seam whole entry in
     rw (tests, words) refl
 
 -- the entry that is being read is that of the next job, once it is whole
 pub entry_told : (abi : Abi) (whole entry : List ℕ) (n : ℕ) → length whole ≡ n * entry_words_of abi → entry_of abi (whole ++ entry) (n + 1) ≡ entry_of abi entry 1
-entry_told X64 whole entry n long =
+entry_told abi whole entry n long =
     let some : nat_lt 0 (n + 1) ≡ true = grind (arith, nat_tests) in
     let before : n + 1 - 1 ≡ n = omega arith in
-    rw (some, before) (told_at (request_of X64) 28 (n * 28) ((n + 1) * 28) n whole entry long (omega arith))
-entry_told X32 whole entry n long =
-    let some : nat_lt 0 (n + 1) ≡ true = grind (arith, nat_tests) in
-    let before : n + 1 - 1 ≡ n = omega arith in
-    rw (some, before) (told_at (request_of X32) 27 (n * 27) ((n + 1) * 27) n whole entry long (omega arith))
+    let one : 1 * entry_words_of abi ≡ entry_words_of abi = omega arith in
+    let none : 0 * entry_words_of abi ≡ 0 = omega arith in
+    rw (some, before, one, none) (told_next (request_of abi) (entry_words_of abi) n whole entry long)
 
 -- and no later one is whole
 pub none_told : (abi : Abi) (whole entry : List ℕ) (n k : ℕ) → length whole ≡ n * entry_words_of abi → length entry ≤ entry_words_of abi → n + 1 < k → entry_of abi (whole ++ entry) k ≡ None
-none_told X64 whole entry n k long short later =
+none_told abi whole entry n k long short later =
     let both = length-append whole entry in
-    let some : nat_le (k * 28) (length (whole ++ entry)) ≡ false = grind (arith, nat_tests) in
-    let first : nat_lt 0 k ≡ true = grind (arith, nat_tests) in
-    rw (first, some) refl
-none_told X32 whole entry n k long short later =
-    let both = length-append whole entry in
-    let some : nat_le (k * 27) (length (whole ++ entry)) ≡ false = grind (arith, nat_tests) in
+    let size = size_some (Some abi) in
+    let least = mul-le (n + 2) (entry_words_of abi) k (entry_words_of abi) (omega arith) (omega arith) in
+    let more = add-mul n 2 (entry_words_of abi) in
+    let some : nat_le (k * entry_words_of abi) (length (whole ++ entry)) ≡ false = grind (arith, nat_tests) in
     let first : nat_lt 0 k ≡ true = grind (arith, nat_tests) in
     rw (first, some) refl
 

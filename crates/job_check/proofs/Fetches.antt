@@ -1,10 +1,9 @@
 -- A word of an entry that the back reads: with the last one its job is fetched, and no other job is.
-use Rattle.std.proofs.Common.{◌≡◌, ℕ, ◌+◌, ◌*◌, ◌<◌, ◌≤◌, ◌==◌, ◌&&◌, Bool, true, false, if◌then◌else◌, List, [], ◌∷◌, ◌++◌, length, refl, ap, sym, ◌∙◌, subst, append_assoc, append-nil, length-append, arith}
+use Rattle.std.proofs.Common.{◌≡◌, ℕ, ◌+◌, ◌*◌, ◌<◌, ◌≤◌, ◌==◌, ◌&&◌, Bool, true, false, if◌then◌else◌, List, [], ◌∷◌, ◌++◌, length, refl, ap, sym, ◌∙◌, subst, append_assoc, append-nil, length-append, add-mul, arith}
 use Rattle.std.specs.Prelude.{nat_lt, nat_le, Option, Some, None, is_some, option_map}
 use Rattle.std.specs.Option.{option_to_list}
 use Rattle.std.proofs.lemmas.Bool.Decides.{nat_tests}
 use Rattle.blk_base.specs.declared.operation.Abi.{Abi}
-use Rattle.blk_base.specs.declared.operation.Abi.TheVariants.{X64, X32}
 use Rattle.blk_layout.specs.declared.request.RawRequest.{RawRequest}
 use Rattle.blk_layout.specs.Entry.{request_of}
 use Rattle.ring_words.specs.Shape.{Shape, entry_words_of}
@@ -17,7 +16,7 @@ use Rattle.report_rules.specs.Stretch.{entry_word_read}
 use Rattle.report_rules.specs.Job.{entry_values, entry_of, words_of_job, request_in, fetched_with, told_first, fetched_of}
 use Rattle.report_rules.proofs.Prefixes.{fetched_more}
 use Rattle.ring_check.proofs.Telling.{IsNew}
-use Rattle.job_check.proofs.Entries.{read_is, abi_more, entry_more, size_by, entry_told, none_told, IsFetching, IsRead, shape_after, shape_abi}
+use Rattle.job_check.proofs.Entries.{read_is, abi_more, entry_more, size_by, size_some, entry_told, none_told, IsFetching, IsRead, shape_after, shape_abi}
 
 read_more : (before : List Line) (line : Line) (value : ℕ) (shape : Shape) → IsRead before line value shape → entry_values (before ++ line ∷ []) ≡ entry_values before ++ value ∷ []
 read_more before line value shape r =
@@ -41,26 +40,16 @@ size_after before line value shape r = ap size_by (abi_more before line r.same �
 
 -- what the entry that is being read comes to
 part_of : (abi : Abi) (entry : List ℕ) → entry_of abi entry 1 ≡ None → length entry < entry_words_of abi
-part_of X64 entry e = by_test (nat_le 28 (length entry)) refl e
+part_of abi entry e = by_test (nat_le (1 * entry_words_of abi) (length entry)) refl e
   where
-    by_test : (b : Bool) → nat_le 28 (length entry) ≡ b → (if b then Some (request_of X64 (words_of_job entry 28 1)) else None) ≡ None → length entry < 28
-    by_test true t h = absurd (cc)
-    by_test false t h = grind (arith, nat_tests)
-part_of X32 entry e = by_test (nat_le 27 (length entry)) refl e
-  where
-    by_test : (b : Bool) → nat_le 27 (length entry) ≡ b → (if b then Some (request_of X32 (words_of_job entry 27 1)) else None) ≡ None → length entry < 27
+    by_test : (b : Bool) → nat_le (1 * entry_words_of abi) (length entry) ≡ b → (if b then Some (request_of abi (words_of_job entry (entry_words_of abi) 1)) else None) ≡ None → length entry < entry_words_of abi
     by_test true t h = absurd (cc)
     by_test false t h = grind (arith, nat_tests)
 
 whole_of : (abi : Abi) (entry : List ℕ) (r : RawRequest) → entry_of abi entry 1 ≡ Some r → entry_words_of abi ≤ length entry
-whole_of X64 entry r e = by_test (nat_le 28 (length entry)) refl e
+whole_of abi entry r e = by_test (nat_le (1 * entry_words_of abi) (length entry)) refl e
   where
-    by_test : (b : Bool) → nat_le 28 (length entry) ≡ b → (if b then Some (request_of X64 (words_of_job entry 28 1)) else None) ≡ Some r → 28 ≤ length entry
-    by_test true t h = grind (arith, nat_tests)
-    by_test false t h = absurd (cc)
-whole_of X32 entry r e = by_test (nat_le 27 (length entry)) refl e
-  where
-    by_test : (b : Bool) → nat_le 27 (length entry) ≡ b → (if b then Some (request_of X32 (words_of_job entry 27 1)) else None) ≡ Some r → 27 ≤ length entry
+    by_test : (b : Bool) → nat_le (1 * entry_words_of abi) (length entry) ≡ b → (if b then Some (request_of abi (words_of_job entry (entry_words_of abi) 1)) else None) ≡ Some r → entry_words_of abi ≤ length entry
     by_test true t h = grind (arith, nat_tests)
     by_test false t h = absurd (cc)
 
@@ -166,13 +155,8 @@ fetching_whole before line value fetched entry shape request is r some = by_whol
     old : size_by (ring_abi before) ≡ entry_words_of shape.abi
     old = size_of_shape before shape r.shaped
 
-    one_more : (abi : Abi) (n m l : ℕ) → l ≡ n * entry_words_of abi + m → m ≡ entry_words_of abi → l ≡ (n + 1) * entry_words_of abi
-    one_more X64 n m l e f = omega arith
-    one_more X32 n m l e f = omega arith
-
-    some_size : (abi : Abi) → 0 < entry_words_of abi
-    some_size X64 = omega arith
-    some_size X32 = omega arith
+    one_more : (size n m l : ℕ) → l ≡ n * size + m → m ≡ size → l ≡ (n + 1) * size
+    one_more size n m l e f = let more = add-mul n 1 size in omega arith
 
     by_test : (k : ℕ) (b : Bool) → (k == fetched + 1) ≡ b → is_some (fetched_of (before ++ line ∷ []) k) ≡ (nat_lt 0 k && nat_le k (fetched + 1))
     by_test k true t =
@@ -196,7 +180,7 @@ fetching_whole before line value fetched entry shape request is r some = by_whol
         record {
           whole = whole ++ (entry ++ value ∷ []);
           values = read_more before line value shape r ∙ (ap (λ (vs : List ℕ). vs ++ value ∷ []) values ∙ (append_assoc whole entry (value ∷ []) ∙ sym (append-nil (whole ++ (entry ++ value ∷ [])))));
-          size = one_more shape.abi fetched (length (entry ++ value ∷ [])) (length (whole ++ (entry ++ value ∷ []))) (many ∙ ap (λ (n : ℕ). n + length (entry ++ value ∷ [])) first) full ∙ ap (λ (n : ℕ). (fetched + 1) * n) (sym size);
-          part = subst (λ (n : ℕ). 0 < n) (sym size) (some_size shape.abi);
+          size = one_more (entry_words_of shape.abi) fetched (length (entry ++ value ∷ [])) (length (whole ++ (entry ++ value ∷ []))) (many ∙ ap (λ (n : ℕ). n + length (entry ++ value ∷ [])) first) full ∙ ap (λ (n : ℕ). (fetched + 1) * n) (sym size);
+          part = size_some (ring_abi (before ++ line ∷ []));
           each = λ k. by_test k (k == fetched + 1) refl;
         }

@@ -5,20 +5,18 @@ use Rattle.std.specs.List.{filter_map, cons_option, list_any}
 use Rattle.std.proofs.lemmas.Bool.Decides.{nat_tests}
 use Rattle.std.proofs.lemmas.List.{reverse-reverse}
 use Rattle.std.proofs.lemmas.Nat.{mul-le}
-use Rattle.blk_base.specs.declared.operation.Abi.{Abi}
-use Rattle.blk_base.specs.declared.operation.Abi.TheVariants.{X64, X32}
 use Rattle.schedule_text.specs.declared.line.Line.{Line}
 use Rattle.report_rules.specs.Standing.{this_epoch}
 use Rattle.report_rules.specs.Ring.{ring_pages, ring_abi}
 use Rattle.report_rules.specs.Job.{is_job, fetched_of, entry_values}
-use Rattle.report_rules.specs.Reply.{value_written, back_before, lines_before, response_due, most_jobs}
+use Rattle.report_rules.specs.Reply.{value_written, back_before, lines_before, response_due, fewest_entry_words, most_jobs}
 use Rattle.report_rules.proofs.Prefixes.{none_passed}
 use Rattle.ring_check.proofs.Telling.{touches}
 use Rattle.job_check.specs.Open.{Open, due, end_told, is_early}
 use Rattle.job_check.specs.Replies.{Replies}
 use Rattle.job_check.specs.State.{job_at}
 use Rattle.job_check.proofs.Telling.{last_mover}
-use Rattle.job_check.proofs.Entries.{map_same, size_by, IsFetching}
+use Rattle.job_check.proofs.Entries.{map_same, size_by, least_size, IsFetching}
 use Rattle.job_check.proofs.Written.{written_on, written_is}
 use Rattle.job_check.proofs.NextJobs.{NextJob, closed_still, carried, goes_on, fails, begins, ends}
 use Rattle.job_check.proofs.NextLines.{AllNext}
@@ -67,17 +65,12 @@ lines_are before r jobs n b long =
     ∙ (ap reverse (passed before b.later b.first (reverse b.early) wrote) ∙ reverse-reverse b.early))
 
 -- ---- no more jobs were fetched than whole entries were read
-least_size : (abi : Option Abi) → 27 ≤ size_by abi
-least_size None = omega arith
-least_size (Some X64) = omega arith
-least_size (Some X32) = omega arith
-
 pub most_of : (before : List Line) (fetched : ℕ) (entry : List ℕ) (k : ℕ) → IsFetching before fetched entry → is_some (fetched_of before k) ≡ true → (1 ≤ k) × (k ≤ most_jobs before)
 most_of before fetched entry k is some =
     let within : (nat_lt 0 k && nat_le k fetched) ≡ true = sym (is.each k) ∙ some in
     let both = length-append is.whole entry in
     let long : length (entry_values before) ≡ length is.whole + length entry = ap length is.values ∙ both in
-    let least = mul-le k 27 fetched (size_by (ring_abi before)) (most within) (least_size (ring_abi before)) in
+    let least = mul-le k fewest_entry_words fetched (size_by (ring_abi before)) (most within) (least_size (ring_abi before)) in
     let size = is.size in
     (one within, omega arith)
   where

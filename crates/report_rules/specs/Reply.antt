@@ -1,7 +1,8 @@
 -- How the back replies (`io/ring.h`, RING_GET_RESPONSE and RING_PUSH_RESPONSES; `io/blkif.h`, struct blkif_response): the three words of a job's response in the slot of its own producer, ascending, then the producer raised by one, and the line that tells of the reply. There is a job for each reply, no two the same, that was at its end before the first word and whose response the words are; at the line that tells of the reply nothing that the job mapped stands but what may be kept. The back writes nothing else into the ring but req_event.
 use Rattle.std.specs.Prelude.{◌≡◌, ◌≢◌, ℕ, zero, suc, ◌+◌, ◌-◌, ◌*◌, ◌/◌, ◌%◌, ◌^◌, Bool, true, false, not, ◌&&◌, ◌||◌, ◌==◌, nat_lt, nat_le, if◌then◌else◌, List, [], ◌∷◌, ◌++◌, reverse, length, slice_get, Option, Some, None, is_some, unwrap_or, option_to_list, IfSome, IsSomeAnd, IsTrue, Result, Ok, Err}
 use Rattle.std.specs.List.{filter_map, list_any}
-use Rattle.ring_words.specs.Shape.{Shape, ring_word_of}
+use Rattle.ring_words.specs.Shape.{Shape, entry_words_of, ring_word_of}
+use Rattle.blk_base.specs.declared.operation.Abi.TheVariants.{X32}
 use Rattle.blk_base.specs.declared.operation.Status.{Status}
 use Rattle.blk_base.specs.declared.operation.Status.TheVariants as status
 use Rattle.blk_base.specs.declared.moves.BackMover.TheVariants as back
@@ -107,9 +108,13 @@ is_one_of k jobs = list_any (λ (job : ℕ). job == k) jobs
 abbrev pub may_answer : List Line → List ℕ → ℕ → List ℕ → ℕ → Bool
 may_answer early answered last row k = not (is_one_of k answered) && is_like last row (response_due early k)
 
--- no more jobs than that were fetched: an entry has 27 words or more
+-- the fewest words that an entry has under any layout
+abbrev pub fewest_entry_words : ℕ
+fewest_entry_words = entry_words_of X32
+
+-- no more jobs than that were fetched
 abbrev pub most_jobs : List Line → ℕ
-most_jobs before = length (entry_values before) / 27
+most_jobs before = length (entry_values before) / fewest_entry_words
 
 -- the job of a row that was pushed: the lowest that it may answer and that unmapped what it mapped
 abbrev pub job_for : List Line → List Line → List ℕ → Option (List ℕ) → Option ℕ

@@ -6,6 +6,7 @@ ghost use Rattle.report_rules.specs.Job.{words_of_job, is_fetched, entry_of, id_
 
 use blk_base::Abi;
 use blk_layout::{RawRequest, read_request};
+use ring_words::RingShape;
 use segment_list::DiskInfo;
 
 /// What was fetched for a job: its request, and what held at the end of the fetch, the disk as it
@@ -22,10 +23,7 @@ fn entry_words(abi: Abi) -> usize
     ensures value { result ≡ entry_words_of abi }
     ensures end { result ≡ (places_of abi).end }
 {
-    match abi {
-        Abi::X64 => 28,
-        Abi::X32 => 27,
-    }
+    RingShape::of(abi, 0).entry_words() as usize
 }
 
 /// The request of job `k`, where all words of its entry are among these.

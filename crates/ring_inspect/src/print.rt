@@ -13,7 +13,7 @@ use crate::stop::InspectStop;
 use arrayvec::ArrayVec;
 use blk_base::{Abi, Idx};
 use blk_io::{Failed, Sink, Source};
-use blk_layout::{RawRequest, Segment, read_request};
+use blk_layout::{MOST_ENTRY_WORDS, RawRequest, Segment, read_request};
 use byteorder::{ByteOrder, LittleEndian};
 use ring_words::RingShape;
 use std::alloc::Global;
@@ -164,8 +164,8 @@ fn request(abi: Abi, shape: &RingShape, bytes: &[u8], index: u32) -> RawRequest
     read_request(abi, words.as_slice())
 }
 
-fn words(bytes: &[u8], at: usize, count: u32) -> ArrayVec<u32, 28>
-    requires count { count ≤ 28 }
+fn words(bytes: &[u8], at: usize, count: u32) -> ArrayVec<u32, MOST_ENTRY_WORDS>
+    requires count { count ≤ entry_words_of Abi.X64 }
     requires within { 4 * (at + count) ≤ length bytes.now }
     ensures { result.items ≡ words_from bytes.now at count }
 {

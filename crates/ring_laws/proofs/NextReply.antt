@@ -12,7 +12,7 @@ use Rattle.schedule_text.specs.declared.line.Line.{Line}
 use Rattle.report_rules.specs.Job.{entry_values}
 use Rattle.report_rules.specs.Standing.{this_epoch}
 use Rattle.report_rules.specs.Made.{left_to}
-use Rattle.report_rules.specs.Reply.{response_due, is_one_of, most_jobs}
+use Rattle.report_rules.specs.Reply.{response_due, is_one_of, fewest_entry_words, most_jobs}
 use Rattle.back_jobs.specs.Work.{Work}
 use Rattle.back_jobs.proofs.Hands.{IsAmong, place_among}
 use Rattle.blk_back.specs.View.{View}
@@ -47,7 +47,7 @@ over_good terms before values words k r same are is o =
     let read = o.read in
     record { due = due terms before values k r same are o ∙ ap (λ (ws : List ℕ). Some ws) is; left = o.left; first = o.first; last = enough terms.abi (length (entry_values before)) k (omega arith) }
   where
-    enough : (abi : Abi) (n j : ℕ) → entry_words_of abi * j ≤ n → j ≤ n / 27
+    enough : (abi : Abi) (n j : ℕ) → entry_words_of abi * j ≤ n → j ≤ n / fewest_entry_words
     enough X64 n j h = omega arith
     enough X32 n j h = omega arith
 
