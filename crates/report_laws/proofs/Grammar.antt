@@ -1,8 +1,7 @@
 -- Whatever happens, each line is one of the grammar.
-use Rattle.std.proofs.Common.{◌≡◌, ℕ, ◌*◌, ◌^◌, ◌<◌, ◌⊎◌, inl, inr, true, List, [], ◌∷◌, ◌++◌, refl, sym, ap, ◌∙◌, arith}
-use Rattle.std.specs.Prelude.{Option, Some, None, nat_lt, ◌&&◌}
+use Rattle.std.proofs.Common.{◌≡◌, ℕ, ◌*◌, ◌^◌, ◌⊎◌, inl, inr, List, [], ◌∷◌, ◌++◌, refl, sym, ap, ◌∙◌, arith}
+use Rattle.std.specs.Prelude.{Option, Some, None}
 use Rattle.std.proofs.lemmas.Option.{none-some}
-use Rattle.std.proofs.lemmas.Bool.Decides.{nat_tests}
 use Rattle.std.proofs.lemmas.List.Elements.{All-from_recursion}
 use Rattle.blk_base.specs.Options.{Options}
 use Rattle.blk_base.specs.declared.ask.BackAsk.{BackAsk}
@@ -33,9 +32,9 @@ use Rattle.split_model.specs.World.{World, start_of}
 use Rattle.split_model.specs.Safe.{IsSafe}
 use Rattle.split_model.specs.Shown.{back_lines, halt_line, halt_lines}
 use Rattle.split_model.proofs.Showing.{IsFound, lines_are}
-use Rattle.split_model.specs.Happening.{Happening, FrontMoves, BackMoves, JobMoves, Negotiates, FrontEnters, BackAttaches, BackHalts, Submits, Pokes, OverwritesKey, Suspends, Dumps, Looks, Settles, happens, lines_at, lines_of, front_after, front_shows, back_after, back_shows, job_after, job_shows, front_turn, back_turn, job_turn}
+use Rattle.split_model.specs.Happening.{Happening, FrontMoves, BackMoves, JobMoves, Negotiates, FrontEnters, BackAttaches, BackHalts, Submits, Pokes, OverwritesKey, Suspends, Dumps, happens, lines_at, lines_of, front_after, front_shows, back_after, back_shows, job_after, job_shows, front_turn, back_turn, job_turn}
 use Rattle.split_model.specs.Report.{report_of, ended_report_of}
-use Rattle.split_model.proofs.Overwriting.{poke_cases, overwriting_cases}
+use Rattle.split_model.proofs.Overwriting.{within_guest}
 use Rattle.split_model.proofs.Attaching.{attach_cases}
 use Rattle.split_model.proofs.Suspending.{suspend_cases, begun_back, back_cases}
 use Rattle.split_model.proofs.Safe.{safe_start, safe_happens}
@@ -74,14 +73,14 @@ record IsWell (before : List Line) (w : World) : Type 0 where
   numbered : IsNumbered w
 
 -- what it shows and leaves
-record ShowsGood (before ls : List Line) (w : World) : Type 0 where
+record ShowsGood (ls : List Line) (w : World) : Type 0 where
   good_lines : AreGood ls
   numbered : IsNumbered w
 
 -- it changes the front, or memory and keys and channels, and nothing else
-stays : (before ls : List Line) (w : World) (f : front.View) (h : Hypervisor) → IsNumbered w → front_numbers.IsFit f → AreWords h.pages → AreGood ls
-    → ShowsGood before ls (record { front = f; back = w.back; under = h })
-stays before ls w f h is fits words shown = record {
+stays : (ls : List Line) (w : World) (f : front.View) (h : Hypervisor) → IsNumbered w → front_numbers.IsFit f → AreWords h.pages → AreGood ls
+    → ShowsGood ls (record { front = f; back = w.back; under = h })
+stays ls w f h is fits words shown = record {
   good_lines = shown;
   numbered = record {
     words = words;
@@ -90,23 +89,23 @@ stays before ls w f h is fits words shown = record {
   };
 }
 
-front_good : (before : List Line) (w : World) (act : Option FrontAct) → IsWell before w → IsPermitted w FrontMoves → front_turn w ≡ act → ShowsGood before (front_shows w act) (front_after w act)
-front_good before w None is within e = let n = is.numbered in stays before [] w w.front w.under n n.front n.words tt
+front_good : (before : List Line) (w : World) (act : Option FrontAct) → IsWell before w → IsPermitted w FrontMoves → front_turn w ≡ act → ShowsGood (front_shows w act) (front_after w act)
+front_good before w None is within e = let n = is.numbered in stays [] w w.front w.under n n.front n.words tt
 front_good before w (Some a) is within e =
     let n = is.numbered in
     let asks : FrontFits w.under (front_ask.ask_of w.front) = front_asks w.under w.front is.orderly.front.shared is.safe.ported within n.front in
     let fits : ActFits a.shown a.under.pages = front_act_fits w.under (front_ask.ask_of w.front) a n.words within asks is.spelled e in
     let v : front_numbers.IsFit (front_step.step_of w.front a.answer) = front_numbers.front_fits w.front a.answer is.orderly.front.shared n.front (front_told_fits w.under (front_ask.ask_of w.front) a n.words asks e) in
     let f : front.View = front_step.step_of w.front a.answer in
-    stays before (front_shows w (Some a)) w (record f { told = None }) a.under n (v.0, v.1, tt) fits.words (fits.line, front_numbers.front_good f.told v.2)
+    stays (front_shows w (Some a)) w (record f { told = None }) a.under n (v.0, v.1, tt) fits.words (fits.line, front_numbers.front_good f.told v.2)
 
 -- a move of the back or of a job shows itself
-moved : (before more : List Line) (w : World) (a : BackAct) (b : back.View) → IsNumbered w → ActFits a.shown a.under.pages → back_numbers.IsFit most b → AreGood more
-    → ShowsGood before (lines.Move a.shown ∷ more) (record { front = w.front; back = record b { told = None }; under = a.under })
-moved before more w a b is fits v shown = record { good_lines = (fits.line, shown); numbered = record { words = fits.words; front = is.front; back = (v.0, v.1, tt) } }
+moved : (more : List Line) (w : World) (a : BackAct) (b : back.View) → IsNumbered w → ActFits a.shown a.under.pages → back_numbers.IsFit most b → AreGood more
+    → ShowsGood (lines.Move a.shown ∷ more) (record { front = w.front; back = record b { told = None }; under = a.under })
+moved more w a b is fits v shown = record { good_lines = (fits.line, shown); numbered = record { words = fits.words; front = is.front; back = (v.0, v.1, tt) } }
 
-back_good : (before : List Line) (w : World) (act : Option BackAct) → IsWell before w → IsPermitted w BackMoves → back_turn w Took ≡ act → HasNumbers w → ShowsGood before (back_shows w act) (back_after w act)
-back_good before w None is within e numbers = let n = is.numbered in stays before [] w w.front w.under n n.front n.words tt
+back_good : (before : List Line) (w : World) (act : Option BackAct) → IsWell before w → IsPermitted w BackMoves → back_turn w Took ≡ act → HasNumbers w → ShowsGood (back_shows w act) (back_after w act)
+back_good before w None is within e numbers = let n = is.numbered in stays [] w w.front w.under n n.front n.words tt
 back_good before w (Some a) is within e numbers =
     let n = is.numbered in
     let b : back.View = back_step.step_of w.back a.answer in
@@ -116,11 +115,11 @@ back_good before w (Some a) is within e numbers =
     let told = back_told_fits w.under back_mover.Back (back_ask.ask_of w.back) Took a n.words tt asks e in
     let last = numbers.1 in
     let v : back_numbers.IsFit most b = back_numbers.back_fits most w.back a.answer (omega arith) (omega arith) n.back told in
-    moved before (back_lines b.told a.answer ++ halt_lines w.back.halted b.halted) w a b n fits v
+    moved (back_lines b.told a.answer ++ halt_lines w.back.halted b.halted) w a b n fits v
     (both_good (back_lines b.told a.answer) (halt_lines w.back.halted b.halted) (back_numbers.back_good b.told a.answer v.2 told) (back_numbers.halt_good w.back.halted b.halted v.0.why))
 
-job_good : (before : List Line) (w : World) (number : ℕ) (o : Outcome) (act : Option BackAct) → IsWell before w → IsGiven o → IsPermitted w (JobMoves number o) → job_turn w number o ≡ act → HasNumbers w → ShowsGood before (job_shows w number act) (job_after w number act)
-job_good before w number o None is given within e numbers = let n = is.numbered in stays before [] w w.front w.under n n.front n.words tt
+job_good : (before : List Line) (w : World) (number : ℕ) (o : Outcome) (act : Option BackAct) → IsWell before w → IsGiven o → IsPermitted w (JobMoves number o) → job_turn w number o ≡ act → HasNumbers w → ShowsGood (job_shows w number act) (job_after w number act)
+job_good before w number o None is given within e numbers = let n = is.numbered in stays [] w w.front w.under n n.front n.words tt
 job_good before w number o (Some a) is given within e numbers = by_asks (job_asks most w.back number n.back)
   where
     n : IsNumbered w
@@ -132,13 +131,13 @@ job_good before w number o (Some a) is given within e numbers = by_asks (job_ask
     b : back.View
     b = back_step.job_step w.back number a.answer
 
-    by_asks : (x ≡ Wait) ⊎ JobAsks number x → ShowsGood before (job_shows w number (Some a)) (job_after w number (Some a))
+    by_asks : (x ≡ Wait) ⊎ JobAsks number x → ShowsGood (job_shows w number (Some a)) (job_after w number (Some a))
     by_asks (inl waits) = absurd (none-some a (sym (ap (λ (y : BackAsk). back_act w.under (back_mover.Job number) y o) waits) ∙ e))
     by_asks (inr asks) =
         let fits : ActFits a.shown a.under.pages = back_act_fits w.under (back_mover.Job number) x o a (hands_of w.back) n.words is.follows.tells.grantable is.safe.held numbers.0 asks.mover within asks.fits is.spelled e in
         let told = back_told_fits w.under (back_mover.Job number) x o a n.words given asks.fits e in
         let v : back_numbers.IsFit most b = back_numbers.job_fits most w.back number a.answer n.back told in
-        moved before (back_lines b.told a.answer) w a b n fits v (back_numbers.back_good b.told a.answer v.2 told)
+        moved (back_lines b.told a.answer) w a b n fits v (back_numbers.back_good b.told a.answer v.2 told)
 
 -- what is found is a line of the grammar
 found_good : (line : Line) → IsFound line → IsInRange line
@@ -147,56 +146,34 @@ found_good lines.Busy found = good lines.Busy tt refl
 found_good lines.Unsettled found = good lines.Unsettled tt refl
 found_good line found = absurd found
 
--- a word that a hostile hand overwrites is one of the guest's
-is_guests : (frame word : ℕ) → frame < 1024 → word < 1024 → (nat_lt frame 1024 && nat_lt word 1024) ≡ true
-is_guests frame word framed worded =
-    let low : nat_lt frame 1024 ≡ true = grind (arith, nat_tests) in
-    let near : nat_lt word 1024 ≡ true = grind (arith, nat_tests) in
-    rw (low, near) refl
-
-poke_good : (before : List Line) (w : World) (frame word value : ℕ) → value < 2 ^ 32 → IsNumbered w → ShowsGood before (lines_at w (Pokes frame word value)) (happens w (Pokes frame word value))
-poke_good before w frame word value fits n =
-    poke_cases (λ under shown. ShowsGood before shown (record { front = w.front; back = w.back; under = under })) w.under frame word value
-    (λ framed worded.
-    stays before (lines.Poke frame word value ∷ []) w w.front _ n n.front (write_fits w.under.pages frame word value n.words fits)
-    (good (lines.Poke frame word value) (omega arith, omega arith, fits) (is_guests frame word framed worded), tt))
-    (stays before [] w w.front w.under n n.front n.words tt)
-
--- a key that it overwrites is one of the grammar
-overwritten_good : (before : List Line) (w : World) (name text : List ℕ) → IsNumbered w → ShowsGood before (lines_at w (OverwritesKey name text)) (happens w (OverwritesKey name text))
-overwritten_good before w name text n =
-    overwriting_cases (λ under shown. ShowsGood before shown (record { front = w.front; back = w.back; under = under })) w.under name text
-    (λ allowed. stays before (lines.Key name text ∷ []) w w.front _ n n.front n.words (good (lines.Key name text) tt allowed, tt))
-    (stays before [] w w.front w.under n n.front n.words tt)
-
 -- its negotiation changes the back
-back_stays : (before ls : List Line) (w : World) (b : back.View) → IsNumbered w → back_numbers.IsFit most b → AreGood ls → ShowsGood before ls (record { front = w.front; back = b; under = w.under })
-back_stays before ls w b n fits shown = record {
+back_stays : (ls : List Line) (w : World) (b : back.View) → IsNumbered w → back_numbers.IsFit most b → AreGood ls → ShowsGood ls (record { front = w.front; back = b; under = w.under })
+back_stays ls w b n fits shown = record {
   good_lines = shown;
   numbered = record { words = n.words; front = n.front; back = fits };
 }
 
 -- it takes the terms of its front
-attached_good : (before : List Line) (w : World) (shape : Shape) (grefs : List ℕ) (port : ℕ) → AreSaid grefs port → AreSpelled w.under.keys → IsNumbered w
-    → ShowsGood before (lines_at w (BackAttaches shape grefs port)) (happens w (BackAttaches shape grefs port))
-attached_good before w shape grefs port said spelled n =
-    attach_cases (λ b shown. ShowsGood before shown (record { front = w.front; back = b; under = w.under })) w shape grefs port
-    (λ may named says. back_stays before _ w _ n (back_numbers.attached_fits most shape grefs port w.back said n.back) (layout_good w spelled, tt)) (back_stays before [] w w.back n n.back tt)
+attached_good : (w : World) (shape : Shape) (grefs : List ℕ) (port : ℕ) → AreSaid grefs port → AreSpelled w.under.keys → IsNumbered w
+    → ShowsGood (lines_at w (BackAttaches shape grefs port)) (happens w (BackAttaches shape grefs port))
+attached_good w shape grefs port said spelled n =
+    attach_cases (λ b shown. ShowsGood shown (record { front = w.front; back = b; under = w.under })) w shape grefs port
+    (λ may named says. back_stays _ w _ n (back_numbers.attached_fits most shape grefs port w.back said n.back) (layout_good w spelled, tt)) (back_stays [] w w.back n n.back tt)
 
 -- or halts
-halted_good : (before : List Line) (w : World) (why : Halt) → IsSaid why → IsNumbered w → ShowsGood before (lines_at w (BackHalts why)) (happens w (BackHalts why))
-halted_good before w why said n =
+halted_good : (w : World) (why : Halt) → IsSaid why → IsNumbered w → ShowsGood (lines_at w (BackHalts why)) (happens w (BackHalts why))
+halted_good w why said n =
     let b : back.View = back_step.halts why w.back in
     let fits : back_numbers.IsFit most b = back_numbers.halts_fits most why w.back said n.back in
-    back_stays before (halt_lines w.back.halted b.halted) w b n fits (back_numbers.halt_good w.back.halted b.halted fits.0.why)
+    back_stays (halt_lines w.back.halted b.halted) w b n fits (back_numbers.halt_good w.back.halted b.halted fits.0.why)
 
 -- the domain is suspended: its line is one of the grammar, and a new back begins, or one whose front is gone
 gone_said : IsSaid (halt.Gone 6)
 gone_said = good (lines.Halt (halt_line (halt.Gone 6))) (omega arith) refl
 
-suspended_good : (before : List Line) (w : World) → IsNumbered w → ShowsGood before (lines_at w Suspends) (happens w Suspends)
-suspended_good before w n =
-    suspend_cases (λ v shown. ShowsGood before shown v) w
+suspended_good : (w : World) → IsNumbered w → ShowsGood (lines_at w Suspends) (happens w Suspends)
+suspended_good w n =
+    suspend_cases (λ v shown. ShowsGood shown v) w
     (λ may. record {
       good_lines = (good lines.Epoch tt refl, tt);
       numbered = record {
@@ -204,7 +181,7 @@ suspended_good before w n =
         front = front_numbers.suspended_fits w.front n.front;
         back = back_cases (back_numbers.IsFit most) w new (back_numbers.halts_fits most (halt.Gone 6) (begun_back w) gone_said new);
       };
-    }) (stays before [] w w.front w.under n n.front n.words tt)
+    }) (stays [] w w.front w.under n n.front n.words tt)
   where
     info : DiskInfo
     info = let b : back.View = w.back in b.jobs.info
@@ -218,23 +195,24 @@ dump_good w few words =
     dump_words_are IsInRange w.under.pages 0 (1024 * 2 ^ w.front.shape.order) (omega (arith, few))
     (λ frame word framed worded. good (lines.Word frame word (word_of w.under.pages frame word)) (omega arith, omega arith, word_fits w.under.pages frame word words) refl)
 
-one_good : (before : List Line) (w : World) (h : Happening) → IsWell before w → IsPossible w h → HasNumbers w → ShowsGood before (lines_at w h) (happens w h)
+-- what shows nothing but what a look finds, and leaves both ends and the memory, has no case
+one_good : (before : List Line) (w : World) (h : Happening) → IsWell before w → IsPossible w h → HasNumbers w → ShowsGood (lines_at w h) (happens w h)
 one_good before w FrontMoves is may short = front_good before w (front_turn w) is (within_here w FrontMoves is.orderly) refl
 one_good before w BackMoves is may short = back_good before w (back_turn w Took) is (within_here w BackMoves is.orderly) refl short
 one_good before w (JobMoves number outcome) is may short = job_good before w number outcome (job_turn w number outcome) is may (within_here w (JobMoves number outcome) is.orderly) refl short
-one_good before w (Negotiates at move) is may short = let n = is.numbered in stays before _ w w.front _ n n.front n.words (keys_good w at move may is.spelled)
-one_good before w (FrontEnters state) is may short = let n = is.numbered in let entered = front_numbers.enters_fits w state w.front may n.front in stays before _ w (enters state w.front) w.under n entered.0 n.words entered.1
-one_good before w (BackAttaches shape grefs port) is may short = attached_good before w shape grefs port may is.spelled is.numbered
-one_good before w (BackHalts why) is may short = halted_good before w why may is.numbered
+one_good before w (Negotiates at move) is may short = let n = is.numbered in stays _ w w.front _ n n.front n.words (keys_good w at move may is.spelled)
+one_good before w (FrontEnters state) is may short = let n = is.numbered in let entered = front_numbers.enters_fits w state w.front may n.front in stays _ w (enters state w.front) w.under n entered.0 n.words entered.1
+one_good before w (BackAttaches shape grefs port) is may short = attached_good w shape grefs port may is.spelled is.numbered
+one_good before w (BackHalts why) is may short = halted_good w why may is.numbered
 one_good before w (Submits job) is may short =
-    let n = is.numbered in let submitted = front_numbers.submit_fits w.front job may n.front in stays before _ w _ w.under n submitted.1 n.words (submitted.0, tt)
-one_good before w (Pokes frame word value) is may short = poke_good before w frame word value may.1 is.numbered
-one_good before w (OverwritesKey name text) is may short = overwritten_good before w name text is.numbered
-one_good before w Suspends is may short = suspended_good before w is.numbered
-one_good before w Dumps is may short = let n = is.numbered in stays before _ w w.front w.under n n.front n.words (dump_good w (within_here w Dumps is.orderly) n.words)
-one_good before w (Looks quiet) is may short = let n = is.numbered in stays before _ w w.front w.under n n.front n.words (lines_are IsInRange w (Looks quiet) found_good)
-one_good before w (Settles quiet) is may short = let n = is.numbered in stays before _ w w.front w.under n n.front n.words (lines_are IsInRange w (Settles quiet) found_good)
-one_good before w h is may short = let n = is.numbered in stays before [] w w.front _ n n.front n.words tt
+    let n = is.numbered in let submitted = front_numbers.submit_fits w.front job may n.front in stays _ w _ w.under n submitted.1 n.words (submitted.0, tt)
+one_good before w (Pokes frame word value) is may short =
+    let n = is.numbered in let within = within_guest frame word may.0 in
+    rw may.0 (stays _ w w.front _ n n.front (write_fits w.under.pages frame word value n.words may.1) (good (lines.Poke frame word value) (omega (arith, within.0), omega (arith, within.1), may.1) may.0, tt))
+one_good before w (OverwritesKey name text) is may short = let n = is.numbered in rw may (stays _ w w.front _ n n.front n.words (good (lines.Key name text) tt may, tt))
+one_good before w Suspends is may short = suspended_good w is.numbered
+one_good before w Dumps is may short = let n = is.numbered in stays _ w w.front w.under n n.front n.words (dump_good w (within_here w Dumps is.orderly) n.words)
+one_good before w h is may short = let n = is.numbered in stays _ w w.front _ n n.front n.words (lines_are IsInRange w h (λ line shows. search found_good))
 
 all_good : (hs : List Happening) (before : List Line) (w : World) → IsWell before w → ArePossible hs w → HaveNumbers hs w → AreGood (lines_of hs w)
 all_good [] before w is may numbers = tt
