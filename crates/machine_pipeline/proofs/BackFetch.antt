@@ -35,7 +35,7 @@ use Rattle.machine_pipeline.proofs.BackLooks.{LooksAs}
 use Rattle.machine_pipeline.proofs.StationsBack.{begins_fetch}
 use Rattle.machine_pipeline.proofs.Turns.{does_step}
 use Rattle.split_model.specs.Shown.{back_lines, halt_lines}
-use Rattle.machine_pipeline.proofs.Kept.{turns_as}
+use Rattle.machine_pipeline.proofs.Kept.{sleep_turned}
 
 -- where the back saw more than it fetched
 some_requests : (start fetched seen word : ℕ) (ring : Ring) → ring.cons ≡ wrapped start fetched → word ≡ wrapped start seen → fetched ≤ seen → (requests_of ring word == 0) ≡ false → fetched < seen
@@ -96,4 +96,4 @@ goes_first config w g d shown given word read awake some p =
     goes_seen config w g d (s.step ∷ []) stage.Loop (stage.Fetch 1) w.back.ring.asleep w.back.ring.seen (word ∷ []) g.back_seen shown given
     (does_step shown (back_lines w.back.told given ++ halt_lines w.back.halted w.back.halted) (rw (p.untold, h.unhalted) refl) s) p i (between (stage.Fetch 1) w.back refl refl refl) s.now x
     (omega arith, more_words g.shape.abi, more, (n.r, n.known, one_more g.shape.abi n.r 0 word [] (some_words g.shape.abi) refl (read ∙ n.words 0 (some_words g.shape.abi))))
-    (λ s. s) (turns_as (is_back_arming (stage.Fetch 1)) (may_back_sleep (stage.Fetch 1)) (λ t. absurd (false≢true t)) (λ t. awake) h.back_sleep)
+    (λ s. s) (sleep_turned (is_back_arming (stage.Fetch 1)) (may_back_sleep (stage.Fetch 1)) (λ t. absurd (false≢true t)) (λ t. awake) h.back_sleep)

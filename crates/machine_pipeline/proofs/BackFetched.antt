@@ -43,7 +43,7 @@ use Rattle.machine_pipeline.proofs.BackLooks.{LooksAs}
 use Rattle.machine_pipeline.proofs.BackFetch.{IsNext, entry_word, next_pushed, one_more, length_entry}
 use Rattle.machine_pipeline.proofs.BackBegins.{job_as, entry_job, IsJobOf, is_job, is_work, works_with}
 use Rattle.back_jobs.specs.Hands.{hands_in}
-use Rattle.machine_pipeline.proofs.Kept.{awake_back, sends_as, turns_as}
+use Rattle.machine_pipeline.proofs.Kept.{awake_back, sleep_sent, sleep_turned}
 
 -- one request more was fetched
 indices_with : (g : Flow) (front_ring back_ring : Ring) (front_seen back_seen number last waiting unfinished ending : ℕ) → g.fetched < g.back_seen → AreIndices g front_ring back_ring front_seen back_seen number last waiting unfinished ending → AreIndices (record g { fetched = g.fetched + 1 }) front_ring (record back_ring { cons = next_of back_ring.cons }) front_seen back_seen ((number + 1) % 2 ^ 64) last waiting unfinished ending
@@ -79,7 +79,7 @@ goes_fetched config w g d k shown given r words p known e = subst (λ (ws : List
       slots_with _ _ _ _ _ _ _ _ _ _ k h.slots,
       mapped,
       paged_at _ _ _ _ _ _ _ (stage.Fetch k) stage.Loop refl refl h.paged,
-      sends_as (BackSends stage.Loop g.replied g.taken) (λ u s. absurd s) h.front_sleep,
+      sleep_sent (BackSends stage.Loop g.replied g.taken) (λ m. m) (λ u s. absurd s) h.front_sleep,
       awake_back g.start (g.fetched + 1) g.pushed w.under.pages w.back.ring.asleep w.under.channels.back_pending w.front.stage stage.Loop awake refl,
     )))
   where
@@ -166,7 +166,7 @@ goes_further config w g d k word shown given last tested read p = by_test last t
         goes_seen config w g d [] (stage.Fetch k) (stage.Fetch (k + 1)) w.back.ring.asleep w.back.ring.seen (w.back.ring.entry ++ word ∷ []) g.back_seen shown given
         (silent shown w.back.told w.back.halted given d p.untold h.unhalted) p i
         (between (stage.Fetch (k + 1)) w.back refl refl refl) h.stations h.indices (omega arith, omega arith, h.back_at.2, (r, h.back_at.3.1, more)) (λ s. s)
-        (turns_as (is_back_arming (stage.Fetch (k + 1))) (may_back_sleep (stage.Fetch (k + 1))) (λ t. absurd (false≢true t)) (λ t. awake) h.back_sleep)
+        (sleep_turned (is_back_arming (stage.Fetch (k + 1))) (may_back_sleep (stage.Fetch (k + 1))) (λ t. absurd (false≢true t)) (λ t. awake) h.back_sleep)
 
 pub goes_fetch : (config : Options) (w : World) (g : Flow) (d : Pipeline) (k : ℕ) → BackStands config w g d (stage.Fetch k) → BackGoes config w d (stage.Fetch k)
 goes_fetch config w g d k p = goes_further config w g d k (entry_word w k) _ _ (k + 1 == entry_words_of w.back.shape.abi) refl refl p

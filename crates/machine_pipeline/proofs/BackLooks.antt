@@ -31,7 +31,7 @@ use Rattle.machine_pipeline.proofs.BackStill.{BackStands, StationsOf}
 use Rattle.machine_pipeline.proofs.BackQuiet.{IsBetween, bound_terms, between, goes_seen}
 use Rattle.machine_pipeline.proofs.Wrapped.{same_wrapped}
 use Rattle.machine_pipeline.proofs.BackFences.{first_frame}
-use Rattle.machine_pipeline.proofs.Kept.{turns_as}
+use Rattle.machine_pipeline.proofs.Kept.{sleep_turned}
 
 -- an honest front is never further ahead than the ring has entries
 no_overrun : (start replied pushed word entries : ℕ) (ring : Ring) → entries ≤ 512 → ring.entries ≡ entries → ring.prod ≡ wrapped start replied → word ≡ wrapped start pushed → replied ≤ pushed → pushed ≤ replied + entries → overruns ring word ≡ false
@@ -80,7 +80,7 @@ looks_by config w g d b word shown given otherwise false false p i unfetching un
     let stations : StationsOf config w g d false None w.back.jobs.works w.under.pages = rw (unfetching, i.none) at h.stations in
     goes_seen config w g d [] b stage.Loop w.back.ring.asleep word w.back.ring.entry g.pushed shown given (silent shown w.back.told w.back.halted given d p.untold h.unhalted) p i
     (between stage.Loop w.back refl refl refl)
-    stations l.indices tt unsent (turns_as (is_back_arming stage.Loop) (may_back_sleep stage.Loop) (λ t. absurd (false≢true t)) (λ t. absurd (true≢false t)) h.back_sleep)
+    stations l.indices tt unsent (sleep_turned (is_back_arming stage.Loop) (may_back_sleep stage.Loop) (λ t. absurd (false≢true t)) (λ t. absurd (true≢false t)) h.back_sleep)
 
 -- the producer stands in word 0 of the ring's first page
 producer : (config : Options) (w : World) (g : Flow) (d : Pipeline) (b : BackStage) → BackStands config w g d b → IsBetween b w.back → word_of w.under.pages (frame_of w.under.grants (page_of w.back 0)) 0 ≡ wrapped g.start g.pushed
@@ -116,4 +116,4 @@ goes_loop_look config w g d shown given word read awake p =
     (λ same.
     goes_seen config w g d [] stage.Loop stage.StoreEvent w.back.ring.asleep word w.back.ring.entry g.pushed shown given (silent shown w.back.told w.back.halted given d p.untold h.unhalted) p i
     (between stage.StoreEvent w.back refl refl refl)
-    h.stations l.indices tt (λ s. s) (turns_as (is_back_arming stage.StoreEvent) (may_back_sleep stage.StoreEvent) (λ t. absurd (false≢true t)) (λ t. awake) h.back_sleep))
+    h.stations l.indices tt (λ s. s) (sleep_turned (is_back_arming stage.StoreEvent) (may_back_sleep stage.StoreEvent) (λ t. absurd (false≢true t)) (λ t. awake) h.back_sleep))

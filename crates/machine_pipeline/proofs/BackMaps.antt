@@ -46,7 +46,7 @@ use Rattle.machine_pipeline.proofs.Flow.{Flow, frames_of, has_terms, is_back_arm
 use Rattle.machine_pipeline.proofs.Holds.{Holds, BackAt, PagesAt, IsPooled, PortsAt, IsGranted, IsFrontSleep, flags_with, AreRingWords, AreEntries, AreMapped, BackSends}
 use Rattle.machine_pipeline.proofs.Turns.{BackGoes, Goes, silent, goes_by}
 use Rattle.machine_pipeline.proofs.Slots.{few_pages}
-use Rattle.machine_pipeline.proofs.Kept.{SameFrame, SameEntry, SameGrants, other_frame, other_entry, slots_kept, awake_back, sends_as, sleep_kept, turns_as}
+use Rattle.machine_pipeline.proofs.Kept.{SameFrame, SameEntry, SameGrants, other_frame, other_entry, slots_kept, awake_back, sleep_sent, sleep_kept, sleep_turned}
 use Rattle.machine_pipeline.proofs.ReadsKept.{stations_elsewhere}
 use Rattle.machine_pipeline.proofs.Frames.{is_submitted}
 use Rattle.machine_pipeline.proofs.Lists.{all_at, all_from}
@@ -142,8 +142,8 @@ maps config w g d verdict b' p e named stepped i mapped = subst (λ (x : Result 
       subst (PagesAt b' g.shape.order) (sym more) mapped,
       pages_more (λ (x : Mapping). x.gref) (λ (page : ℕ). 8 + page) w.back.pages mapping p.holds.paged.gref named,
       pages_more (λ (x : Mapping). x.mode) (λ (page : ℕ). ReadWrite) w.back.pages mapping p.holds.paged.mode refl,
-      sends_as (BackSends b' g.replied g.taken) (λ t s. absurd s) (sleep_kept (others 2 (omega arith) 3 (omega arith)) p.holds.front_sleep),
-      turns_as (is_back_arming b') (may_back_sleep b') (λ t. absurd (false≢true (sym i.unarmed ∙ t))) (λ t. p.holds.back_sleep.may refl)
+      sleep_sent (BackSends b' g.replied g.taken) (λ m. m) (λ t s. absurd s) (sleep_kept (others 2 (omega arith) 3 (omega arith)) p.holds.front_sleep),
+      sleep_turned (is_back_arming b') (may_back_sleep b') (λ t. absurd (false≢true (sym i.unarmed ∙ t))) (λ t. p.holds.back_sleep.may refl)
           (sleep_kept (others 2 (omega arith) 1 (omega arith)) p.holds.back_sleep),
       subst (λ (bound : Bool). PortsAt g.before (is_connected w.front.stage) bound w.under.channels.made w.under.channels.ports) (sym i.unbound) p.holds.ports,
     ))))
@@ -277,8 +277,8 @@ binds config w g d port state p one e =
     (goes_still config w g d stage.Bind stage.Loop w.back w.under.pages (bound w.under.channels (g.before + 1)) g.back_seen _ _ p (assumption (
       same,
       slots_at _ _ _ _ _ _ _ _ _ _ stage.Bind stage.Loop (λ rep t i lt. absurd (none-some rep t)) h.slots,
-      sends_as (BackSends stage.Loop g.replied g.taken) (λ t s. absurd s) h.front_sleep,
-      turns_as (is_back_arming stage.Loop) (may_back_sleep stage.Loop) (λ t. t) (λ t. h.back_sleep.may refl) h.back_sleep,
+      sleep_sent (BackSends stage.Loop g.replied g.taken) (λ m. m) (λ t s. absurd s) h.front_sleep,
+      sleep_turned (is_back_arming stage.Loop) (may_back_sleep stage.Loop) (λ t. t) (λ t. h.back_sleep.may refl) h.back_sleep,
       ports,
     ))))
 

@@ -28,7 +28,7 @@ use Rattle.pipeline_laws.specs.Pipeline.{Pipeline, Step, after_steps}
 use Rattle.machine_pipeline.specs.Step.{Does, IsSame}
 use Rattle.machine_pipeline.proofs.Turns.{Goes, silent, goes_by}
 use Rattle.machine_pipeline.proofs.BackStill.{BackStands, Moves, still, IsRingless, StationsOf}
-use Rattle.machine_pipeline.proofs.Kept.{SameFrame, sends_as, turns_as}
+use Rattle.machine_pipeline.proofs.Kept.{SameFrame, sleep_sent, sleep_turned}
 
 -- a back that is bound to its port has the terms of its front
 pub bound_terms : (b : BackStage) → is_bound_back b ≡ true → has_terms b ≡ true
@@ -132,7 +132,7 @@ pub goes_seen : (config : Options) (w : World) (g : Flow) (d : Pipeline) (steps 
     (record { front = w.front; back = record w.back { stage = b'; ring = record w.back.ring { asleep = asleep; seen = word; entry = entry }; told = None }; under = w.under }) d
 goes_seen config w g d steps b b' asleep word entry seen shown answer does p i j stations indices at unsent back_sleep =
     goes_moved config w g d steps b b' (record w.back { ring = record w.back.ring { asleep = asleep; seen = word; entry = entry } }) w.under.pages w.under.channels seen shown answer does p
-    (quiet_with config w g d b b' asleep word entry w.under.channels seen p.holds i j stations indices at (sends_as (BackSends b' g.replied g.taken) (λ t s. absurd (unsent s)) p.holds.front_sleep) back_sleep
+    (quiet_with config w g d b b' asleep word entry w.under.channels seen p.holds i j stations indices at (sleep_sent (BackSends b' g.replied g.taken) (λ m. m) (λ t s. absurd (unsent s)) p.holds.front_sleep) back_sleep
     refl refl)
 
 -- a move that tells nothing, and changes nothing but the stage
@@ -150,4 +150,4 @@ pub goes_quiet : (config : Options) (w : World) (g : Flow) (d : Pipeline) (b b' 
 goes_quiet config w g d b b' shown answer p i j stations at sends arming may =
     goes_still config w g d b b' w.back w.under.pages w.under.channels g.back_seen shown answer p
     (quiet_with config w g d b b' w.back.ring.asleep w.back.ring.seen w.back.ring.entry w.under.channels g.back_seen p.holds i j stations p.holds.indices at
-    (sends_as (BackSends b' g.replied g.taken) sends p.holds.front_sleep) (turns_as (is_back_arming b') (may_back_sleep b') arming may p.holds.back_sleep) refl refl)
+    (sleep_sent (BackSends b' g.replied g.taken) (λ m. m) sends p.holds.front_sleep) (sleep_turned (is_back_arming b') (may_back_sleep b') arming may p.holds.back_sleep) refl refl)

@@ -23,7 +23,7 @@ use Rattle.split_model.specs.Shown.{halt_lines}
 use Rattle.machine_pipeline.proofs.Flow.{Flow, wrapped, ending_at, is_issuing, telling_at, is_back_arming, may_back_sleep}
 use Rattle.machine_pipeline.proofs.Holds.{Holds, AreIndices, IsReply, AreReplies, IsTaken, FrontAt, AreRingWords, AreSlots, slot_of, IsFrontSleep, IsEndingAt}
 use Rattle.machine_pipeline.proofs.Turns.{BackGoes, Stepped, does_step, goes_by}
-use Rattle.machine_pipeline.proofs.Kept.{SameFrame, sleep_kept, turns_as}
+use Rattle.machine_pipeline.proofs.Kept.{SameFrame, sleep_kept, sleep_turned}
 use Rattle.machine_pipeline.proofs.ReadsKept.{stations_elsewhere}
 use Rattle.machine_pipeline.proofs.BackStill.{BackStands, told_elsewhere, frames_beside, entries_beside, StationsOf}
 use Rattle.machine_pipeline.proofs.BackQuiet.{paged_at}
@@ -123,7 +123,7 @@ goes_producer config w g d rep p = goes_by {g = flow} (does_step _ (lines.Reply 
       entries_beside config w g d w.front.stage (stage.Producer rep) new h wrote.others,
       paged_at _ _ _ _ _ _ _ (stage.Producer rep) (stage.ProducerFence w.back.ring.indices.prod) refl refl h.paged,
       front_sleep_replied g.start g.taken g.replied w.back.ring.indices.prod new w.front.ring.asleep w.under.channels.front_pending w.front.stage rep (sleep_kept (wrote.words 2 3 (omega arith)) h.front_sleep),
-      turns_as (is_back_arming (stage.ProducerFence w.back.ring.indices.prod)) (may_back_sleep (stage.ProducerFence w.back.ring.indices.prod)) (λ t. t) (λ t. absurd (true≢false t))
+      sleep_turned (is_back_arming (stage.ProducerFence w.back.ring.indices.prod)) (may_back_sleep (stage.ProducerFence w.back.ring.indices.prod)) (λ t. t) (λ t. absurd (true≢false t))
           (sleep_kept (wrote.words 2 1 (omega arith)) h.back_sleep),
     ))
   where

@@ -36,7 +36,7 @@ use Rattle.machine_pipeline.proofs.BackQuiet.{goes_moved, bound_terms, all_mappe
 use Rattle.machine_pipeline.proofs.BackWrites.{RingWritten, ring_written, ring_beside, slot_is}
 use Rattle.machine_pipeline.specs.Step.{Does, IsSame}
 use Rattle.machine_pipeline.proofs.Stations.{AreStations}
-use Rattle.machine_pipeline.proofs.Kept.{sleep_kept, sends_as, turns_as}
+use Rattle.machine_pipeline.proofs.Kept.{sleep_kept, sleep_sent, sleep_turned}
 
 -- word i of the response at hand
 slots_written : (shape : Shape) (start fetched pushed taken replied last i : ℕ) (rep : Reply) (series : List Request) (replies : List Reply) (old new : List ℕ) (s : FrontStage) (b b' : BackStage)
@@ -115,8 +115,8 @@ goes_word config w g d steps b b' rep i jobs frame shown given does p a placed u
       slots_written _ _ _ _ _ _ (length g.series) i rep _ _ _ new _ _ b' r h.shaped.narrow a.few a.here a.upto before (omega arith) x.fetched_pushed (omega (arith, x.all))
           (omega (arith, x.held, x.room)) refl h.replies.counted h.slots,
       paged_at _ _ _ _ _ _ _ b b' a.bound a.bound_still h.paged,
-      sends_as (BackSends b' g.replied g.taken) (λ t s. absurd (unsent s)) (sleep_kept (r.words 2 3 (omega (arith, after))) h.front_sleep),
-      turns_as (is_back_arming b') (may_back_sleep b') (λ t. absurd (false≢true (sym a.unarmed ∙ t))) (λ t. absurd (false≢true (sym t ∙ a.sleeps)))
+      sleep_sent (BackSends b' g.replied g.taken) (λ m. m) (λ t s. absurd (unsent s)) (sleep_kept (r.words 2 3 (omega (arith, after))) h.front_sleep),
+      sleep_turned (is_back_arming b') (may_back_sleep b') (λ t. absurd (false≢true (sym a.unarmed ∙ t))) (λ t. absurd (false≢true (sym t ∙ a.sleeps)))
           (sleep_kept (r.words 2 1 (omega (arith, after))) h.back_sleep),
       subst (λ (bound : Bool). PortsAt g.before (is_connected w.front.stage) bound w.under.channels.made w.under.channels.ports) (a.bound ∙ sym a.bound_still) h.ports,
     ))

@@ -28,7 +28,7 @@ use Rattle.machine_pipeline.proofs.Flow.{Flow, wrapped, named_pages, granted_pag
 use Rattle.machine_pipeline.proofs.Holds.{Holds, RingBegun, AreRingWords, AreSlots, PortsAt, IsBackSleep, BackSends}
 use Rattle.machine_pipeline.proofs.Turns.{BackGoes}
 use Rattle.machine_pipeline.proofs.Wrapped.{next_wrapped}
-use Rattle.machine_pipeline.proofs.Kept.{SameFrame, other_frame, written, slots_kept, sends_as, sleep_kept, turns_as}
+use Rattle.machine_pipeline.proofs.Kept.{SameFrame, other_frame, written, slots_kept, sleep_sent, sleep_kept, sleep_turned}
 use Rattle.machine_pipeline.proofs.BackStill.{BackStands, IsRingless}
 use Rattle.machine_pipeline.proofs.BackQuiet.{goes_still, quiet_with, bound_terms, paged_at, slots_at, between}
 use Rattle.machine_pipeline.proofs.BackFences.{frame_is, first_frame}
@@ -115,7 +115,7 @@ goes_send config w g d p =
     goes_still config w g d stage.Send stage.Loop w.back w.under.pages c g.back_seen _ _ p
     (quiet_with config w g d stage.Send stage.Loop w.back.ring.asleep w.back.ring.seen w.back.ring.entry c g.back_seen h (between stage.Send w.back refl refl refl) (between stage.Loop w.back refl refl refl) h.stations h.indices tt
     (record { arming = h.front_sleep.arming; armed = h.front_sleep.armed; may = h.front_sleep.may; woken = λ t. inr (inl sends) })
-    (turns_as (is_back_arming stage.Loop) (may_back_sleep stage.Loop) (λ t. t) (λ t. cc) h.back_sleep)
+    (sleep_turned (is_back_arming stage.Loop) (may_back_sleep stage.Loop) (λ t. t) (λ t. cc) h.back_sleep)
     refl refl)
 
 -- the back stores its event word: it wants to hear of the next request
@@ -138,5 +138,5 @@ goes_store_event config w g d p =
       ring_beside _ _ _ _ _ _ _ _ _ new _ r (omega arith) (omega arith) p.connected h.paged.mapped h.ring,
       slots_at _ _ _ _ _ _ _ _ _ _ _ stage.EventFence (λ rep t i lt. absurd (none-some rep t)) (slots_beside _ _ _ _ _ _ 1 _ _ _ _ _ _ _ r (omega arith) h.shaped.narrow h.slots),
       paged_at _ _ _ _ _ _ _ stage.StoreEvent stage.EventFence refl refl h.paged,
-      sends_as (BackSends stage.EventFence g.replied g.taken) (λ t s. absurd s) (sleep_kept (r.words 2 3 (omega arith)) h.front_sleep),
+      sleep_sent (BackSends stage.EventFence g.replied g.taken) (λ m. m) (λ t s. absurd s) (sleep_kept (r.words 2 3 (omega arith)) h.front_sleep),
     ))

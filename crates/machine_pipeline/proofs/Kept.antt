@@ -171,15 +171,15 @@ pub sleep_kept : {start had pushed event event' : ℕ} {asleep pending arms may_
 sleep_kept same h = rw same h
 
 -- where it is at another stage
-pub sleep_turned : {start had pushed event : ℕ} {asleep pending arms arms' may_sleep may_sleep' : Bool} {Sends : Type 0} → (arms' ≡ true → arms ≡ true) → (may_sleep' ≡ false → asleep ≡ false)
+pub sleep_turned : {start had pushed event : ℕ} {asleep pending arms may_sleep : Bool} {Sends : Type 0} (arms' may_sleep' : Bool) → (arms' ≡ true → arms ≡ true) → (may_sleep' ≡ false → asleep ≡ false)
     → IsSleep start had pushed event asleep pending arms may_sleep Sends → IsSleep start had pushed event asleep pending arms' may_sleep' Sends
-sleep_turned arming may h = record { arming = λ t. h.arming (arming t); armed = h.armed; may = may; woken = h.woken }
+sleep_turned arms' may_sleep' arming may h = record { arming = λ t. h.arming (arming t); armed = h.armed; may = may; woken = h.woken }
 
 -- and where another mark wakes it as well, and the other end is at a stage from which an event comes as well, or nothing more is there
-pub sleep_sent : {start had pushed event : ℕ} {asleep pending pending' arms may_sleep : Bool} {Sends Sends' : Type 0}
+pub sleep_sent : {start had pushed event : ℕ} {asleep pending pending' arms may_sleep : Bool} {Sends : Type 0} (Sends' : Type 0)
     → (pending ≡ true → pending' ≡ true) → (asleep ≡ true → Sends → (pushed ≡ had) ⊎ (pending' ≡ true) ⊎ Sends')
     → IsSleep start had pushed event asleep pending arms may_sleep Sends → IsSleep start had pushed event asleep pending' arms may_sleep Sends'
-sleep_sent mark sends h = record {
+sleep_sent Sends' mark sends h = record {
   arming = h.arming;
   armed = h.armed;
   may = h.may;
@@ -191,16 +191,7 @@ pub sleep_awake : {start had pushed event : ℕ} {asleep pending arms may_sleep 
     → IsSleep start had pushed event asleep pending arms may_sleep Sends
 sleep_awake wake unarmed = record { arming = λ t. absurd cc; armed = λ t. absurd cc; may = λ t. wake; woken = λ t. absurd cc }
 
--- the same, with what the stage after it says
-pub sends_as : {start had pushed event : ℕ} {asleep pending arms may_sleep : Bool} {Sends : Type 0} (Sends' : Type 0) → (asleep ≡ true → Sends → (pushed ≡ had) ⊎ (pending ≡ true) ⊎ Sends')
-    → IsSleep start had pushed event asleep pending arms may_sleep Sends → IsSleep start had pushed event asleep pending arms may_sleep Sends'
-sends_as Sends' sends h = sleep_sent (λ t. t) sends h
-
-pub turns_as : {start had pushed event : ℕ} {asleep pending arms may_sleep : Bool} {Sends : Type 0} (arms' may_sleep' : Bool) → (arms' ≡ true → arms ≡ true) → (may_sleep' ≡ false → asleep ≡ false)
-    → IsSleep start had pushed event asleep pending arms may_sleep Sends → IsSleep start had pushed event asleep pending arms' may_sleep' Sends
-turns_as arms' may_sleep' arming may h = sleep_turned arming may h
-
--- an end that is awake
+-- the same, with what its stage says
 pub awake_front : (start taken replied : ℕ) (pages : List ℕ) (asleep pending : Bool) (s : FrontStage) (b : BackStage) → asleep ≡ false → is_front_arming s ≡ false
     → IsFrontSleep start taken replied pages asleep pending s b
 awake_front start taken replied pages asleep pending s b wake unarmed = sleep_awake wake unarmed

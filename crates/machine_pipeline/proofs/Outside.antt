@@ -30,8 +30,8 @@ beside_kept config w d keys f b front_more back_more (inl held) =
     let h : Holds config w held.0 d w.front.stage w.back.stage = held.1 in
     inl (
       held.0,
-      beside config w held.0 d w.front.stage w.back.stage keys f b (sleep_sent front_more (λ t sends. inr (inr sends)) h.front_sleep)
-          (sleep_sent back_more (λ t sends. inr (inr sends)) h.back_sleep) h,
+      beside config w held.0 d w.front.stage w.back.stage keys f b (sleep_sent _ front_more (λ t sends. inr (inr sends)) h.front_sleep)
+          (sleep_sent _ back_more (λ t sends. inr (inr sends)) h.back_sleep) h,
     )
 beside_kept config w d keys f b front_more back_more (inr over) = inr over
 

@@ -98,7 +98,7 @@ look_goes config w g d told awake none h =
     stored =
         goes_by {g = record g { front_seen = g.replied }} (said_nothing d (moves.FrontRead 2 2 word) w.front.told told)
         (rest_kept config w g d front.Loop front.StoreEvent word g.replied w.front.ring.asleep w.under.pages w.under.channels refl refl refl refl h tt read h.indices.taken_replied (omega arith) h.memory
-        (λ f apart x lt. refl) (λ x apart lt. refl) refl refl refl (sleep_turned (λ t. absurd cc) (λ t. awake) h.front_sleep))
+        (λ f apart x lt. refl) (λ x apart lt. refl) refl refl refl (sleep_turned _ _ (λ t. absurd cc) (λ t. awake) h.front_sleep))
 
 -- the words of the oldest response, as the front reads them
 pub response_read : (config : Options) (w : World) (g : Flow) (d : Pipeline) (s : FrontStage) (rep : Reply) (k : ℕ)
@@ -121,7 +121,7 @@ take_up_goes : (config : Options) (w : World) (g : Flow) (d : Pipeline)
 take_up_goes config w g d told some h awake = subst (λ (b : Bool). let x : View = (if b then looked w.front word (record w.front { ring = record w.front.ring { seen = word }; stage = front.StoreEvent }) else at (front.ResponseHigh word) w.front) in Goes config (lines.Move (moves.FrontRead (slot_frame w.front.shape w.front.ring.indices.cons 0) (slot_word w.front.shape w.front.ring.indices.cons 0) word) ∷ front_lines x.told) (record { front = record x { told = None }; back = w.back; under = w.under }) d) (sym some)
     (at_stage_goes config w g d front.Loop (front.ResponseHigh word) (moves.FrontRead (slot_frame w.front.shape w.front.ring.indices.cons 0) (slot_word w.front.shape w.front.ring.indices.cons 0) word) w.under.pages refl refl refl refl told h
     (record { rep = rep.0; oldest = rep.1; seen = seen }, response_read config w g d front.Loop rep.0 0 h rep.1 (omega arith)) h.memory (λ f apart x lt. refl) (λ x apart lt. refl)
-    (sleep_turned (λ t. absurd cc) (λ t. awake) h.front_sleep))
+    (sleep_turned _ _ (λ t. absurd cc) (λ t. awake) h.front_sleep))
   where
     word : ℕ
     word = word_of w.under.pages (slot_frame w.front.shape w.front.ring.indices.cons 0) (slot_word w.front.shape w.front.ring.indices.cons 0)
@@ -143,7 +143,7 @@ pub high_goes : (config : Options) (w : World) (g : Flow) (d : Pipeline) (low : 
 high_goes config w g d low told h =
     at_stage_goes config w g d (front.ResponseHigh low) (front.ResponseLast low word) (moves.FrontRead (slot_frame w.front.shape w.front.ring.indices.cons 1) (slot_word w.front.shape w.front.ring.indices.cons 1) word) w.under.pages refl refl refl refl told h
     (h.front_at.0, h.front_at.1, response_read config w g d (front.ResponseHigh low) h.front_at.0.rep 1 h h.front_at.0.oldest (omega arith)) h.memory (λ f apart x lt. refl) (λ x apart lt. refl)
-    (sleep_turned (λ t. absurd cc) (λ t. h.front_sleep.may refl) h.front_sleep)
+    (sleep_turned _ _ (λ t. absurd cc) (λ t. h.front_sleep.may refl) h.front_sleep)
   where
     word : ℕ
     word = word_of w.under.pages (slot_frame w.front.shape w.front.ring.indices.cons 1) (slot_word w.front.shape w.front.ring.indices.cons 1)

@@ -78,7 +78,7 @@ pub goes_none : (w : World) (h : Happening) (a : List (List ℕ)) → SectorsGo 
 goes_none w (JobMoves number outcome) a p = none_after (job_ask_of w.back number) outcome a p
 goes_none w h a p = none-some a p
 
--- so it exposes other ones
+-- so after a happening it exposes its sectors too
 pub goes_some : (w : World) (h : Happening) (a : List (List ℕ)) (x : Option (List (List ℕ))) → SectorsGo w h (Some a) x → (c : List (List ℕ)) × SectorsGo w h (Some a) (Some c) × (x ≡ Some c)
 goes_some w h a None goes = absurd (goes_none w h a goes)
 goes_some w h a (Some c) goes = (c, goes, refl)
