@@ -196,6 +196,17 @@ m back read 1 2 0 00000000
 ready",
 );
 
+// The ring of a disk that may only be read, of which no key is shown.
+const READ_ONLY: Piece = Piece::Lines(
+    "begin 64 0 0 0 0 ro 8 moves
+m back map 8 w ok 1 2",
+);
+
+// The back reads the key of the layout anew.
+const OTHER_LAYOUT: Piece = Piece::Lines(
+    "m back getkey /local/domain/1/device/vbd/51712/protocol =x86_32-abi",
+);
+
 // Both ends say that grants are persistent.
 const KEEPING: Piece = Piece::Lines(
     "m back setkey /local/domain/0/backend/vbd/1/51712/feature-persistent =1
@@ -371,6 +382,15 @@ const STEPS: &[Group] = &[
         ],
     ),
     (
+        "a job has the entry that was read, whatever layout is read then",
+        &[CONNECTED, WRITE, OTHER_LAYOUT],
+        &[
+            ("", "m job 1 map 24 r ok 2 18", None),
+            ("", "m job 1 map 25 r ok 2 18", Some(Rule::Step)),
+            ("", "m job 2 map 24 r ok 2 18", Some(Rule::Step)),
+        ],
+    ),
+    (
         "a job stops at a fault",
         READING,
         &[
@@ -515,7 +535,12 @@ const ENDS: &[Group] = &[
         &[("", "reply 1 ok", None)],
     ),
     (
-        "what is not published is unsupported",
+        "a flush of a disk that is read only is unsupported",
+        &[READ_ONLY, FLUSH],
+        &[("", FIRST, None), ("", "m job 1 flush", Some(Rule::Step))],
+    ),
+    (
+        "a flush of another disk is done before its reply, whatever the keys say",
         &[
             CONNECTED,
             Piece::Lines(
@@ -523,12 +548,11 @@ const ENDS: &[Group] = &[
             ),
             FLUSH,
         ],
-        &[("", FIRST, None)],
-    ),
-    (
-        "what is published is done before its reply",
-        &[CONNECTED, QUIET, FLUSH],
-        &[("", FIRST, Some(Rule::Reply))],
+        &[
+            ("", FIRST, Some(Rule::Reply)),
+            ("", "m job 1 flush", None),
+            ("m job 1 flush\nflushed 1", FIRST, None),
+        ],
     ),
 ];
 
@@ -539,11 +563,15 @@ fn a_reply_comes_at_the_end_of_its_job(rt: HostRuntime) {
 
 const PUSHED: &str = "m back write 1 2 2 00000001";
 
+const FENCED: &str = "m back write 1 2 16 00000001\nm back fence";
+
+const EVENT_AND_PUSH: &str = "m back write 1 2 1 00000002\nm back write 1 2 2 00000001";
+
 const MAPPED_ANEW: &str = "epoch\nm back map 8 w ok 5 2";
 
 const REPLIES: &[Group] = &[
     (
-        "the words of a reply stand together",
+        "the words of a reply come in order",
         WRITTEN,
         &[
             ("quiet", FIRST, None),
@@ -553,9 +581,41 @@ const REPLIES: &[Group] = &[
             ("quiet", "m back fence", None),
             (FIRST, "m back write 1 2 17 00000000", None),
             (FIRST, "m back write 1 2 18 00000001", Some(Rule::Reply)),
-            (FIRST, "m back write 1 2 1 00000002", Some(Rule::Reply)),
-            (FIRST, "m back fence", Some(Rule::Reply)),
             (FIRST, "m front event", None),
+        ],
+    ),
+    (
+        "within a reply the back does what it likes, but for other words of the ring",
+        WRITTEN,
+        &[
+            (FIRST, "m back write 1 2 1 00000002", None),
+            (FIRST, "m back fence", None),
+            (FIRST, "m back read 1 2 3 00000001", None),
+            (
+                FIRST,
+                "m back getkey /local/domain/1/device/vbd/51712/state =4",
+                None,
+            ),
+            (FIRST, "halt gone 6", None),
+            (FIRST, "m back write 1 2 3 00000001", Some(Rule::Reply)),
+            (FIRST, "m back write 1 2 2 00000001", Some(Rule::Reply)),
+            (FENCED, "m back write 1 2 17 00000000", None),
+            (FENCED, FIRST, Some(Rule::Reply)),
+            (FENCED, "m back write 1 2 44 00000001", Some(Rule::Reply)),
+        ],
+    ),
+    (
+        "before the producer too",
+        PUT,
+        &[
+            ("m back write 1 2 1 00000002", PUSHED, None),
+            (
+                "m back write 1 2 1 00000002",
+                "reply 1 ok",
+                Some(Rule::Reply),
+            ),
+            (EVENT_AND_PUSH, "reply 1 ok", None),
+            (EVENT_AND_PUSH, "m back fence", Some(Rule::Reply)),
         ],
     ),
     (

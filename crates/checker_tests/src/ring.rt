@@ -15,7 +15,6 @@ enum Asked {
     Shaped(bool),
     Produced(u32),
     Replied(u32),
-    WordsRead(u64),
     // The entry that is fetched, and how many words of it were read.
     Fetched(u32, u32),
     Overrun(bool),
@@ -44,7 +43,6 @@ fn is_kept(sight: &RingSight, asked: Asked) -> bool {
         Asked::Shaped(shaped) => sight.shape().is_some() == shaped,
         Asked::Produced(index) => sight.produced() == index,
         Asked::Replied(index) => sight.replied() == index,
-        Asked::WordsRead(count) => sight.words_read() == count,
         Asked::Fetched(index, words) => is_fetched(sight, index, words),
         Asked::Overrun(shown) => sight.overrun().is_some() == shown,
         Asked::Overran(overran) => sight.overran() == overran,
@@ -56,10 +54,7 @@ fn is_kept(sight: &RingSight, asked: Asked) -> bool {
 }
 
 fn is_fetched(sight: &RingSight, index: u32, words: u32) -> bool {
-    match sight.shape() {
-        None => false,
-        Some(shape) => sight.next_index(&shape) == index && sight.words_within(&shape) == words,
-    }
+    sight.next_index() == index && sight.words_within() == u64::from(words)
 }
 
 fn is_answer(rt: &impl Abort, sight: &RingSight, asked: Asked) -> bool {
@@ -218,14 +213,14 @@ const EPOCHS: &[Case] = &[
         SHOWN,
         3,
         OVERRUN,
-        &[Asked::WordsRead(3), Asked::Overran(true)],
+        &[Asked::Fetched(0, 3), Asked::Overran(true)],
     ),
     (
         SHOWN,
         3,
         EPOCH,
         &[
-            Asked::WordsRead(0),
+            Asked::Fetched(0, 0),
             Asked::Overran(false),
             Asked::Produced(0),
             Asked::Page(1, false),
@@ -248,6 +243,52 @@ const ENTRIES: &[Case] = &[(
         Asked::EntryWord("m back read 1 2 16 00000000", Some(16)),
     ],
 )];
+
+const OTHER: &str = "m back read 1 2 0 00000002
+m back getkey /local/domain/1/device/vbd/51712/protocol =x86_32-abi";
+
+const OTHER_LAYOUTS: &[Case] = &[
+    // Entries that were read whole stay counted, whatever layout is read then; the next one has
+    // its place and its words by the new one.
+    (
+        SHOWN,
+        28,
+        OTHER,
+        &[
+            Asked::Fetched(1, 0),
+            Asked::Stretch("m back read 1 2 43 00000000", true),
+            Asked::Stretch("m back read 1 2 44 00000000", false),
+        ],
+    ),
+    // No layout, no stretch.
+    (
+        SHOWN,
+        28,
+        "m back read 1 2 0 00000002
+m back getkey /local/domain/1/device/vbd/51712/protocol =arm-abi",
+        &[
+            Asked::Fetched(1, 0),
+            Asked::Stretch("m back read 1 2 43 00000000", false),
+            Asked::Stretch("m back read 1 2 44 00000000", false),
+            Asked::Stretch("m back fence", true),
+        ],
+    ),
+    // No key is read within a stretch.
+    (
+        SHOWN,
+        5,
+        "",
+        &[Asked::Stretch(
+            "m back getkey /local/domain/1/device/vbd/51712/protocol =x86_32-abi",
+            false,
+        )],
+    ),
+];
+
+#[test]
+fn a_layout_that_is_read_between_two_stretches_is_that_of_the_next(rt: HostRuntime) {
+    answer(&rt, rt.alloc(), OTHER_LAYOUTS);
+}
 
 #[test]
 fn the_next_entry_comes_after_28_words(rt: HostRuntime) {

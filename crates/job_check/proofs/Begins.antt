@@ -1,6 +1,6 @@
 -- The row that began last, one line further.
-use Rattle.std.proofs.Common.{◌≡◌, ℕ, ◌+◌, ◌==◌, ◌||◌, Bool, true, false, if◌then◌else◌, List, [], ◌∷◌, ◌++◌, length, refl, ap, sym, ◌∙◌, subst, arith}
-use Rattle.std.specs.Prelude.{nat_lt, Option, Some, None, is_some, option_map}
+use Rattle.std.proofs.Common.{◌≡◌, ℕ, ◌+◌, ◌==◌, ◌||◌, Bool, true, false, List, [], ◌∷◌, ◌++◌, length, refl, ap, sym, ◌∙◌, subst, arith}
+use Rattle.std.specs.Prelude.{nat_lt, Option, Some, None, is_some}
 use Rattle.std.specs.List.{filter_map, cons_option, list_any}
 use Rattle.std.specs.Option.{option_to_list}
 use Rattle.std.proofs.lemmas.Bool.Decides.{nat_tests}
@@ -11,36 +11,23 @@ use Rattle.blk_base.specs.declared.moves.Move.TheVariants as moves
 use Rattle.schedule_text.specs.declared.line.Line.{Line}
 use Rattle.schedule_text.specs.declared.line.Line.TheVariants as lines
 use Rattle.report_rules.specs.declared.standing.Standing.{Standing}
-use Rattle.report_rules.specs.declared.job.Fetched.{Fetched}
 use Rattle.report_rules.specs.Standing.{is_epoch, this_epoch}
 use Rattle.report_rules.specs.Ring.{page_made, ring_pages}
-use Rattle.report_rules.specs.Stretch.{entry_word_read}
-use Rattle.report_rules.specs.Job.{is_job, disk_mover, fetched_of, request_told, fetched_with, told_first, fetched_after}
+use Rattle.report_rules.specs.Job.{is_job, disk_mover, fetched_of}
 use Rattle.report_rules.specs.Reply.{words_due, response_due}
-use Rattle.report_rules.proofs.Prefixes.{fetched_more}
 use Rattle.ring_check.proofs.Telling.{touches, IsNew, alone}
 use Rattle.job_check.specs.Open.{Open, due, end_told, is_early}
 use Rattle.job_check.specs.Replies.{Replies}
 use Rattle.job_check.specs.State.{job_at}
 use Rattle.job_check.proofs.Telling.{longer, last_mover, mover_more, neither, or_false}
-use Rattle.job_check.proofs.Entries.{shown_kept, pages_more, IsFetching}
+use Rattle.job_check.proofs.Entries.{shown_kept, pages_more}
+use Rattle.job_check.proofs.Fetches.{fetched_within, unfetched_before}
 use Rattle.job_check.proofs.Jobs.{IsJob}
 use Rattle.job_check.proofs.Changes.{IsJobOf, AreJobs}
 use Rattle.job_check.proofs.Written.{written_on, written_stays}
 use Rattle.job_check.proofs.NextJobs.{due_is, NextJob, closed_still, carried, goes_on, fails, begins, ends}
 use Rattle.job_check.proofs.NextLines.{AllNext}
-use Rattle.job_check.proofs.Rows.{IsEarly, Begun, EndedBy, ended_none, most_of}
-
--- what was fetched stays so in its epoch
-pub unfetched_before : (before : List Line) (line : Line) (k : ℕ) → is_epoch line ≡ false → fetched_of (before ++ line ∷ []) k ≡ None → fetched_of before k ≡ None
-unfetched_before before line k e none =
-    let told : fetched_after k (fetched_of before k) before line ≡ None = sym (fetched_more before line k) ∙ none in
-    by_read (is_some (entry_word_read before line)) (option_map (fetched_with (before ++ line ∷ [])) (request_told (before ++ line ∷ []) k)) (fetched_of before k) (rw e at told)
-  where
-    by_read : (b : Bool) (later known : Option Fetched) → (if b then told_first known later else known) ≡ None → known ≡ None
-    by_read true later None h = refl
-    by_read true later (Some f) h = h
-    by_read false later known h = h
+use Rattle.job_check.proofs.Rows.{IsEarly, Begun, EndedBy, ended_none}
 
 -- ---- a job, in a line that begins no row
 mover_is : (before : List Line) (line : Line) → is_epoch line ≡ false → last_mover (this_epoch (before ++ line ∷ [])) ≡ disk_mover line
@@ -158,9 +145,9 @@ ended_now rows (Some known) words by late = absurd (let le = by.1 in grind (arit
 pub now_early : (before : List Line) (rows k : ℕ) (o : Open) → IsJob before k o → EndedBy rows o.ended (due o) → (is_early (rows + 1) o.ended ≡ true → response_due before k ≡ due o) × (is_early (rows + 1) o.ended ≡ false → response_due before k ≡ None)
 now_early before rows k o j by = (λ h. sym (due_is before k o j), λ h. sym (due_is before k o j) ∙ ended_now rows o.ended (due o) by h)
 
-pub begun_now : (before : List Line) (line : Line) (value rows fetched : ℕ) (entry : List ℕ) (jobs : List (ℕ × Open)) → is_epoch line ≡ false → AreJobs before jobs → IsFetching before fetched entry → ((k : ℕ) (o : Open) → job_at jobs k ≡ Some o → EndedBy rows o.ended (due o))
+pub begun_now : (before : List Line) (line : Line) (value rows : ℕ) (jobs : List (ℕ × Open)) → is_epoch line ≡ false → AreJobs before jobs → ((k : ℕ) (o : Open) → job_at jobs k ≡ Some o → EndedBy rows o.ended (due o))
     → written_on (ring_pages before) line ≡ Some value → Begun (before ++ line ∷ []) (record { rows = rows + 1; row = value ∷ []; pushed = None }) jobs
-begun_now before line value rows fetched entry jobs e are is known writes = record {
+begun_now before line value rows jobs e are known writes = record {
   early = before;
   first = line;
   later = [];
@@ -170,7 +157,7 @@ begun_now before line value rows fetched entry jobs e are is known writes = reco
   row = λ some. refl;
   pushed = λ some. absurd (cc);
   unfetched = λ k none. unfetched_before before line k e none;
-  most = λ k some. most_of before fetched entry k is some;
+  most = fetched_within before;
   each = λ k o here.
       (let both = now_early before rows k o (subst (IsJobOf before k) here (are.each k)) (known k o here) in
       record { due = both.0; still = λ h. ap (is_job k) (mover_is before line e ∙ writer_quiet (ring_pages before) line value writes); late = both.1 });

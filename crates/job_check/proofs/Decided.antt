@@ -1,18 +1,11 @@
--- What is kept decides the rules on steps, on effects and on data, and whether the layout stays.
-use Rattle.std.proofs.Common.{◌≡◌, ◌≢◌, ℕ, ◌+◌, ◌==◌, ◌&&◌, ◌%◌, true, List, refl, sym, subst, Bool, false, ◌||◌, ap, arith, ◌∙◌}
+-- What is kept decides the rules on steps, on effects and on data.
+use Rattle.std.proofs.Common.{◌≡◌, ◌≢◌, ℕ, ◌+◌, ◌==◌, ◌&&◌, ◌%◌, true, List, refl, sym, subst}
 use Rattle.std.specs.Prelude.{slice_index, Option, Some, None, is_some, IfSome, IsSomeAnd}
 use Rattle.std.specs.Bool.{Decides}
-use Rattle.std.proofs.lemmas.Bool.Decides.{nat_tests, Decides-eqb, Decides-and, Decides-at, Decides-like}
+use Rattle.std.proofs.lemmas.Bool.Decides.{Decides-eqb, Decides-and, Decides-like}
 use Rattle.blk_base.specs.declared.moves.BackMover.TheVariants as back
 use Rattle.blk_base.specs.declared.moves.Move.{Move}
 use Rattle.blk_base.specs.declared.moves.Move.TheVariants as moves
-use Rattle.blk_base.specs.declared.operation.Abi.{Abi}
-use Rattle.blk_base.specs.declared.operation.Abi.TheVariants.{X64, X32}
-use Rattle.report_rules.specs.Ring.{abi_after, ring_abi}
-use Rattle.report_rules.specs.Stretch.{words_read}
-use Rattle.ring_check.specs.State.{RingState}
-use Rattle.ring_check.specs.Kept.{IsKept}
-use Rattle.job_check.specs.Laws.{IsLayoutAt}
 use Rattle.schedule_text.specs.declared.line.Line.{Line}
 use Rattle.schedule_text.specs.declared.line.Line.TheVariants as lines
 use Rattle.report_rules.specs.declared.effect.DiskCall.{DiskCall}
@@ -20,7 +13,7 @@ use Rattle.report_rules.specs.declared.effect.DiskCall.TheVariants as calls
 use Rattle.report_rules.specs.declared.effect.DiskMove.{DiskMove}
 use Rattle.report_rules.specs.declared.effect.Outcome.{Outcome}
 use Rattle.report_rules.specs.declared.job.Fetched.{Fetched}
-use Rattle.report_rules.specs.Standing.{is_epoch, this_epoch}
+use Rattle.report_rules.specs.Standing.{this_epoch}
 use Rattle.report_rules.specs.Job.{fetched_of, id_of, disk_moves_of}
 use Rattle.report_rules.specs.Effect.{outcome_of, IsOutcomeOf, IsEffectAt}
 use Rattle.report_rules.specs.Step.{stepper}
@@ -28,7 +21,7 @@ use Rattle.report_rules.specs.Steps.{IsStepAt}
 use Rattle.report_rules.specs.Data.{words_from, IsDataAt}
 use Rattle.job_check.specs.Open.{Open}
 use Rattle.job_check.specs.State.{JobState, job_at}
-use Rattle.job_check.specs.Verdict.{may_step_of, allows_step_of, allows_step, is_call, is_done_by, is_outcome_for, is_outcome, allows_effect, is_same_abi, keeps_layout, gives, gave_word, allows_data}
+use Rattle.job_check.specs.Verdict.{may_step_of, allows_step_of, allows_step, is_call, is_done_by, is_outcome_for, is_outcome, allows_effect, gives, gave_word, allows_data}
 use Rattle.job_check.proofs.Jobs.{IsJob, MayStep, open_decides, gone_stops}
 use Rattle.job_check.proofs.Changes.{IsJobOf}
 use Rattle.job_check.proofs.Moves.{IsSeen}
@@ -119,29 +112,3 @@ pub data_decided : (before : List Line) (line : Line) (s : JobState) → Sees be
 data_decided before (lines.Move (moves.Write (back.Job k) number frame word value)) s sees step =
     word_decides before k word value (moves.Write (back.Job k) number frame word value) (job_at s.jobs k) (sees.seen.jobs.each k) step
 data_decided before line s sees step = (λ e. tt, λ h. refl)
-
--- ---- the layout
-abi_decides : (a b : Option Abi) → Decides (is_same_abi a b) (a ≡ b)
-abi_decides None None = (λ e. refl, λ e. refl)
-abi_decides None (Some b) = (λ e. absurd (cc), λ e. absurd (cc))
-abi_decides (Some X64) None = (λ e. absurd (cc), λ e. absurd (cc))
-abi_decides (Some X32) None = (λ e. absurd (cc), λ e. absurd (cc))
-abi_decides (Some X64) (Some X64) = (λ e. refl, λ e. refl)
-abi_decides (Some X64) (Some X32) = (λ e. absurd (cc), λ e. absurd (cc))
-abi_decides (Some X32) (Some X64) = (λ e. absurd (cc), λ e. absurd (cc))
-abi_decides (Some X32) (Some X32) = (λ e. refl, λ e. refl)
-
-stays_decides : (epoch : Bool) (words : ℕ) (same : Bool) (P : Type 0) → Decides same P → Decides (epoch || (words == 0) || same) (epoch ≡ false → words ≢ 0 → P)
-stays_decides true words same P d = (λ e no some. absurd (cc), λ h. refl)
-stays_decides false words same P d = by_words (words == 0) refl
-  where
-    by_words : (b : Bool) → (words == 0) ≡ b → Decides (false || b || same) (false ≡ false → words ≢ 0 → P)
-    by_words true e = (λ h no some. absurd (some (grind (arith, nat_tests))), λ h. refl)
-    by_words false e = (λ h no some. d.0 h, λ h. d.1 (h refl (λ zero. absurd (grind (arith, nat_tests)))))
-
-pub layout_decided : (before : List Line) (line : Line) (ring : RingState) → IsKept before ring → Decides (keeps_layout ring line) (IsLayoutAt before line)
-layout_decided before line ring k =
-    Decides-at (keeps_layout ring line) (is_epoch line || (words_read before == 0) || is_same_abi (abi_after (ring_abi before) line) (ring_abi before))
-    (ap (λ (n : ℕ). is_epoch line || (n == 0) || is_same_abi (abi_after ring.abi line) ring.abi) k.words
-    ∙ ap (λ (a : Option Abi). is_epoch line || (words_read before == 0) || is_same_abi (abi_after a line) a) k.abi)
-    (stays_decides (is_epoch line) (words_read before) (is_same_abi (abi_after (ring_abi before) line) (ring_abi before)) (abi_after (ring_abi before) line ≡ ring_abi before) (abi_decides (abi_after (ring_abi before) line) (ring_abi before)))

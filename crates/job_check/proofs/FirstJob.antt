@@ -4,7 +4,7 @@ use Rattle.std.specs.Prelude.{find, Option, Some, None, is_some, option_map}
 use Rattle.std.specs.List.{list_any}
 use Rattle.std.specs.Map.{values_of}
 use Rattle.std.proofs.lemmas.Bool.Decides.{nat_tests}
-use Rattle.report_rules.specs.Job.{when}
+use Rattle.report_rules.specs.Stretch.{when}
 use Rattle.report_rules.specs.Reply.{lowest}
 use Rattle.report_rules.proofs.Lowest.{lowest_found}
 use Rattle.memory_check.proofs.Lookups.{at_number}

@@ -1,12 +1,12 @@
 -- What a move changes of what is kept is what it changes of what the lines say.
 use Rattle.std.proofs.Common.{◌≡◌, ℕ, ◌+◌, ◌==◌, Bool, true, false, if◌then◌else◌, List, [], ◌∷◌, ◌++◌, refl, ap, sym, ◌∙◌, subst, arith}
-use Rattle.std.specs.Prelude.{Option, Some, None, is_some, IfSome, IsSomeAnd}
+use Rattle.std.specs.Prelude.{Option, Some, None, is_some, IfSome}
 use Rattle.std.proofs.lemmas.Bool.Decides.{nat_tests}
 use Rattle.blk_base.specs.declared.moves.BackMover.TheVariants as back
 use Rattle.blk_base.specs.declared.moves.Move.{Move}
 use Rattle.blk_base.specs.declared.moves.Move.TheVariants as moves
 use Rattle.blk_layout.specs.declared.request.RawRequest.{RawRequest}
-use Rattle.ring_words.specs.Shape.{Shape}
+use Rattle.blk_base.specs.declared.operation.Abi.{Abi}
 use Rattle.report_rules.specs.declared.job.Fetched.{Fetched}
 use Rattle.job_check.specs.Replies.{after_other}
 use Rattle.schedule_text.specs.declared.line.Line.{Line}
@@ -14,24 +14,21 @@ use Rattle.schedule_text.specs.declared.line.Line.TheVariants as lines
 use Rattle.report_rules.specs.declared.standing.Standing.{Standing}
 use Rattle.report_rules.specs.Standing.{is_epoch, this_epoch}
 use Rattle.report_rules.specs.Mapped.{IsMapAnswerAt}
-use Rattle.report_rules.specs.Ring.{page_made, ring_pages, ring_shape}
-use Rattle.report_rules.specs.Stretch.{entry_word_read, IsNextWord, IsStretchAt}
-use Rattle.report_rules.specs.Job.{when, entry_of, request_in, is_job, fetched_of}
+use Rattle.report_rules.specs.Ring.{ring_pages, ring_abi, ring_shape}
+use Rattle.report_rules.specs.Stretch.{when, entry_of}
+use Rattle.report_rules.specs.Job.{is_job, fetched_of}
 use Rattle.report_rules.specs.Step.{stepper}
 use Rattle.report_rules.specs.Steps.{IsStepAt}
 use Rattle.report_rules.specs.Reply.{is_event}
 use Rattle.ring_check.specs.State.{RingState, shape_seen, word_seen, entry_word_on, entry_word_seen}
 use Rattle.ring_check.specs.Kept.{IsKept}
-use Rattle.ring_check.proofs.Telling.{IsNew, entry_is}
 use Rattle.job_check.specs.Kept.{Kept}
-use Rattle.job_check.specs.Laws.{IsLayoutAt}
 use Rattle.job_check.specs.Open.{Open, stepped, moved_by, opened}
-use Rattle.job_check.specs.Published.{published_after}
 use Rattle.job_check.specs.State.{JobState, job_at, fetched_with, fetched_by, after_step, kept_after, with_kept, after_other_move, after_read, value_seen, entry_value_seen, after_move}
 use Rattle.job_check.proofs.Mappings.{IsKeptTo, kept_still, kept_unmapped, kept_mapped}
 use Rattle.job_check.proofs.Entries.{value_on, IsFetching, fetched_still, fetching_still, IsRead}
 use Rattle.job_check.proofs.Fetches.{fetched_same, fetching_part, fetched_other, next_unfetched, fetched_next, fetching_whole}
-use Rattle.job_check.proofs.Publishing.{IsPublished, published_more, fetched_is}
+use Rattle.job_check.proofs.Publishing.{IsPublished, fetched_is}
 use Rattle.job_check.proofs.Telling.{has_step}
 use Rattle.job_check.proofs.Jobs.{IsJob, MayStep, gone_stops}
 use Rattle.job_check.proofs.JobLines.{job_read, job_disk, job_other}
@@ -67,9 +64,9 @@ pub not_own : (j k : ℕ) (o : Option ℕ) → o ≡ Some j → (j == k) ≡ fal
 not_own j k o is e = ap (is_job k) is ∙ e
 
 -- a move that reads no word of an entry
-pub other_moved : (before : List Line) (s : JobState) (move : Move) → IsSeen before s → is_some (value_on (ring_pages before) (lines.Move move)) ≡ false → IsNew (page_made (lines.Move move)) (this_epoch before)
-    → IsMapAnswerAt before (lines.Move move) → IsLayoutAt before (lines.Move move) → IsStepAt before (lines.Move move) → IsSeen (before ++ lines.Move move ∷ []) (after_other_move s move)
-other_moved before s move is unread new answer layout step = by_stepper (stepper (lines.Move move)) refl
+pub other_moved : (before : List Line) (s : JobState) (move : Move) → IsSeen before s → is_some (value_on (ring_pages before) (lines.Move move)) ≡ false
+    → IsMapAnswerAt before (lines.Move move) → IsStepAt before (lines.Move move) → IsSeen (before ++ lines.Move move ∷ []) (after_other_move s move)
+other_moved before s move is unread answer step = by_stepper (stepper (lines.Move move)) refl
   where
     line : Line
     line = lines.Move move
@@ -84,7 +81,7 @@ other_moved before s move is unread new answer layout step = by_stepper (stepper
     mappings = mappings_moved before move s.kept is.mappings refl answer
 
     fetching : IsFetching (before ++ lines.Move move ∷ []) s.fetched s.entry
-    fetching = fetching_still before (lines.Move move) s.fetched s.entry is.fetching refl unread new layout
+    fetching = fetching_still before (lines.Move move) s.fetched s.entry is.fetching refl unread
 
     own : (k : ℕ) (o : Option Open) → stepper (lines.Move move) ≡ Some k → IsJobOf before k o → IsJobOf (before ++ lines.Move move ∷ []) k (change_of (moved_by s.replies.rows move) o)
     own k None by gone = absurd (gone_stops before k move gone (may_of before k move step by))
@@ -112,27 +109,26 @@ idle_next before fetched entry (Some o) is j = absurd (let none = next_unfetched
 pub other_number : (n k : ℕ) → (n == k) ≡ false → (k == n) ≡ false
 other_number n k e = grind (arith, nat_tests)
 
-word_taken : (before : List Line) (s : JobState) (number frame word value : ℕ) (shape : Shape) (request : Option RawRequest) → IsSeen before s → IsPublished before s.published → IsRead before (lines.Move (moves.Read back.Back number frame word value)) value shape
-    → entry_of shape.abi (s.entry ++ value ∷ []) 1 ≡ request → IsSeen (before ++ lines.Move (moves.Read back.Back number frame word value) ∷ []) (fetched_by s (s.entry ++ value ∷ []) request)
-word_taken before s number frame word value shape None is published read part =
+word_taken : (before : List Line) (s : JobState) (number frame word value : ℕ) (request : Option RawRequest) → IsSeen before s → IsPublished before s.published → IsRead before (lines.Move (moves.Read back.Back number frame word value)) value
+    → entry_of (ring_abi before) (s.entry ++ value ∷ []) ≡ request → IsSeen (before ++ lines.Move (moves.Read back.Back number frame word value) ∷ []) (fetched_by s (s.entry ++ value ∷ []) request)
+word_taken before s number frame word value None is published read part =
     let line : Line = lines.Move (moves.Read back.Back number frame word value) in
     record {
       mappings = kept_still before line s.kept is.mappings refl (λ n. refl) refl (λ k. refl);
-      fetching = fetching_part before line value s.fetched s.entry shape is.fetching read part;
-      jobs = jobs_still before (before ++ line ∷ []) s.jobs is.jobs (λ k o j. of_still before line k o refl refl (fetched_same before line value s.fetched s.entry shape k is.fetching read part) refl refl j);
+      fetching = fetching_part before line value s.fetched s.entry is.fetching read part;
+      jobs = jobs_still before (before ++ line ∷ []) s.jobs is.jobs (λ k o j. of_still before line k o refl refl (fetched_same before line value s.fetched s.entry k is.fetching read part) refl refl j);
     }
-word_taken before s number frame word value shape (Some request) is published read whole =
+word_taken before s number frame word value (Some request) is published read whole =
     let line : Line = lines.Move (moves.Read back.Back number frame word value) in
     let after : List Line = before ++ line ∷ [] in
-    let told : IsPublished after (published_after s.published line) = published_more before line s.published published in
     let same : fetched_of after (s.fetched + 1) ≡ Some (fetched_with s request) =
-    fetched_next before line value s.fetched s.entry shape request is.fetching read whole ∙ ap (λ (f : Fetched). Some f) (fetched_is after (published_after s.published line) request told) in
+    fetched_next before line value s.fetched s.entry request is.fetching read whole ∙ ap (λ (f : Fetched). Some f) (fetched_is before s.published request published) in
     record {
       mappings = kept_still before line s.kept is.mappings refl (λ n. refl) refl (λ k. refl);
-      fetching = fetching_whole before line value s.fetched s.entry shape request is.fetching read whole;
+      fetching = fetching_whole before line value s.fetched s.entry request is.fetching read whole;
       jobs = jobs_opened before after s.jobs (s.fetched + 1) (opened s.replies.rows (s.fetched + 1) (fetched_with s request)) is.jobs
           (job_ended after (s.fetched + 1) _ _ (job_begun before line (s.fetched + 1) (fetched_with s request) refl refl (idle_next before s.fetched s.entry (job_at s.jobs (s.fetched + 1)) is.fetching (is.jobs.each (s.fetched + 1))) same))
-          (λ k o other j. of_still before line k o refl refl (fetched_other before line value s.fetched s.entry shape k is.fetching read (other_number (s.fetched + 1) k other)) refl refl j);
+          (λ k o other j. of_still before line k o refl refl (fetched_other before line value s.fetched s.entry request k is.fetching read whole (other_number (s.fetched + 1) k other)) refl refl j);
     }
 
 -- ---- all moves
@@ -143,16 +139,10 @@ pages_same before ring line k = ap (λ (ps : List Standing). entry_word_on ps li
 pub shape_same : (before : List Line) (ring : RingState) → IsKept before ring → shape_seen ring ≡ ring_shape before
 shape_same before ring k = rw (k.abi, k.pages) refl
 
-pub shaped_by : (before : List Line) (line : Line) (word : Option ℕ) (shape : Option Shape) → IfSome word (λ (w : ℕ). IsSomeAnd shape (IsNextWord before w)) → is_some word ≡ true → is_some shape ≡ true
-shaped_by before line None shape next e = absurd (cc)
-shaped_by before line (Some w) None next e = absurd next
-shaped_by before line (Some w) (Some s) next e = refl
-
-pub read_moved : (before : List Line) (ring : RingState) (s : JobState) (number frame word value : ℕ) → IsKept before ring → IsSeen before s → IsPublished before s.published → IsStretchAt before (lines.Move (moves.Read back.Back number frame word value))
-    → IsLayoutAt before (lines.Move (moves.Read back.Back number frame word value))
+pub read_moved : (before : List Line) (ring : RingState) (s : JobState) (number frame word value : ℕ) → IsKept before ring → IsSeen before s → IsPublished before s.published
     → IsSeen (before ++ lines.Move (moves.Read back.Back number frame word value) ∷ []) (after_read ring s (moves.Read back.Back number frame word value) (entry_value_seen ring (lines.Move (moves.Read back.Back number frame word value))))
-read_moved before ring s number frame word value k is published stretch layout =
-    by_word (is_some (entry_word_seen ring (lines.Move (moves.Read back.Back number frame word value)))) refl (ring_shape before) refl
+read_moved before ring s number frame word value k is published =
+    by_word (is_some (entry_word_seen ring (lines.Move (moves.Read back.Back number frame word value)))) refl
   where
     line : Line
     line = lines.Move (moves.Read back.Back number frame word value)
@@ -163,28 +153,24 @@ read_moved before ring s number frame word value k is published stretch layout =
     seen_now : JobState
     seen_now = record s { replies = after_other s.replies }
 
-    by_word : (b : Bool) → is_some (entry_word_seen ring (lines.Move (moves.Read back.Back number frame word value))) ≡ b → (shape : Option Shape) → ring_shape before ≡ shape
+    by_word : (b : Bool) → is_some (entry_word_seen ring (lines.Move (moves.Read back.Back number frame word value))) ≡ b
         → IsSeen (before ++ lines.Move (moves.Read back.Back number frame word value) ∷ []) (after_read ring s (moves.Read back.Back number frame word value) (if b then Some value else None))
-    by_word false e shape shaped =
+    by_word false e =
         let unread : is_some (value_on (ring_pages before) (lines.Move (moves.Read back.Back number frame word value))) ≡ false = ap (λ (b : Bool). is_some (when b value)) (sym reads ∙ e) in
-        other_moved before s (moves.Read back.Back number frame word value) is unread tt tt layout tt
-    by_word true e None shaped =
-        let some = shaped_by before (lines.Move (moves.Read back.Back number frame word value)) (entry_word_read before (lines.Move (moves.Read back.Back number frame word value))) (ring_shape before) stretch.next
-        (ap (λ (o : Option ℕ). is_some o) (entry_is before (lines.Move (moves.Read back.Back number frame word value))) ∙ (sym reads ∙ e)) in
-        absurd (cc)
-    by_word true e (Some shape) shaped =
+        other_moved before s (moves.Read back.Back number frame word value) is unread tt tt
+    by_word true e =
         let shown : value_on (ring_pages before) (lines.Move (moves.Read back.Back number frame word value)) ≡ Some value = ap (λ (b : Bool). when b value) (sym reads ∙ e) in
-        let read : IsRead before (lines.Move (moves.Read back.Back number frame word value)) value shape = record { same = refl; shows = shown; shaped = shaped; page = refl; layout = λ abi. refl } in
+        let read : IsRead before (lines.Move (moves.Read back.Back number frame word value)) value = record { same = refl; shows = shown } in
         subst (λ (o : Option RawRequest). IsSeen (before ++ lines.Move (moves.Read back.Back number frame word value) ∷ []) (fetched_by (record s { replies = after_other s.replies }) (s.entry ++ value ∷ []) o))
-        (ap (λ (o : Option Shape). request_in (s.entry ++ value ∷ []) 1 o) (sym (shape_same before ring k ∙ shaped)))
-        (word_taken before (record s { replies = after_other s.replies }) number frame word value shape (entry_of shape.abi (s.entry ++ value ∷ []) 1) (record { mappings = is.mappings; fetching = is.fetching; jobs = is.jobs }) published read refl)
+        (ap (λ (a : Option Abi). entry_of a (s.entry ++ value ∷ [])) (sym k.abi))
+        (word_taken before (record s { replies = after_other s.replies }) number frame word value (entry_of (ring_abi before) (s.entry ++ value ∷ [])) (record { mappings = is.mappings; fetching = is.fetching; jobs = is.jobs }) published read refl)
 
-pub write_moved : (before : List Line) (ring : RingState) (s : JobState) (number frame word value : ℕ) → IsSeen before s → IsLayoutAt before (lines.Move (moves.Write back.Back number frame word value))
+pub write_moved : (before : List Line) (ring : RingState) (s : JobState) (number frame word value : ℕ) → IsSeen before s
     → IsSeen (before ++ lines.Move (moves.Write back.Back number frame word value) ∷ []) (after_move ring s (moves.Write back.Back number frame word value) (value_seen ring (lines.Move (moves.Write back.Back number frame word value))))
-write_moved before ring s number frame word value is layout = by_event (is_event (word_seen ring number word))
+write_moved before ring s number frame word value is = by_event (is_event (word_seen ring number word))
   where
     quiet : IsSeen (before ++ lines.Move (moves.Write back.Back number frame word value) ∷ []) (after_other_move s (moves.Write back.Back number frame word value))
-    quiet = other_moved before s (moves.Write back.Back number frame word value) is refl tt tt layout tt
+    quiet = other_moved before s (moves.Write back.Back number frame word value) is refl tt tt
 
     by_event : (b : Bool) → IsSeen (before ++ lines.Move (moves.Write back.Back number frame word value) ∷ []) (after_move ring s (moves.Write back.Back number frame word value) (if b then None else Some value))
     by_event true = quiet

@@ -5,20 +5,19 @@ use Rattle.blk_base.specs.declared.moves.BackMover.TheVariants as back
 use Rattle.blk_base.specs.declared.moves.Move.{Move}
 use Rattle.blk_base.specs.declared.moves.Move.TheVariants as moves
 use Rattle.blk_layout.specs.declared.request.RawRequest.{RawRequest}
-use Rattle.ring_words.specs.Shape.{Shape}
+use Rattle.blk_base.specs.declared.operation.Abi.{Abi}
 use Rattle.schedule_text.specs.declared.line.Line.{Line}
 use Rattle.schedule_text.specs.declared.line.Line.TheVariants as lines
 use Rattle.report_rules.specs.declared.job.Fetched.{Fetched}
 use Rattle.report_rules.specs.Standing.{is_epoch, this_epoch}
-use Rattle.report_rules.specs.Ring.{ring_pages, ring_shape}
-use Rattle.report_rules.specs.Stretch.{entry_word_read, IsStretchAt}
-use Rattle.report_rules.specs.Job.{when, is_job, fetched_of, entry_of, request_in}
+use Rattle.report_rules.specs.Ring.{ring_pages, ring_abi}
+use Rattle.report_rules.specs.Stretch.{when, entry_of}
+use Rattle.report_rules.specs.Job.{is_job, fetched_of}
 use Rattle.report_rules.specs.Step.{stepper}
 use Rattle.report_rules.specs.Steps.{IsStepAt}
 use Rattle.report_rules.specs.Reply.{is_event, is_reply}
 use Rattle.ring_check.specs.State.{RingState, word_seen, entry_word_on, entry_word_seen}
 use Rattle.ring_check.specs.Kept.{IsKept}
-use Rattle.ring_check.proofs.Telling.{entry_is}
 use Rattle.job_check.specs.Open.{Open, opened, moved_by, failed_by, with_sector}
 use Rattle.job_check.specs.Replies.{after_other}
 use Rattle.job_check.specs.State.{JobState, job_at, fetched_with, fetched_by, after_step, with_kept, after_other_move, after_read, after_move, value_seen, entry_value_seen, job_moved, job_answered, without_job, for_job, after_line}
@@ -26,7 +25,7 @@ use Rattle.job_check.proofs.Telling.{last_mover}
 use Rattle.job_check.proofs.Entries.{value_on, IsFetching, fetched_still, IsRead}
 use Rattle.job_check.proofs.Fetches.{fetched_same, fetched_other, next_unfetched, fetched_next}
 use Rattle.job_check.proofs.Changes.{IsJobOf, change_of, changed_each, opened_each, removed_each}
-use Rattle.job_check.proofs.Moves.{IsSeen, may_of, not_own, pages_same, shape_same, shaped_by, other_number}
+use Rattle.job_check.proofs.Moves.{IsSeen, may_of, not_own, pages_same, other_number}
 use Rattle.job_check.proofs.Sees.{Sees, IsNext, IsAnswered, answered_found, is_last}
 use Rattle.job_check.proofs.NextJobs.{NextJob, begins, ends, next_same, next_moved, next_failed, next_given}
 
@@ -69,42 +68,38 @@ unopened : (before : List Line) (fetched : ℕ) (entry : List ℕ) (o : Option O
 unopened before fetched entry None is gone = refl
 unopened before fetched entry (Some o) is j = absurd (let none = next_unfetched before fetched entry is in let some = j.fetched in cc)
 
-word_next : (before : List Line) (s : JobState) (number frame word value : ℕ) (shape : Shape) (request : Option RawRequest) → IsSeen before s → IsRead before (lines.Move (moves.Read back.Back number frame word value)) value shape
-    → entry_of shape.abi (s.entry ++ value ∷ []) 1 ≡ request → AllNext before (lines.Move (moves.Read back.Back number frame word value)) s.replies.rows s.jobs (fetched_by s (s.entry ++ value ∷ []) request).jobs
-word_next before s number frame word value shape None is read part =
+word_next : (before : List Line) (s : JobState) (number frame word value : ℕ) (request : Option RawRequest) → IsSeen before s → IsRead before (lines.Move (moves.Read back.Back number frame word value)) value
+    → entry_of (ring_abi before) (s.entry ++ value ∷ []) ≡ request → AllNext before (lines.Move (moves.Read back.Back number frame word value)) s.replies.rows s.jobs (fetched_by s (s.entry ++ value ∷ []) request).jobs
+word_next before s number frame word value None is read part =
     let line : Line = lines.Move (moves.Read back.Back number frame word value) in
-    all_same before line s.replies.rows s.jobs (λ k. refl) (λ k. fetched_same before line value s.fetched s.entry shape k is.fetching read part)
-word_next before s number frame word value shape (Some request) is read whole =
+    all_same before line s.replies.rows s.jobs (λ k. refl) (λ k. fetched_same before line value s.fetched s.entry k is.fetching read part)
+word_next before s number frame word value (Some request) is read whole =
     let line : Line = lines.Move (moves.Read back.Back number frame word value) in
     let none : job_at s.jobs (s.fetched + 1) ≡ None = unopened before s.fetched s.entry (job_at s.jobs (s.fetched + 1)) is.fetching (is.jobs.each (s.fetched + 1)) in
     opened_each (Was s.jobs) (Becomes before line s.replies.rows s.jobs) s.jobs (s.fetched + 1) (opened s.replies.rows (s.fetched + 1) (fetched_with s request)) (λ k. refl)
     (begins (opened s.replies.rows (s.fetched + 1) (fetched_with s request)) none refl refl (next_unfetched before s.fetched s.entry is.fetching)
-    (ap (λ (o : Option Fetched). is_some o) (fetched_next before line value s.fetched s.entry shape request is.fetching read whole)))
-    (λ k o other was. other_same before line s.replies.rows s.jobs k o refl (fetched_other before line value s.fetched s.entry shape k is.fetching read (other_number (s.fetched + 1) k other)) was)
+    (ap (λ (o : Option Fetched). is_some o) (fetched_next before line value s.fetched s.entry request is.fetching read whole)))
+    (λ k o other was. other_same before line s.replies.rows s.jobs k o refl (fetched_other before line value s.fetched s.entry request k is.fetching read whole (other_number (s.fetched + 1) k other)) was)
 
-read_next : (before : List Line) (ring : RingState) (s : JobState) (number frame word value : ℕ) → IsKept before ring → IsSeen before s → IsStretchAt before (lines.Move (moves.Read back.Back number frame word value))
+read_next : (before : List Line) (ring : RingState) (s : JobState) (number frame word value : ℕ) → IsKept before ring → IsSeen before s
     → AllNext before (lines.Move (moves.Read back.Back number frame word value)) s.replies.rows s.jobs (after_read ring s (moves.Read back.Back number frame word value) (entry_value_seen ring (lines.Move (moves.Read back.Back number frame word value)))).jobs
-read_next before ring s number frame word value k is stretch =
-    by_word (is_some (entry_word_seen ring (lines.Move (moves.Read back.Back number frame word value)))) refl (ring_shape before) refl
+read_next before ring s number frame word value k is =
+    by_word (is_some (entry_word_seen ring (lines.Move (moves.Read back.Back number frame word value)))) refl
   where
     reads : is_some (entry_word_seen ring (lines.Move (moves.Read back.Back number frame word value))) ≡ is_some (entry_word_on (ring_pages before) (lines.Move (moves.Read back.Back number frame word value)))
     reads = ap (λ (o : Option ℕ). is_some o) (pages_same before ring (lines.Move (moves.Read back.Back number frame word value)) k)
 
-    by_word : (b : Bool) → is_some (entry_word_seen ring (lines.Move (moves.Read back.Back number frame word value))) ≡ b → (shape : Option Shape) → ring_shape before ≡ shape
+    by_word : (b : Bool) → is_some (entry_word_seen ring (lines.Move (moves.Read back.Back number frame word value))) ≡ b
         → AllNext before (lines.Move (moves.Read back.Back number frame word value)) s.replies.rows s.jobs (after_read ring s (moves.Read back.Back number frame word value) (if b then Some value else None)).jobs
-    by_word false e shape shaped =
+    by_word false e =
         let unread : is_some (value_on (ring_pages before) (lines.Move (moves.Read back.Back number frame word value))) ≡ false = ap (λ (b : Bool). is_some (when b value)) (sym reads ∙ e) in
         other_next before s (moves.Read back.Back number frame word value) is unread tt
-    by_word true e None shaped =
-        let some = shaped_by before (lines.Move (moves.Read back.Back number frame word value)) (entry_word_read before (lines.Move (moves.Read back.Back number frame word value))) (ring_shape before) stretch.next
-        (ap (λ (o : Option ℕ). is_some o) (entry_is before (lines.Move (moves.Read back.Back number frame word value))) ∙ (sym reads ∙ e)) in
-        absurd (cc)
-    by_word true e (Some shape) shaped =
+    by_word true e =
         let shown : value_on (ring_pages before) (lines.Move (moves.Read back.Back number frame word value)) ≡ Some value = ap (λ (b : Bool). when b value) (sym reads ∙ e) in
-        let read : IsRead before (lines.Move (moves.Read back.Back number frame word value)) value shape = record { same = refl; shows = shown; shaped = shaped; page = refl; layout = λ abi. refl } in
+        let read : IsRead before (lines.Move (moves.Read back.Back number frame word value)) value = record { same = refl; shows = shown } in
         subst (λ (o : Option RawRequest). AllNext before (lines.Move (moves.Read back.Back number frame word value)) s.replies.rows s.jobs (fetched_by (record s { replies = after_other s.replies }) (s.entry ++ value ∷ []) o).jobs)
-        (ap (λ (o : Option Shape). request_in (s.entry ++ value ∷ []) 1 o) (sym (shape_same before ring k ∙ shaped)))
-        (word_next before (record s { replies = after_other s.replies }) number frame word value shape (entry_of shape.abi (s.entry ++ value ∷ []) 1) (record { mappings = is.mappings; fetching = is.fetching; jobs = is.jobs }) read refl)
+        (ap (λ (a : Option Abi). entry_of a (s.entry ++ value ∷ [])) (sym k.abi))
+        (word_next before (record s { replies = after_other s.replies }) number frame word value (entry_of (ring_abi before) (s.entry ++ value ∷ [])) (record { mappings = is.mappings; fetching = is.fetching; jobs = is.jobs }) read refl)
 
 write_next : (before : List Line) (ring : RingState) (s : JobState) (number frame word value : ℕ) → IsSeen before s
     → AllNext before (lines.Move (moves.Write back.Back number frame word value)) s.replies.rows s.jobs (after_move ring s (moves.Write back.Back number frame word value) (value_seen ring (lines.Move (moves.Write back.Back number frame word value)))).jobs
@@ -118,7 +113,7 @@ write_next before ring s number frame word value is = by_event (is_event (word_s
     by_event false = same
 
 move_next : (before : List Line) (ring : RingState) (s : JobState) (move : Move) → IsKept before ring → IsSeen before s → IsNext before (lines.Move move) → AllNext before (lines.Move move) s.replies.rows s.jobs (after_move ring s move (value_seen ring (lines.Move move))).jobs
-move_next before ring s (moves.Read back.Back number frame word value) k is n = read_next before ring s number frame word value k is n.stretch
+move_next before ring s (moves.Read back.Back number frame word value) k is n = read_next before ring s number frame word value k is
 move_next before ring s (moves.Write back.Back number frame word value) k is n = write_next before ring s number frame word value is
 move_next before ring s move k is n = other_next before s move is refl n.step
 

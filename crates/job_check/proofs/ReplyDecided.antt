@@ -1,5 +1,5 @@
 -- What is kept decides the rule on replies.
-use Rattle.std.proofs.Common.{◌≡◌, ◌≢◌, ℕ, ◌+◌, ◌/◌, ◌%◌, ◌<◌, ◌^◌, ◌==◌, ◌&&◌, ◌||◌, not, Bool, true, false, if◌then◌else◌, List, [], ◌∷◌, ◌++◌, length, reverse, refl, ap, sym, ◌∙◌, subst, append_assoc, length-append, arith}
+use Rattle.std.proofs.Common.{◌≡◌, ◌≢◌, ℕ, ◌+◌, ◌/◌, ◌%◌, ◌<◌, ◌^◌, ◌==◌, ◌&&◌, not, Bool, true, false, if◌then◌else◌, List, [], ◌∷◌, ◌++◌, length, reverse, refl, ap, sym, ◌∙◌, subst, append_assoc, length-append, arith}
 use Rattle.std.specs.Prelude.{nat_lt, find, Option, Some, None, is_some, IfSome, IsSomeAnd, IsTrue, Result, Ok, Err}
 use Rattle.std.specs.Bool.{Decides}
 use Rattle.std.specs.List.{list_any}
@@ -17,7 +17,8 @@ use Rattle.schedule_text.specs.declared.line.Line.{Line}
 use Rattle.schedule_text.specs.declared.line.Line.TheVariants as lines
 use Rattle.report_rules.specs.declared.standing.Standing.{Standing}
 use Rattle.report_rules.specs.Ring.{ring_shape, replied_before}
-use Rattle.report_rules.specs.Reply.{word_written, value_written, values_written, row_of, within_reply, lines_before, lowest, may_answer as may_answer_by, most_jobs, next_place as next_place_by, reply_pushed, line_of, is_reply, answered_in, is_answer, is_next_value as is_next_value_by, is_of_back, IsNextWrite, IsTold, IsReplyAt}
+use Rattle.report_rules.specs.Stretch.{entries_read}
+use Rattle.report_rules.specs.Reply.{word_written, value_written, values_written, row_of, within_reply, lines_before, lowest, may_answer as may_answer_by, next_place as next_place_by, reply_pushed, line_of, is_reply, answered_in, is_answer, is_next_value as is_next_value_by, IsNextWrite, IsTold, IsReplyAt}
 use Rattle.report_rules.proofs.Prefixes.{none_passed}
 use Rattle.ring_check.specs.State.{RingState, shape_seen, replied_seen, word_on}
 use Rattle.ring_check.specs.Kept.{IsKept}
@@ -30,7 +31,8 @@ use Rattle.job_check.proofs.Moves.{shape_same}
 use Rattle.job_check.proofs.Sees.{Sees}
 use Rattle.job_check.proofs.Written.{written_is, seen_is, row_past, IsWritten}
 use Rattle.job_check.proofs.FirstJob.{lowest_is, any_is, some_map}
-use Rattle.job_check.proofs.Rows.{Begun, lines_are, most_of}
+use Rattle.job_check.proofs.Fetches.{fetched_within}
+use Rattle.job_check.proofs.Rows.{Begun, lines_are}
 use Rattle.job_check.proofs.Begins.{now_early}
 use Rattle.job_check.proofs.Replying.{IsReplying, Starts, starts_of, may_same, may_range, numbers, replied_is}
 
@@ -66,16 +68,16 @@ place_same before r replied shape is same =
 starts_now : (before : List Line) (s : JobState) → Sees before s → IsReplying before s → Starts before before (s.replies.rows + 1) s.jobs
 starts_now before s sees is = record {
   unfetched = λ k none. none;
-  most = λ k some. most_of before s.fetched s.entry k sees.seen.fetching some;
+  most = fetched_within before;
   due = λ k o here. (now_early before s.replies.rows k o (subst (IsJobOf before k) here (sees.seen.jobs.each k)) (is.ended k o here)).0;
   late = λ k o here. (now_early before s.replies.rows k o (subst (IsJobOf before k) here (sees.seen.jobs.each k)) (is.ended k o here)).1;
 }
 
 answer_by : (before early : List Line) (s : JobState) (rows last : ℕ) (row : List ℕ) → Sees before s → IsReplying before s → Starts before early rows s.jobs
-    → is_some (lowest (may_answer_by early (answered_in before) last row) (most_jobs early)) ≡ list_any (may_answer rows last row) (values_of s.jobs)
+    → is_some (lowest (may_answer_by early (answered_in before) last row) (entries_read early)) ≡ list_any (may_answer rows last row) (values_of s.jobs)
 answer_by before early s rows last row sees is starts =
     ap (λ (o : Option ℕ). is_some o)
-    (lowest_is (may_answer_by early (answered_in before) last row) (may_answer rows last row) (λ (o : Open). o.number) s.jobs (most_jobs early) sees.seen.jobs.rising
+    (lowest_is (may_answer_by early (answered_in before) last row) (may_answer rows last row) (λ (o : Open). o.number) s.jobs (entries_read early) sees.seen.jobs.rising
     (λ k. may_same before early s rows last k row is starts) (λ k o here may. may_range before early s rows last k row o starts here may) (λ k o here. numbers before s k o sees.seen.jobs here))
     ∙ (some_map (λ (o : Open). o.number) (find (may_answer rows last row) (values_of s.jobs)) ∙ sym (any_is (may_answer rows last row) (values_of s.jobs)))
 
@@ -84,7 +86,7 @@ answer_same before s row sees is = by_test (length s.replies.row == 0) refl
   where
     with_lines : (early : List Line) (rows : ℕ) → lines_before before (length s.replies.row) ≡ early → rows_with s.replies ≡ rows → Starts before early rows s.jobs → is_answer before (length s.replies.row) row ≡ list_any (may_answer (rows_with s.replies) (length s.replies.row) row) (values_of s.jobs)
     with_lines early rows at count starts =
-        ap (λ (xs : List Line). is_some (lowest (may_answer_by xs (answered_in before) (length s.replies.row) row) (most_jobs xs))) at
+        ap (λ (xs : List Line). is_some (lowest (may_answer_by xs (answered_in before) (length s.replies.row) row) (entries_read xs))) at
         ∙ (answer_by before early s rows (length s.replies.row) row sees is starts
         ∙ ap (λ (n : ℕ). list_any (may_answer n (length s.replies.row) row) (values_of s.jobs)) (sym count))
 
@@ -195,25 +197,15 @@ told_decides before s line (Some row) sees is =
     (Decides-and (tells_of (response_of row) line) (is_some (job_answered s)) (says_decides (response_of row) line)
     (subst (λ (o : Option ℕ). Decides (is_some (job_answered s)) (o ≢ None)) (sym (replied_is before s sees is)) (some_decides (job_answered s))))
 
--- ---- the words of a row stand together
-whole_decides : (own : Bool) (value : Option ℕ) (n : ℕ) → Decides (not own || is_some value || (n == 0)) (IsTrue own → value ≡ None → n ≡ 0)
-whole_decides false value n = (λ e own none. absurd (cc), λ h. refl)
-whole_decides true (Some v) n = (λ e own none. absurd (cc), λ h. refl)
-whole_decides true None n = Decides-like (n == 0) (λ e own none. e) (λ h. h refl refl) (Decides-eqb n 0)
-
 -- ---- the rule
 pub reply_decided : (before : List Line) (line : Line) (ring : RingState) (s : JobState) → IsKept before ring → Sees before s → IsReplying before s → Decides (allows_reply ring s line) (IsReplyAt before line)
 reply_decided before line ring s k sees is =
     let value : value_seen ring line ≡ value_written before line = value_same before ring line k in
     let pushed : s.replies.pushed ≡ reply_pushed before = is.written.pushed in
-    let within : within_reply before ≡ length s.replies.row = within_is before s.replies is.written in
     let next = allows_value ring s line (value_written before line) in
     let told = is_told s line (reply_pushed before) in
-    let whole = not (is_of_back line) || is_some (value_written before line) || (within_reply before == 0) in
-    Decides-at (allows_reply ring s line) (next && told && whole)
-    (ap (λ (o : Option ℕ). allows_value ring s line o && is_told s line s.replies.pushed && (not (is_of_back line) || is_some o || (length s.replies.row == 0))) value
-    ∙ (ap (λ (o : Option (List ℕ)). next && is_told s line o && (not (is_of_back line) || is_some (value_written before line) || (length s.replies.row == 0))) pushed
-    ∙ ap (λ (n : ℕ). next && told && (not (is_of_back line) || is_some (value_written before line) || (n == 0))) (sym within)))
-    (Decides-like ((next && told) && whole) (λ all. record { next = all.0.0; told = all.0.1.0; only = all.0.1.1; whole = all.1 }) (λ (r : IsReplyAt before line). ((r.next, (r.told, r.only)), r.whole))
-    (Decides-and (next && told) whole (Decides-and next told (value_decides before ring s line (value_written before line) k sees is) (told_decides before s line (reply_pushed before) sees is))
-    (whole_decides (is_of_back line) (value_written before line) (within_reply before))))
+    Decides-at (allows_reply ring s line) (next && told)
+    (ap (λ (o : Option ℕ). allows_value ring s line o && is_told s line s.replies.pushed) value
+    ∙ ap (λ (o : Option (List ℕ)). next && is_told s line o) pushed)
+    (Decides-like (next && told) (λ all. record { next = all.0; told = all.1.0; only = all.1.1 }) (λ (r : IsReplyAt before line). (r.next, (r.told, r.only)))
+    (Decides-and next told (value_decides before ring s line (value_written before line) k sees is) (told_decides before s line (reply_pushed before) sees is)))

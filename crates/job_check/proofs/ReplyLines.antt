@@ -15,11 +15,12 @@ use Rattle.schedule_text.specs.declared.line.Line.TheVariants as lines
 use Rattle.report_rules.specs.declared.job.Fetched.{Fetched}
 use Rattle.report_rules.specs.Standing.{is_epoch, this_epoch}
 use Rattle.report_rules.specs.Ring.{page_made, ring_pages}
-use Rattle.report_rules.specs.Job.{fetched_of, request_in}
+use Rattle.report_rules.specs.Stretch.{entry_of}
+use Rattle.report_rules.specs.Job.{fetched_of}
 use Rattle.report_rules.specs.Step.{stepper}
 use Rattle.report_rules.specs.Reply.{is_event, is_one_of, answered_in, is_reply}
 use Rattle.report_rules.proofs.Prefixes.{answered_more}
-use Rattle.ring_check.specs.State.{RingState, shape_seen, word_seen, entry_word_seen}
+use Rattle.ring_check.specs.State.{RingState, word_seen, entry_word_seen}
 use Rattle.ring_check.proofs.Telling.{IsNew}
 use Rattle.job_check.specs.Open.{Open, due, failed_by, with_sector}
 use Rattle.job_check.specs.Replies.{Replies, after_value, after_other}
@@ -61,7 +62,7 @@ move_replies ring s (moves.Write back.Back number frame word value) = by_event (
 move_replies ring s (moves.Read back.Back number frame word value) = by_word (is_some (entry_word_seen ring (lines.Move (moves.Read back.Back number frame word value))))
   where
     by_word : (b : Bool) → (after_read ring s (moves.Read back.Back number frame word value) (if b then Some value else None)).replies ≡ after_other s.replies
-    by_word true = fetch_replies (record s { replies = after_other s.replies }) (s.entry ++ value ∷ []) (request_in (s.entry ++ value ∷ []) 1 (shape_seen ring))
+    by_word true = fetch_replies (record s { replies = after_other s.replies }) (s.entry ++ value ∷ []) (entry_of ring.abi (s.entry ++ value ∷ []))
     by_word false = other_replies s (moves.Read back.Back number frame word value)
 move_replies ring s move = other_replies s move
 
@@ -192,7 +193,7 @@ replies_word before line value s sees is e page next writes =
     by_tests true b p q written rows = (
       written,
       ended_next before line s.replies.rows (s.replies.rows + 1) s.jobs s.jobs is.ended (omega arith) next,
-      λ some. begun_now before line value s.replies.rows s.fetched s.entry s.jobs e sees.seen.jobs sees.seen.fetching is.ended writes,
+      λ some. begun_now before line value s.replies.rows s.jobs e sees.seen.jobs is.ended writes,
     )
     by_tests false true p q written rows =
         let begun : (s.replies.rows == 0) ≡ false = grind (arith, nat_tests, rows) in

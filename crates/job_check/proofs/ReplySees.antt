@@ -18,6 +18,7 @@ use Rattle.job_check.specs.Published.{Published, published_after}
 use Rattle.job_check.specs.Replies.{Replies}
 use Rattle.job_check.specs.State.{JobState, begun_with, no_lines, value_seen, after_line, seen}
 use Rattle.report_rules.specs.Effect.{disk_move_of}
+use Rattle.report_rules.proofs.Fetching.{no_job}
 use Rattle.job_check.proofs.Entries.{fetched_anew}
 use Rattle.job_check.proofs.Sees.{Sees, IsNext, jobs_more, followed_before, sees_all}
 use Rattle.job_check.proofs.Written.{seen_is, written_none, written_anew}
@@ -26,7 +27,7 @@ use Rattle.job_check.proofs.Replying.{IsReplying}
 use Rattle.job_check.proofs.ReplyLines.{is_answered, replies_by, IsReplyingBy, line_replies, write_jobs, answered_next, replies_still, replies_word}
 
 pub replying_none : IsReplying [] no_lines
-replying_none = record { written = written_none; ended = λ k o here. absurd (cc); answered = λ k. refl; begun = λ some. absurd (cc) }
+replying_none = record { written = written_none; ended = λ k o here. absurd (cc); answered = λ k. sym (ap (λ (f : Option Fetched). is_answered f None) (no_job k)); begun = λ some. absurd (cc) }
 
 none_answered : (before : List Line) (line : Line) → is_epoch line ≡ true → answered_in (before ++ line ∷ []) ≡ []
 none_answered before line e = answered_more before line ∙ rw e refl
@@ -71,8 +72,6 @@ replying_from before (line ∷ later) f is =
     let n : IsNext before line = record {
       touch = f.touched.touches before later line refl;
       answer = f.touched.answers before later line refl;
-      stretch = f.stretches before later line refl;
-      layout = f.layout before later line refl;
       step = f.steps before later line refl;
     } in
     let next : IsReplying (before ++ line ∷ []) (jobs_after (before ++ line ∷ [])) =

@@ -5,9 +5,10 @@ use Rattle.std.specs.Map.{values_of}
 use Rattle.schedule_text.specs.declared.line.Line.{Line}
 use Rattle.report_rules.specs.declared.job.Fetched.{Fetched}
 use Rattle.report_rules.specs.Published.{is_persistent as persistent_by}
+use Rattle.report_rules.specs.Stretch.{entries_read}
 use Rattle.report_rules.specs.Job.{fetched_of}
 use Rattle.report_rules.specs.Made.{has_unmapped as has_unmapped_by}
-use Rattle.report_rules.specs.Reply.{is_like, is_one_of, may_answer as may_answer_by, lines_before, response_due, words_due, most_jobs, job_for, job_replied, answered_in}
+use Rattle.report_rules.specs.Reply.{is_like, is_one_of, may_answer as may_answer_by, lines_before, response_due, words_due, job_for, job_replied, answered_in}
 use Rattle.job_check.specs.Kept.{has_unmapped}
 use Rattle.job_check.specs.Open.{Open, due, is_early, may_answer}
 use Rattle.job_check.specs.Published.{Published, is_persistent}
@@ -32,7 +33,7 @@ pub record IsReplying (before : List Line) (s : JobState) : Type 0 where
 -- what was due before some rows, of the jobs that had no reply
 pub record Starts (before early : List Line) (rows : ℕ) (jobs : List (ℕ × Open)) : Type 0 where
   pub unfetched : (k : ℕ) → fetched_of before k ≡ None → fetched_of early k ≡ None
-  pub most : (k : ℕ) → is_some (fetched_of early k) ≡ true → (1 ≤ k) × (k ≤ most_jobs early)
+  pub most : (k : ℕ) → is_some (fetched_of early k) ≡ true → (1 ≤ k) × (k ≤ entries_read early)
   pub due : (k : ℕ) (o : Open) → job_at jobs k ≡ Some o → is_early rows o.ended ≡ true → response_due early k ≡ due o
   pub late : (k : ℕ) (o : Open) → job_at jobs k ≡ Some o → is_early rows o.ended ≡ false → response_due early k ≡ None
 
@@ -70,7 +71,7 @@ both_of true false e = absurd (cc)
 both_of false b e = absurd (cc)
 
 -- a job that a row may answer was fetched before the row
-pub may_range : (before early : List Line) (s : JobState) (rows last k : ℕ) (row : List ℕ) (o : Open) → Starts before early rows s.jobs → job_at s.jobs k ≡ Some o → may_answer rows last row o ≡ true → (1 ≤ k) × (k ≤ most_jobs early)
+pub may_range : (before early : List Line) (s : JobState) (rows last k : ℕ) (row : List ℕ) (o : Open) → Starts before early rows s.jobs → job_at s.jobs k ≡ Some o → may_answer rows last row o ≡ true → (1 ≤ k) × (k ≤ entries_read early)
 may_range before early s rows last k row o starts here may =
     let both = both_of (is_early rows o.ended) (is_like last row (due o)) may in
     let some : is_some (response_due early k) ≡ true = ap (λ (ws : Option (List ℕ)). is_some ws) (starts.due k o here both.0) ∙ like_due last row (due o) both.1 in
@@ -107,7 +108,7 @@ replied_is before s sees is =
         let b : Begun before s.replies s.jobs = is.begun (is.written.some some) in
         let starts : Starts before b.early s.replies.rows s.jobs = starts_of before s.replies s.jobs b in
         ap (λ (early : List Line). job_for before early (answered_in before) (Some row)) (lines_are before s.replies s.jobs 4 b (b.pushed some))
-        ∙ lowest_is (λ (k : ℕ). may_answer_by b.early (answered_in before) 2 row k && has_unmapped_by before k) (answers s.kept (is_persistent s.published) s.replies.rows row) (λ (o : Open). o.number) s.jobs (most_jobs b.early) sees.seen.jobs.rising
+        ∙ lowest_is (λ (k : ℕ). may_answer_by b.early (answered_in before) 2 row k && has_unmapped_by before k) (answers s.kept (is_persistent s.published) s.replies.rows row) (λ (o : Open). o.number) s.jobs (entries_read b.early) sees.seen.jobs.rising
         (λ k. answers_same before b.early s s.replies.rows k row sees is starts)
         (λ k o here may. may_range before b.early s s.replies.rows 2 k row o starts here (both_of (may_answer s.replies.rows 2 row o) (has_unmapped s.kept (is_persistent s.published) o.number) may).0)
         (λ k o here. numbers before s k o sees.seen.jobs here)

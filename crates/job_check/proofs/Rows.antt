@@ -1,22 +1,22 @@
 -- The lines before the row that began last, and which jobs had come to their end by then.
-use Rattle.std.proofs.Common.{◌≡◌, ℕ, ◌+◌, ◌-◌, ◌≤◌, ◌==◌, ◌&&◌, true, false, List, [], ◌∷◌, ◌++◌, length, reverse, refl, ap, sym, ◌∙◌, subst, length-append, arith}
-use Rattle.std.specs.Prelude.{nat_lt, nat_le, Option, Some, None, is_some}
+use Rattle.std.proofs.Common.{◌≡◌, ℕ, ◌+◌, ◌-◌, ◌≤◌, ◌==◌, true, false, List, [], ◌∷◌, ◌++◌, length, reverse, refl, ap, sym, ◌∙◌, subst, arith}
+use Rattle.std.specs.Prelude.{Option, Some, None, is_some}
 use Rattle.std.specs.List.{filter_map, cons_option, list_any}
 use Rattle.std.proofs.lemmas.Bool.Decides.{nat_tests}
 use Rattle.std.proofs.lemmas.List.{reverse-reverse}
-use Rattle.std.proofs.lemmas.Nat.{mul-le}
 use Rattle.schedule_text.specs.declared.line.Line.{Line}
 use Rattle.report_rules.specs.Standing.{this_epoch}
-use Rattle.report_rules.specs.Ring.{ring_pages, ring_abi}
-use Rattle.report_rules.specs.Job.{is_job, fetched_of, entry_values}
-use Rattle.report_rules.specs.Reply.{value_written, back_before, lines_before, response_due, fewest_entry_words, most_jobs}
+use Rattle.report_rules.specs.Ring.{ring_pages}
+use Rattle.report_rules.specs.Stretch.{entries_read}
+use Rattle.report_rules.specs.Job.{is_job, fetched_of}
+use Rattle.report_rules.specs.Reply.{value_written, back_before, lines_before, response_due}
 use Rattle.report_rules.proofs.Prefixes.{none_passed}
 use Rattle.ring_check.proofs.Telling.{touches}
 use Rattle.job_check.specs.Open.{Open, due, end_told, is_early}
 use Rattle.job_check.specs.Replies.{Replies}
 use Rattle.job_check.specs.State.{job_at}
 use Rattle.job_check.proofs.Telling.{last_mover}
-use Rattle.job_check.proofs.Entries.{map_same, size_by, least_size, IsFetching}
+use Rattle.job_check.proofs.Entries.{map_same}
 use Rattle.job_check.proofs.Written.{written_on, written_is}
 use Rattle.job_check.proofs.NextJobs.{NextJob, closed_still, carried, goes_on, fails, begins, ends}
 use Rattle.job_check.proofs.NextLines.{AllNext}
@@ -53,7 +53,7 @@ pub record Begun (before : List Line) (r : Replies) (jobs : List (ℕ × Open)) 
   pub row : (length r.row == 0) ≡ false → length (filter_map (written_on (ring_pages before)) later) + 1 ≡ length r.row
   pub pushed : is_some r.pushed ≡ true → length (filter_map (written_on (ring_pages before)) later) + 1 ≡ 4
   pub unfetched : (k : ℕ) → fetched_of before k ≡ None → fetched_of early k ≡ None
-  pub most : (k : ℕ) → is_some (fetched_of early k) ≡ true → (1 ≤ k) × (k ≤ most_jobs early)
+  pub most : (k : ℕ) → is_some (fetched_of early k) ≡ true → (1 ≤ k) × (k ≤ entries_read early)
   pub each : (k : ℕ) (o : Open) → job_at jobs k ≡ Some o → IsEarly before early r.rows k o
 
 pub lines_are : (before : List Line) (r : Replies) (jobs : List (ℕ × Open)) (n : ℕ) (b : Begun before r jobs) → length (filter_map (written_on (ring_pages before)) b.later) + 1 ≡ n → lines_before before n ≡ b.early
@@ -63,22 +63,6 @@ lines_are before r jobs n b long =
     ap (λ (m : ℕ). reverse (back_before before m (reverse before))) (sym same)
     ∙ (ap (λ (xs : List Line). reverse (back_before before (length (filter_map (value_written before) b.later) + 1) xs)) b.back
     ∙ (ap reverse (passed before b.later b.first (reverse b.early) wrote) ∙ reverse-reverse b.early))
-
--- ---- no more jobs were fetched than whole entries were read
-pub most_of : (before : List Line) (fetched : ℕ) (entry : List ℕ) (k : ℕ) → IsFetching before fetched entry → is_some (fetched_of before k) ≡ true → (1 ≤ k) × (k ≤ most_jobs before)
-most_of before fetched entry k is some =
-    let within : (nat_lt 0 k && nat_le k fetched) ≡ true = sym (is.each k) ∙ some in
-    let both = length-append is.whole entry in
-    let long : length (entry_values before) ≡ length is.whole + length entry = ap length is.values ∙ both in
-    let least = mul-le k fewest_entry_words fetched (size_by (ring_abi before)) (most within) (least_size (ring_abi before)) in
-    let size = is.size in
-    (one within, omega arith)
-  where
-    one : (nat_lt 0 k && nat_le k fetched) ≡ true → 1 ≤ k
-    one e = grind (arith, nat_tests)
-
-    most : (nat_lt 0 k && nat_le k fetched) ≡ true → k ≤ fetched
-    most e = grind (arith, nat_tests)
 
 -- ---- when a job came to its end
 abbrev pub EndedBy : ℕ → Option ℕ → Option (List ℕ) → Type 0

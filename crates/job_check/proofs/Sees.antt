@@ -14,7 +14,6 @@ use Rattle.report_rules.specs.Standing.{is_epoch, this_epoch}
 use Rattle.report_rules.specs.Touch.{IsTouchAt}
 use Rattle.report_rules.specs.Mapped.{IsMapAnswerAt}
 use Rattle.report_rules.specs.Ring.{page_made}
-use Rattle.report_rules.specs.Stretch.{IsStretchAt}
 use Rattle.report_rules.specs.Job.{is_job, fetched_of}
 use Rattle.report_rules.specs.Effect.{disk_move_of, disk_move_shown}
 use Rattle.report_rules.specs.Step.{stepper}
@@ -27,7 +26,7 @@ use Rattle.ring_check.proofs.Following.{kept_all}
 use Rattle.ring_check.proofs.Telling.{IsNew}
 use Rattle.ring_check.proofs.Untouched.{AreMade, none_made, made_next, new_page}
 use Rattle.job_check.specs.Kept.{has_unmapped}
-use Rattle.job_check.specs.Laws.{jobs_after, IsLayoutAt, AreFollowed}
+use Rattle.job_check.specs.Laws.{jobs_after, AreFollowed}
 use Rattle.job_check.specs.Open.{Open, due, is_early, moved_by, failed_by, with_fault, with_sector}
 use Rattle.job_check.specs.Published.{is_persistent, published_after}
 use Rattle.job_check.specs.Replies.{after_other, answers, answered_by}
@@ -35,6 +34,7 @@ use Rattle.job_check.specs.State.{JobState, begun_with, no_lines, job_at, change
 use Rattle.job_check.proofs.Keyed.{IsHeld, found_value, found_set}
 use Rattle.job_check.proofs.Telling.{longer, anew, last_mover, mover_more, mover_is, shown_more}
 use Rattle.job_check.proofs.Mappings.{IsKeptTo, kept_none, kept_still, kept_anew}
+use Rattle.report_rules.proofs.Fetching.{no_job}
 use Rattle.job_check.proofs.Entries.{IsFetching, fetching_none, fetching_anew, fetched_anew, fetched_still, fetching_still}
 use Rattle.job_check.proofs.Publishing.{IsPublished, published_none, published_more}
 use Rattle.job_check.proofs.Jobs.{IsJob, closed, gone_stops}
@@ -55,16 +55,14 @@ pub record Sees (before : List Line) (s : JobState) : Type 0 where
 pub record IsNext (before : List Line) (line : Line) : Type 0 where
   pub touch : IsTouchAt before line
   pub answer : IsMapAnswerAt before line
-  pub stretch : IsStretchAt before line
-  pub layout : IsLayoutAt before line
   pub step : IsStepAt before line
 
 -- ---- moves
 move_seen : (before : List Line) (ring : RingState) (s : JobState) (move : Move) → IsKept before ring → IsSeen before s → IsPublished before s.published → IsNew (page_made (lines.Move move)) (this_epoch before) → IsNext before (lines.Move move)
     → IsSeen (before ++ lines.Move move ∷ []) (after_move ring s move (value_seen ring (lines.Move move)))
-move_seen before ring s (moves.Read back.Back number frame word value) k is published new n = read_moved before ring s number frame word value k is published n.stretch n.layout
-move_seen before ring s (moves.Write back.Back number frame word value) k is published new n = write_moved before ring s number frame word value is n.layout
-move_seen before ring s move k is published new n = other_moved before s move is refl new n.answer n.layout n.step
+move_seen before ring s (moves.Read back.Back number frame word value) k is published new n = read_moved before ring s number frame word value k is published
+move_seen before ring s (moves.Write back.Back number frame word value) k is published new n = write_moved before ring s number frame word value is
+move_seen before ring s move k is published new n = other_moved before s move is refl n.answer n.step
 
 -- ---- outcomes
 pub not_last : (j k : ℕ) (o : Option ℕ) → Some j ≡ o → (j == k) ≡ false → is_job k o ≡ false
@@ -134,7 +132,7 @@ line_seen before ring s (lines.EffectRead id index words) k sees new e n =
     let fetched : (j : ℕ) → fetched_of (before ++ line ∷ []) j ≡ fetched_of before j = λ j. fetched_still before line j refl refl in
     let is = sees.seen in
     by_last (job_moved s.moved)
-    (kept_still before line s.kept is.mappings refl (λ m. refl) refl (λ j. refl)) (fetching_still before line s.fetched s.entry is.fetching refl refl new n.layout)
+    (kept_still before line s.kept is.mappings refl (λ m. refl) refl (λ j. refl)) (fetching_still before line s.fetched s.entry is.fetching refl refl)
     (outcome_seen before line s (job_moved s.moved) (λ (o : Open). with_sector o words) is sees.last refl (λ j. refl) fetched (λ j o job own. job_given before id index words j o (fetched j) job own))
   where
     by_last : (last : Option ℕ) → IsKeptTo (before ++ lines.EffectRead id index words ∷ []) s.kept → IsFetching (before ++ lines.EffectRead id index words ∷ []) s.fetched s.entry
@@ -147,7 +145,7 @@ line_seen before ring s (lines.Fault id index) k sees new e n =
     let fetched : (j : ℕ) → fetched_of (before ++ line ∷ []) j ≡ fetched_of before j = λ j. fetched_still before line j refl refl in
     let is = sees.seen in
     by_last (job_moved s.moved)
-    (kept_still before line s.kept is.mappings refl (λ m. refl) refl (λ j. refl)) (fetching_still before line s.fetched s.entry is.fetching refl refl new n.layout)
+    (kept_still before line s.kept is.mappings refl (λ m. refl) refl (λ j. refl)) (fetching_still before line s.fetched s.entry is.fetching refl refl)
     (outcome_seen before line s (job_moved s.moved) (failed_by s.replies.rows) is sees.last refl (λ j. refl) fetched (λ j o job own. job_ended (before ++ line ∷ []) j (with_fault o) _ (job_failed before id index j o (fetched j) job own)))
   where
     by_last : (last : Option ℕ) → IsKeptTo (before ++ lines.Fault id index ∷ []) s.kept → IsFetching (before ++ lines.Fault id index ∷ []) s.fetched s.entry
@@ -159,7 +157,7 @@ line_seen before ring s (lines.Reply id status) k sees new e n =
     let line : Line = lines.Reply id status in
     let is = sees.seen in
     by_answered (job_answered s)
-    (kept_still before line s.kept is.mappings refl (λ m. refl) refl (λ j. refl)) (fetching_still before line s.fetched s.entry is.fetching refl refl new n.layout)
+    (kept_still before line s.kept is.mappings refl (λ m. refl) refl (λ j. refl)) (fetching_still before line s.fetched s.entry is.fetching refl refl)
     (reply_seen before line s (job_answered s) is refl (λ j o job. of_still before line j o refl refl (fetched_still before line j refl refl) refl refl job))
   where
     by_answered : (answered : Option ℕ) → IsKeptTo (before ++ lines.Reply id status ∷ []) s.kept → IsFetching (before ++ lines.Reply id status ∷ []) s.fetched s.entry
@@ -171,7 +169,7 @@ line_seen before ring s line k sees new e n =
     let is = sees.seen in
     record {
       mappings = kept_still before line s.kept is.mappings e (λ m. refl) refl (λ j. refl);
-      fetching = fetching_still before line s.fetched s.entry is.fetching e refl new n.layout;
+      fetching = fetching_still before line s.fetched s.entry is.fetching e refl;
       jobs = jobs_still before (before ++ line ∷ []) s.jobs is.jobs (λ j o job. of_still before line j o e refl (fetched_still before line j e refl) refl refl job);
     }
 
@@ -242,7 +240,7 @@ pub sees_none : Sees [] no_lines
 sees_none = record {
   made = none_made;
   published = published_none;
-  seen = record { mappings = kept_none; fetching = fetching_none; jobs = record { rising = tt; each = λ k. gone_anew [] k refl refl } };
+  seen = record { mappings = kept_none; fetching = fetching_none; jobs = record { rising = tt; each = λ k. gone_anew [] k refl (no_job k) } };
   shown = refl;
   last = refl;
   mover = tt;
@@ -255,8 +253,6 @@ jobs_more before line = rw (reverse-append before (line ∷ []), reverse-reverse
 pub followed_before : (before later : List Line) → AreFollowed (before ++ later) → AreFollowed before
 followed_before before later f = record {
   touched = record { touches = obeys_before IsTouchAt before later f.touched.touches; answers = obeys_before IsMapAnswerAt before later f.touched.answers };
-  stretches = obeys_before IsStretchAt before later f.stretches;
-  layout = obeys_before IsLayoutAt before later f.layout;
   steps = obeys_before IsStepAt before later f.steps;
 }
 
@@ -268,8 +264,6 @@ sees_from before (line ∷ later) f sees =
     let n : IsNext before line = record {
       touch = f.touched.touches before later line refl;
       answer = f.touched.answers before later line refl;
-      stretch = f.stretches before later line refl;
-      layout = f.layout before later line refl;
       step = f.steps before later line refl;
     } in
     let next : Sees (before ++ line ∷ []) (jobs_after (before ++ line ∷ [])) = subst (λ (s : JobState). Sees (before ++ line ∷ []) s) (sym (jobs_more before line)) (sees_next before (state_of before) line (jobs_after before) kept sees n) in

@@ -1,11 +1,8 @@
 -- What is kept, line by line, decides the rules on the back's jobs (`io/blkif.h`, `io/ring.h`).
-use Rattle.std.specs.Prelude.{◌≡◌, ◌≢◌, false, List, [], ◌∷◌, ◌++◌, reverse}
+use Rattle.std.specs.Prelude.{◌≡◌, List, [], ◌∷◌, ◌++◌, reverse}
 use Rattle.std.specs.Bool.{Decides}
 use Rattle.schedule_text.specs.declared.line.Line.{Line}
 use Rattle.report_rules.specs.Obeys.{Obeys}
-use Rattle.report_rules.specs.Standing.{is_epoch}
-use Rattle.report_rules.specs.Ring.{abi_after, ring_abi}
-use Rattle.report_rules.specs.Stretch.{words_read, IsStretchAt}
 use Rattle.report_rules.specs.Steps.{IsStepAt}
 use Rattle.report_rules.specs.Effect.{IsEffectAt}
 use Rattle.report_rules.specs.Data.{IsDataAt}
@@ -13,7 +10,7 @@ use Rattle.report_rules.specs.Reply.{IsReplyAt}
 use Rattle.ring_check.specs.State.{state_of}
 use Rattle.ring_check.specs.Kept.{IsTouched}
 use Rattle.job_check.specs.State.{JobState, no_lines, seen}
-use Rattle.job_check.specs.Verdict.{allows_step, allows_effect, allows_data, allows_reply, keeps_layout}
+use Rattle.job_check.specs.Verdict.{allows_step, allows_effect, allows_data, allows_reply}
 
 -- what is kept of lines of which the last comes first
 abbrev pub jobs_back : List Line → JobState
@@ -24,21 +21,9 @@ jobs_back (line ∷ earlier) = seen (state_of (reverse earlier)) (jobs_back earl
 abbrev pub jobs_after : List Line → JobState
 jobs_after before = jobs_back (reverse before)
 
--- the layout of entries stays, once the back read a word of one in its epoch
-abbrev pub IsLayoutAt : List Line → Line → Type 0
-IsLayoutAt before line = is_epoch line ≡ false → words_read before ≢ 0 → abi_after (ring_abi before) line ≡ ring_abi before
-
-abbrev pub KeepsLayout : List Line → Type 0
-KeepsLayout before = Obeys IsLayoutAt before
-
-abbrev pub LayoutIsDecided : Type 0
-LayoutIsDecided = (before : List Line) (line : Line) → IsTouched before → Decides (keeps_layout (state_of before) line) (IsLayoutAt before line)
-
--- these lines keep the rules on which a job is found again: those on touches and maps, on stretches and on steps; and the layout of entries stays while they are read
+-- these lines keep the rules on which a job is found again: those on touches, on maps and on steps
 pub record AreFollowed (before : List Line) : Type 0 where
   pub touched : IsTouched before
-  pub stretches : Obeys IsStretchAt before
-  pub layout : KeepsLayout before
   pub steps : Obeys IsStepAt before
 
 abbrev pub StepsAreDecided : Type 0

@@ -1,4 +1,4 @@
--- What a reader keeps of the back's jobs, line by line (`io/blkif.h`, `io/ring.h`): what was published, the entry that is being read, the jobs that had no reply, what they mapped, and the reply under way. What is kept of the ring (`ring_check`) is that of the same lines.
+-- What a reader keeps of the back's jobs, line by line (`io/blkif.h`, `io/ring.h`): the disk and what was published of grants, the entry that is being read, the jobs that had no reply, what they mapped, and the reply under way. What is kept of the ring (`ring_check`) is that of the same lines.
 use Rattle.std.specs.Prelude.{ℕ, ◌+◌, if◌then◌else◌, List, [], ◌∷◌, ◌++◌, Option, Some, None, is_some}
 use Rattle.std.specs.Map.{lookup, remove_entry, set_value, values_of}
 use Rattle.std.specs.BTreeMap.{is_at, insert_entry}
@@ -15,14 +15,14 @@ use Rattle.report_rules.specs.declared.job.Fetched.{Fetched}
 use Rattle.report_rules.specs.declared.effect.DiskMove.{DiskMove}
 use Rattle.report_rules.specs.Standing.{is_epoch}
 use Rattle.report_rules.specs.Step.{stepper}
-use Rattle.report_rules.specs.Job.{request_in}
+use Rattle.report_rules.specs.Stretch.{entry_of}
 use Rattle.report_rules.specs.Effect.{disk_move_of}
 use Rattle.report_rules.specs.Reply.{is_event}
-use Rattle.ring_check.specs.State.{RingState, shape_seen, word_seen, entry_word_seen}
+use Rattle.ring_check.specs.State.{RingState, word_seen, entry_word_seen}
 use Rattle.job_check.specs.declared.kept.Made.{Made}
 use Rattle.job_check.specs.Kept.{Kept, after_map, after_unmap}
 use Rattle.job_check.specs.Open.{Open, opened, moved_by, failed_by, with_sector}
-use Rattle.job_check.specs.Published.{Published, nothing_published, published_after, disk_of, is_persistent}
+use Rattle.job_check.specs.Published.{Published, nothing_published, published_after, is_persistent}
 use Rattle.job_check.specs.Replies.{Replies, no_replies, after_value, after_other, answered_by}
 
 -- the jobs by their numbers; how many were fetched in this epoch; the words so far of the entry that is being read; and the move of the disk that the last line is
@@ -57,9 +57,9 @@ changed change jobs k (Some o) = with_job jobs k (change o)
 abbrev pub job_changed : JobState → ℕ → (Open → Open) → JobState
 job_changed s k change = record s { jobs = changed change s.jobs k (job_at s.jobs k) }
 
--- what was fetched, with what is published now
+-- what was fetched, with the disk, and with what is published of grants now
 abbrev pub fetched_with : JobState → RawRequest → Fetched
-fetched_with s request = record { request = request; disk = disk_of s.published; persistent = is_persistent s.published }
+fetched_with s request = record { request = request; disk = s.published.info; persistent = is_persistent s.published }
 
 -- the entry whose words were read is whole: its job is opened
 abbrev pub fetched_by : JobState → List ℕ → Option RawRequest → JobState
@@ -72,7 +72,7 @@ fetched_by s entry (Some request) = record s {
 
 -- a word of an entry was read
 abbrev pub after_entry_word : RingState → JobState → ℕ → JobState
-after_entry_word ring s value = fetched_by s (s.entry ++ value ∷ []) (request_in (s.entry ++ value ∷ []) 1 (shape_seen ring))
+after_entry_word ring s value = fetched_by s (s.entry ++ value ∷ []) (entry_of ring.abi (s.entry ++ value ∷ []))
 
 -- a job made a move
 abbrev pub after_step : JobState → Option ℕ → Move → JobState

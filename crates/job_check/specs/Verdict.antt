@@ -1,8 +1,6 @@
 -- Whether a line may come next, by what is kept of the ring and of the back's jobs (`io/blkif.h`, `io/ring.h`).
-use Rattle.std.specs.Prelude.{ℕ, ◌+◌, ◌%◌, Bool, true, false, not, ◌&&◌, ◌||◌, ◌==◌, List, length, slice_index, Option, Some, None, is_some, Result, Ok}
+use Rattle.std.specs.Prelude.{ℕ, ◌+◌, ◌%◌, Bool, true, false, not, ◌&&◌, ◌==◌, List, slice_index, Option, Some, None, is_some, Result, Ok}
 use Rattle.std.specs.Map.{values_of}
-use Rattle.blk_base.specs.declared.operation.Abi.{Abi}
-use Rattle.blk_base.specs.declared.operation.Abi.TheVariants.{X64, X32}
 use Rattle.blk_base.specs.declared.operation.Status.{Status}
 use Rattle.blk_base.specs.declared.operation.Status.TheVariants as status
 use Rattle.blk_base.specs.declared.moves.BackMover.TheVariants as back
@@ -16,12 +14,10 @@ use Rattle.report_rules.specs.declared.effect.DiskCall.{DiskCall}
 use Rattle.report_rules.specs.declared.effect.DiskCall.TheVariants as calls
 use Rattle.report_rules.specs.declared.effect.DiskMove.{DiskMove}
 use Rattle.report_rules.specs.declared.effect.Outcome.{Outcome}
-use Rattle.report_rules.specs.Standing.{is_epoch}
-use Rattle.report_rules.specs.Ring.{abi_after}
 use Rattle.report_rules.specs.Effect.{outcome_of}
 use Rattle.report_rules.specs.Job.{id_of}
 use Rattle.report_rules.specs.Step.{stepper}
-use Rattle.report_rules.specs.Reply.{is_reply, is_of_back}
+use Rattle.report_rules.specs.Reply.{is_reply}
 use Rattle.ring_check.specs.State.{RingState, shape_seen, replied_seen, word_seen}
 use Rattle.job_check.specs.Kept.{Kept}
 use Rattle.job_check.specs.Open.{Open, may_step}
@@ -104,19 +100,6 @@ abbrev pub is_told : JobState → Line → Option (List ℕ) → Bool
 is_told s line None = not (is_reply line)
 is_told s line (Some row) = tells_of (response_of row) line && is_some (job_answered s)
 
--- the back writes only the next word of a reply, and between its words there is no other line of the back's
+-- the back writes only the next word of a reply, and tells each that it pushed
 abbrev pub allows_reply : RingState → JobState → Line → Bool
-allows_reply ring s line =
-    allows_value ring s line (value_seen ring line) && is_told s line s.replies.pushed
-    && (not (is_of_back line) || is_some (value_seen ring line) || (length s.replies.row == 0))
-
--- the same layout, or none: these Bools stand for equations of layouts
-abbrev pub is_same_abi : Option Abi → Option Abi → Bool
-is_same_abi None None = true
-is_same_abi (Some X64) (Some X64) = true
-is_same_abi (Some X32) (Some X32) = true
-is_same_abi a b = false
-
--- a line leaves the layout of entries, once a word of one was read in its epoch
-abbrev pub keeps_layout : RingState → Line → Bool
-keeps_layout ring line = is_epoch line || (ring.words == 0) || is_same_abi (abi_after ring.abi line) ring.abi
+allows_reply ring s line = allows_value ring s line (value_seen ring line) && is_told s line s.replies.pushed

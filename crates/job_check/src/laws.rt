@@ -1,5 +1,5 @@
 // What is kept decides the rules.
-ghost use Rattle.job_check.specs.Laws.{JobsAreTakenOn, LayoutIsDecided, StepsAreDecided, EffectsAreDecided, DataAreDecided, RepliesAreDecided};
+ghost use Rattle.job_check.specs.Laws.{JobsAreTakenOn, StepsAreDecided, EffectsAreDecided, DataAreDecided, RepliesAreDecided};
 
 /// What is kept of some lines is what `JobSight::see` keeps of them, one line after another, beside
 /// what is kept of the ring.
@@ -7,16 +7,9 @@ pub fn what_is_kept_is_taken_on_by_one_line()
     ensures { JobsAreTakenOn }
 {}
 
-/// What is kept of the ring tells whether a line leaves the layout of entries, once a word of one was
-/// read, where the lines before keep the rules on touches and on maps.
-pub fn the_layout_is_decided_line_by_line()
-    ensures { LayoutIsDecided }
-{}
-
 /// A line may come next by the rule on steps exactly where what is kept allows it. The premises of
 /// this law and the next ones are those on which a job is found again: that the lines before keep the
-/// rules on touches, maps, stretches and steps, and that the layout of entries stays once a word of
-/// one was read.
+/// rules on touches, maps and steps.
 pub fn steps_are_decided_line_by_line()
     ensures { StepsAreDecided }
 {}

@@ -16,7 +16,6 @@ mod verdict;
 pub use laws::{
     data_are_decided_line_by_line, effects_are_decided_line_by_line,
     replies_are_decided_line_by_line, steps_are_decided_line_by_line,
-    the_layout_is_decided_line_by_line, what_is_kept_is_taken_on_by_one_line,
+    what_is_kept_is_taken_on_by_one_line,
 };
 pub use sight::JobSight;
-pub use verdict::keeps_layout;

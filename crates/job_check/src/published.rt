@@ -1,19 +1,18 @@
-// What both ends published in this epoch.
+// The disk of the options, and what both ends published of grants in this epoch.
 ghost use Rattle.std.specs.Prelude.{◌≡◌};
 ghost use Rattle.report_rules.specs.Published.{no_disk};
-ghost use Rattle.job_check.specs.Published.{nothing_published, published_after, disk_of, is_persistent};
+ghost use Rattle.job_check.specs.Published.{nothing_published, published_after, is_persistent};
 
-use report_rules::{Keeping, Serving, info_told, is_epoch, keeping_after, serving_after};
+use report_rules::{Keeping, info_told, is_epoch, keeping_after};
 use schedule_text::Line;
 use segment_list::DiskInfo;
 use std::marker::Model;
 
-/// What the lines so far tell of the disk: what the options of the run let the back publish, what it
-/// published in this epoch, and what both ends said there of persistent grants.
+/// What the lines so far tell of the disk: the options of the run, and what both ends said in this
+/// epoch of persistent grants.
 #[derive(Drop)]
 pub struct Publication {
     info: DiskInfo,
-    serving: Serving,
     keeping: Keeping,
 }
 
@@ -22,7 +21,7 @@ impl Model for Publication {
 
     ghost Value = { Published };
 
-    ghost view = { λ p. record { info = p.info; serving = p.serving; keeping = p.keeping } };
+    ghost view = { λ p. record { info = p.info; keeping = p.keeping } };
 }
 
 const NO_DISK: DiskInfo = DiskInfo {
@@ -48,12 +47,6 @@ impl Publication {
     {
         Publication {
             info,
-            serving: Serving {
-                barrier: false,
-                flush: false,
-                discard: false,
-                indirect: false,
-            },
             keeping: Keeping {
                 offered: false,
                 asked: false,
@@ -69,28 +62,15 @@ impl Publication {
             *self = Publication::of(self.info);
         } else {
             self.info = info_told(self.info, line);
-            self.serving = serving_after(self.serving, line);
             self.keeping = keeping_after(self.keeping, line);
         }
     }
 
-    /// The disk, with what the back published of it.
+    /// The disk of the options.
     pub fn disk(&self) -> DiskInfo
-        ensures { result ≡ disk_of self.now }
+        ensures { result ≡ self.now.info }
     {
-        let max_indirect = if self.serving.indirect {
-            self.info.max_indirect
-        } else {
-            0
-        };
-        DiskInfo {
-            sectors: self.info.sectors,
-            read_only: self.info.read_only,
-            barrier: self.serving.barrier,
-            flush: self.serving.flush,
-            discard: self.serving.discard,
-            max_indirect,
-        }
+        self.info
     }
 
     /// Whether grants are persistent: both ends published 1.

@@ -6,16 +6,14 @@ ghost use Rattle.blk_layout.specs.Response.{response_of};
 ghost use Rattle.job_check.specs.Open.{may_answer};
 ghost use Rattle.job_check.specs.Replies.{is_next_value, is_place};
 ghost use Rattle.job_check.specs.State.{value_seen};
-ghost use Rattle.job_check.specs.Verdict.{allows_step, is_call, is_done_by, is_outcome_for, allows_effect, gives, allows_data, word_written_seen, allows_value, is_same_status, tells_of, is_told, allows_reply, is_same_abi, keeps_layout};
+ghost use Rattle.job_check.specs.Verdict.{allows_step, is_call, is_done_by, is_outcome_for, allows_effect, gives, allows_data, word_written_seen, allows_value, is_same_status, tells_of, is_told, allows_reply};
 
 use crate::open::OpenJob;
 use crate::replies::ReplyRow;
 use crate::sight::{JobSight, value_written};
-use blk_base::{Abi, BackMover, Move, SectorWords, Status};
+use blk_base::{BackMover, Move, SectorWords, Status};
 use blk_layout::read_response;
-use report_rules::{
-    DiskCall, DiskMove, Outcome, abi_after, is_epoch, is_of_back, is_reply, outcome_of, stepper,
-};
+use report_rules::{DiskCall, DiskMove, Outcome, is_reply, outcome_of, stepper};
 use ring_check::RingSight;
 use ring_words::RingShape;
 use schedule_text::Line;
@@ -123,24 +121,6 @@ fn is_next_value(r: &ReplyRow, jobs: &BTreeMap<u64, OpenJob>, replied: u32, valu
     is_due(r.rows_with(), last, &r.row_with(value), jobs)
 }
 
-fn is_same_abi(a: Option<Abi>, b: Option<Abi>) -> bool
-    ensures { result ≡ is_same_abi a b }
-{
-    matches!(
-        (a, b),
-        (None, None) | (Some(Abi::X64), Some(Abi::X64)) | (Some(Abi::X32), Some(Abi::X32))
-    )
-}
-
-/// Whether a line leaves the layout of entries as it is, once the back read a word of one in this
-/// epoch (`io/blkif.h`, the front's key `protocol`). The rules count all entries of an epoch by its
-/// last layout, so a reader who keeps no lines follows only reports whose layout stays.
-pub fn keeps_layout(ring: &RingSight, line: &Line) -> bool
-    ensures { result ≡ keeps_layout ring.now line.now }
-{
-    is_epoch(line) || ring.words_read() == 0 || is_same_abi(abi_after(ring.abi(), line), ring.abi())
-}
-
 impl JobSight {
     /// Whether the rule on steps allows the line: each move of a job but an unmap is the next step of
     /// its work, through the mapping of its segment.
@@ -224,9 +204,6 @@ impl JobSight {
     pub fn allows_reply(&self, ring: &RingSight, line: &Line) -> bool
         ensures { result ≡ allows_reply ring.now self.now line.now }
     {
-        let whole = !is_of_back(line)
-            || value_written(ring, line).is_some()
-            || self.replies.within() == 0;
-        self.allows_value(ring, line) && self.is_told(line) && whole
+        self.allows_value(ring, line) && self.is_told(line)
     }
 }

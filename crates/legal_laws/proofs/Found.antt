@@ -1,13 +1,13 @@
--- A check finds the text of a sound report legal.
+-- A check finds the text of a legal report legal.
 use Rattle.std.proofs.Common.{◌≡◌, ◌≢◌, ℕ, inl, inr, List, [], ◌∷◌, ◌++◌, length, refl, ap, sym, subst, ◌∙◌, arith, append-nil}
 use Rattle.std.specs.Prelude.{All, Some, Result, Ok, Err}
-use Rattle.std.proofs.lemmas.Option.{none-some}
 use Rattle.std.proofs.lemmas.List.Elements.{All-head, All-tail}
 use Rattle.blk_io.specs.Outside.{SourceSeen}
 use Rattle.schedule_text.specs.declared.line.Line.{Line}
 use Rattle.schedule_text.specs.Line.{text_of}
 use Rattle.schedule_text.specs.Range.{IsInRange}
 use Rattle.schedule_text.specs.Recorder.{report_text}
+use Rattle.report_rules.specs.Obeys.{Obeys}
 use Rattle.report_rules.proofs.Obeys.{obeys_before}
 use Rattle.report_lines.specs.Text.{HasBadText, first_line, IsReportText}
 use Rattle.report_lines.specs.Giving.{Tells}
@@ -17,20 +17,28 @@ use Rattle.trace_check.specs.declared.finding.Finding.{Finding}
 use Rattle.trace_check.specs.declared.finding.Finding.TheVariants.{Legal, Broken}
 use Rattle.trace_check.specs.declared.finding.CheckStop.{CheckStop}
 use Rattle.trace_check.specs.declared.finding.CheckStop.TheVariants.{BadLine, Source, TooLong, OutOfMemory}
-use Rattle.trace_check.specs.Found.{IsSoundAt, AreSound, EndsWell, IsBrokenAt, LacksEnd, IsFound, IsBadAt, IsLong, Finds}
+use Rattle.trace_check.specs.Rules.{Keeps, KeepsEach, KeepsAll, Breaks, all_rules}
+use Rattle.trace_check.specs.Found.{EndsWell, IsBrokenAt, LacksEnd, IsFound, IsBadAt, IsLong, Finds}
 use Rattle.legal_laws.specs.Found.{FindsLegal}
 use Rattle.legal_laws.proofs.Lists.{all_there}
 use Rattle.legal_laws.proofs.Short.{short_text, unbroken_text}
 use Rattle.legal_laws.proofs.Cut.{IsCut, cut, cut_first, some_bytes, whole_text, whole_range}
 
--- lines that a sound report begins with are sound
-begins_sound : (lines report : List Line) (rest : List ℕ) → AreSound report → IsCut lines report rest → AreSound lines
-begins_sound lines report rest sound c = obeys_before IsSoundAt lines c.later (subst AreSound c.whole sound)
+-- lines that a report begins with that keeps all rules keep them
+begins_kept : (lines report : List Line) (rest : List ℕ) → Obeys KeepsAll report → IsCut lines report rest → Obeys KeepsAll lines
+begins_kept lines report rest keeps c = obeys_before KeepsAll lines c.later (subst (λ (ls : List Line). Obeys KeepsAll ls) c.whole keeps)
 
-unbroken : (report : List Line) (limit number : ℕ) (broken : Rule) → AreSound report → All IsInRange report → IsBrokenAt limit number broken (report_text report) → ⊥
-unbroken report limit number broken sound all b =
-    let here = begins_sound (b.before ++ b.line ∷ []) report b.rest sound (cut (b.before ++ b.line ∷ []) report (report_text report) b.rest all refl b.read) in
-    none-some broken (sym (here b.before [] b.line refl) ∙ b.rule)
+-- each rule is kept, also one among others
+kept_in : (earlier later : List Rule) (broken : Rule) (before : List Line) (line : Line) → KeepsEach (earlier ++ broken ∷ later) before line → Keeps broken before line
+kept_in [] later broken before line kept = All-head (λ (rule : Rule). Keeps rule before line) broken later kept
+kept_in (first ∷ earlier) later broken before line kept =
+    kept_in earlier later broken before line (All-tail (λ (rule : Rule). Keeps rule before line) first (earlier ++ broken ∷ later) kept)
+
+unbroken : (report : List Line) (limit number : ℕ) (broken : Rule) → Obeys KeepsAll report → All IsInRange report → IsBrokenAt limit number broken (report_text report) → ⊥
+unbroken report limit number broken keeps all b =
+    let here = begins_kept (b.before ++ b.line ∷ []) report b.rest keeps (cut (b.before ++ b.line ∷ []) report (report_text report) b.rest all refl b.read) in
+    let r : Breaks all_rules b.before b.line broken = b.rule in
+    r.breaks (kept_in r.earlier r.later broken b.before b.line (subst (λ (rules : List Rule). KeepsEach rules b.before b.line) r.order (here b.before [] b.line refl)))
 
 -- ---- the end
 
@@ -45,10 +53,10 @@ ended report number broken ends all l =
     let whole : report ≡ l.report = c.whole ∙ (ap (λ (later : List Line). l.report ++ later) none ∙ append-nil l.report) in
     l.unended (ends.0, sym whole ∙ ends.1)
 
-found_legal : (limit : ℕ) (report : List Line) (finding : Finding) → AreSound report → EndsWell report → All IsInRange report → IsFound limit finding (report_text report) → finding ≡ Legal
-found_legal limit report Legal sound ends all found = refl
-found_legal limit report (Broken number broken) sound ends all (inl b) = absurd (unbroken report limit number broken sound all b)
-found_legal limit report (Broken number broken) sound ends all (inr l) = absurd (ended report number broken ends all l.0)
+found_legal : (limit : ℕ) (report : List Line) (finding : Finding) → Obeys KeepsAll report → EndsWell report → All IsInRange report → IsFound limit finding (report_text report) → finding ≡ Legal
+found_legal limit report Legal keeps ends all found = refl
+found_legal limit report (Broken number broken) keeps ends all (inl b) = absurd (unbroken report limit number broken keeps all b)
+found_legal limit report (Broken number broken) keeps ends all (inr l) = absurd (ended report number broken ends all l.0)
 
 -- ---- no line is bad
 
@@ -81,10 +89,10 @@ pub whole_never_bad : (limit number : ℕ) (report : List Line) (bytes : List �
 whole_never_bad limit number report bytes read b =
     never_bad report limit number (whole_range report bytes read) (subst (IsBadAt limit number) (whole_text report bytes read) b)
 
-pub sound_found_legal : (limit : ℕ) (report : List Line) (found : Result Finding CheckStop) (s t : SourceSeen)
-    → AreSound report → EndsWell report → All IsInRange report → s.left ≡ Some (report_text report) → Finds limit found s t → FindsLegal limit (report_text report) found s t
-sound_found_legal limit report (Ok finding) s t sound ends all left finds = found_legal limit report finding sound ends all (subst (Tells (IsFound limit finding)) left finds.0)
-sound_found_legal limit report (Err (BadLine number)) s t sound ends all left finds = never_bad report limit number all (subst (Tells (IsBadAt limit number)) left finds.0)
-sound_found_legal limit report (Err Source) s t sound ends all left finds = finds
-sound_found_legal limit report (Err TooLong) s t sound ends all left finds = (let long : IsLong limit (report_text report) = subst (Tells (IsLong limit)) left finds.0 in let taken = long.taken in omega arith)
-sound_found_legal limit report (Err OutOfMemory) s t sound ends all left finds = tt
+pub legal_found_legal : (limit : ℕ) (report : List Line) (found : Result Finding CheckStop) (s t : SourceSeen)
+    → Obeys KeepsAll report → EndsWell report → All IsInRange report → s.left ≡ Some (report_text report) → Finds limit found s t → FindsLegal limit (report_text report) found s t
+legal_found_legal limit report (Ok finding) s t keeps ends all left finds = found_legal limit report finding keeps ends all (subst (Tells (IsFound limit finding)) left finds.0)
+legal_found_legal limit report (Err (BadLine number)) s t keeps ends all left finds = never_bad report limit number all (subst (Tells (IsBadAt limit number)) left finds.0)
+legal_found_legal limit report (Err Source) s t keeps ends all left finds = finds
+legal_found_legal limit report (Err TooLong) s t keeps ends all left finds = (let long : IsLong limit (report_text report) = subst (Tells (IsLong limit)) left finds.0 in let taken = long.taken in omega arith)
+legal_found_legal limit report (Err OutOfMemory) s t keeps ends all left finds = tt

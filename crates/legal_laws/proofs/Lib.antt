@@ -7,4 +7,3 @@ pub mod Cut
 pub mod Found
 pub mod Short
 pub mod Promised
-pub mod Protocol

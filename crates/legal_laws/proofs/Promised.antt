@@ -21,17 +21,15 @@ use Rattle.trace_check.specs.Outline.{is_begin, shows_moves}
 use Rattle.trace_check.specs.Rules.{IsOrderAt, KeepsAll}
 use Rattle.trace_check.specs.declared.finding.Finding.{Finding}
 use Rattle.trace_check.specs.declared.finding.CheckStop.{CheckStop}
-use Rattle.trace_check.specs.Found.{AreSound, EndsWell, Finds}
-use Rattle.trace_check.specs.Laws.{KeepsLayout}
+use Rattle.trace_check.specs.Found.{EndsWell, Finds}
 use Rattle.trace_check.proofs.Outlines.{only_begin_shows}
-use Rattle.trace_check.proofs.Sound.{kept_sound}
 use Rattle.legal_laws.specs.Order.{IsBody}
 use Rattle.legal_laws.specs.Found.{FindsLegal}
 use Rattle.legal_laws.specs.Promised.{IsPromised}
 use Rattle.plain_disk.specs.Honest.{honest_part}
 use Rattle.legal_laws.proofs.Kept.{so_far_kept}
 use Rattle.legal_laws.proofs.Legal.{honest_part_legal}
-use Rattle.legal_laws.proofs.Found.{sound_found_legal}
+use Rattle.legal_laws.proofs.Found.{legal_found_legal}
 use Rattle.legal_laws.proofs.Order.{answers_in_order, echo_in_order}
 
 -- ---- jobs
@@ -73,19 +71,16 @@ promised_so_far_legal config detail events jobs report p answers =
     (answers_in_order config detail events p.rest p.body (subst (λ (ls : List Line). AnswersAll config.order events (filter is_echo ls)) p.first answers)))
 
 pub promised_legal : (config : Options) (detail : Detail) (events : List Event) (jobs : List Job) (report : List Line)
-    → IsPromised config detail jobs report → Echoes config detail events report → Obeys KeepsAll report
-promised_legal config detail events jobs report p echo =
-    by_order config detail jobs report p (subst (λ (ls : List Line). Obeys IsOrderAt ls) (sym p.first)
-    (echo_in_order config detail events p.rest p.body (subst (λ (ls : List Line). Echoes config detail events ls) p.first echo)))
-
-pub promised_sound : (config : Options) (detail : Detail) (events : List Event) (jobs : List Job) (report : List Line)
-    → IsPromised config detail jobs report → Echoes config detail events report → KeepsLayout report → AreSound report × EndsWell report
-promised_sound config detail events jobs report p echo layout =
-    (kept_sound report layout (promised_legal config detail events jobs report p echo), (echo.0, echo.1))
+    → IsPromised config detail jobs report → Echoes config detail events report → Obeys KeepsAll report × EndsWell report
+promised_legal config detail events jobs report p echo = (
+  by_order config detail jobs report p (subst (λ (ls : List Line). Obeys IsOrderAt ls) (sym p.first)
+      (echo_in_order config detail events p.rest p.body (subst (λ (ls : List Line). Echoes config detail events ls) p.first echo))),
+  (echo.0, echo.1),
+)
 
 pub promised_found_legal : (config : Options) (detail : Detail) (events : List Event) (jobs : List Job) (report : List Line)
-    → IsPromised config detail jobs report → Echoes config detail events report → KeepsLayout report → All IsInRange report
+    → IsPromised config detail jobs report → Echoes config detail events report → All IsInRange report
     → (limit : ℕ) (found : Result Finding CheckStop) (s t : SourceSeen) → s.left ≡ Some (report_text report) → Finds limit found s t → FindsLegal limit (report_text report) found s t
-promised_found_legal config detail events jobs report p echo layout range limit found s t left finds =
-    let sound = promised_sound config detail events jobs report p echo layout in
-    sound_found_legal limit report found s t sound.0 sound.1 range left finds
+promised_found_legal config detail events jobs report p echo range limit found s t left finds =
+    let legal = promised_legal config detail events jobs report p echo in
+    legal_found_legal limit report found s t legal.0 legal.1 range left finds

@@ -4,4 +4,3 @@ pub mod Legal
 pub mod Order
 pub mod Promised
 pub mod Found
-pub mod Protocol

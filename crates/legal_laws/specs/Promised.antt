@@ -21,8 +21,7 @@ use Rattle.request_check.specs.Rules.{CanBeAsked}
 use Rattle.trace_check.specs.Rules.{KeepsAll}
 use Rattle.trace_check.specs.declared.finding.Finding.{Finding}
 use Rattle.trace_check.specs.declared.finding.CheckStop.{CheckStop}
-use Rattle.trace_check.specs.Found.{AreSound, EndsWell, Finds}
-use Rattle.trace_check.specs.Laws.{KeepsLayout}
+use Rattle.trace_check.specs.Found.{EndsWell, Finds}
 use Rattle.legal_laws.specs.Kept.{IsSettled}
 use Rattle.legal_laws.specs.Legal.{KeepsMoves}
 use Rattle.legal_laws.specs.Order.{IsBody}
@@ -59,14 +58,9 @@ OfPromised Claim =
 abbrev pub PromisedSoFarIsLegal : Type 0
 PromisedSoFarIsLegal = OfPromised (λ config detail events report. AnswersAll config.order events (filter is_echo report) → Obeys KeepsAll report)
 
--- so they do where it echoes the whole schedule
+-- so they do where it echoes the whole schedule, and the last is `end`
 abbrev pub PromisedIsLegal : Type 0
-PromisedIsLegal = OfPromised (λ config detail events report. Echoes config detail events report → Obeys KeepsAll report)
-
--- where the layout of entries stays, no line of it breaks a rule for a check
-abbrev pub PromisedIsSound : Type 0
-PromisedIsSound =
-    OfPromised (λ config detail events report. Echoes config detail events report → KeepsLayout report → AreSound report × EndsWell report)
+PromisedIsLegal = OfPromised (λ config detail events report. Echoes config detail events report → Obeys KeepsAll report × EndsWell report)
 
 -- a check of this text finds it legal, unless it stops before its end
 abbrev pub IsFoundLegal : List ℕ → Type 0
@@ -77,4 +71,4 @@ IsFoundLegal text =
 abbrev pub PromisedIsFoundLegal : Type 0
 PromisedIsFoundLegal =
     OfPromised (λ config detail events report.
-    Echoes config detail events report → KeepsLayout report → All IsInRange report → IsFoundLegal (report_text report))
+    Echoes config detail events report → All IsInRange report → IsFoundLegal (report_text report))

@@ -3,9 +3,8 @@ ghost use Rattle.legal_laws.specs.Unknown.{KnownIsUnknown, RunIsUnknown};
 ghost use Rattle.legal_laws.specs.Kept.{RunSoFarIsKept, RunIsKept};
 ghost use Rattle.legal_laws.specs.Legal.{HonestPartIsLegal, KeptIsLegal};
 ghost use Rattle.legal_laws.specs.Order.{AnswersAreInOrder, EchoIsInOrder};
-ghost use Rattle.legal_laws.specs.Found.{SoundIsFoundLegal};
-ghost use Rattle.legal_laws.specs.Protocol.{ProtocolFirstKeepsLayout};
-ghost use Rattle.legal_laws.specs.Promised.{JobsCanBeAsked, PromisedSoFarIsLegal, PromisedIsLegal, PromisedIsSound, PromisedIsFoundLegal};
+ghost use Rattle.legal_laws.specs.Found.{LegalIsFoundLegal};
+ghost use Rattle.legal_laws.specs.Promised.{JobsCanBeAsked, PromisedSoFarIsLegal, PromisedIsLegal, PromisedIsFoundLegal};
 
 /// A run of the plain disk, whatever its sectors hold at first, is one from sectors of which nothing
 /// is known (`disk`): its requests, places, notes and writes are the same. So is a report that a run
@@ -43,25 +42,17 @@ pub fn the_jobs_of_a_schedule_can_be_asked()
     ensures { JobsCanBeAsked }
 {}
 
-/// A check finds the text of a sound report legal, and calls no line of it bad, unless it stops before
-/// its end.
-pub fn a_check_finds_the_text_of_a_sound_report_legal()
-    ensures { SoundIsFoundLegal }
+/// A check finds the text of a report legal whose lines keep all rules and whose last is `end`, and
+/// calls no line of it bad, unless it stops before its end.
+pub fn a_check_finds_the_text_of_a_legal_report_legal()
+    ensures { LegalIsFoundLegal }
 {}
 
-/// The layout of entries stays while they are read, where the back reads the key `protocol` only before
-/// the entries of an epoch.
-pub fn a_layout_that_is_named_before_the_entries_stays()
-    ensures { ProtocolFirstKeepsLayout }
-{}
-
-/// A report as a run promises it is legal: all its lines keep all rules (`whole`), also before `end`
-/// (`so_far`). Where moves are shown, a check needs the layout of entries to stay while they are read
-/// (`KeepsLayout`): then no line of it breaks a rule for the check (`sound`), which finds its text
-/// legal unless it stops before its end (`found`).
+/// A report as a run promises it is legal: all its lines keep all rules, and the last is `end`
+/// (`whole`); so do the lines before `end` (`so_far`). A check finds its text legal, unless it stops
+/// before its end (`found`).
 pub fn a_report_as_a_run_promises_it_is_legal()
     ensures so_far { PromisedSoFarIsLegal }
     ensures whole { PromisedIsLegal }
-    ensures sound { PromisedIsSound }
     ensures found { PromisedIsFoundLegal }
 {}

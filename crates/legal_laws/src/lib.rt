@@ -6,8 +6,7 @@
 mod laws;
 
 pub use laws::{
-    a_check_finds_the_text_of_a_sound_report_legal,
-    a_layout_that_is_named_before_the_entries_stays, a_report_as_a_run_promises_it_is_legal,
+    a_check_finds_the_text_of_a_legal_report_legal, a_report_as_a_run_promises_it_is_legal,
     a_report_of_a_run_keeps_the_rules_on_requests, a_report_that_echoes_its_schedule_is_in_order,
     a_report_that_keeps_the_rules_line_by_line_is_legal,
     a_run_from_a_disk_is_a_run_from_an_unknown_one, the_jobs_of_a_schedule_can_be_asked,

@@ -1,2 +1,1 @@
-pub mod NamedFirst
 pub mod Promised

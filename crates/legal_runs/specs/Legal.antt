@@ -13,7 +13,7 @@ use Rattle.pipeline_laws.specs.Effects.{IsOfADisk}
 use Rattle.machine_pipeline.specs.Submissions.{jobs_of}
 use Rattle.schedule_run.specs.Lawful.{IsLawful}
 use Rattle.trace_check.specs.Rules.{KeepsAll}
-use Rattle.trace_check.specs.Found.{AreSound, EndsWell}
+use Rattle.trace_check.specs.Found.{EndsWell}
 use Rattle.legal_laws.specs.Kept.{IsSettled}
 use Rattle.legal_laws.specs.Promised.{IsFoundLegal}
 
@@ -32,10 +32,7 @@ OfRuns Claim =
     → IsRunReport config detail events before now report → Claim report
 
 abbrev pub RunIsKept : Type 0
-RunIsKept = OfRuns (λ report. Obeys KeepsAll report)
-
-abbrev pub RunIsSound : Type 0
-RunIsSound = OfRuns (λ report. AreSound report × EndsWell report)
+RunIsKept = OfRuns (λ report. Obeys KeepsAll report × EndsWell report)
 
 abbrev pub RunIsFoundLegal : Type 0
 RunIsFoundLegal = OfRuns (λ report. IsFoundLegal (report_text report))

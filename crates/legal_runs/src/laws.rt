@@ -1,13 +1,12 @@
 // The report of a run, held against the rules of a report.
-ghost use Rattle.legal_runs.specs.Legal.{RunIsKept, RunIsSound, RunIsFoundLegal};
+ghost use Rattle.legal_runs.specs.Legal.{RunIsKept, RunIsFoundLegal};
 
-/// A lawful report that echoes its schedule keeps all rules, whatever a hostile hand overwrites
-/// (`kept`); no line of it breaks one for a check, and the last is `end` (`sound`); so a check finds
-/// its text legal, unless it stops before its end (`found`). Premises: the disk is one, as `run` asks
+/// A lawful report that echoes its schedule keeps all rules, whatever a hostile hand overwrites, and
+/// its last line is `end` (`kept`); so a check finds its text legal, unless it stops before its end
+/// (`found`). Premises: the disk is one, as `run` asks
 /// for; each submission has numbers of the grammar, as `run` promises (`IsLawfulRun`: `widths`); and
 /// no `settle` ran out of rounds before the first hostile line.
 pub fn the_report_of_a_run_is_legal()
     ensures kept { RunIsKept }
-    ensures sound { RunIsSound }
     ensures found { RunIsFoundLegal }
 {}

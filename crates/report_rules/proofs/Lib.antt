@@ -4,6 +4,7 @@ pub mod Fits
 pub mod Copied
 pub mod Lowest
 pub mod Prefixes
+pub mod Fetching
 pub mod StepPlaces
 pub mod MissingMaps
 pub mod Walked

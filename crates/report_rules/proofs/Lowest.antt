@@ -2,7 +2,7 @@
 use Rattle.std.proofs.Common.{◌≡◌, ℕ, zero, suc, ◌+◌, ◌≤◌, Bool, true, false, if◌then◌else◌, refl, ap, sym, ◌∙◌, subst, arith}
 use Rattle.std.specs.Prelude.{nat_le, Option, Some, None, is_some}
 use Rattle.std.proofs.lemmas.Bool.Decides.{nat_tests}
-use Rattle.report_rules.specs.Job.{when}
+use Rattle.report_rules.specs.Stretch.{when}
 use Rattle.report_rules.specs.Reply.{lowest}
 
 -- one number further, where none passed and where one did

@@ -1,4 +1,4 @@
--- What both ends published of the disk in this epoch (`io/blkif.h`), as the lines tell it.
+-- The disk, as the options of a run give it, and what both ends published of persistent grants in this epoch (`io/blkif.h`), as the lines tell it.
 use Rattle.std.specs.Prelude.{ℕ, ◌-◌, Bool, false, not, ◌&&◌, ◌==◌, nat_lt, nat_le, if◌then◌else◌, List, fold, codes, take, length, slice_index, Option, Some, None}
 use Rattle.std.specs.List.{list_all}
 use Rattle.std.specs.Str.{bytes_eq}
@@ -9,10 +9,9 @@ use Rattle.segment_list.specs.declared.verdict.DiskInfo.{DiskInfo}
 use Rattle.schedule_text.specs.declared.line.Line.{Line}
 use Rattle.schedule_text.specs.declared.line.Line.TheVariants as lines
 use Rattle.report_rules.specs.declared.published.Keeping.{Keeping}
-use Rattle.report_rules.specs.declared.published.Serving.{Serving}
 use Rattle.report_rules.specs.Standing.{this_epoch}
 
--- the disk that the options of a run let the back publish: at most barriers, flushes and discards where it may be written
+-- the disk of the options of a run: barriers, flushes and discards are served where it may be written
 abbrev pub info_of : Options → DiskInfo
 info_of o = record { sectors = o.sectors; read_only = o.read_only; barrier = not o.read_only; flush = not o.read_only; discard = not o.read_only; max_indirect = o.indirect }
 
@@ -23,33 +22,9 @@ abbrev pub info_told : DiskInfo → Line → DiskInfo
 info_told info (lines.Begin options detail) = info_of options
 info_told info line = info
 
--- what the back published in this epoch that it serves beside reads and writes
-abbrev pub serving : Bool → Bool → Bool → Bool → Serving
-serving barrier flush discard indirect = record { barrier = barrier; flush = flush; discard = discard; indirect = indirect }
-
--- a key of a feature says that there is one, unless it is 0
-abbrev pub is_offer : List ℕ → Bool
-is_offer digits = not (list_all (λ (d : ℕ). d == 48) digits)
-
--- the back set a key of a feature (`io/blkif.h`: feature-barrier, feature-flush-cache, feature-discard, feature-max-indirect-segments)
-abbrev pub serving_after : Serving → Line → Serving
-serving_after s (lines.Move (moves.SetKey mover.Back path text)) =
-    if bytes_eq path (codes "/local/domain/0/backend/vbd/1/51712/feature-barrier") then serving (is_offer text) s.flush s.discard s.indirect
-    else (if bytes_eq path (codes "/local/domain/0/backend/vbd/1/51712/feature-flush-cache") then serving s.barrier (is_offer text) s.discard s.indirect
-    else (if bytes_eq path (codes "/local/domain/0/backend/vbd/1/51712/feature-discard") then serving s.barrier s.flush (is_offer text) s.indirect
-    else (if bytes_eq path (codes "/local/domain/0/backend/vbd/1/51712/feature-max-indirect-segments") then serving s.barrier s.flush s.discard (is_offer text)
-    else s)))
-serving_after s line = s
-
-abbrev pub served_by : List Line → Serving
-served_by before = fold serving_after (serving false false false false) (this_epoch before)
-
-abbrev pub disk_with : Serving → DiskInfo → DiskInfo
-disk_with s info = record { sectors = info.sectors; read_only = info.read_only; barrier = s.barrier; flush = s.flush; discard = s.discard; max_indirect = if s.indirect then info.max_indirect else 0 }
-
--- the disk as the options give it, with what the back published of it
+-- the disk by which entries are judged: the one of the run's options alone, whatever keys are shown
 abbrev pub disk_of : List Line → DiskInfo
-disk_of before = disk_with (served_by before) (fold info_told no_disk before)
+disk_of before = fold info_told no_disk before
 
 -- what both ends said of persistent grants in this epoch
 abbrev pub kept_by : Bool → Bool → Keeping

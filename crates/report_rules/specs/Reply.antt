@@ -1,8 +1,7 @@
 -- How the back replies (`io/ring.h`, RING_GET_RESPONSE and RING_PUSH_RESPONSES; `io/blkif.h`, struct blkif_response): the three words of a job's response in the slot of its own producer, ascending, then the producer raised by one, and the line that tells of the reply. There is a job for each reply, no two the same, that was at its end before the first word and whose response the words are; at the line that tells of the reply nothing that the job mapped stands but what may be kept. The back writes nothing else into the ring but req_event.
 use Rattle.std.specs.Prelude.{◌≡◌, ◌≢◌, ℕ, zero, suc, ◌+◌, ◌-◌, ◌*◌, ◌/◌, ◌%◌, ◌^◌, Bool, true, false, not, ◌&&◌, ◌||◌, ◌==◌, nat_lt, nat_le, if◌then◌else◌, List, [], ◌∷◌, ◌++◌, reverse, length, slice_get, Option, Some, None, is_some, unwrap_or, option_to_list, IfSome, IsSomeAnd, IsTrue, Result, Ok, Err}
 use Rattle.std.specs.List.{filter_map, list_any}
-use Rattle.ring_words.specs.Shape.{Shape, entry_words_of, ring_word_of}
-use Rattle.blk_base.specs.declared.operation.Abi.TheVariants.{X32}
+use Rattle.ring_words.specs.Shape.{Shape, ring_word_of}
 use Rattle.blk_base.specs.declared.operation.Status.{Status}
 use Rattle.blk_base.specs.declared.operation.Status.TheVariants as status
 use Rattle.blk_base.specs.declared.moves.BackMover.TheVariants as back
@@ -17,9 +16,9 @@ use Rattle.report_rules.specs.declared.job.Fetched.{Fetched}
 use Rattle.report_rules.specs.Obeys.{Obeys}
 use Rattle.report_rules.specs.Standing.{is_epoch, this_epoch}
 use Rattle.report_rules.specs.Ring.{ring_word, ring_shape, replied_before}
-use Rattle.report_rules.specs.Stretch.{is_back_move}
+use Rattle.report_rules.specs.Stretch.{when, entries_read}
 use Rattle.report_rules.specs.Work.{work_verdict, status_by, work_response}
-use Rattle.report_rules.specs.Job.{when, entry_values, fetched_of}
+use Rattle.report_rules.specs.Job.{fetched_of}
 use Rattle.report_rules.specs.Made.{has_unmapped}
 use Rattle.report_rules.specs.Step.{values_read, work_of}
 use Rattle.report_rules.specs.Walk.{spot_of}
@@ -108,18 +107,10 @@ is_one_of k jobs = list_any (λ (job : ℕ). job == k) jobs
 abbrev pub may_answer : List Line → List ℕ → ℕ → List ℕ → ℕ → Bool
 may_answer early answered last row k = not (is_one_of k answered) && is_like last row (response_due early k)
 
--- the fewest words that an entry has under any layout
-abbrev pub fewest_entry_words : ℕ
-fewest_entry_words = entry_words_of X32
-
--- no more jobs than that were fetched
-abbrev pub most_jobs : List Line → ℕ
-most_jobs before = length (entry_values before) / fewest_entry_words
-
 -- the job of a row that was pushed: the lowest that it may answer and that unmapped what it mapped
 abbrev pub job_for : List Line → List Line → List ℕ → Option (List ℕ) → Option ℕ
 job_for before early answered None = None
-job_for before early answered (Some row) = lowest (λ (k : ℕ). may_answer early answered 2 row k && has_unmapped before k) (most_jobs early)
+job_for before early answered (Some row) = lowest (λ (k : ℕ). may_answer early answered 2 row k && has_unmapped before k) (entries_read early)
 
 -- the word that is written next: one of the slot's, or rsp_prod
 abbrev pub next_place : List Line → Shape → ℕ
@@ -164,18 +155,13 @@ answered_in before = answered_back (reverse before)
 
 -- a word of the row under way, and those before it in the row, are those of a response to a job that the row may answer
 abbrev pub is_answer : List Line → ℕ → List ℕ → Bool
-is_answer before last row = is_some (lowest (may_answer (lines_before before last) (answered_in before) last row) (most_jobs (lines_before before last)))
+is_answer before last row = is_some (lowest (may_answer (lines_before before last) (answered_in before) last row) (entries_read (lines_before before last)))
 
 -- what is written next: a word of a response, or the next producer
 abbrev pub is_next_value : List Line → ℕ → Bool
 is_next_value before value =
     if within_reply before == 3 then value == (replied_before before + 1) % 2 ^ 32
     else is_answer before (within_reply before) (row_of (values_written before ++ value ∷ []) (length (values_written before) / 4))
-
--- a line of the back's own: one of its moves, or its halt
-abbrev pub is_of_back : Line → Bool
-is_of_back (lines.Halt halt) = true
-is_of_back line = is_back_move line
 
 abbrev pub IsNextWrite : List Line → Line → ℕ → Shape → Type 0
 IsNextWrite before line value s = (word_written before line ≡ Some (next_place before s)) × (is_next_value before value ≡ true)
@@ -185,12 +171,11 @@ pub record IsTold (before : List Line) (line : Line) (row : List ℕ) : Type 0 w
   pub says : line_of (response_of row) ≡ Some line
   pub job : job_replied before (answered_in before) ≢ None
 
--- the back writes only the next word of a reply; one that is pushed is told at once, and no other is; and between the words of a reply there is no other line of the back's
+-- the back writes only the next word of a reply, whatever else it does between two of them, so that a row that was begun is finished first, or cut by an epoch or the end of the report; one that is pushed is told at once, and no other is
 pub record IsReplyAt (before : List Line) (line : Line) : Type 0 where
   pub next : IfSome (value_written before line) (λ value. IsSomeAnd (ring_shape before) (IsNextWrite before line value))
   pub told : IfSome (reply_pushed before) (IsTold before line)
   pub only : IsTrue (is_reply line) → reply_pushed before ≢ None
-  pub whole : IsTrue (is_of_back line) → value_written before line ≡ None → within_reply before ≡ 0
 
 abbrev pub AreReplies : List Line → Type 0
 AreReplies report = Obeys IsReplyAt report

@@ -2,15 +2,16 @@
 ghost use Rattle.std.specs.Prelude.{◌≡◌};
 ghost use Rattle.ring_words.specs.Shape.{entry_words_of};
 ghost use Rattle.blk_layout.specs.Places.{places_of};
-ghost use Rattle.report_rules.specs.Job.{words_of_job, is_fetched, entry_of, id_of};
+ghost use Rattle.report_rules.specs.Stretch.{entry_of};
+ghost use Rattle.report_rules.specs.Job.{id_of};
 
 use blk_base::Abi;
 use blk_layout::{RawRequest, read_request};
 use ring_words::RingShape;
 use segment_list::DiskInfo;
 
-/// What was fetched for a job: its request, and what held at the end of the fetch, the disk as it
-/// was published and whether grants were persistent.
+/// What was fetched for a job: its request, the disk, and whether grants were persistent at the end
+/// of the fetch.
 #[derive(Clone, Copy)]
 pub struct Fetched {
     pub request: RawRequest,
@@ -26,16 +27,16 @@ fn entry_words(abi: Abi) -> usize
     RingShape::of(abi, 0).entry_words() as usize
 }
 
-/// The request of job `k`, where all words of its entry are among these.
-pub fn entry_of(abi: Abi, values: &[u32], k: u64) -> Option<RawRequest>
-    ensures { result ≡ entry_of abi values.now k }
+/// The request that words are, where they are a whole entry of this layout.
+pub fn entry_of(abi: Option<Abi>, words: &[u32]) -> Option<RawRequest>
+    ensures { result ≡ entry_of abi words.now }
 {
-    let size = entry_words(abi);
-    if k == 0 || u128::from(k) * size as u128 > values.len() as u128 {
-        return None;
+    let abi = abi?;
+    if words.len() == entry_words(abi) {
+        Some(read_request(abi, words))
+    } else {
+        None
     }
-    let from = (k - 1) as usize * size;
-    Some(read_request(abi, &values[from..from + size]))
 }
 
 /// The id of a request.

@@ -1,10 +1,10 @@
-// What both ends publish.
+// The disk of a run, and what both ends publish of persistent grants.
 ghost use Rattle.std.specs.Prelude.{◌≡◌, ℕ, ◌==◌};
 ghost use Rattle.std.specs.List.{list_all};
 ghost use Rattle.blk_base.specs.declared.moves.Mover.TheVariants as mover;
 ghost use Rattle.blk_base.specs.declared.moves.Move.TheVariants as moves;
 ghost use Rattle.schedule_text.specs.declared.line.Line.TheVariants as lines;
-ghost use Rattle.report_rules.specs.Published.{info_of, info_told, is_offer, serving_after, is_one, says_one, keeping_after};
+ghost use Rattle.report_rules.specs.Published.{info_of, info_told, is_one, says_one, keeping_after};
 
 use blk_base::{Config, Move, Mover, Path, Text};
 use schedule_text::Line;
@@ -17,16 +17,7 @@ pub struct Keeping {
     pub asked: bool,
 }
 
-/// What the back published that it serves beside reads and writes.
-#[derive(Clone, Copy)]
-pub struct Serving {
-    pub barrier: bool,
-    pub flush: bool,
-    pub discard: bool,
-    pub indirect: bool,
-}
-
-// The disk that the options of a run let the back publish.
+// The disk of the options of a run.
 fn info_of(config: &Config) -> DiskInfo
     ensures { result ≡ info_of config.now }
 {
@@ -40,57 +31,13 @@ fn info_of(config: &Config) -> DiskInfo
     }
 }
 
-/// The disk that the options of a run let the back publish, after a line more.
+/// The disk of the options of a run, after a line more.
 pub fn info_told(info: DiskInfo, line: &Line) -> DiskInfo
     ensures { result ≡ info_told info line.now }
 {
     match line {
         Line::Begin { config, .. } => info_of(config),
         _ => info,
-    }
-}
-
-// Whether the key of a feature offers it.
-fn is_offer(digits: &[u8]) -> bool
-    ensures { result ≡ is_offer digits.now }
-{
-    !are_zeros(digits)
-}
-
-/// What the back published that it serves, after a line more.
-pub fn serving_after(s: Serving, line: &Line) -> Serving
-    ensures { result ≡ serving_after s line.now }
-{
-    match line {
-        Line::Move(Move::SetKey(Mover::Back, path, text)) => serving_by(s, path, text),
-        _ => s,
-    }
-}
-
-fn serving_by(s: Serving, path: &Path, text: &Text) -> Serving
-    ensures { result ≡ serving_after s (lines.Move (moves.SetKey mover.Back path.now text.now)) }
-{
-    let offer = is_offer(text.as_str().as_bytes());
-    let key = path.as_str();
-    if key == "/local/domain/0/backend/vbd/1/51712/feature-barrier" {
-        Serving {
-            barrier: offer,
-            ..s
-        }
-    } else if key == "/local/domain/0/backend/vbd/1/51712/feature-flush-cache" {
-        Serving { flush: offer, ..s }
-    } else if key == "/local/domain/0/backend/vbd/1/51712/feature-discard" {
-        Serving {
-            discard: offer,
-            ..s
-        }
-    } else if key == "/local/domain/0/backend/vbd/1/51712/feature-max-indirect-segments" {
-        Serving {
-            indirect: offer,
-            ..s
-        }
-    } else {
-        s
     }
 }
 

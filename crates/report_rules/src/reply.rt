@@ -1,8 +1,7 @@
 // What the back writes for a reply, and the lines that tell of it.
 ghost use Rattle.std.specs.Prelude.{◌≡◌};
-ghost use Rattle.report_rules.specs.Reply.{end_of, is_event, value_at, are_alike, is_like, is_reply, is_of_back};
+ghost use Rattle.report_rules.specs.Reply.{end_of, is_event, value_at, are_alike, is_like, is_reply};
 
-use crate::stretch::is_back_move;
 use crate::walk::Spot;
 use blk_base::Status;
 use schedule_text::Line;
@@ -64,14 +63,4 @@ pub fn is_reply(line: &Line) -> bool
     ensures { result ≡ is_reply line.now }
 {
     matches!(*line, Line::Reply { .. })
-}
-
-/// Whether a line is one of the back's own: one of its moves, or its halt.
-pub fn is_of_back(line: &Line) -> bool
-    ensures { result ≡ is_of_back line.now }
-{
-    match line {
-        Line::Halt(_) => true,
-        _ => is_back_move(line),
-    }
 }

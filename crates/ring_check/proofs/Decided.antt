@@ -15,16 +15,13 @@ use Rattle.report_rules.specs.declared.overrun.Overrun.{Overrun}
 use Rattle.report_rules.specs.Ring.{ring_pages, ring_shape, replied_before, produced_before}
 use Rattle.report_rules.specs.Stretch.{entry_word_read, next_index, words_within, word_touched, is_back_move, IsNextWord, IsStretchAt}
 use Rattle.report_rules.specs.Overrun.{overrun_shown, has_overrun, is_service, IsOverrunAt}
-use Rattle.ring_check.specs.State.{RingState, shape_seen, index_seen, within_seen, entry_word_on}
+use Rattle.ring_check.specs.State.{RingState, shape_seen, index_seen, entry_word_on}
 use Rattle.ring_check.specs.Verdict.{is_next, is_next_read, is_between, touched_on, is_in_page, allows_stretch, is_halt_of, allows_overrun}
 use Rattle.ring_check.specs.Kept.{IsKept}
 use Rattle.ring_check.proofs.Telling.{entry_is}
 
-index_same : (before : List Line) (s : RingState) (shape : Shape) → IsKept before s → index_seen s shape ≡ next_index before shape
-index_same before s shape k = rw (k.start, k.words) refl
-
-within_same : (before : List Line) (s : RingState) (shape : Shape) → IsKept before s → within_seen s shape ≡ words_within before shape
-within_same before s shape k = rw k.words refl
+index_same : (before : List Line) (s : RingState) → IsKept before s → index_seen s ≡ next_index before
+index_same before s k = rw (k.start, k.fetched) refl
 
 shape_same : (before : List Line) (s : RingState) → IsKept before s → shape_seen s ≡ ring_shape before
 shape_same before s k = rw (k.abi, k.pages) refl
@@ -45,11 +42,11 @@ next_by word place v u = grind (arith, nat_tests)
 
 next_decides : (before : List Line) (s : RingState) (word : ℕ) (shape : Shape) → IsKept before s → Decides (is_next s word shape) (IsNextWord before word shape)
 next_decides before s word shape k =
-    let index = next_index before shape in
-    let v = words_within before shape in
+    let index = next_index before in
+    let v = words_within before in
     let u = requests_of (record { entries = entries_of shape.order; prod = replied_before before; cons = index }) (produced_before before) in
     let test : is_next s word shape ≡ ((word == ring_word_of shape index v) && (not (v == 0) || nat_lt 0 u)) =
-    rw (index_same before s shape k, within_same before s shape k, k.replied, k.produced) refl in
+    rw (index_same before s k, k.within, k.replied, k.produced) refl in
     Decides-at (is_next s word shape) ((word == ring_word_of shape index v) && (not (v == 0) || nat_lt 0 u)) test
     (Decides-like ((word == ring_word_of shape index v) && (not (v == 0) || nat_lt 0 u)) (λ both. record { place = both.0; unconsumed = both.1 }) (λ is. (is.place, is.unconsumed)) (next_by word (ring_word_of shape index v) v u))
 
@@ -58,10 +55,8 @@ read_decides before s None shape k = (λ e. tt, λ p. refl)
 read_decides before s (Some word) None k = (λ e. absurd (cc), λ p. absurd p)
 read_decides before s (Some word) (Some shape) k = next_decides before s word shape k
 
-between_decides : (before : List Line) (s : RingState) (shape : Option Shape) → IsKept before s → Decides (is_between s shape) (IfSome shape (λ x. words_within before x ≡ 0))
-between_decides before s None k = (λ e. tt, λ p. refl)
-between_decides before s (Some shape) k =
-    Decides-at (within_seen s shape == 0) (words_within before shape == 0) (ap (λ (n : ℕ). n == 0) (within_same before s shape k)) (zero_by (words_within before shape))
+between_decides : (before : List Line) (s : RingState) → IsKept before s → Decides (is_between s) (words_within before ≡ 0)
+between_decides before s k = Decides-at (s.within == 0) (words_within before == 0) (ap (λ (n : ℕ). n == 0) k.within) (zero_by (words_within before))
   where
     zero_by : (n : ℕ) → Decides (n == 0) (n ≡ 0)
     zero_by n = grind (arith, nat_tests)
@@ -81,13 +76,13 @@ stretch_decides before s line k =
     let shape = ring_shape before in
     let moved = is_back_move line in
     let next = is_next_read s word shape in
-    let whole = not moved || is_some word || is_between s shape in
+    let whole = not moved || is_some word || is_between s in
     let inside = is_in_page (word_touched before line) in
     let test : allows_stretch s line ≡ (next && (whole && inside)) = rw (word_same before s line k, shape_same before s k, touched_same before s line k) refl in
     Decides-at (allows_stretch s line) (next && (whole && inside)) test
     (Decides-like (next && (whole && inside)) (λ all. record { next = all.0; whole = all.1.0; inside = all.1.1 }) (λ is. (is.next, (is.whole, is.inside)))
     (Decides-and next (whole && inside) (read_decides before s word shape k)
-    (Decides-and whole inside (whole_decides moved word (is_between s shape) (IfSome shape (λ x. words_within before x ≡ 0)) (between_decides before s shape k)) (page_decides (word_touched before line)))))
+    (Decides-and whole inside (whole_decides moved word (is_between s) (words_within before ≡ 0) (between_decides before s k)) (page_decides (word_touched before line)))))
 
 -- what the two parts of the rule on halts say of a line, where this overrun was shown
 abbrev IsHaltOf : Option Overrun → Line → Type 0

@@ -16,12 +16,13 @@ use Rattle.report_rules.specs.Touch.{IsTouchAt}
 use Rattle.report_rules.specs.Mapped.{IsMapAnswerAt}
 use Rattle.report_rules.specs.Standing.{is_epoch, this_epoch}
 use Rattle.report_rules.specs.Ring.{page_made, order_of, ring_pages, start_told, start_of, replied_after, replied_before, produced_after, abi_after, ring_abi}
-use Rattle.report_rules.specs.Stretch.{entry_word_read}
+use Rattle.report_rules.specs.Stretch.{entries_read, words_within}
 use Rattle.report_rules.specs.Overrun.{overrun_of, overrun_by, overrun_shown, overran_after, has_overrun}
 use Rattle.report_rules.proofs.Back.{epoch_more}
-use Rattle.ring_check.specs.State.{RingState, begun, no_lines, replied_seen, entry_word_on, producer_on, response_on, overrun_seen, further, seen, state_of}
+use Rattle.ring_check.specs.State.{RingState, begun, no_lines, replied_seen, producer_on, response_on, overrun_seen, further, seen, state_of}
 use Rattle.ring_check.specs.Kept.{IsKept, IsTouched}
-use Rattle.ring_check.proofs.Telling.{producer_is, entry_is, response_is, produced_is, producer_stays, response_stays, entry_stays, newest, newest_more, newest_is, count_of, count_more, count_is, IsNew}
+use Rattle.ring_check.proofs.Telling.{producer_is, entry_is, response_is, produced_is, producer_stays, response_stays, newest, newest_more, newest_is, IsNew}
+use Rattle.ring_check.proofs.Counting.{counted_more, counted_anew}
 use Rattle.ring_check.proofs.Untouched.{AreMade, none_made, made_next, new_page}
 
 pub record Sees (before : List Line) (s : RingState) : Type 0 where
@@ -31,7 +32,8 @@ pub record Sees (before : List Line) (s : RingState) : Type 0 where
   pub pages : s.pages ≡ ring_pages before
   pub written : s.written ≡ newest (response_on (ring_pages before)) (this_epoch before)
   pub shown : s.shown ≡ newest (producer_on (ring_pages before)) (this_epoch before)
-  pub words : s.words ≡ count_of (entry_word_on (ring_pages before)) (this_epoch before)
+  pub fetched : s.fetched ≡ entries_read before
+  pub within : s.within ≡ words_within before
   pub overran : s.overran ≡ has_overrun before
   pub overrun : s.overrun ≡ overrun_shown before
 
@@ -42,7 +44,8 @@ kept_of before s k = record {
   pages = k.pages;
   replied = rw (k.written, k.start) (sym (newest_is (replied_after before) (response_on (ring_pages before)) (response_is before) (this_epoch before) (start_of before) (start_of before) None refl));
   produced = rw (k.shown, k.start) (sym (newest_is (produced_after before) (producer_on (ring_pages before)) (produced_is before) (this_epoch before) (start_of before) (start_of before) None refl));
-  words = k.words ∙ count_is (entry_word_on (ring_pages before)) (entry_word_read before) (λ x. sym (entry_is before x)) (this_epoch before);
+  fetched = k.fetched;
+  within = k.within;
   overran = k.overran;
   overrun = k.overrun;
 }
@@ -90,7 +93,8 @@ sees_epoch before line s k made e =
       pages = sym (ap (λ (xs : List Line). filter_map page_made xs) none);
       written = sym (ap (λ (xs : List Line). newest (response_on (ring_pages after)) xs) none);
       shown = sym (ap (λ (xs : List Line). newest (producer_on (ring_pages after)) xs) none);
-      words = sym (ap (λ (xs : List Line). count_of (entry_word_on (ring_pages after)) xs) none);
+      fetched = sym (counted_anew before line e).0;
+      within = sym (counted_anew before line e).1;
       overran = sym (overran_more before line ∙ ap (λ (b : Bool). if b then false else has_overrun before || is_some (overrun_by before line)) e);
       overrun = sym (shown_more before line ∙ epoch_shows before line e);
     }
@@ -110,7 +114,8 @@ sees_further before line s k made new e =
       pages = ap (λ (ps : List Standing). ps ++ option_to_list (page_made line)) k.pages ∙ sym more;
       written = rw (more, long, k.pages, k.written) (sym (newest_more response_on response_stays (ring_pages before) (this_epoch before) line new));
       shown = rw (more, long, k.pages, k.shown) (sym (newest_more producer_on producer_stays (ring_pages before) (this_epoch before) line new));
-      words = rw (more, long, k.pages, k.words) (sym (count_more entry_word_on entry_stays (ring_pages before) (this_epoch before) line new));
+      fetched = rw (k.pages, k.abi, k.fetched, k.within, ← entry_is before line) (sym (counted_more before line e).0);
+      within = rw (k.pages, k.abi, k.within, ← entry_is before line) (sym (counted_more before line e).1);
       overran = sym (overran_more before line ∙ (ap (λ (b : Bool). if b then false else has_overrun before || is_some (overrun_by before line)) e
           ∙ (ap (λ (b : Bool). b || is_some (overrun_by before line)) (sym k.overran) ∙ ap (λ (o : Option Overrun). s.overran || is_some o) (sym same))));
       overrun = same ∙ sym (shown_more before line);
@@ -124,7 +129,7 @@ sees_next : (before : List Line) (line : Line) (s : RingState) → Sees before s
 sees_next before line s k touch answer = sees_by before line s (is_epoch line) k (made_next before line k.made touch) (new_page before line k.made answer) refl
 
 sees_none : Sees [] no_lines
-sees_none = record { made = none_made; start = refl; abi = refl; pages = refl; written = refl; shown = refl; words = refl; overran = refl; overrun = refl }
+sees_none = record { made = none_made; start = refl; abi = refl; pages = refl; written = refl; shown = refl; fetched = refl; within = refl; overran = refl; overrun = refl }
 
 sees_more : (later before : List Line) (s : RingState) → Sees before s → IsTouched (before ++ later) → Sees (before ++ later) (fold seen s later)
 sees_more [] before s k rule = subst (λ (xs : List Line). Sees xs s) (sym (append-nil before)) k

@@ -1,6 +1,6 @@
 -- What a line says of the ring depends on the ring's pages alone, and stays as it was where a page more has a number that the line does not touch.
-use Rattle.std.proofs.Common.{◌≡◌, ℕ, ◌+◌, ◌==◌, ◌&&◌, ◌||◌, Bool, true, false, if◌then◌else◌, List, [], ◌∷◌, ◌++◌, refl, ap, sym, ◌∙◌, append-nil, arith}
-use Rattle.std.specs.Prelude.{cond, count_by, fold, Option, Some, None, is_some, unwrap_or}
+use Rattle.std.proofs.Common.{◌≡◌, ℕ, ◌+◌, ◌==◌, ◌&&◌, ◌||◌, Bool, true, false, if◌then◌else◌, List, [], ◌∷◌, ◌++◌, refl, ap, sym, ◌∙◌, append-nil}
+use Rattle.std.specs.Prelude.{fold, Option, Some, None, unwrap_or}
 use Rattle.std.specs.List.{list_any}
 use Rattle.std.specs.Option.{option_to_list}
 use Rattle.std.proofs.lemmas.List.Sums.{fold-append}
@@ -11,7 +11,7 @@ use Rattle.schedule_text.specs.declared.line.Line.TheVariants as lines
 use Rattle.report_rules.specs.declared.standing.Standing.{Standing}
 use Rattle.report_rules.specs.Ring.{page_made, page_from, word_in, ring_pages, produced_shown, replied_after, produced_after}
 use Rattle.report_rules.specs.Stretch.{of_entries, entry_word_read}
-use Rattle.ring_check.specs.State.{is_first_on, entry_word_on, producer_on, response_on, newer, counted}
+use Rattle.ring_check.specs.State.{is_first_on, entry_word_on, producer_on, response_on, newer}
 
 -- the back reads or writes through that number
 abbrev pub touches : ℕ → Line → Bool
@@ -108,44 +108,3 @@ pub newest_is : (step : ℕ → Line → ℕ) (f : Line → Option ℕ) → ((n 
     → fold step n xs ≡ unwrap_or (fold (λ (o : Option ℕ) (x : Line). newer (f x) o) known xs) r
 newest_is step f tells [] n r known e = sym e
 newest_is step f tells (x ∷ xs) n r known e = newest_is step f tells xs (step n x) r (newer (f x) known) (newer_or (f x) known n r e ∙ sym (tells n x))
-
--- how many of these lines give a word
-abbrev pub count_of : (Line → Option ℕ) → List Line → ℕ
-count_of f xs = count_by (λ (x : Line). is_some (f x)) xs
-
--- one line more counts
-abbrev pub count_with : (Line → Option ℕ) → ℕ → Line → ℕ
-count_with f n x = n + cond (is_some (f x)) 1 0
-
-count_same : (f g : Line → Option ℕ) (m : ℕ) → ((x : Line) → touches m x ≡ false → f x ≡ g x) → (xs : List Line) (n : ℕ) → list_any (touches m) xs ≡ false → fold (count_with f) n xs ≡ fold (count_with g) n xs
-count_same f g m same [] n none = refl
-count_same f g m same (x ∷ xs) n none =
-    let no = both_no (touches m x) (list_any (touches m) xs) none in
-    ap (λ (told : Option ℕ). fold (count_with f) (n + cond (is_some told) 1 0) xs) (same x no.0) ∙ count_same f g m same xs (count_with g n x) no.1
-
-count_kept : (f : List Standing → Line → Option ℕ) → ((pages : List Standing) (p : Standing) (line : Line) → touches p.number line ≡ false → f (pages ++ p ∷ []) line ≡ f pages line)
-    → (pages : List Standing) (made : Option Standing) (xs : List Line) → IsNew made xs → count_of (f (pages ++ option_to_list made)) xs ≡ count_of (f pages) xs
-count_kept f stays pages None xs new = ap (λ (ps : List Standing). count_of (f ps) xs) (append-nil pages)
-count_kept f stays pages (Some p) xs new = count_same (f (pages ++ p ∷ [])) (f pages) p.number (stays pages p) xs 0 new
-
-one_counted : (n : ℕ) (o : Option ℕ) → n + cond (is_some o) 1 0 ≡ counted n o
-one_counted n None = omega arith
-one_counted n (Some w) = omega arith
-
-pub count_more : (f : List Standing → Line → Option ℕ) → ((pages : List Standing) (p : Standing) (line : Line) → touches p.number line ≡ false → f (pages ++ p ∷ []) line ≡ f pages line)
-    → (pages : List Standing) (xs : List Line) (line : Line) → IsNew (page_made line) xs
-    → count_of (f (pages ++ option_to_list (page_made line))) (xs ++ line ∷ []) ≡ counted (count_of (f pages) xs) (f pages line)
-count_more f stays pages xs line new =
-    let more = pages ++ option_to_list (page_made line) in
-    fold-append (count_with (f more)) 0 xs (line ∷ [])
-    ∙ (one_counted (count_of (f more) xs) (f more line)
-    ∙ (ap (λ (o : Option ℕ). counted (count_of (f more) xs) o) (alone f stays pages line)
-    ∙ ap (λ (n : ℕ). counted n (f pages line)) (count_kept f stays pages (page_made line) xs new)))
-
-count_go : (f g : Line → Option ℕ) → ((x : Line) → f x ≡ g x) → (xs : List Line) (n : ℕ) → fold (count_with f) n xs ≡ fold (count_with g) n xs
-count_go f g same [] n = refl
-count_go f g same (x ∷ xs) n = ap (λ (told : Option ℕ). fold (count_with f) (n + cond (is_some told) 1 0) xs) (same x) ∙ count_go f g same xs (count_with g n x)
-
--- what gives the same counts the same
-pub count_is : (f g : Line → Option ℕ) → ((x : Line) → f x ≡ g x) → (xs : List Line) → count_of f xs ≡ count_of g xs
-count_is f g same xs = count_go f g same xs 0

@@ -6,7 +6,7 @@ use Rattle.report_rules.specs.Obeys.{Obeys}
 use Rattle.report_rules.specs.Touch.{IsTouchAt}
 use Rattle.report_rules.specs.Mapped.{IsMapAnswerAt}
 use Rattle.report_rules.specs.Ring.{ring_pages, ring_abi, start_of, replied_before, produced_before}
-use Rattle.report_rules.specs.Stretch.{words_read, IsStretchAt}
+use Rattle.report_rules.specs.Stretch.{entries_read, words_within, IsStretchAt}
 use Rattle.report_rules.specs.Overrun.{has_overrun, overrun_shown, IsOverrunAt}
 use Rattle.ring_check.specs.State.{RingState, replied_seen, produced_seen, state_of}
 use Rattle.ring_check.specs.Verdict.{allows_stretch, allows_overrun}
@@ -18,7 +18,8 @@ pub record IsKept (before : List Line) (s : RingState) : Type 0 where
   pub pages : s.pages ≡ ring_pages before
   pub replied : replied_seen s ≡ replied_before before
   pub produced : produced_seen s ≡ produced_before before
-  pub words : s.words ≡ words_read before
+  pub fetched : s.fetched ≡ entries_read before
+  pub within : s.within ≡ words_within before
   pub overran : s.overran ≡ has_overrun before
   pub overrun : s.overrun ≡ overrun_shown before
 

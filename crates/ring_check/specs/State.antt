@@ -1,5 +1,5 @@
--- What a reader keeps of the ring, line by line (`io/ring.h`): which memory it is, the layout of its entries, its producers, and how many words of entries the back read in this epoch.
-use Rattle.std.specs.Prelude.{ℕ, ◌+◌, ◌/◌, ◌%◌, ◌^◌, ◌&&◌, ◌||◌, ◌==◌, Bool, false, if◌then◌else◌, List, [], ◌++◌, length, fold, slice_get, Option, Some, None, is_some, unwrap_or}
+-- What a reader keeps of the ring, line by line (`io/ring.h`): which memory it is, the layout of its entries, its producers, and how many entries the back read in this epoch.
+use Rattle.std.specs.Prelude.{ℕ, ◌+◌, ◌%◌, ◌^◌, ◌&&◌, ◌||◌, ◌==◌, Bool, false, if◌then◌else◌, List, [], ◌++◌, length, fold, slice_get, Option, Some, None, is_some, unwrap_or}
 use Rattle.std.specs.Option.{option_to_list}
 use Rattle.blk_base.specs.declared.operation.Abi.{Abi}
 use Rattle.blk_base.specs.declared.operation.Abi.TheVariants.{X64}
@@ -24,8 +24,9 @@ pub record RingState : Type 0 where
   -- rsp_prod as the back wrote it last, and req_prod as it was shown it last
   pub written : Option ℕ
   pub shown : Option ℕ
-  -- how many words of entries the back read
-  pub words : ℕ
+  -- how many entries the back read whole, and how many words of the next one
+  pub fetched : ℕ
+  pub within : ℕ
   -- whether a producer overran
   pub overran : Bool
   -- the overrun that the last line shows
@@ -33,7 +34,7 @@ pub record RingState : Type 0 where
 
 -- an epoch in which nothing was seen
 abbrev pub begun : ℕ → RingState
-begun start = record { start = start; abi = Some X64; pages = []; written = None; shown = None; words = 0; overran = false; overrun = None }
+begun start = record { start = start; abi = Some X64; pages = []; written = None; shown = None; fetched = 0; within = 0; overran = false; overrun = None }
 
 abbrev pub no_lines : RingState
 no_lines = begun 0
@@ -61,12 +62,8 @@ abbrev pub is_first_on : List Standing → ℕ → Bool
 is_first_on pages number = has_number number (slice_get pages 0)
 
 -- the index whose entry is fetched next, or is being fetched
-abbrev pub index_seen : RingState → Shape → ℕ
-index_seen s shape = (s.start + s.words / entry_words_of shape.abi) % 2 ^ 32
-
--- how many words of that entry were read
-abbrev pub within_seen : RingState → Shape → ℕ
-within_seen s shape = s.words % entry_words_of shape.abi
+abbrev pub index_seen : RingState → ℕ
+index_seen s = (s.start + s.fetched) % 2 ^ 32
 
 -- the word of an entry that the back reads in a line
 abbrev pub entry_word_on : List Standing → Line → Option ℕ
@@ -99,10 +96,19 @@ abbrev pub newer : Option ℕ → Option ℕ → Option ℕ
 newer None known = known
 newer (Some told) known = Some told
 
--- one more word, where a line reads one
-abbrev pub counted : ℕ → Option ℕ → ℕ
-counted words None = words
-counted words (Some word) = words + 1
+-- the next word of an entry is its last, by this layout
+abbrev pub is_last : Option Abi → ℕ → Bool
+is_last None within = false
+is_last (Some abi) within = within + 1 == entry_words_of abi
+
+-- how many entries were read whole, and how many words of the next one, where a line may read one more
+abbrev pub fetched_after : Option Abi → ℕ → ℕ → Option ℕ → ℕ
+fetched_after abi fetched within None = fetched
+fetched_after abi fetched within (Some word) = if is_last abi within then fetched + 1 else fetched
+
+abbrev pub within_after : Option Abi → ℕ → Option ℕ → ℕ
+within_after abi within None = within
+within_after abi within (Some word) = if is_last abi within then 0 else within + 1
 
 -- one line further in the epoch
 abbrev pub further : RingState → Line → RingState
@@ -112,7 +118,8 @@ further s line = record {
   pages = s.pages ++ option_to_list (page_made line);
   written = newer (response_on s.pages line) s.written;
   shown = newer (producer_on s.pages line) s.shown;
-  words = counted s.words (entry_word_on s.pages line);
+  fetched = fetched_after s.abi s.fetched s.within (entry_word_on s.pages line);
+  within = within_after s.abi s.within (entry_word_on s.pages line);
   overran = s.overran || is_some (overrun_seen s line);
   overrun = overrun_seen s line;
 }

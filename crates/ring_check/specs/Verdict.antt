@@ -11,15 +11,15 @@ use Rattle.report_rules.specs.declared.standing.Standing.{Standing}
 use Rattle.report_rules.specs.declared.overrun.Overrun.{Overrun}
 use Rattle.report_rules.specs.Stretch.{is_back_move}
 use Rattle.report_rules.specs.Overrun.{is_service}
-use Rattle.ring_check.specs.State.{RingState, shape_seen, replied_seen, produced_seen, index_seen, within_seen, is_page_on, entry_word_on}
+use Rattle.ring_check.specs.State.{RingState, shape_seen, replied_seen, produced_seen, index_seen, is_page_on, entry_word_on}
 
 -- how many requests are unconsumed
 abbrev pub unconsumed_seen : RingState → Shape → ℕ
-unconsumed_seen s shape = requests_of (record { entries = entries_of shape.order; prod = replied_seen s; cons = index_seen s shape }) (produced_seen s)
+unconsumed_seen s shape = requests_of (record { entries = entries_of shape.order; prod = replied_seen s; cons = index_seen s }) (produced_seen s)
 
 -- a word is the next one of the next entry
 abbrev pub is_next : RingState → ℕ → Shape → Bool
-is_next s word shape = (word == ring_word_of shape (index_seen s shape) (within_seen s shape)) && (not (within_seen s shape == 0) || nat_lt 0 (unconsumed_seen s shape))
+is_next s word shape = (word == ring_word_of shape (index_seen s) s.within) && (not (s.within == 0) || nat_lt 0 (unconsumed_seen s shape))
 
 -- a word of an entry, if it is one, is the next
 abbrev pub is_next_read : RingState → Option ℕ → Option Shape → Bool
@@ -28,9 +28,8 @@ is_next_read s (Some word) None = false
 is_next_read s (Some word) (Some shape) = is_next s word shape
 
 -- no stretch is under way
-abbrev pub is_between : RingState → Option Shape → Bool
-is_between s None = true
-is_between s (Some shape) = within_seen s shape == 0
+abbrev pub is_between : RingState → Bool
+is_between s = s.within == 0
 
 -- the word of a page of the ring that the back reads or writes in a line
 abbrev pub touched_on : List Standing → Line → Option ℕ
@@ -46,7 +45,7 @@ is_in_page (Some word) = nat_lt word 1024
 abbrev pub allows_stretch : RingState → Line → Bool
 allows_stretch s line =
     is_next_read s (entry_word_on s.pages line) (shape_seen s)
-    && ((not (is_back_move line) || is_some (entry_word_on s.pages line) || is_between s (shape_seen s)) && is_in_page (touched_on s.pages line))
+    && ((not (is_back_move line) || is_some (entry_word_on s.pages line) || is_between s) && is_in_page (touched_on s.pages line))
 
 -- a line is the halt of the overrun that was shown, or no halt of an overrun where none was shown
 abbrev pub is_halt_of : Option Overrun → Line → Bool

@@ -1,14 +1,15 @@
 // What is kept of the ring, and one line further.
-ghost use Rattle.std.specs.Prelude.{◌≡◌, ◌<◌, ◌≤◌, ◌++◌, IfOk, IfSome};
+ghost use Rattle.std.specs.Prelude.{◌≡◌, ◌+◌, ◌<◌, ◌≤◌, ◌++◌, IfOk, IfSome};
 ghost use Rattle.std.specs.Option.{option_to_list};
 ghost use Rattle.blk_base.specs.Becomes.{Becomes};
 ghost use Rattle.report_rules.specs.Ring.{page_made};
-ghost use Rattle.ring_check.specs.State.{begun, no_lines, entry_word_seen, producer_on, response_on, overrun_seen, newer, counted, seen};
+ghost use Rattle.ring_check.specs.State.{begun, no_lines, entry_word_seen, producer_on, response_on, overrun_seen, newer, is_last, fetched_after, within_after, seen};
 
 mod views;
 
 use blk_base::{Abi, BackMover, Idx, Move, OutOfMemory};
 use report_rules::{Overrun, Standing, abi_after, is_epoch, of_entries, page_made, start_told};
+use ring_words::RingShape;
 use schedule_text::Line;
 use std::alloc::Global;
 use std::marker::Model;
@@ -22,7 +23,8 @@ pub struct RingSight {
     pages: Vec<Standing>,
     written: Option<u32>,
     shown: Option<u32>,
-    words: u64,
+    fetched: u64,
+    within: u64,
     overran: bool,
     overrun: Option<Overrun>,
 }
@@ -38,7 +40,8 @@ impl Model for RingSight {
       pages = r.pages.items;
       written = r.written;
       shown = r.shown;
-      words = r.words;
+      fetched = r.fetched;
+      within = r.within;
       overran = r.overran;
       overrun = r.overrun;
     } };
@@ -53,15 +56,51 @@ fn newer(told: Option<u32>, known: Option<u32>) -> Option<u32>
     }
 }
 
-fn counted(words: u64, word: Option<u128>) -> Result<u64, OutOfMemory>
-    ensures { IfOk result (λ more. more ≡ counted words word) }
+// Whether the next word of an entry is its last, by this layout.
+fn is_last(abi: Option<Abi>, within: u64) -> bool
+    ensures { result ≡ is_last abi within }
 {
-    match word {
-        None => Ok(words),
-        Some(_) => match words.checked_add(1) {
-            None => Err(OutOfMemory),
-            Some(more) => Ok(more),
-        },
+    match abi {
+        None => false,
+        Some(abi) => { u128::from(within) + 1 == u128::from(RingShape::of(abi, 0).entry_words()) }
+    }
+}
+
+fn more(n: u64) -> Result<u64, OutOfMemory>
+    ensures { IfOk result (λ m. m ≡ n + 1) }
+{
+    match n.checked_add(1) {
+        None => Err(OutOfMemory),
+        Some(m) => Ok(m),
+    }
+}
+
+// How many entries were read whole, where a line may read one more word.
+fn fetched_after(
+    abi: Option<Abi>,
+    fetched: u64,
+    within: u64,
+    word: Option<u128>,
+) -> Result<u64, OutOfMemory>
+    ensures { IfOk result (λ n. n ≡ fetched_after abi fetched within word) }
+{
+    if word.is_some() && is_last(abi, within) {
+        more(fetched)
+    } else {
+        Ok(fetched)
+    }
+}
+
+// How many words of the next entry were read, where a line may read one more.
+fn within_after(abi: Option<Abi>, within: u64, word: Option<u128>) -> Result<u64, OutOfMemory>
+    ensures { IfOk result (λ n. n ≡ within_after abi within word) }
+{
+    if word.is_none() {
+        Ok(within)
+    } else if is_last(abi, within) {
+        Ok(0)
+    } else {
+        more(within)
     }
 }
 
@@ -76,7 +115,8 @@ impl RingSight {
             pages: Vec::new(alloc),
             written: None,
             shown: None,
-            words: 0,
+            fetched: 0,
+            within: 0,
             overran: false,
             overrun: None,
         }
@@ -169,7 +209,8 @@ impl RingSight {
         self.pages.clear();
         self.written = None;
         self.shown = None;
-        self.words = 0;
+        self.fetched = 0;
+        self.within = 0;
         self.overran = false;
         self.overrun = None;
     }
@@ -192,7 +233,9 @@ impl RingSight {
             self.begin();
             return Ok(());
         }
-        let words = counted(self.words, self.entry_word(line))?;
+        let word = self.entry_word(line);
+        let fetched = fetched_after(self.abi, self.fetched, self.within, word)?;
+        let within = within_after(self.abi, self.within, word)?;
         let overrun = self.overrun_in(line);
         let written = newer(self.response_in(line), self.written);
         let shown = newer(self.producer_in(line), self.shown);
@@ -201,7 +244,8 @@ impl RingSight {
         self.abi = abi_after(self.abi, line);
         self.written = written;
         self.shown = shown;
-        self.words = words;
+        self.fetched = fetched;
+        self.within = within;
         self.overran = self.overran || overrun.is_some();
         self.overrun = overrun;
         Ok(())

@@ -1,7 +1,7 @@
 // Whether a line may come next.
 ghost use Rattle.std.specs.Prelude.{◌≡◌, ◌<◌, ◌≤◌};
-ghost use Rattle.ring_words.specs.Shape.{entry_words_of, ring_word_of};
-ghost use Rattle.ring_check.specs.State.{index_seen, within_seen};
+ghost use Rattle.ring_words.specs.Shape.{ring_word_of};
+ghost use Rattle.ring_check.specs.State.{index_seen};
 ghost use Rattle.ring_check.specs.Verdict.{unconsumed_seen, is_next, is_next_read, is_between, touched_on, is_in_page, allows_stretch, is_halt_of, allows_overrun};
 
 use crate::sight::RingSight;
@@ -34,18 +34,19 @@ fn is_halt_of(overrun: Option<Overrun>, line: &Line) -> bool
 
 impl RingSight {
     // The word of the ring that is read next.
-    fn next_word(&self, shape: &RingShape) -> u32
-        ensures { result ≡ ring_word_of shape.now (index_seen self.now shape.now) (within_seen self.now shape.now) }
+    fn next_word(&self, shape: &RingShape) -> u128
+        ensures { result ≡ ring_word_of shape.now (index_seen self.now) self.now.within }
     {
-        let index = self.next_index(shape);
-        16 + index % shape.entries() * shape.entry_words() + self.words_within(shape)
+        let index = self.next_index();
+        let begin = 16 + index % shape.entries() * shape.entry_words();
+        u128::from(begin) + u128::from(self.words_within())
     }
 
     // How many requests are unconsumed.
     fn unconsumed(&self, shape: &RingShape) -> u32
         ensures { result ≡ unconsumed_seen self.now shape.now }
     {
-        let index = Idx(self.next_index(shape));
+        let index = Idx(self.next_index());
         let ahead = index.dist(Idx(self.produced()));
         let waiting = Idx(self.replied()).dist(index);
         ahead.min(shape.entries().saturating_sub(waiting))
@@ -54,8 +55,7 @@ impl RingSight {
     fn is_next(&self, word: u128, shape: &RingShape) -> bool
         ensures { result ≡ is_next self.now word shape.now }
     {
-        word == u128::from(self.next_word(shape))
-            && (self.words_within(shape) != 0 || self.unconsumed(shape) > 0)
+        word == self.next_word(shape) && (self.words_within() != 0 || self.unconsumed(shape) > 0)
     }
 
     fn is_next_read(&self, word: Option<u128>, shape: &Option<RingShape>) -> bool
@@ -69,13 +69,10 @@ impl RingSight {
     }
 
     // Whether no stretch is under way.
-    fn is_between(&self, shape: &Option<RingShape>) -> bool
-        ensures { result ≡ is_between self.now shape.now }
+    fn is_between(&self) -> bool
+        ensures { result ≡ is_between self.now }
     {
-        match shape {
-            None => true,
-            Some(shape) => self.words_within(shape) == 0,
-        }
+        self.words_within() == 0
     }
 
     // The word of a page of the ring that the back reads or writes in a line.
@@ -115,7 +112,7 @@ impl RingSight {
     {
         let word = self.entry_word(line);
         let shape = self.shape();
-        let whole = !is_back_move(line) || word.is_some() || self.is_between(&shape);
+        let whole = !is_back_move(line) || word.is_some() || self.is_between();
         self.is_next_read(word, &shape) && whole && is_in_page(self.touched(line))
     }
 

@@ -1,6 +1,6 @@
 -- A back that waits for the terms of its front, at the first line and after each epoch: the lines tell nothing of its ring yet.
-use Rattle.std.proofs.Common.{◌≡◌, ℕ, true, false, List, [], ◌∷◌, ◌++◌, fold, count_by, refl, ap, ◌∙◌}
-use Rattle.std.specs.Prelude.{Some, is_some}
+use Rattle.std.proofs.Common.{◌≡◌, ℕ, true, false, List, [], ◌∷◌, ◌++◌, fold, length, refl, ap, ◌∙◌}
+use Rattle.std.specs.Prelude.{Some}
 use Rattle.std.specs.List.{filter_map, list_any}
 use Rattle.std.proofs.lemmas.List.Sums.{fold-append}
 use Rattle.blk_base.specs.declared.operation.Abi.TheVariants.{X64}
@@ -9,16 +9,15 @@ use Rattle.schedule_text.specs.declared.line.Line.{Line}
 use Rattle.schedule_text.specs.declared.line.Line.TheVariants as lines
 use Rattle.report_rules.specs.Standing.{this_epoch}
 use Rattle.report_rules.specs.Ring.{page_made, start_told, start_of, replied_after, produced_after, abi_after}
-use Rattle.report_rules.specs.Stretch.{entry_word_read}
-use Rattle.report_rules.specs.Job.{entry_value}
 use Rattle.report_rules.proofs.Back.{epoch_more}
 use Rattle.blk_back.specs.declared.told.Halt.TheVariants as halt
 use Rattle.blk_back.specs.Step.{halts}
 use Rattle.blk_back.specs.View.{new_of}
 use Rattle.ring_laws.proofs.Sight.{is_touch}
 use Rattle.ring_laws.proofs.Shows.{Sight, Shows}
-use Rattle.ring_laws.proofs.ObeysRing.{ObeysRing, none_whole}
+use Rattle.ring_laws.proofs.ObeysRing.{ObeysRing}
 use Rattle.ring_laws.proofs.Knows.{Follows}
+use Rattle.ring_laws.proofs.EntryWords.{none_whole, values_anew, counted_anew}
 
 -- an epoch begins with no line
 pub epoch_begins : (before : List Line) → this_epoch (before ++ lines.Epoch ∷ []) ≡ []
@@ -37,11 +36,12 @@ shows_epoch before start same =
       pages = ap (λ (ls : List Line). filter_map page_made ls) none;
       replied = ap (λ (ls : List Line). fold (replied_after longer) (start_of longer) ls) none ∙ begins;
       produced = ap (λ (ls : List Line). fold (produced_after longer) (start_of longer) ls) none ∙ begins;
-      words = ap (λ (ls : List Line). count_by (λ (l : Line). is_some (entry_word_read longer l)) ls) none;
+      words = ap (λ (vs : List ℕ). length vs) (values_anew before);
       start = begins;
-      values = ap (λ (ls : List Line). filter_map (entry_value longer) ls) none;
+      values = values_anew before;
       abi = ap (λ (ls : List Line). fold abi_after (Some X64) ls) none;
       fresh = λ untouched. ap (λ (ls : List Line). list_any is_touch ls) none;
+      counted = counted_anew before;
     }
 
 -- a back that begins knows that, and so does one whose front is gone
@@ -63,6 +63,6 @@ gone_follows start info before shows stands = record {
   more = [];
   grown = refl;
   shows = shows;
-  knows = record { over = refl; whole = none_whole (new_sight start) refl };
+  knows = record { over = refl; whole = none_whole (Some X64) 0 refl };
   stands = stands;
 }

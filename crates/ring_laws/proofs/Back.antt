@@ -37,11 +37,12 @@ use Rattle.ring_laws.specs.Layout.{reads_protocol}
 use Rattle.ring_laws.proofs.Lists.{AreApart, apart_push}
 use Rattle.ring_laws.proofs.Sight.{is_other, other_touch, untouched_produced, untouched_word}
 use Rattle.ring_laws.proofs.Shows.{Sight, Shows, shows_other, shows_open, shows_map}
-use Rattle.ring_laws.proofs.ObeysRing.{ObeysRing, IsWhole, is_overrun, ring_more, shows_none, none_whole, own_stretch, untouched_inside}
+use Rattle.ring_laws.proofs.ObeysRing.{ObeysRing, IsWhole, is_overrun, ring_more, shows_none, own_stretch, untouched_inside}
 use Rattle.ring_laws.proofs.Pages.{number_told, number_of, AreEarlier}
 use Rattle.ring_laws.proofs.Knows.{AreMapped, Waits, Serves, served_whole, IsOver, KnowsAt, Knows, BackGoes, halting, Follows}
 use Rattle.ring_laws.proofs.Serving.{served_line, go_on, serve_other, serve_entry}
 use Rattle.ring_laws.proofs.Looking.{looked_goes, seen_producer}
+use Rattle.ring_laws.proofs.EntryWords.{none_whole}
 
 -- an act, and what its answer makes of a back at a stage
 abbrev pub Goes : ℕ → List ℕ → List Line → BackStage → View → BackAct → Type 0
@@ -122,7 +123,7 @@ map_goes before h v x (Ok frame) earlier m shows stands told = by_last (nat_lt (
     long = length-append v.pages (page ∷ [])
 
     line : ObeysRing (before ++ lines.Move shown ∷ []) x.start (is_some v.halted)
-    line = served_line before x v.halted shown w.running stands (shows_none before (lines.Move shown) refl) refl (λ small. own_stretch before (lines.Move shown) x shows (none_whole x w.words) refl tt)
+    line = served_line before x v.halted shown w.running stands (shows_none before (lines.Move shown) refl) refl (λ small. own_stretch before (lines.Move shown) x shows (none_whole x.abi x.words w.words) refl tt)
 
     some_words : (abi : Abi) → 0 < entry_words_of abi
     some_words X64 = omega arith
@@ -175,7 +176,7 @@ map_goes before h v x (Ok frame) earlier m shows stands told = by_last (nat_lt (
 map_goes before h v x (Err refusal) earlier m shows stands told =
     let w : Waits x v.ring.indices v.ring.seen v.halted v.fetched = m.waits in
     let why : Halt = halt.MapRefused (next_gref v) (status_of refusal) in
-    let whole : IsWhole x = none_whole x w.words in
+    let whole : IsWhole x = none_whole x.abi x.words w.words in
     let new : View = record v { halted = Some (halt.MapRefused (next_gref v) (status_of refusal)); stage = unbound v.pages } in
     halts_by before v new _ (moves.MapRefused back.Back (next_gref v) ReadWrite (status_of refusal)) x why w.running told refl refl (unbound_knows v.pages x new (record { over = refl; whole = whole })) whole refl refl shows stands
 

@@ -1,5 +1,5 @@
 -- What a move of the back makes of the jobs, and what it shows.
-use Rattle.std.proofs.Common.{◌≡◌, ℕ, ◌+◌, ◌≤◌, ◌==◌, not, Bool, true, false, if◌then◌else◌, List, [], ◌∷◌, ◌++◌, length, refl, ap, sym, ◌∙◌, arith}
+use Rattle.std.proofs.Common.{◌≡◌, ℕ, ◌+◌, ◌≤◌, ◌==◌, Bool, true, false, if◌then◌else◌, List, [], ◌∷◌, ◌++◌, length, refl, arith}
 use Rattle.std.specs.Prelude.{Option, Some, None, is_some, position, Result, Ok, Err}
 use Rattle.blk_base.specs.declared.operation.Abi.{Abi}
 use Rattle.blk_base.specs.declared.parts.Mapping.{Mapping}
@@ -38,12 +38,12 @@ use Rattle.split_model.proofs.Showing.{halt_is}
 use Rattle.split_model.proofs.Acting.{BackActs, BackSet, DiskGives, ReadFails, DiskTakes, WriteFails, DiskFlushes, FlushFails, DiskTrims, TrimFails, back_acts}
 use Rattle.split_model.proofs.SafeActs.{of_back, back_wait}
 use Rattle.split_model.proofs.SafeAnswers.{IsBacks}
-use Rattle.ring_laws.proofs.Shows.{Sight, Shows, other_on_pages, untouched_value, shows_map}
+use Rattle.ring_laws.proofs.Shows.{Sight, Shows}
 use Rattle.ring_laws.proofs.Knows.{Serves, KnowsAt}
 use Rattle.ring_laws.proofs.Bystanders.{sets_none, IsBystander, AreBystanders}
 use Rattle.ring_laws.proofs.Sight.{is_other, other_touch}
 use Rattle.ring_laws.proofs.Entry.{shape_is}
-use Rattle.ring_laws.proofs.Fetched.{is_ready, Reads, shaped, blind, values_still}
+use Rattle.ring_laws.proofs.Fetched.{Reads, shaped, blind}
 
 -- the back's jobs and how many it fetched, before and after a move; so many words of entries were read before
 pub data Change (words : ℕ) (old new : View) : Type 0 where
@@ -157,44 +157,40 @@ told_by (Some (told.Trimmed id)) a old new is = absurd is
 told_by (Some (told.Fault id index)) a old new is = absurd is
 
 -- a line of the back's reads words of entries of its layout, or none
-abbrev Looks : List Line → Bool → View → BackAct → Type 0
-Looks before ready v a = Reads before v.shape.abi ready (lines.Move a.shown)
+abbrev Looks : List Line → View → BackAct → Type 0
+Looks before v a = Reads before v.shape.abi (lines.Move a.shown)
 
-blindly : (before : List Line) (abi : Abi) (line : Line) {ready : Bool} → is_other line ≡ true → Reads before abi ready line
-blindly before abi line other = blind (other_touch line other) (values_still before line (other_on_pages line other) (untouched_value before line (other_touch line other)))
+blindly : (before : List Line) (abi : Abi) (line : Line) → is_other line ≡ true → Reads before abi line
+blindly before abi line other = blind (other_touch line other)
 
-map_reads : (before : List Line) (h : Hypervisor) (ready : Bool) (v : View) (x : Sight) (gref : ℕ) (mode : Mode) (verdict : Result ℕ MapRefusal) → x.touched ≡ false → Shows before x → Looks before ready v (map_act h back.Back gref mode verdict)
-map_reads before h ready v x gref mode (Ok frame) none shows = let now = shows_map before gref (h.grants.made + 1) frame mode x none shows in blind refl (now.values ∙ sym shows.values)
-map_reads before h ready v x gref mode (Err refusal) none shows = blindly before v.shape.abi _ refl
+map_reads : (before : List Line) (h : Hypervisor) (v : View) (x : Sight) (gref : ℕ) (mode : Mode) (verdict : Result ℕ MapRefusal) → x.touched ≡ false → Shows before x → Looks before v (map_act h back.Back gref mode verdict)
+map_reads before h v x gref mode (Ok frame) none shows = blind refl
+map_reads before h v x gref mode (Err refusal) none shows = blindly before v.shape.abi _ refl
 
-unmap_reads : (before : List Line) (h : Hypervisor) (ready : Bool) (v : View) (o : Outcome) (a : BackAct) (pages : List Mapping) → back_act h back.Back (unmap_ask pages) o ≡ Some a → Looks before ready v a
-unmap_reads before h ready v o a [] e = back_wait (Looks before ready v) h back.Back a (blindly before v.shape.abi _ refl) (λ path. blindly before v.shape.abi _ refl) e
-unmap_reads before h ready v o a (page ∷ pages) e = of_back (Looks before ready v) _ a (blindly before v.shape.abi _ refl) e
+unmap_reads : (before : List Line) (h : Hypervisor) (v : View) (o : Outcome) (a : BackAct) (pages : List Mapping) → back_act h back.Back (unmap_ask pages) o ≡ Some a → Looks before v a
+unmap_reads before h v o a [] e = back_wait (Looks before v) h back.Back a (blindly before v.shape.abi _ refl) (λ path. blindly before v.shape.abi _ refl) e
+unmap_reads before h v o a (page ∷ pages) e = of_back (Looks before v) _ a (blindly before v.shape.abi _ refl) e
 
-bind_reads : (before : List Line) (h : Hypervisor) (ready : Bool) (v : View) (p : ℕ) (state : PortState) → Looks before ready v (bind_act h p state)
-bind_reads before h ready v p port.Unbound = blindly before v.shape.abi _ refl
-bind_reads before h ready v p port.Closed = blindly before v.shape.abi _ refl
-bind_reads before h ready v p port.Bound = blindly before v.shape.abi _ refl
+bind_reads : (before : List Line) (h : Hypervisor) (v : View) (p : ℕ) (state : PortState) → Looks before v (bind_act h p state)
+bind_reads before h v p port.Unbound = blindly before v.shape.abi _ refl
+bind_reads before h v p port.Closed = blindly before v.shape.abi _ refl
+bind_reads before h v p port.Bound = blindly before v.shape.abi _ refl
 
-loop_reads : (before : List Line) (h : Hypervisor) (ready : Bool) (v : View) (o : Outcome) (a : BackAct) (r : Option Reply) (asleep none : Bool) → v.ring.asleep ≡ asleep → (requests_of v.ring.indices v.ring.seen == 0) ≡ none → ready ≡ true → ring_shape before ≡ Some v.shape → back_act h back.Back (loop_ask v r) o ≡ Some a → Looks before ready v a
-loop_reads before h ready v o a (Some r) asleep none p q goes shape e = of_back (Looks before ready v) _ a (shaped goes v.shape shape refl refl) e
-loop_reads before h ready v o a None true none p q goes shape e = back_wait (Looks before ready v) h back.Back a (blindly before v.shape.abi _ refl) (λ path. blindly before v.shape.abi _ refl) (rw p at e)
-loop_reads before h ready v o a None false true p q goes shape e = of_back (Looks before ready v) _ a (shaped goes v.shape shape refl refl) (rw (p, q) at e)
-loop_reads before h ready v o a None false false p q goes shape e = of_back (Looks before ready v) _ a (shaped goes v.shape shape refl refl) (rw (p, q) at e)
+loop_reads : (before : List Line) (h : Hypervisor) (v : View) (o : Outcome) (a : BackAct) (r : Option Reply) (asleep none : Bool) → v.ring.asleep ≡ asleep → (requests_of v.ring.indices v.ring.seen == 0) ≡ none → ring_shape before ≡ Some v.shape → back_act h back.Back (loop_ask v r) o ≡ Some a → Looks before v a
+loop_reads before h v o a (Some r) asleep none p q shape e = of_back (Looks before v) _ a (shaped v.shape shape refl refl) e
+loop_reads before h v o a None true none p q shape e = back_wait (Looks before v) h back.Back a (blindly before v.shape.abi _ refl) (λ path. blindly before v.shape.abi _ refl) (rw p at e)
+loop_reads before h v o a None false true p q shape e = of_back (Looks before v) _ a (shaped v.shape shape refl refl) (rw (p, q) at e)
+loop_reads before h v o a None false false p q shape e = of_back (Looks before v) _ a (shaped v.shape shape refl refl) (rw (p, q) at e)
 
--- one that serves is ready
-runs : (halted : Option Halt) → halted ≡ None → not (is_some halted) ≡ true
-runs halted none = ap (λ (h : Option Halt). not (is_some h)) none
-
-pub back_reads : (before : List Line) (h : Hypervisor) (s : BackStage) (v : View) (o : Outcome) (a : BackAct) (x : Sight) → KnowsAt s x v → Shows before x → back_act h back.Back (ask_at s v) o ≡ Some a → Looks before (is_ready s v.halted) v a
-back_reads before h stage.InitWait v o a x k shows e = back_wait (Looks before (is_ready stage.InitWait v.halted) v) h back.Back a (blindly before v.shape.abi _ refl) (λ path. blindly before v.shape.abi _ refl) e
-back_reads before h stage.MapRing v o a x k shows e = of_back (Looks before (is_ready stage.MapRing v.halted) v) _ a (map_reads before h (is_ready stage.MapRing v.halted) v x (next_gref v) ReadWrite (verdict_at h.pages (next_gref v) ReadWrite) k.waits.untouched shows) e
-back_reads before h stage.Bind v o a x k shows e = of_back (Looks before (is_ready stage.Bind v.halted) v) _ a (bind_reads before h (is_ready stage.Bind v.halted) v v.ring.port (state_of h.channels v.ring.port)) e
-back_reads before h stage.Loop v o a x k shows e = loop_reads before h (is_ready stage.Loop v.halted) v o a (next_reply v) v.ring.asleep (requests_of v.ring.indices v.ring.seen == 0) refl refl (runs v.halted k.running) (shape_is before 0 x v shows k) e
-back_reads before h (stage.Fetch n) v o a x k shows e = of_back (Looks before (is_ready (stage.Fetch n) v.halted) v) _ a (shaped (let serves : Serves n x v = k.1 in runs v.halted serves.running) v.shape (shape_is before n x v shows k.1) refl refl) e
-back_reads before h (stage.Abort m) v o a x k shows e = of_back (Looks before (is_ready (stage.Abort m) v.halted) v) _ a (blindly before v.shape.abi _ refl) e
-back_reads before h stage.UnmapRing v o a x k shows e = unmap_reads before h (is_ready stage.UnmapRing v.halted) v o a v.pages e
-back_reads before h stage.ClosePort v o a x k shows e = of_back (Looks before (is_ready stage.ClosePort v.halted) v) _ a (blindly before v.shape.abi _ refl) e
-back_reads before h stage.UnmapUnbound v o a x k shows e = unmap_reads before h (is_ready stage.UnmapUnbound v.halted) v o a v.pages e
-back_reads before h stage.Halted v o a x k shows e = unmap_reads before h (is_ready stage.Halted v.halted) v o a [] e
-back_reads before h s v o a x k shows e = of_back (Looks before (is_ready s v.halted) v) _ a (shaped (runs v.halted k.running) v.shape (shape_is before 0 x v shows k) refl refl) e
+pub back_reads : (before : List Line) (h : Hypervisor) (s : BackStage) (v : View) (o : Outcome) (a : BackAct) (x : Sight) → KnowsAt s x v → Shows before x → back_act h back.Back (ask_at s v) o ≡ Some a → Looks before v a
+back_reads before h stage.InitWait v o a x k shows e = back_wait (Looks before v) h back.Back a (blindly before v.shape.abi _ refl) (λ path. blindly before v.shape.abi _ refl) e
+back_reads before h stage.MapRing v o a x k shows e = of_back (Looks before v) _ a (map_reads before h v x (next_gref v) ReadWrite (verdict_at h.pages (next_gref v) ReadWrite) k.waits.untouched shows) e
+back_reads before h stage.Bind v o a x k shows e = of_back (Looks before v) _ a (bind_reads before h v v.ring.port (state_of h.channels v.ring.port)) e
+back_reads before h stage.Loop v o a x k shows e = loop_reads before h v o a (next_reply v) v.ring.asleep (requests_of v.ring.indices v.ring.seen == 0) refl refl (shape_is before 0 x v shows k) e
+back_reads before h (stage.Fetch n) v o a x k shows e = of_back (Looks before v) _ a (shaped v.shape (shape_is before n x v shows k.1) refl refl) e
+back_reads before h (stage.Abort m) v o a x k shows e = of_back (Looks before v) _ a (blindly before v.shape.abi _ refl) e
+back_reads before h stage.UnmapRing v o a x k shows e = unmap_reads before h v o a v.pages e
+back_reads before h stage.ClosePort v o a x k shows e = of_back (Looks before v) _ a (blindly before v.shape.abi _ refl) e
+back_reads before h stage.UnmapUnbound v o a x k shows e = unmap_reads before h v o a v.pages e
+back_reads before h stage.Halted v o a x k shows e = unmap_reads before h v o a [] e
+back_reads before h s v o a x k shows e = of_back (Looks before v) _ a (shaped v.shape (shape_is before 0 x v shows k) refl refl) e

@@ -1,16 +1,17 @@
 -- The words that the back itself reads, of the ring: by their number those of the jobs are few.
-use Rattle.std.proofs.Common.{◌≡◌, ℕ, ◌+◌, ◌-◌, ◌≤◌, not, List, [], ◌∷◌, ◌++◌, length, arith}
-use Rattle.std.specs.Prelude.{Bool, true, false, is_some, filter_map, sum_by}
-use Rattle.std.specs.List.{cons_option, suffix_len}
-use Rattle.std.proofs.lemmas.List.Sums.{sum_by-cons, sum_by-append, sum_by-take-drop}
+use Rattle.std.proofs.Common.{◌≡◌, ℕ, ◌+◌, ◌≤◌, List, [], ◌∷◌, ◌++◌, length, length-append, ap, ◌∙◌, subst, arith}
+use Rattle.std.specs.Prelude.{Bool, true, false, if◌then◌else◌, is_some, reverse, sum_by}
+use Rattle.std.specs.Option.{option_to_list}
+use Rattle.std.proofs.lemmas.List.{reverse-append, reverse-reverse}
+use Rattle.std.proofs.lemmas.List.Sums.{sum_by-cons, sum_by-append}
 use Rattle.blk_base.specs.declared.moves.BackMover.TheVariants as back_mover
 use Rattle.blk_base.specs.declared.moves.Move.TheVariants as moves
 use Rattle.schedule_text.specs.declared.line.Line.{Line}
 use Rattle.schedule_text.specs.declared.line.Line.TheVariants as lines
-use Rattle.report_rules.specs.Standing.{is_epoch, this_epoch}
+use Rattle.report_rules.specs.Standing.{is_epoch}
 use Rattle.report_rules.specs.Ring.{ring_word}
-use Rattle.report_rules.specs.Stretch.{of_entries}
-use Rattle.report_rules.specs.Job.{when, entry_value, entry_values}
+use Rattle.report_rules.specs.Stretch.{of_entries, entry_value, when}
+use Rattle.ring_laws.proofs.EntryWords.{values_back, entry_values}
 
 -- the back reads a word there
 abbrev pub reads_at : Line → ℕ
@@ -37,24 +38,29 @@ reads_short (line ∷ ls) =
     omega arith
 
 -- the words of entries are among them
-one_value : (before : List Line) (line : Line) (ys : List ℕ) → length (cons_option (entry_value before line) ys) ≤ reads_at line + length ys
-one_value before (lines.Move (moves.Read back_mover.Back number frame word value)) ys = by_test (is_some (of_entries (ring_word before number word)))
+one_value : (before : List Line) (line : Line) → length (option_to_list (entry_value before line)) ≤ reads_at line
+one_value before (lines.Move (moves.Read back_mover.Back number frame word value)) = by_test (is_some (of_entries (ring_word before number word)))
   where
-    by_test : (b : Bool) → length (cons_option (when b value) ys) ≤ 1 + length ys
+    by_test : (b : Bool) → length (option_to_list (when b value)) ≤ 1
     by_test true = omega arith
     by_test false = omega arith
-one_value before line ys = omega arith
+one_value before line = omega arith
 
-values_among : (before ls : List Line) → length (filter_map (entry_value before) ls) ≤ reads_of ls
-values_among before [] = omega arith
-values_among before (line ∷ ls) =
-    let one = one_value before line (filter_map (entry_value before) ls) in
-    let rest = values_among before ls in
-    let both = sum_by-cons reads_at line ls in
-    omega arith
+values_among : (xs : List Line) → length (values_back xs) ≤ reads_of (reverse xs)
+values_among [] = omega arith
+values_among (line ∷ earlier) = by_epoch (is_epoch line) (values_among earlier)
+  where
+    all : reads_of (reverse (line ∷ earlier)) ≡ reads_of (reverse earlier) + reads_of (line ∷ [])
+    all = ap reads_of (reverse-append (line ∷ []) earlier) ∙ reads_append (reverse earlier) (line ∷ [])
+
+    by_epoch : (b : Bool) → length (values_back earlier) ≤ reads_of (reverse earlier) → length (if b then [] else values_back earlier ++ option_to_list (entry_value (reverse earlier) line)) ≤ reads_of (reverse (line ∷ earlier))
+    by_epoch true rest = omega arith
+    by_epoch false rest =
+        let one = one_value (reverse earlier) line in
+        let here = sum_by-cons reads_at line [] in
+        let whole = all in
+        let both = length-append (values_back earlier) (option_to_list (entry_value (reverse earlier) line)) in
+        omega arith
 
 pub values_few : (ls : List Line) → length (entry_values ls) ≤ reads_of ls
-values_few ls =
-    let here = values_among ls (this_epoch ls) in
-    let whole = sum_by-take-drop reads_at ls (length ls - suffix_len (λ (line : Line). not (is_epoch line)) ls) in
-    omega arith
+values_few ls = subst (λ (xs : List Line). length (entry_values ls) ≤ reads_of xs) (reverse-reverse ls) (values_among (reverse ls))

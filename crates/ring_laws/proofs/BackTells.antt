@@ -20,7 +20,6 @@ use Rattle.segment_list.specs.declared.verdict.Verdict.{Verdict}
 use Rattle.segment_list.specs.declared.verdict.Verdict.TheVariants as verdict
 use Rattle.segment_list.specs.Verdict.{verdict_of}
 use Rattle.report_rules.specs.Standing.{this_epoch}
-use Rattle.report_rules.specs.Job.{entry_values}
 use Rattle.back_jobs.specs.declared.stage.JobStage.TheVariants as job_stage
 use Rattle.back_jobs.specs.Work.{Work, begun, moving, paging, ended, frameless}
 use Rattle.back_jobs.specs.Jobs.{is_done}
@@ -44,6 +43,7 @@ use Rattle.ring_laws.proofs.Works.{AreJobs, jobs_kept, jobs_removed, jobs_added}
 use Rattle.ring_laws.proofs.Bystanders.{AreBystanders, Aside, bystanders_go, bystanders_aside}
 use Rattle.ring_laws.proofs.BackChange.{Change, kept, replies, halts, fetches, Changed, IsBackTold, change_at, back_by, told_by}
 use Rattle.ring_laws.proofs.Tells.{Tells, terms_of, same_jobs, unseen_then, small_number}
+use Rattle.ring_laws.proofs.EntryWords.{entry_values}
 
 number_if : (n : ℕ) (b : Bool) (x y : Work) → x.number ≡ n → y.number ≡ n → (let t : Work = if b then x else y in t.number) ≡ n
 number_if n true x y p q = p

@@ -31,7 +31,7 @@ use Rattle.report_rules.specs.declared.walk.Spot.{Spot}
 use Rattle.report_rules.specs.declared.work.Task.{Task}
 use Rattle.report_rules.specs.declared.work.Task.TheVariants as tasks
 use Rattle.report_rules.specs.Work.{pages_of, planned_tasks, served_tasks, settled, work_verdict, indirect_tasks, work_tasks, status_by, response_to, work_response}
-use Rattle.report_rules.specs.Job.{words_of_job, id_of}
+use Rattle.report_rules.specs.Job.{id_of}
 use Rattle.report_rules.specs.Walk.{walk_of}
 use Rattle.report_rules.specs.Reply.{end_of}
 use Rattle.back_jobs.specs.declared.stage.JobStage.{JobStage}
@@ -42,6 +42,7 @@ use Rattle.ring_laws.proofs.JobLines.{is_of, read_by, read_aside, walk_aside, mo
 use Rattle.report_rules.proofs.Copied.{no_segments}
 use Rattle.ring_laws.proofs.Places.{tasks_of, Before, Alone, ending, IsAt}
 use Rattle.ring_laws.proofs.Copies.{IsCopying}
+use Rattle.ring_laws.proofs.EntryWords.{words_of_job}
 
 -- what is to be done for a request: this work, with this status where it is done in full; and the id and the operation that the response names
 pub record IsPlan (request : RawRequest) (info : DiskInfo) (work : List Task) (served : Status) (id op : ℕ) : Type 0 where

@@ -24,8 +24,8 @@ use Rattle.report_rules.specs.Data.{words_in, IsDataAt}
 use Rattle.report_rules.specs.Effect.{disk_move_of, disk_move_shown, outcome_of, IsEffectAt}
 use Rattle.report_rules.proofs.Obeys.{obeys_more}
 use Rattle.split_model.specs.Keys.{names_persistent, is_zero_text}
-use Rattle.ring_laws.proofs.Shows.{epoch_longer}
 use Rattle.ring_laws.proofs.JobLines.{is_of, IsAside}
+use Rattle.ring_laws.proofs.EntryWords.{epoch_longer}
 
 -- the rules on steps, data and effects
 pub record IsRule (before : List Line) (line : Line) : Type 0 where

@@ -14,10 +14,11 @@ use Rattle.report_rules.specs.Work.{work_response}
 use Rattle.report_rules.specs.Published.{is_persistent}
 use Rattle.report_rules.specs.Job.{fetched_of}
 use Rattle.report_rules.specs.Made.{left_to, may_stand, has_unmapped}
-use Rattle.report_rules.specs.Reply.{status_at_end, words_with, words_due, response_due, value_at, are_alike, is_like, is_one_of, may_answer, most_jobs, lowest, lines_before, job_for, job_replied, answered_in, reply_pushed}
+use Rattle.report_rules.specs.Reply.{status_at_end, words_with, words_due, response_due, value_at, are_alike, is_like, is_one_of, may_answer, lowest, lines_before, job_for, job_replied, answered_in, reply_pushed}
 use Rattle.report_rules.proofs.Lowest.{IsFound, lowest_passes, lowest_some}
 use Rattle.ring_laws.proofs.Due.{Candidate}
 use Rattle.ring_laws.proofs.WrittenRows.{candidate_may}
+use Rattle.report_rules.specs.Stretch.{entries_read}
 
 -- responses of which all words are alike have the same words
 whole_alike : (r s : Response) → are_alike 2 (response_words_of r) (response_words_of s) ≡ true → response_words_of s ≡ response_words_of r
@@ -93,12 +94,12 @@ pub record IsChoice (before : List Line) (early : List Line) (r : Response) : Ty
 
 pub choice : (before line_before : List Line) (line : Line) (r : Response) (c : Candidate line_before 3 r) → before ≡ line_before ++ line ∷ [] → lines_before before 4 ≡ lines_before line_before 3 → answered_in before ≡ answered_in line_before → reply_pushed before ≡ Some (response_words_of r) → left_to c.job (this_epoch before) ≡ []
     → IsChoice before (lines_before line_before 3) r
-choice before line_before line r c is early same pushed left = by_found (lowest test (most_jobs (lines_before line_before 3))) refl
+choice before line_before line r c is early same pushed left = by_found (lowest test (entries_read (lines_before line_before 3))) refl
   where
     test : ℕ → Bool
     test = λ (k : ℕ). may_answer (lines_before line_before 3) (answered_in line_before) 2 (response_words_of r) k && has_unmapped before k
 
-    replied : job_replied before (answered_in before) ≡ lowest test (most_jobs (lines_before line_before 3))
+    replied : job_replied before (answered_in before) ≡ lowest test (entries_read (lines_before line_before 3))
     replied =
         ap (λ (row : Option (List ℕ)). job_for before (lines_before before 4) (answered_in before) row) pushed
         ∙ (ap (λ (ls : List Line). job_for before ls (answered_in before) (Some (response_words_of r))) early
@@ -110,11 +111,11 @@ choice before line_before line r c is early same pushed left = by_found (lowest 
     passes : test c.job ≡ true
     passes = ap (λ (b : Bool). b && has_unmapped before c.job) (candidate_may line_before 3 2 r c) ∙ given
 
-    by_found : (o : Option ℕ) → lowest test (most_jobs (lines_before line_before 3)) ≡ o → IsChoice before (lines_before line_before 3) r
+    by_found : (o : Option ℕ) → lowest test (entries_read (lines_before line_before 3)) ≡ o → IsChoice before (lines_before line_before 3) r
     by_found None e =
-        let some : is_some (lowest test (most_jobs (lines_before line_before 3))) ≡ true = lowest_some test (most_jobs (lines_before line_before 3)) c.job passes c.first c.last in
-        let none : is_some (lowest test (most_jobs (lines_before line_before 3))) ≡ false = ap (λ (o : Option ℕ). is_some o) e in
+        let some : is_some (lowest test (entries_read (lines_before line_before 3))) ≡ true = lowest_some test (entries_read (lines_before line_before 3)) c.job passes c.first c.last in
+        let none : is_some (lowest test (entries_read (lines_before line_before 3))) ≡ false = ap (λ (o : Option ℕ). is_some o) e in
         absurd (cc)
     by_found (Some k) e =
-        let f : IsFound test (most_jobs (lines_before line_before 3)) k = lowest_passes test (most_jobs (lines_before line_before 3)) k e in
+        let f : IsFound test (entries_read (lines_before line_before 3)) k = lowest_passes test (entries_read (lines_before line_before 3)) k e in
         record { job = k; found = replied ∙ e; due = found_due (lines_before line_before 3) (answered_in line_before) r k (has_unmapped before k) f.passes }

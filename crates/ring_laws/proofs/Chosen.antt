@@ -1,5 +1,5 @@
 -- The jobs that the rule finds for the replies so far, matched with those that the back answered; they stay due what they were due, and so do those that the reply under way may answer.
-use Rattle.std.proofs.Common.{◌≡◌, ℕ, ◌+◌, ◌≤◌, Bool, List, [], ◌∷◌, ◌++◌, length, map, refl, ap, sym, ◌∙◌, subst, arith}
+use Rattle.std.proofs.Common.{◌≡◌, ℕ, ◌+◌, ◌≤◌, List, [], ◌∷◌, ◌++◌, length, map, refl, ap, sym, ◌∙◌, subst, arith}
 use Rattle.std.specs.Prelude.{Some, IfSome}
 use Rattle.std.specs.List.{AllByRecursion}
 use Rattle.std.proofs.lemmas.List.{map-append}
@@ -9,7 +9,7 @@ use Rattle.blk_layout.specs.Response.{response_words_of}
 use Rattle.ring_words.specs.Ring.{next_of}
 use Rattle.report_rules.specs.Standing.{this_epoch}
 use Rattle.report_rules.specs.Made.{left_to}
-use Rattle.report_rules.specs.Reply.{response_due, is_one_of, most_jobs, lines_before, answered_in}
+use Rattle.report_rules.specs.Reply.{response_due, is_one_of, lines_before, answered_in}
 use Rattle.blk_back.specs.declared.stage.Reply.{Reply}
 use Rattle.blk_back.specs.declared.stage.BackStage.{BackStage}
 use Rattle.blk_back.specs.declared.stage.BackStage.TheVariants as stage
@@ -23,6 +23,7 @@ use Rattle.ring_laws.proofs.Rows.{lines_none, lines_aside, answered_aside}
 use Rattle.ring_laws.proofs.Stays.{IsOn, AreIdle, due_aside}
 use Rattle.ring_laws.proofs.WrittenBack.{RowGoes, rests, grows, ends}
 use Rattle.ring_laws.proofs.Written.{AllPass}
+use Rattle.report_rules.specs.Stretch.{entries_read}
 
 abbrev pub words_in : Matched → List ℕ
 words_in m = let a : Answered = m.answer in response_words_of a.response
@@ -51,7 +52,7 @@ kept before ys n m r on idle rows told stays c =
       other = ap (λ (js : List ℕ). is_one_of c.job js) told ∙ c.other;
       due = ap (λ (ls : List Line). response_due ls c.job) rows ∙ c.due;
       first = c.first;
-      last = subst (λ (ls : List Line). c.job ≤ most_jobs ls) (sym rows) c.last;
+      last = subst (λ (ls : List Line). c.job ≤ entries_read ls) (sym rows) c.last;
       left = ap (λ (ls : List Line). left_to c.job ls) on.epoch ∙ left_aside c.job ys (this_epoch before) aside.none c.left;
     }
 
@@ -87,8 +88,8 @@ pub chosen_stage : (before : List Line) (s t : BackStage) (answered : List Answe
 chosen_stage before s t answered none c = record { matched = c.matched; chosen = c.chosen; answers = c.answers; due = c.due; stays = rests_all before t none; row = no_row t none _ }
 
 -- lines of others
-pub chosen_aside : (own : Bool) (before ys : List Line) (s : BackStage) (answered : List Answered) → AllPass own ys → IsOn before ys → AreIdle before ys → IsChosen before s answered → IsChosen (before ++ ys) s answered
-chosen_aside own before ys s answered all on idle c = record {
+pub chosen_aside : (before ys : List Line) (s : BackStage) (answered : List Answered) → AllPass ys → IsOn before ys → AreIdle before ys → IsChosen before s answered → IsChosen (before ++ ys) s answered
+chosen_aside before ys s answered all on idle c = record {
   matched = c.matched;
   chosen = told ∙ c.chosen;
   answers = c.answers;
@@ -98,20 +99,20 @@ chosen_aside own before ys s answered all on idle c = record {
 }
   where
     told : answered_in (before ++ ys) ≡ answered_in before
-    told = answered_aside own ys before all
+    told = answered_aside ys before all
 
     stays_in : (s : BackStage) → ((k : ℕ) (words : List ℕ) → response_due (lines_before before (length (under_way s))) k ≡ Some words → response_due before k ≡ Some words)
         → (k : ℕ) (words : List ℕ) → response_due (lines_before (before ++ ys) (length (under_way s))) k ≡ Some words → response_due (before ++ ys) k ≡ Some words
-    stays_in (stage.ReplyHigh r) stays = still before ys 1 1 on idle (lines_aside own ys before 1 all (omega arith)) stays
-    stays_in (stage.ReplyLast r) stays = still before ys 2 2 on idle (lines_aside own ys before 2 all (omega arith)) stays
-    stays_in (stage.Producer r) stays = still before ys 3 3 on idle (lines_aside own ys before 3 all (omega arith)) stays
+    stays_in (stage.ReplyHigh r) stays = still before ys 1 1 on idle (lines_aside ys before 1 all (omega arith)) stays
+    stays_in (stage.ReplyLast r) stays = still before ys 2 2 on idle (lines_aside ys before 2 all (omega arith)) stays
+    stays_in (stage.Producer r) stays = still before ys 3 3 on idle (lines_aside ys before 3 all (omega arith)) stays
     stays_in s stays = fresh (before ++ ys)
 
     row_in : (s : BackStage) → ((k : ℕ) (words : List ℕ) → response_due (lines_before before (length (under_way s))) k ≡ Some words → response_due before k ≡ Some words)
         → IfSome (row_at s) (λ (r : Reply). Candidate before (length (under_way s)) (response_in r)) → IfSome (row_at s) (λ (r : Reply). Candidate (before ++ ys) (length (under_way s)) (response_in r))
-    row_in (stage.ReplyHigh r) stays row = kept before ys 1 1 (response_in r) on idle (lines_aside own ys before 1 all (omega arith)) told stays row
-    row_in (stage.ReplyLast r) stays row = kept before ys 2 2 (response_in r) on idle (lines_aside own ys before 2 all (omega arith)) told stays row
-    row_in (stage.Producer r) stays row = kept before ys 3 3 (response_in r) on idle (lines_aside own ys before 3 all (omega arith)) told stays row
+    row_in (stage.ReplyHigh r) stays row = kept before ys 1 1 (response_in r) on idle (lines_aside ys before 1 all (omega arith)) told stays row
+    row_in (stage.ReplyLast r) stays row = kept before ys 2 2 (response_in r) on idle (lines_aside ys before 2 all (omega arith)) told stays row
+    row_in (stage.Producer r) stays row = kept before ys 3 3 (response_in r) on idle (lines_aside ys before 3 all (omega arith)) told stays row
     row_in s stays row = tt
 
 same_answers : (s : BackStage) (answered : List Answered) (k prod : ℕ) → under_way s ≡ [] → answered_then s answered k prod ≡ answered

@@ -19,9 +19,10 @@ use Rattle.report_rules.specs.Work.{work_tasks, work_verdict, status_by, work_re
 use Rattle.report_rules.specs.Walk.{walk_of}
 use Rattle.report_rules.specs.Steps.{failed_in}
 use Rattle.report_rules.specs.Made.{left_to}
-use Rattle.report_rules.specs.Reply.{end_of, response_due, values_written, reply_pushed, lines_before, is_one_of, most_jobs, answered_in, IsReplyAt}
+use Rattle.report_rules.specs.Reply.{end_of, response_due, values_written, reply_pushed, lines_before, is_one_of, answered_in, IsReplyAt}
 use Rattle.ring_laws.proofs.JobLines.{read_by}
 use Rattle.ring_laws.proofs.Began.{Terms, request_at}
+use Rattle.report_rules.specs.Stretch.{entries_read}
 
 -- by these words of entries and these lines of the epoch the work of job k is over, and this is its response
 pub record IsWorkOver (terms : Terms) (values : List ℕ) (epoch : List Line) (k : ℕ) (r : Response) : Type 0 where
@@ -74,7 +75,7 @@ pub record Candidate (before : List Line) (n : ℕ) (r : Response) : Type 0 wher
   pub other : is_one_of job (answered_in before) ≡ false
   pub due : response_due (lines_before before n) job ≡ Some (response_words_of r)
   pub first : 1 ≤ job
-  pub last : job ≤ most_jobs (lines_before before n)
+  pub last : job ≤ entries_read (lines_before before n)
   pub left : left_to job (this_epoch before) ≡ []
 
 -- the reply under way, by the stage of the back

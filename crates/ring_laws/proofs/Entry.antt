@@ -4,7 +4,6 @@ use Rattle.std.specs.Prelude.{Option, Some, None, IfSome, IsSomeAnd}
 use Rattle.std.proofs.lemmas.Nat.{pow_pos}
 use Rattle.std.proofs.lemmas.List.{length-map}
 use Rattle.blk_base.specs.declared.operation.Abi.{Abi}
-use Rattle.blk_base.specs.declared.operation.Abi.TheVariants.{X64, X32}
 use Rattle.blk_base.specs.declared.parts.Mapping.{Mapping}
 use Rattle.blk_base.specs.declared.moves.BackMover.TheVariants as back
 use Rattle.blk_base.specs.declared.moves.Move.TheVariants as moves
@@ -14,7 +13,7 @@ use Rattle.schedule_text.specs.declared.line.Line.{Line}
 use Rattle.schedule_text.specs.declared.line.Line.TheVariants as lines
 use Rattle.report_rules.specs.declared.standing.Standing.{Standing}
 use Rattle.report_rules.specs.Ring.{order_of, shape_of, ring_shape, ring_order, replied_before, produced_before}
-use Rattle.report_rules.specs.Stretch.{entry_word_read, words_read, next_index, words_within, IsNextWord, IsStretchAt}
+use Rattle.report_rules.specs.Stretch.{entry_word_read, entries_read, next_index, words_within, IsNextWord, IsStretchAt}
 use Rattle.blk_back.proofs.Slots.{slot_within}
 use Rattle.blk_back.specs.View.{View, page_of, slot_page, slot_word}
 use Rattle.ring_laws.proofs.Pages.{number_told, number_of, page_found}
@@ -22,6 +21,7 @@ use Rattle.ring_laws.proofs.Shows.{Sight, Shows}
 use Rattle.ring_laws.proofs.Touches.{IsPage, high_word}
 use Rattle.ring_laws.proofs.ObeysRing.{word_inside}
 use Rattle.ring_laws.proofs.Knows.{Serves}
+use Rattle.ring_laws.proofs.EntryWords.{words_read, AreCounted, counts_are}
 
 -- the pages that the back may touch
 pub page_is : (k place : ℕ) (x : Sight) (v : View) → Serves k x v → place < 2 ^ v.shape.order → (let page : Mapping = page_of v place in IsPage page.number place x)
@@ -70,19 +70,16 @@ pub shape_is : (before : List Line) (k : ℕ) (x : Sight) (v : View) → Shows b
 shape_is before k x v shows s =
     ap (λ (abi : Option Abi). shape_of abi (ring_order before)) (shows.abi ∙ s.layout) ∙ ap (λ (o : Option ℕ). shape_of (Some v.shape.abi) o) (order_is before k x v shows s)
 
-whole_entries : (abi : Abi) (words count k : ℕ) → words ≡ entry_words_of abi * count + k → k < entry_words_of abi → words / entry_words_of abi ≡ count
-whole_entries X64 words count k e within = omega arith
-whole_entries X32 words count k e within = omega arith
-
-rest_words : (abi : Abi) (words count k : ℕ) → words ≡ entry_words_of abi * count + k → k < entry_words_of abi → words % entry_words_of abi ≡ k
-rest_words X64 words count k e within = omega arith
-rest_words X32 words count k e within = omega arith
+-- so many entries were read, and so many words of the next one
+counts_of : (before : List Line) (k : ℕ) (x : Sight) (v : View) (s : Serves k x v) → Shows before x → (entries_read before ≡ s.count) × (words_within before ≡ k)
+counts_of before k x v s shows =
+    counts_are v.shape.abi (words_read before) (entries_read before) (words_within before) s.count k
+    (subst (λ (abi : Option Abi). AreCounted abi (words_read before) (entries_read before) (words_within before)) (shows.abi ∙ s.layout) shows.counted.counts) (shows.words ∙ s.words) s.within
 
 -- the index of the entry is the back's consumer
-next_is : (before : List Line) (k : ℕ) (x : Sight) (v : View) → Serves k x v → Shows before x → x.start < 2 ^ 32 → next_index before v.shape ≡ v.ring.indices.cons
+next_is : (before : List Line) (k : ℕ) (x : Sight) (v : View) → Serves k x v → Shows before x → x.start < 2 ^ 32 → next_index before ≡ v.ring.indices.cons
 next_is before k x v s shows small =
-    let read : words_read before / entry_words_of v.shape.abi ≡ s.count = whole_entries v.shape.abi (words_read before) s.count k (shows.words ∙ s.words) s.within in
-    ap (λ (n : ℕ). (n + words_read before / entry_words_of v.shape.abi) % 2 ^ 32) shows.start ∙ (ap (λ (n : ℕ). (x.start + n) % 2 ^ 32) read ∙ sym (s.consumed small))
+    ap (λ (n : ℕ). (n + entries_read before) % 2 ^ 32) shows.start ∙ (ap (λ (n : ℕ). (x.start + n) % 2 ^ 32) (counts_of before k x v s shows).0 ∙ sym (s.consumed small))
 
 pub entry_stretch : (before : List Line) (frame k value : ℕ) (x : Sight) (v : View) → Serves k x v → Shows before x → (k ≡ 0 → 0 < requests_of v.ring.indices v.ring.seen) → x.start < 2 ^ 32
     → (let page : Mapping = slot_page v v.ring.indices.cons k in IsStretchAt before (lines.Move (moves.Read back.Back page.number frame (slot_word v.shape v.ring.indices.cons k) value)))
@@ -105,21 +102,21 @@ entry_stretch before frame k value x v s shows more small = record {
     no_both : entry_word_read before (lines.Move (moves.Read back.Back page.number frame (slot_word v.shape v.ring.indices.cons k) value)) ≡ None → ⊥
     no_both none = let some = read in cc
 
-    index : next_index before v.shape ≡ v.ring.indices.cons
+    index : next_index before ≡ v.ring.indices.cons
     index = next_is before k x v s shows small
 
-    rest : words_within before v.shape ≡ k
-    rest = rest_words v.shape.abi (words_read before) s.count k (shows.words ∙ s.words) s.within
+    rest : words_within before ≡ k
+    rest = (counts_of before k x v s shows).1
 
-    asked : requests_of (record { entries = entries_of v.shape.order; prod = replied_before before; cons = next_index before v.shape }) (produced_before before) ≡ requests_of v.ring.indices v.ring.seen
+    asked : requests_of (record { entries = entries_of v.shape.order; prod = replied_before before; cons = next_index before }) (produced_before before) ≡ requests_of v.ring.indices v.ring.seen
     asked =
-        ap (λ (n : ℕ). requests_of (record { entries = entries_of v.shape.order; prod = n; cons = next_index before v.shape }) (produced_before before)) (shows.replied ∙ s.replied)
+        ap (λ (n : ℕ). requests_of (record { entries = entries_of v.shape.order; prod = n; cons = next_index before }) (produced_before before)) (shows.replied ∙ s.replied)
         ∙ (ap (λ (n : ℕ). requests_of (record { entries = entries_of v.shape.order; prod = v.ring.indices.prod; cons = n }) (produced_before before)) index
         ∙ (ap (λ (n : ℕ). requests_of (record { entries = entries_of v.shape.order; prod = v.ring.indices.prod; cons = v.ring.indices.cons }) n) (shows.produced ∙ s.produced)
         ∙ ap (λ (n : ℕ). requests_of (record { entries = n; prod = v.ring.indices.prod; cons = v.ring.indices.cons }) v.ring.seen) (sym s.entries)))
 
     next_word : IsNextWord before at v.shape
     next_word = record {
-      place = slot_at v.shape v.ring.indices.cons k ∙ (ap (λ (n : ℕ). ring_word_of v.shape n k) (sym index) ∙ ap (λ (n : ℕ). ring_word_of v.shape (next_index before v.shape) n) (sym rest));
+      place = slot_at v.shape v.ring.indices.cons k ∙ (ap (λ (n : ℕ). ring_word_of v.shape n k) (sym index) ∙ ap (λ (n : ℕ). ring_word_of v.shape (next_index before) n) (sym rest));
       unconsumed = λ none. subst (λ (n : ℕ). 0 < n) (sym asked) (more (sym rest ∙ none));
     }

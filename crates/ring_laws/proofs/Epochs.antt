@@ -10,12 +10,11 @@ use Rattle.grant_table.specs.Table.{GrantTable, revoked_table}
 use Rattle.report_rules.specs.Obeys.{Obeys}
 use Rattle.report_rules.specs.Standing.{this_epoch}
 use Rattle.report_rules.specs.Published.{no_disk, info_told, kept_by, keeping_after}
-use Rattle.report_rules.specs.Job.{entry_values, fetched_of}
 use Rattle.report_rules.specs.Effect.{disk_move_shown}
 use Rattle.report_rules.specs.Reply.{value_written, answered_in, IsReplyAt}
 use Rattle.report_rules.proofs.Back.{standing_more}
 use Rattle.report_rules.proofs.Obeys.{obeys_more}
-use Rattle.report_rules.proofs.Prefixes.{fetched_more, answered_more}
+use Rattle.report_rules.proofs.Prefixes.{answered_more}
 use Rattle.back_jobs.specs.Work.{Work}
 use Rattle.blk_back.specs.declared.stage.BackStage.{BackStage}
 use Rattle.blk_back.specs.View as back
@@ -25,13 +24,14 @@ use Rattle.ring_laws.proofs.JobLines.{is_of}
 use Rattle.ring_laws.proofs.Began.{Terms}
 use Rattle.ring_laws.proofs.Works.{AreJobs, no_jobs}
 use Rattle.ring_laws.proofs.Bystanders.{IsRule, OffersNone, Tale, shown_last, no_effect}
-use Rattle.ring_laws.proofs.Fetched.{AreFetched, none_fetched}
+use Rattle.ring_laws.proofs.Fetched.{AreFetched, nothing_fetched}
 use Rattle.ring_laws.proofs.Tells.{Tells, terms_of}
 use Rattle.ring_laws.proofs.Standings.{Stands}
 use Rattle.ring_laws.proofs.Makers.{IsMine}
 use Rattle.ring_laws.proofs.MakerTurns.{IsMadeBy, Made}
 use Rattle.ring_laws.proofs.Due.{Answered, under_way, Writes}
 use Rattle.ring_laws.proofs.Written.{unwritten_at, pushes_none}
+use Rattle.ring_laws.proofs.EntryWords.{entry_values, values_anew, fetching_anew}
 
 -- the rules on jobs allow the line of an epoch, which tells nothing of options or grants
 pub epoch_tale : (config : Options) (before : List Line) → Tale config before → disk_move_shown before ≡ None → Tale config (before ++ lines.Epoch ∷ [])
@@ -58,11 +58,8 @@ epoch_tells config before old v t info none =
     new_tells config (before ++ lines.Epoch ∷ []) v (epoch_tale config before t.tale t.quiet) (shown_last before lines.Epoch) (info ∙ t.info) t.room none (λ k. ap (λ (ls : List Line). list_any (is_of k) ls) (epoch_begins before))
 
 -- nothing was fetched
-pub new_fetched : (terms : Terms) (before : List Line) → entry_values before ≡ [] → ((k : ℕ) → fetched_of before k ≡ None) → AreFetched terms before
-new_fetched terms before empty none k = none k ∙ sym (none_fetched terms (entry_values before) k empty)
-
-pub epoch_fetched : (terms : Terms) (before : List Line) → entry_values (before ++ lines.Epoch ∷ []) ≡ [] → AreFetched terms (before ++ lines.Epoch ∷ [])
-epoch_fetched terms before empty = new_fetched terms (before ++ lines.Epoch ∷ []) empty (λ k. fetched_more before lines.Epoch k)
+pub epoch_fetched : (terms : Terms) (before : List Line) → AreFetched terms (before ++ lines.Epoch ∷ [])
+epoch_fetched terms before = nothing_fetched terms (before ++ lines.Epoch ∷ []) (fetching_anew before) (values_anew before)
 
 -- no mapping stands
 pub epoch_stands : (before : List Line) (table : GrantTable) → Stands (before ++ lines.Epoch ∷ []) (revoked_table table)
@@ -78,7 +75,7 @@ epoch_made before old v m none = new_made (before ++ lines.Epoch ∷ []) v (obey
 -- no word of a reply was written, and no job was answered
 pub epoch_writes : (before : List Line) (s t : BackStage) (answered : List Answered) → under_way t ≡ [] → Writes before s answered → Writes (before ++ lines.Epoch ∷ []) t []
 epoch_writes before s t answered none w = record {
-  obeys = obeys_more IsReplyAt before lines.Epoch w.obeys (unwritten_at before lines.Epoch s answered w refl refl (λ own. absurd (cc)));
+  obeys = obeys_more IsReplyAt before lines.Epoch w.obeys (unwritten_at before lines.Epoch s answered w refl refl);
   words = ap (λ (ls : List Line). filter_map (value_written (before ++ lines.Epoch ∷ [])) ls) (epoch_begins before) ∙ sym none;
   pushed = pushes_none before lines.Epoch refl;
 }

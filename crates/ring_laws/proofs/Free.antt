@@ -17,7 +17,6 @@ use Rattle.schedule_text.specs.declared.line.Line.TheVariants as lines
 use Rattle.report_rules.specs.Ring.{abi_after}
 use Rattle.report_rules.specs.Overrun.{is_service}
 use Rattle.report_rules.specs.Stretch.{IsStretchAt}
-use Rattle.report_rules.specs.Reply.{is_of_back}
 use Rattle.blk_back.specs.declared.told.BackTold.{BackTold}
 use Rattle.blk_back.specs.declared.told.BackTold.TheVariants as back_told
 use Rattle.blk_back.specs.declared.told.Halt.{Halt}
@@ -26,9 +25,9 @@ use Rattle.split_model.specs.Shown.{back_lines, effect_line}
 use Rattle.split_model.proofs.Acting.{BackActs, BackFence, BackBind, BackBindRefused, BackSend, BackClose, back_acts}
 use Rattle.split_model.proofs.SafeAnswers.{IsJobs}
 use Rattle.ring_laws.specs.Layout.{reads_protocol, IsNamedFirstAt}
-use Rattle.ring_laws.proofs.Sight.{is_other, other_epoch, other_touch, same_abi, foreign_abi, untouched_produced, untouched_word}
-use Rattle.ring_laws.proofs.Shows.{Sight, shows_named}
-use Rattle.ring_laws.proofs.ObeysRing.{ObeysRing, is_overrun, ring_more, shows_none, unnamed_first, foreign_stretch}
+use Rattle.ring_laws.proofs.Sight.{is_other, other_epoch, other_touch, same_abi, foreign_abi, untouched_produced, untouched_word, is_of_back}
+use Rattle.ring_laws.proofs.Shows.{Sight, shows_named, unnamed_first}
+use Rattle.ring_laws.proofs.ObeysRing.{ObeysRing, is_overrun, ring_more, shows_none, foreign_stretch}
 use Rattle.ring_laws.proofs.Knows.{Knows, Follows}
 
 -- a line that no rule of the ring stops, where the back has halted or not
@@ -51,7 +50,7 @@ follow_named start values before line v new abi f other named idle plain first s
       begun = f.begun;
       more = f.more;
       grown = f.grown;
-      shows = shows_named before line f.sight abi other named f.shows;
+      shows = shows_named before line f.sight abi other named first f.shows;
       knows = knows;
       stands = subst (λ (halted : Option Halt). ObeysRing (before ++ line ∷ []) x.start (is_some halted)) (sym same)
           (ring_more before line x.start (is_some v.halted) f.stands (other_epoch line other) (shows_none before line (untouched_produced before line (other_touch line other))) idle plain first (λ small. stretch));

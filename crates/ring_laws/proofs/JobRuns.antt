@@ -12,8 +12,6 @@ use Rattle.report_rules.specs.Obeys.{Obeys}
 use Rattle.report_rules.specs.Steps.{AreSteps}
 use Rattle.report_rules.specs.Data.{AreData}
 use Rattle.report_rules.specs.Effect.{AreEffects}
-use Rattle.report_rules.specs.Job.{entry_values}
-use Rattle.report_rules.specs.Ring.{start_of as told_start}
 use Rattle.report_rules.proofs.Obeys.{obeys_none, obeys_more}
 use Rattle.back_jobs.specs.Jobs.{ask_job, place_of, work_of, waits}
 use Rattle.blk_front.specs.Ask as front_ask
@@ -38,8 +36,7 @@ use Rattle.split_model.proofs.Shapes.{back_shape}
 use Rattle.split_model.proofs.Suspending.{suspend_cases, begun_back, gone_back, back_cases}
 use Rattle.split_model.proofs.Attaching.{SaysServed, attach_cases}
 use Rattle.split_model.specs.Report.{report_of, ended_report_of}
-use Rattle.ring_laws.proofs.Anew.{new_sight, shows_epoch}
-use Rattle.ring_laws.proofs.Epochs.{new_tells, epoch_tells, new_fetched, epoch_fetched, epoch_stands}
+use Rattle.ring_laws.proofs.Epochs.{new_tells, epoch_tells, epoch_fetched, epoch_stands}
 use Rattle.ring_laws.proofs.BackReads.{reads_of}
 use Rattle.ring_laws.proofs.Sight.{is_other}
 use Rattle.ring_laws.proofs.Shows.{Sight, Shows}
@@ -54,16 +51,16 @@ use Rattle.ring_laws.proofs.Began.{Terms}
 use Rattle.ring_laws.proofs.Lists.{all_both}
 use Rattle.ring_laws.proofs.Standings.{Stands, stands_aside, turn_stands}
 use Rattle.ring_laws.proofs.MakerLines.{calm_quiet, back_calm, halt_calm, told_calm}
-use Rattle.ring_laws.proofs.Bystanders.{IsRule, IsBystander, AreBystanders, Aside, bystanders_go, no_effect}
-use Rattle.ring_laws.proofs.Fetched.{is_ready, AreFetched, AreOther, fetched_anew, values_aside, others_fetched, back_fetched}
-use Rattle.ring_laws.proofs.BackChange.{back_by, back_sets, back_reads, halt_by}
+use Rattle.ring_laws.proofs.Bystanders.{IsRule, IsBystander, AreBystanders, no_effect}
+use Rattle.ring_laws.proofs.Fetched.{AreFetched, AreOther, nothing_fetched, fetched_anew, values_aside, others_fetched, back_fetched}
+use Rattle.ring_laws.proofs.BackChange.{back_by, back_reads, halt_by}
 use Rattle.ring_laws.proofs.Halting.{Stops, stops_cases}
 use Rattle.ring_laws.proofs.Tells.{Tells, terms_of, tells_aside, shows_free}
 use Rattle.ring_laws.proofs.BackTells.{back_tells}
-use Rattle.ring_laws.proofs.Publishes.{Publishes, publishes_happens, own_published}
 use Rattle.ring_laws.proofs.JobTells.{JobTells, job_tells}
 use Rattle.ring_laws.proofs.JobTurn.{After}
 use Rattle.ring_laws.proofs.After.{kept_after}
+use Rattle.ring_laws.proofs.EntryWords.{entry_values}
 
 -- all that the lines so far tell, side by side with the machine
 pub record Stand (config : Options) (before : List Line) (w : World) : Type 0 where
@@ -72,7 +69,6 @@ pub record Stand (config : Options) (before : List Line) (w : World) : Type 0 wh
   pub safe : IsSafe w
   pub tells : Tells config before w.back
   pub fetched : AreFetched (terms_of config w.back) before
-  pub published : Publishes before w
 
 pub same_values : (over : Bool) (before ys : List Line) (x : Sight) → AreFree over ys → Shows before x → entry_values (before ++ ys) ≡ entry_values before
 same_values over before ys x free shows = let longer : Shows (before ++ ys) x = shows_free over ys before x free shows in longer.values ∙ sym shows.values
@@ -173,10 +169,9 @@ back_fetches config w before (Some a) e s =
     let f : Follows config.start [] before w.back = s.ring.follows in
     let t : Tells config before w.back = s.tells in
     let b : IsBystander (lines.Move a.shown) = back_by w.under (ask_of w.back) Took a (backs_of w.back) e in
-    let one : Aside config before (lines.Move a.shown ∷ []) = bystanders_go config (lines.Move a.shown ∷ []) before (b, tt) t.tale t.quiet in
     subst (λ (s : Shape). AreFetched (record { config = config; abi = s.abi }) (before ++ back_shows w (Some a))) (sym (back_shape w.back a.answer))
-    (back_fetched (terms_of config w.back) before (back_lines new.told a.answer ++ halt_lines v.halted new.halted) (lines.Move a.shown) (is_ready v.stage v.halted) b (back_other w.back new.told a.answer new.halted)
-    (back_reads before w.under v.stage w.back Took a f.sight f.knows f.shows e) one.tale (own_published config w before (lines.Move a.shown) (back_sets w.under (ask_of w.back) Took a (backs_of w.back) e) one.tale t.info s.published) s.fetched)
+    (back_fetched (terms_of config w.back) before (back_lines new.told a.answer ++ halt_lines v.halted new.halted) (lines.Move a.shown) b (back_other w.back new.told a.answer new.halted)
+    (back_reads before w.under v.stage w.back Took a f.sight f.knows f.shows e) t.tale s.fetched)
 
 job_fetches : (terms : Terms) (w : World) (before : List Line) (k : ℕ) (o : Outcome) (act : Option BackAct) → job_turn w k o ≡ act → AreFetched terms before → AreFetched terms (before ++ job_shows w k act)
 job_fetches terms w before k o None e are = no_fetch terms before are
@@ -213,7 +208,7 @@ outside_fetched : (config : Options) (w : World) (before ys : List Line) → Are
 outside_fetched config w before ys all s = others_fetched (terms_of config w.back) before ys (outsiders_other w.back.stage ys all) s.fetched
 
 suspended_fetched : (config : Options) (w : World) (before : List Line) → (let v : World = suspended w in AreFetched (terms_of config v.back) (before ++ lines.Epoch ∷ []))
-suspended_fetched config w before = epoch_fetched (let v : World = suspended w in terms_of config v.back) before (let shows : Shows (before ++ lines.Epoch ∷ []) (new_sight (told_start before)) = shows_epoch before (told_start before) refl in shows.values)
+suspended_fetched config w before = epoch_fetched (let v : World = suspended w in terms_of config v.back) before
 
 fetched_happens : (config : Options) (w : World) (h : Happening) (before : List Line) → Stand config before w → (let n : World = happens w h in AreFetched (terms_of config n.back) (before ++ lines_at w h))
 fetched_happens config w FrontMoves before s =
@@ -276,7 +271,6 @@ stand_happens config w h before s few = record {
   safe = safe_happens w h s.safe;
   tells = tells_happens config w h before s few;
   fetched = fetched_happens config w h before s;
-  published = publishes_happens config.start w h before s.ring s.published;
 }
 
 begin_rule : (config : Options) (detail : Detail) → IsRule [] (lines.Begin config detail)
@@ -290,8 +284,7 @@ stand_start config detail room = record {
   tells = new_tells config (lines.Begin config detail ∷ []) (back.start_of config)
       (record { obeys = obeys_more IsRule [] (lines.Begin config detail) (obeys_none IsRule) (begin_rule config detail); keeping = refl; told = refl })
       refl refl room refl (λ k. refl);
-  fetched = new_fetched (terms_of config (back.start_of config)) (lines.Begin config detail ∷ []) refl (λ k. refl);
-  published = record { told = refl; says = λ ready. absurd (cc) };
+  fetched = nothing_fetched (terms_of config (back.start_of config)) (lines.Begin config detail ∷ []) refl refl;
 }
 
 report_stands : (config : Options) (detail : Detail) (history : List Happening) → config.indirect ≤ 960 → reads_of (report_of config detail history) < 2 ^ 64 → Stand config (report_of config detail history) (after history (start_of config))

@@ -13,7 +13,6 @@ use Rattle.hypervisor.specs.Act.{BackAct, Outcome, back_act}
 use Rattle.schedule_text.specs.declared.line.Line.{Line}
 use Rattle.schedule_text.specs.declared.line.Line.TheVariants as lines
 use Rattle.report_rules.specs.Standing.{this_epoch}
-use Rattle.report_rules.specs.Job.{entry_values}
 use Rattle.back_jobs.specs.Work.{Work}
 use Rattle.back_jobs.specs.Jobs.{place_of, work_at, asked, told_at as told_works, effect_of}
 use Rattle.back_jobs.proofs.Hands.{IsAmong, place_among}
@@ -30,6 +29,7 @@ use Rattle.ring_laws.proofs.Works.{AreJobs, numbers, number_of}
 use Rattle.ring_laws.proofs.Fetched.{AreFetched}
 use Rattle.ring_laws.proofs.JobTurn.{After, Turned, found_turn}
 use Rattle.ring_laws.proofs.Tells.{Tells, terms_of, same_jobs, shows_free, unseen_then}
+use Rattle.ring_laws.proofs.EntryWords.{entry_values}
 
 -- a job that stands there has a number that was given
 pub low_number : (terms : Terms) (values : List ℕ) (epoch : List Line) (fetched : ℕ) (works : List Work) (place : ℕ) (t : Work) → slice_get works place ≡ Some t → AreJobs terms values epoch fetched works → t.number ≤ fetched

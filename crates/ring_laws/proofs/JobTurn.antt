@@ -27,7 +27,7 @@ use Rattle.report_rules.specs.Standing.{this_epoch}
 use Rattle.report_rules.specs.Work.{pages_of, work_tasks, work_verdict, status_by, response_to, work_response}
 use Rattle.report_rules.specs.Step.{values_read}
 use Rattle.report_rules.specs.declared.job.Fetched.{Fetched}
-use Rattle.report_rules.specs.Job.{is_job, entry_values, fetched_of, id_of}
+use Rattle.report_rules.specs.Job.{is_job, fetched_of, id_of}
 use Rattle.report_rules.specs.Published.{info_of}
 use Rattle.report_rules.specs.declared.effect.DiskCall.TheVariants as calls
 use Rattle.report_rules.specs.Effect.{disk_move_shown}
@@ -38,8 +38,8 @@ use Rattle.back_jobs.specs.Work.{Work, IsDoneStage, ask_at, step_at, map_ask, pa
 use Rattle.back_jobs.specs.Jobs.{asked, told_at as told_works}
 use Rattle.split_model.proofs.SafeActs.{of_back}
 use Rattle.ring_words.specs.Shape.{entry_words_of}
-use Rattle.ring_laws.proofs.Shows.{Sight, epoch_longer}
-use Rattle.ring_laws.proofs.Sight.{is_other, other_touch, untouched_word}
+use Rattle.ring_laws.proofs.Shows.{Sight, untouched_value}
+use Rattle.ring_laws.proofs.Sight.{is_other, other_touch}
 use Rattle.ring_laws.proofs.JobLines.{is_of, is_disk_of, IsAside, read_by, read_more, moves_own}
 use Rattle.ring_laws.proofs.Places.{Within, Alone, IsAt}
 use Rattle.ring_laws.proofs.JobMoves.{itself}
@@ -53,6 +53,7 @@ use Rattle.ring_laws.proofs.Works.{AreJobs, jobs_told, job_found}
 use Rattle.ring_laws.proofs.Bystanders.{IsRule, Tale, shown_last, tale_more, is_plain, plain_keeps, plain_tells, bystander_rule, some_and}
 use Rattle.ring_laws.proofs.Fetched.{AreFetched, fetched_in, fetched_still, fetched_is}
 use Rattle.ring_laws.proofs.JobRule.{own_rule, ToldBy, nothing, one, effect_done, effect_given, flush_done, trim_done, call_failed}
+use Rattle.ring_laws.proofs.EntryWords.{entry_values, epoch_longer}
 
 -- what a job's move shows, and the lines after it
 pub record IsSpoken (epoch : List Line) (k : ℕ) (s : JobStage) (t : Work) (a : BackAct) : Type 0 where
@@ -275,7 +276,7 @@ found_turn terms before x fetched k works h o a place t found is same_values are
             let asked : fetched_of before t.number ≡ Some (fetched_in terms x.values t.number) = fetched_is terms before x.values t.number same_values are j.first j.read in
             let rule : IsRule before (lines.Move a.shown) = own_line terms before x.values t.number a.shown j.work quiet asked plan.tasks tells.plain steps in
             let longer : Tale terms.config (before ++ lines.Move a.shown ∷ []) = tale_more terms.config before (lines.Move a.shown) tale refl (plain_keeps (lines.Move a.shown) tells.plain) (plain_tells (info_of terms.config) (lines.Move a.shown) tells.plain) rule in
-            let asked_then : fetched_of (before ++ lines.Move a.shown ∷ []) t.number ≡ Some (fetched_in terms x.values t.number) = fetched_still before (lines.Move a.shown) t.number refl (untouched_word before (lines.Move a.shown) (other_touch (lines.Move a.shown) other)) ∙ asked in
+            let asked_then : fetched_of (before ++ lines.Move a.shown ∷ []) t.number ≡ Some (fetched_in terms x.values t.number) = fetched_still before (lines.Move a.shown) t.number refl (untouched_value before (lines.Move a.shown) (other_touch (lines.Move a.shown) other)) ∙ asked in
             let aside : (n : ℕ) → n ≢ t.number → IsAside n (lines.Move a.shown ∷ told_at t.stage t a.answer) = λ n apart. told_aside (this_epoch before) n t.number t.id t.moved a.shown (told_at t.stage t a.answer) (mover_aside j.work t.number n (this_epoch before) a.shown apart steps) tells.told in
             let fresh : IsJobOf terms x.values now new = renumbered terms x.values now new t.number (sym same.number) next in
             record {

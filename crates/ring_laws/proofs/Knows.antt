@@ -1,6 +1,6 @@
 -- What the back keeps of the ring is what the lines tell of it.
 use Rattle.std.proofs.Common.{◌≡◌, ℕ, ◌+◌, ◌-◌, ◌*◌, ◌%◌, ◌^◌, ◌<◌, ◌≤◌, Bool, true, false, List, [], ◌∷◌, ◌++◌, refl, ap, sym, ◌∙◌, subst, arith}
-use Rattle.std.specs.Prelude.{Option, Some, None, is_some, IfSome, length, take, drop, map}
+use Rattle.std.specs.Prelude.{Option, Some, None, is_some, length, take, drop, map}
 use Rattle.blk_base.specs.declared.operation.Abi.{Abi}
 use Rattle.blk_base.specs.declared.operation.Abi.TheVariants.{X64, X32}
 use Rattle.blk_base.specs.declared.parts.Mapping.{Mapping}
@@ -20,9 +20,10 @@ use Rattle.blk_back.specs.View.{View}
 use Rattle.split_model.specs.Keys.{is_between}
 use Rattle.split_model.specs.Shown.{back_lines, halt_lines, halt_line}
 use Rattle.ring_laws.proofs.Shows.{Sight, Shows}
-use Rattle.ring_laws.proofs.ObeysRing.{ObeysRing, IsWhole, none_whole}
+use Rattle.ring_laws.proofs.ObeysRing.{ObeysRing, IsWhole}
 use Rattle.ring_laws.proofs.Lists.{AreApart}
 use Rattle.ring_laws.proofs.Pages.{number_of, number_told}
+use Rattle.ring_laws.proofs.EntryWords.{AreWhole, none_whole}
 
 -- the pages that the lines tell are those that the back has mapped, each under a number of its own
 pub record AreMapped (told : List Standing) (pages : List Mapping) : Type 0 where
@@ -86,7 +87,7 @@ whole X64 words count e = omega arith
 whole X32 words count e = omega arith
 
 pub served_whole : (x : Sight) (v : View) → Serves 0 x v → IsWhole x
-served_whole x v s = subst (λ (abi : Option Abi). IfSome abi (λ a. x.words % entry_words_of a ≡ 0)) (sym s.layout) (whole v.shape.abi x.words s.count s.words)
+served_whole x v s = subst (λ (abi : Option Abi). AreWhole abi x.words) (sym s.layout) (whole v.shape.abi x.words s.count s.words)
 
 -- the back has halted
 pub record IsOver (x : Sight) (halted : Option Halt) : Type 0 where
@@ -111,8 +112,8 @@ knows_still s x v asleep jobs told knows = knows
 
 -- where no entry is being fetched the words of whole ones were read
 pub whole_words : (s : BackStage) (x : Sight) (v : View) → is_between s ≡ true → KnowsAt s x v → IsWhole x
-whole_words stage.InitWait x v is knows = none_whole x knows.waits.words
-whole_words stage.MapRing x v is knows = none_whole x knows.waits.words
+whole_words stage.InitWait x v is knows = none_whole x.abi x.words knows.waits.words
+whole_words stage.MapRing x v is knows = none_whole x.abi x.words knows.waits.words
 whole_words (stage.Fetch k) x v is knows = absurd (cc)
 whole_words (stage.Abort m) x v is knows = knows.whole
 whole_words stage.UnmapRing x v is knows = knows.whole

@@ -1,6 +1,7 @@
 pub mod BackReads
 pub mod Lists
 pub mod Sight
+pub mod EntryWords
 pub mod Shows
 pub mod Touches
 pub mod ObeysRing
@@ -45,7 +46,6 @@ pub mod BackTells
 pub mod JobTells
 pub mod After
 pub mod Epochs
-pub mod Publishes
 pub mod JobRuns
 pub mod Makers
 pub mod Standings

@@ -13,7 +13,6 @@ use Rattle.schedule_text.specs.declared.line.Line.TheVariants as lines
 use Rattle.schedule_text.specs.declared.line.Detail.{Detail}
 use Rattle.report_rules.specs.Obeys.{Obeys}
 use Rattle.report_rules.specs.Standing.{this_epoch}
-use Rattle.report_rules.specs.Job.{entry_values}
 use Rattle.report_rules.specs.Made.{left_to}
 use Rattle.ring_laws.proofs.BackReads.{reads_of}
 use Rattle.ring_laws.specs.Unmaps.{AreUnmaps}
@@ -51,6 +50,7 @@ use Rattle.ring_laws.proofs.JobRuns.{Stand, stand_start, stand_happens}
 use Rattle.ring_laws.proofs.Makers.{Holds, IsMine, open_more}
 use Rattle.ring_laws.proofs.MakerLines.{key_calm, calm_quiet, calm_open, halt_calm, told_calm, Does, back_does, serving_asks}
 use Rattle.ring_laws.proofs.MakerTurns.{IsMadeBy, Made, made_aside, quiet_hands, changed_hands, HandStands, Turned, job_turned, all_by_place}
+use Rattle.ring_laws.proofs.EntryWords.{entry_values}
 
 no_lines : (before : List Line) (v : back.View) → Made before v → Made (before ++ []) v
 no_lines before v m = subst (λ (ls : List Line). Made ls v) (sym (append-nil before)) m

@@ -29,7 +29,6 @@ use Rattle.back_jobs.specs.Jobs.{place_of, work_at, asked, told_at as told_works
 use Rattle.back_jobs.proofs.Hands.{IsAmong, place_among}
 use Rattle.blk_back.specs.View.{View}
 use Rattle.blk_back.specs.Step.{told_effect}
-use Rattle.ring_laws.proofs.Shows.{epoch_longer}
 use Rattle.ring_laws.proofs.JobLines.{is_of}
 use Rattle.ring_laws.proofs.BackChange.{Change, kept, replies, halts, fetches}
 use Rattle.ring_laws.proofs.Lists.{AreApart, all_first, all_second, all_both, all_more, all_pairs}
@@ -41,6 +40,7 @@ use Rattle.ring_laws.proofs.JobTells.{lines_of_job, found_number}
 use Rattle.ring_laws.proofs.Makers.{Holds, MakeNone, holds_more, unseen_left, AreQuiet, quiet_none, quiet_made, quiet_holds, quiet_epoch, IsMine, IsOpen, open_more, unmapped_other}
 use Rattle.ring_laws.proofs.MakerLines.{AreCalm, calm_quiet, calm_open, back_calm}
 use Rattle.ring_laws.proofs.MakerJob.{Way, quietly, takes, gives, Makes, job_makes}
+use Rattle.ring_laws.proofs.EntryWords.{epoch_longer}
 
 abbrev pub IsMadeBy : List Line → Work → Type 0
 IsMadeBy epoch t = Holds (mapping_at t.stage) (left_to t.number epoch)

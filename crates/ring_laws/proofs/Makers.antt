@@ -19,10 +19,10 @@ use Rattle.ring_laws.specs.Unmaps.{IsUnmapAt}
 use Rattle.ring_laws.specs.Own.{IsOwnAt}
 use Rattle.report_rules.proofs.Obeys.{obeys_more}
 use Rattle.report_rules.proofs.Back.{left_more_by, standing_more}
-use Rattle.ring_laws.proofs.Shows.{epoch_longer}
 use Rattle.ring_laws.proofs.Lists.{either_false}
 use Rattle.ring_laws.proofs.JobLines.{is_of}
 use Rattle.ring_laws.proofs.JobMoves.{itself}
+use Rattle.ring_laws.proofs.EntryWords.{epoch_longer}
 
 -- job k made the mapping of that number in these lines, and it stands
 abbrev pub has : ℕ → ℕ → List Line → Bool

@@ -1,18 +1,14 @@
 -- Each word of a reply that the back writes is one of a response that a job is due, and that no reply before was for.
-use Rattle.std.proofs.Common.{◌≡◌, ◌≢◌, ℕ, ◌*◌, ◌/◌, ◌≤◌, ◌==◌, ◌||◌, Bool, false, List, [], ◌∷◌, ◌++◌, length, map, refl, ap, sym, ◌∙◌, subst, arith, append-nil}
+use Rattle.std.proofs.Common.{◌≡◌, ◌≢◌, ℕ, ◌≤◌, ◌==◌, ◌||◌, Bool, false, List, [], ◌∷◌, ◌++◌, length, map, refl, ap, sym, ◌∙◌, subst, arith, append-nil}
 use Rattle.std.specs.Prelude.{Option, Some, None, IfSome}
 use Rattle.std.specs.List.{AllByRecursion}
 use Rattle.std.proofs.lemmas.Bool.Decides.{nat_tests}
-use Rattle.blk_base.specs.declared.operation.Abi.{Abi}
-use Rattle.blk_base.specs.declared.operation.Abi.TheVariants.{X64, X32}
-use Rattle.ring_words.specs.Shape.{entry_words_of}
 use Rattle.blk_layout.specs.declared.response.Response.{Response}
 use Rattle.blk_layout.specs.Response.{response_words_of}
 use Rattle.schedule_text.specs.declared.line.Line.{Line}
-use Rattle.report_rules.specs.Job.{entry_values}
 use Rattle.report_rules.specs.Standing.{this_epoch}
 use Rattle.report_rules.specs.Made.{left_to}
-use Rattle.report_rules.specs.Reply.{response_due, is_one_of, fewest_entry_words, most_jobs}
+use Rattle.report_rules.specs.Reply.{response_due, is_one_of}
 use Rattle.back_jobs.specs.Work.{Work}
 use Rattle.back_jobs.proofs.Hands.{IsAmong, place_among}
 use Rattle.blk_back.specs.View.{View}
@@ -25,7 +21,7 @@ use Rattle.ring_laws.proofs.Shows.{Sight}
 use Rattle.ring_laws.proofs.Knows.{KnowsAt}
 use Rattle.ring_laws.proofs.Lists.{AreApart, all_first, all_pairs, all_of_map}
 use Rattle.ring_laws.proofs.Works.{numbers}
-use Rattle.ring_laws.proofs.Fetched.{AreFetched}
+use Rattle.ring_laws.proofs.Fetched.{AreFetched, fetched_upto}
 use Rattle.ring_laws.proofs.Matching.{Matched, IsFree, Passes, chosen_of, answer_of, job_in, jobs_in, moved, free}
 use Rattle.ring_laws.proofs.Due.{IsWorkOver, Answered, Candidate, jobs_of, response_in, next_word, replying}
 use Rattle.ring_laws.proofs.Owed.{IsOwed, Owes, numbers_of}
@@ -33,23 +29,19 @@ use Rattle.ring_laws.proofs.Over.{due}
 use Rattle.ring_laws.proofs.Rows.{lines_none}
 use Rattle.ring_laws.proofs.Replying.{pending, pending_at, IsReplyOf, done_found}
 use Rattle.ring_laws.proofs.Chosen.{words_in, IsDueTo, IsChosen}
+use Rattle.report_rules.specs.Stretch.{entries_read}
+use Rattle.ring_laws.proofs.EntryWords.{entry_values}
 
 -- a job that is due these words, and unmapped what it mapped
 record IsGood (before : List Line) (words : List ℕ) (k : ℕ) : Type 0 where
   due : response_due before k ≡ Some words
   left : left_to k (this_epoch before) ≡ []
   first : 1 ≤ k
-  last : k ≤ most_jobs before
+  last : k ≤ entries_read before
 
 over_good : (terms : Terms) (before : List Line) (values words : List ℕ) (k : ℕ) (r : Response) → entry_values before ≡ values → AreFetched terms before → response_words_of r ≡ words → IsWorkOver terms values (this_epoch before) k r → IsGood before words k
 over_good terms before values words k r same are is o =
-    let long : length (entry_values before) ≡ length values = ap (λ (vs : List ℕ). length vs) same in
-    let read = o.read in
-    record { due = due terms before values k r same are o ∙ ap (λ (ws : List ℕ). Some ws) is; left = o.left; first = o.first; last = enough terms.abi (length (entry_values before)) k (omega arith) }
-  where
-    enough : (abi : Abi) (n j : ℕ) → entry_words_of abi * j ≤ n → j ≤ n / fewest_entry_words
-    enough X64 n j h = omega arith
-    enough X32 n j h = omega arith
+    record { due = due terms before values k r same are o ∙ ap (λ (ws : List ℕ). Some ws) is; left = o.left; first = o.first; last = fetched_upto terms before values k same are o.read }
 
 -- of one that was answered, where the one that the rule found is due these words
 passing : (terms : Terms) (before : List Line) (values words : List ℕ) (m : Matched) → entry_values before ≡ values → AreFetched terms before → IsDueTo before m → IsOwed terms values (this_epoch before) (answer_of m) → Passes (IsGood before words) m
@@ -101,7 +93,7 @@ begun_has terms before values fetched works answered s r same are c done o d =
       other = ap (λ (js : List ℕ). is_one_of f.job js) c.chosen ∙ none_chosen c.matched f.job f.other;
       due = ap (λ (ls : List Line). response_due ls f.job) (lines_none before) ∙ good.due;
       first = good.first;
-      last = subst (λ (ls : List Line). f.job ≤ most_jobs ls) (sym (lines_none before)) good.last;
+      last = subst (λ (ls : List Line). f.job ≤ entries_read ls) (sym (lines_none before)) good.last;
       left = good.left;
     }
 

@@ -1,10 +1,8 @@
 -- The rules of the ring hold of the lines so far, and of one line more.
-use Rattle.std.proofs.Common.{◌≡◌, ℕ, ◌%◌, ◌^◌, ◌<◌, ◌||◌, Bool, true, false, if◌then◌else◌, List, [], ◌∷◌, ◌++◌, refl, ap, sym, ◌∙◌, subst, append_assoc, arith}
+use Rattle.std.proofs.Common.{◌≡◌, ℕ, ◌^◌, ◌<◌, ◌||◌, Bool, true, false, if◌then◌else◌, List, [], ◌∷◌, ◌++◌, refl, ap, sym, ◌∙◌, subst, append_assoc}
 use Rattle.std.specs.Prelude.{Option, Some, None, is_some, IfSome}
 use Rattle.std.proofs.lemmas.List.{reverse-append, reverse-reverse}
 use Rattle.blk_base.specs.declared.operation.Abi.{Abi}
-use Rattle.blk_base.specs.declared.operation.Abi.TheVariants.{X64, X32}
-use Rattle.ring_words.specs.Shape.{entry_words_of}
 use Rattle.blk_base.specs.declared.moves.BackMover.TheVariants as back
 use Rattle.blk_base.specs.declared.moves.Move.TheVariants as moves
 use Rattle.schedule_text.specs.declared.line.Halt.TheVariants as halts
@@ -12,15 +10,15 @@ use Rattle.schedule_text.specs.declared.line.Line.{Line}
 use Rattle.schedule_text.specs.declared.line.Line.TheVariants as lines
 use Rattle.report_rules.specs.Obeys.{Obeys}
 use Rattle.report_rules.specs.Standing.{is_epoch}
-use Rattle.report_rules.specs.Ring.{is_page, produced_shown, ring_order, shape_of, replied_before}
+use Rattle.report_rules.specs.Ring.{is_page, produced_shown, ring_order, ring_abi, replied_before}
 use Rattle.report_rules.specs.Overrun.{overrun_of, overrun_by, overrun_shown, overran_after, has_overrun, is_service, IsOverrunAt}
-use Rattle.report_rules.specs.Stretch.{entry_word_read, words_within, is_back_move, word_touched, IsStretchAt}
-use Rattle.report_rules.specs.Reply.{is_of_back}
+use Rattle.report_rules.specs.Stretch.{entry_word_read, entries_read, words_within, is_back_move, word_touched, IsStretchAt}
 use Rattle.report_rules.proofs.Obeys.{obeys_none, obeys_more}
-use Rattle.ring_laws.specs.Layout.{reads_protocol, IsNamedFirstAt}
+use Rattle.ring_laws.specs.Layout.{IsNamedFirstAt}
 use Rattle.ring_laws.proofs.Lists.{or_false}
-use Rattle.ring_laws.proofs.Sight.{is_touch}
-use Rattle.ring_laws.proofs.Shows.{Sight, Shows}
+use Rattle.ring_laws.proofs.Sight.{is_touch, is_of_back}
+use Rattle.ring_laws.proofs.EntryWords.{words_read, AreWhole, whole_within}
+use Rattle.ring_laws.proofs.Shows.{Sight, Shows, unnamed_first}
 
 -- the line of an overrun
 abbrev pub is_overrun : Line → Bool
@@ -76,10 +74,6 @@ ring_more before line start over s same shown idle none first stretch = record {
   last = shown_more before line ∙ shown;
   halted = λ overran. s.halted (sym (overran_by before line same shown) ∙ overran);
 }
-
--- most lines read of no layout
-pub unnamed_first : (before : List Line) (line : Line) → reads_protocol line ≡ false → IsNamedFirstAt before line
-unnamed_first before line unnamed read = absurd (cc)
 
 -- an epoch: no producer overran in it, whatever back begins
 pub ring_epoch : (before : List Line) (start : ℕ) (over now : Bool) → ObeysRing before start over → ObeysRing (before ++ lines.Epoch ∷ []) start now
@@ -149,27 +143,15 @@ foreign_move line e = e
 pub foreign_stretch : (before : List Line) (line : Line) → is_of_back line ≡ false → entry_word_read before line ≡ None → IsStretchAt before line
 foreign_stretch before line foreign none = let other : is_back_move line ≡ false = foreign_move line foreign in record { next = rw none tt; whole = λ own. absurd (cc); inside = foreign_inside before line other }
 
--- the words of whole entries were read, whichever layout was named last
+-- the words of whole entries were read
 abbrev pub IsWhole : Sight → Type 0
-IsWhole x = IfSome x.abi (λ abi. x.words % entry_words_of abi ≡ 0)
-
-pub none_whole : (x : Sight) → x.words ≡ 0 → IsWhole x
-none_whole x none = by_abi x.abi
-  where
-    by_abi : (abi : Option Abi) → IfSome abi (λ a. x.words % entry_words_of a ≡ 0)
-    by_abi None = tt
-    by_abi (Some X64) = omega arith
-    by_abi (Some X32) = omega arith
+IsWhole x = AreWhole x.abi x.words
 
 -- a line of the back's own between two stretches
 pub own_stretch : (before : List Line) (line : Line) (x : Sight) → Shows before x → IsWhole x → entry_word_read before line ≡ None → IsInside before line → IsStretchAt before line
 own_stretch before line x shows whole none within = record {
   inside = within;
   next = rw none tt;
-  whole = λ own read. subst (λ (abi : Option Abi). IfSome (shape_of abi (ring_order before)) (λ s. words_within before s ≡ 0)) (sym shows.abi) (by_shape x.abi (ring_order before) whole);
+  whole = λ own read. whole_within (ring_abi before) (words_read before) (entries_read before) (words_within before) shows.counted.counts
+      (subst (λ (abi : Option Abi). AreWhole abi (words_read before)) (sym shows.abi) (subst (λ (n : ℕ). AreWhole x.abi n) (sym shows.words) whole));
 }
-  where
-    by_shape : (abi : Option Abi) (order : Option ℕ) → IfSome abi (λ a. x.words % entry_words_of a ≡ 0) → IfSome (shape_of abi order) (λ s. words_within before s ≡ 0)
-    by_shape None order all = tt
-    by_shape (Some abi) None all = tt
-    by_shape (Some abi) (Some order) all = ap (λ (n : ℕ). n % entry_words_of abi) shows.words ∙ all

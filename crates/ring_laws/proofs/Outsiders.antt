@@ -22,7 +22,7 @@ use Rattle.report_rules.specs.Job.{mover_job}
 use Rattle.report_rules.specs.Step.{stepper}
 use Rattle.report_rules.specs.Standing.{is_epoch, is_unmap_of}
 use Rattle.report_rules.specs.Made.{made_by}
-use Rattle.report_rules.specs.Reply.{is_of_back, is_reply}
+use Rattle.report_rules.specs.Reply.{is_reply}
 use Rattle.blk_front.specs.View as front
 use Rattle.blk_front.specs.Ask as front_ask
 use Rattle.blk_front.specs.Step as front_step
@@ -38,9 +38,9 @@ use Rattle.split_model.proofs.Acting.{FrontFence, front_acts}
 use Rattle.split_model.proofs.SafeActs.{IsKeyMove}
 use Rattle.split_model.proofs.Keys.{key_cases, negotiated_cases}
 use Rattle.ring_laws.specs.Layout.{reads_protocol, IsNamedFirstAt}
-use Rattle.ring_laws.proofs.Sight.{is_other, other_touch, same_abi, foreign_abi, untouched_word}
-use Rattle.ring_laws.proofs.Shows.{Sight, Shows}
-use Rattle.ring_laws.proofs.ObeysRing.{IsWhole, is_overrun, unnamed_first, own_stretch, foreign_stretch, untouched_inside}
+use Rattle.ring_laws.proofs.Sight.{is_other, other_touch, same_abi, foreign_abi, untouched_word, is_of_back}
+use Rattle.ring_laws.proofs.Shows.{Sight, Shows, unnamed_first}
+use Rattle.ring_laws.proofs.ObeysRing.{IsWhole, is_overrun, own_stretch, foreign_stretch, untouched_inside}
 use Rattle.ring_laws.proofs.Knows.{Waits, KnowsAt, Follows, whole_words}
 use Rattle.ring_laws.proofs.Free.{follow_named}
 use Rattle.ring_laws.proofs.Lists.{all_more}
@@ -201,8 +201,8 @@ outsiders_other s ls all = all_more (IsOutsider s) (λ (l : Line). is_other l �
 pub outsiders_by : (s : BackStage) (ls : List Line) → AreOutsiders s ls → AreBystanders ls
 outsiders_by s ls all = all_more (IsOutsider s) IsBystander ls (λ l o. o.by) all
 
-pub outsiders_pass : (s : BackStage) (ls : List Line) → AreOutsiders s ls → AllPass (is_between s) ls
-outsiders_pass s ls all = all_more (IsOutsider s) (Passes (is_between s)) ls (λ l o. passes_other (is_between s) l o.other o.untold o.foreign) all
+pub outsiders_pass : (s : BackStage) (ls : List Line) → AreOutsiders s ls → AllPass ls
+outsiders_pass s ls all = all_more (IsOutsider s) Passes ls (λ l o. passes_other l o.other o.untold) all
 
 pub outsiders_calm : (s : BackStage) (ls : List Line) → AreOutsiders s ls → AreCalm ls
 outsiders_calm s ls all = all_more (IsOutsider s) IsCalm ls (λ l o. o.calm) all

@@ -21,7 +21,7 @@ use Rattle.report_rules.specs.declared.work.Task.{Task}
 use Rattle.report_rules.specs.Standing.{this_epoch, is_unmap_of, unless_unmapped}
 use Rattle.report_rules.specs.Work.{work_tasks, work_verdict, status_by, work_response}
 use Rattle.report_rules.specs.declared.job.Fetched.{Fetched}
-use Rattle.report_rules.specs.Job.{is_job, entry_values, words_of_job, back_mover_job}
+use Rattle.report_rules.specs.Job.{is_job, back_mover_job}
 use Rattle.report_rules.specs.Step.{values_read}
 use Rattle.report_rules.specs.Walk.{walk_of}
 use Rattle.report_rules.specs.Steps.{failed_in}
@@ -39,6 +39,7 @@ use Rattle.ring_laws.proofs.Copies.{IsCopying}
 use Rattle.ring_laws.proofs.Due.{IsWorkOver}
 use Rattle.ring_laws.proofs.Works.{entry_kept}
 use Rattle.ring_laws.proofs.Fetched.{AreFetched, fetched_in, fetched_is}
+use Rattle.ring_laws.proofs.EntryWords.{entry_values, words_of_job}
 
 -- a line that is no step of a job makes no mapping of it
 made_none : (k : ℕ) (line : Line) → is_of k line ≡ false → made_by k line ≡ None

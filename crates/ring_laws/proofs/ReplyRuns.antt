@@ -10,7 +10,6 @@ use Rattle.schedule_text.specs.declared.line.Line.{Line}
 use Rattle.schedule_text.specs.declared.line.Line.TheVariants as lines
 use Rattle.schedule_text.specs.declared.line.Detail.{Detail}
 use Rattle.hypervisor.specs.Act.{BackAct, Outcome, Took, back_act}
-use Rattle.report_rules.specs.Job.{entry_values}
 use Rattle.report_rules.specs.Standing.{is_epoch, this_epoch}
 use Rattle.report_rules.specs.Reply.{answered_in, AreReplies}
 use Rattle.back_jobs.specs.Jobs.{ask_job, asked, place_of, work_of, waits, work_at, told_at as told_works}
@@ -41,7 +40,7 @@ use Rattle.ring_laws.proofs.Shows.{Sight}
 use Rattle.ring_laws.proofs.Knows.{KnowsAt, Knows, Follows, unhalted}
 use Rattle.ring_laws.proofs.Stages.{back_goes}
 use Rattle.ring_laws.proofs.Sight.{other_epoch}
-use Rattle.split_model.specs.Keys.{is_layout, layout_path, is_between}
+use Rattle.split_model.specs.Keys.{is_layout, layout_path}
 use Rattle.ring_laws.proofs.Outsiders.{IsOutsider, AreOutsiders, front_outsiders, front_leaves, get_key, outsiders_other, outsiders_by, outsiders_pass, beside_outsiders}
 use Rattle.ring_laws.proofs.Free.{IsFree, AreFree, job_free, job_running, free_told}
 use Rattle.ring_laws.proofs.Lists.{all_second}
@@ -70,6 +69,7 @@ use Rattle.ring_laws.proofs.Halting.{Stops, stops_cases}
 use Rattle.ring_laws.proofs.Chosen.{IsChosen, new_chosen, chosen_aside, chosen_stage, chosen_goes}
 use Rattle.ring_laws.proofs.Written.{AllPass, writes_all, writes_stage, start_writes, end_writes}
 use Rattle.ring_laws.proofs.WrittenElse.{AreElse, other_writes, job_else}
+use Rattle.ring_laws.proofs.EntryWords.{entry_values}
 
 -- the replies that the lines so far tell, and the one under way
 pub record Replies (config : Options) (before : List Line) (v : back.View) : Type 0 where
@@ -95,17 +95,17 @@ bystanders_on config before ys all epoch = record { epoch = epoch; same = no_epo
     no_epoch [] all = refl
     no_epoch (l ∷ ls) all = let b : IsBystander l = all.0 in ap (λ (c : Bool). c || list_any is_epoch ls) (plain_epoch l b.plain) ∙ no_epoch ls all.1
 
--- lines of others; those of the back's own between two replies alone
-others : (config : Options) (own : Bool) (before ys : List Line) (v : back.View) → (own ≡ true → under_way v.stage ≡ []) → AllPass own ys → AreBystanders ys → entry_values (before ++ ys) ≡ entry_values before → Tells config before v → Replies config before v → Replies config (before ++ ys) v
-others config own before ys v none passed all same t r =
+-- lines that write no word of a reply
+others : (config : Options) (before ys : List Line) (v : back.View) → AllPass ys → AreBystanders ys → entry_values (before ++ ys) ≡ entry_values before → Tells config before v → Replies config before v → Replies config (before ++ ys) v
+others config before ys v passed all same t r =
     let go : Aside config before ys = bystanders_go config ys before all t.tale t.quiet in
     record {
       answered = r.answered;
       job = r.job;
-      writes = writes_all own before ys v.stage r.answered none passed r.writes;
+      writes = writes_all before ys v.stage r.answered passed r.writes;
       owes = λ runs. same_owes (terms_of config v) (entry_values before ++ []) (entry_values (before ++ ys)) (this_epoch before ++ ys) (this_epoch (before ++ ys)) v.fetched v.jobs.works _ (append-nil (entry_values before) ∙ sym same) (sym go.epoch)
           (owes_aside (terms_of config v) (entry_values before) [] (this_epoch before) ys v.fetched v.jobs.works _ (λ k. bystanders_aside k ys all) (r.owes runs));
-      chosen = chosen_aside own before ys v.stage r.answered passed (bystanders_on config before ys all go.epoch) (bystanders_idle before ys all) r.chosen;
+      chosen = chosen_aside before ys v.stage r.answered passed (bystanders_on config before ys all go.epoch) (bystanders_idle before ys all) r.chosen;
     }
 
 -- the job whose reply begins is over
@@ -213,20 +213,13 @@ job_replies config w before k o (Some a) e s r =
       job = r.job;
       writes = other_writes before (job_shows w k (Some a)) v.stage r.answered elses r.writes;
       owes = λ runs. moved_owes config before w.under w.back k o a (place_of w.back.jobs.works k) (waits w.back.jobs.works k) (work_of w.back.jobs.works k) (r.answered ++ pending_at v.stage r.job) refl refl asks same told (r.owes running);
-      chosen = chosen_aside false before (job_shows w k (Some a)) v.stage r.answered elses (record { epoch = past.epoch; same = free_epochs (is_some w.back.halted) (job_shows w k (Some a)) free }) (move_idle before a.shown _ a.answer after_tale.obeys) r.chosen;
+      chosen = chosen_aside before (job_shows w k (Some a)) v.stage r.answered elses (record { epoch = past.epoch; same = free_epochs (is_some w.back.halted) (job_shows w k (Some a)) free }) (move_idle before a.shown _ a.answer after_tale.obeys) r.chosen;
     }
 
 -- lines between all others
 outside_replies : (config : Options) (w : World) (before ys : List Line) → AreOutsiders w.back.stage ys → Stand config before w → Replies config before w.back → Replies config (before ++ ys) w.back
 outside_replies config w before ys all s r =
-    let own : Bool = is_between w.back.stage in
-    others config own before ys w.back (none_between w.back.stage) (outsiders_pass w.back.stage ys all) (outsiders_by w.back.stage ys all) (values_aside ys before (outsiders_other w.back.stage ys all)) s.tells r
-  where
-    none_between : (s : BackStage) → is_between s ≡ true → under_way s ≡ []
-    none_between (stage.ReplyHigh r) is = absurd (cc)
-    none_between (stage.ReplyLast r) is = absurd (cc)
-    none_between (stage.Producer r) is = absurd (cc)
-    none_between s is = refl
+    others config before ys w.back (outsiders_pass w.back.stage ys all) (outsiders_by w.back.stage ys all) (values_aside ys before (outsiders_other w.back.stage ys all)) s.tells r
 
 -- a back that halts writes no reply
 halted_replies : (config : Options) (w : World) (before : List Line) (why : Halt) → Stand config before w → Replies config before w.back → (let n : World = happens w (BackHalts why) in Replies config (before ++ lines_at w (BackHalts why)) n.back)
@@ -242,7 +235,7 @@ halted_replies config w before why s r = stops_cases (λ (new : back.View). Repl
     stops new p =
         let ls : List Line = halt_lines w.back.halted new.halted in
         let over : is_some new.halted ≡ true = p.over in
-        let told : Replies config (before ++ halt_lines w.back.halted new.halted) w.back = others config true before (halt_lines w.back.halted new.halted) w.back (λ own. p.still) (halt_passes w.back.halted new.halted) (halt_by w.back.halted new.halted) (halt_values before w.back.halted new.halted) s.tells r in
+        let told : Replies config (before ++ halt_lines w.back.halted new.halted) w.back = others config before (halt_lines w.back.halted new.halted) w.back (halt_passes w.back.halted new.halted) (halt_by w.back.halted new.halted) (halt_values before w.back.halted new.halted) s.tells r in
         record {
           answered = told.answered;
           job = told.job;

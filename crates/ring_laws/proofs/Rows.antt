@@ -49,12 +49,12 @@ lines_take before line n value on some =
     not_none : (m : ℕ) → (m + 1 == 0) ≡ false
     not_none m = grind (arith, nat_tests)
 
-pub lines_aside : (own : Bool) (ys before : List Line) (n : ℕ) → AllPass own ys → 0 < n → lines_before (before ++ ys) n ≡ lines_before before n
-lines_aside own [] before n all some = ap (λ (ls : List Line). lines_before ls n) (append-nil before)
-lines_aside own (y ∷ ys) before n all some =
-    let p : Passes own y = all.0 in
+pub lines_aside : (ys before : List Line) (n : ℕ) → AllPass ys → 0 < n → lines_before (before ++ ys) n ≡ lines_before before n
+lines_aside [] before n all some = ap (λ (ls : List Line). lines_before ls n) (append-nil before)
+lines_aside (y ∷ ys) before n all some =
+    let p : Passes y = all.0 in
     ap (λ (ls : List Line). lines_before ls n) (sym (append_assoc before (y ∷ []) ys))
-    ∙ (lines_aside own ys (before ++ y ∷ []) n all.1 some ∙ lines_skip before y n p.on (p.unwritten (before ++ y ∷ [])) some)
+    ∙ (lines_aside ys (before ++ y ∷ []) n all.1 some ∙ lines_skip before y n p.on (p.unwritten (before ++ y ∷ [])) some)
 
 -- a line that tells of no reply
 pub answered_one : (before : List Line) (line : Line) → is_epoch line ≡ false → is_reply line ≡ false → answered_in (before ++ line ∷ []) ≡ answered_in before
@@ -64,10 +64,10 @@ answered_one before line same untold = answered_more before line ∙ rw (same, u
 pub answered_told : (before : List Line) (line : Line) → is_epoch line ≡ false → is_reply line ≡ true → answered_in (before ++ line ∷ []) ≡ answered_in before ++ option_to_list (job_replied before (answered_in before))
 answered_told before line same told = answered_more before line ∙ rw (same, told) refl
 
-pub answered_aside : (own : Bool) (ys before : List Line) → AllPass own ys → answered_in (before ++ ys) ≡ answered_in before
-answered_aside own [] before all = ap answered_in (append-nil before)
-answered_aside own (y ∷ ys) before all =
-    let p : Passes own y = all.0 in
+pub answered_aside : (ys before : List Line) → AllPass ys → answered_in (before ++ ys) ≡ answered_in before
+answered_aside [] before all = ap answered_in (append-nil before)
+answered_aside (y ∷ ys) before all =
+    let p : Passes y = all.0 in
     let on : IsOnPages y = p.on in
     ap answered_in (sym (append_assoc before (y ∷ []) ys))
-    ∙ (answered_aside own ys (before ++ y ∷ []) all.1 ∙ answered_one before y on.same_epoch p.untold)
+    ∙ (answered_aside ys (before ++ y ∷ []) all.1 ∙ answered_one before y on.same_epoch p.untold)

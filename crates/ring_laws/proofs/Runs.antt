@@ -26,7 +26,6 @@ use Rattle.blk_back.specs.declared.told.Halt.{Halt}
 use Rattle.blk_back.specs.declared.stage.BackStage.{BackStage}
 use Rattle.blk_back.specs.declared.stage.BackStage.TheVariants as stage
 use Rattle.blk_back.specs.Step.{may_attach, attached}
-use Rattle.report_rules.specs.Job.{entry_values}
 use Rattle.blk_back.specs.View as back
 use Rattle.blk_back.specs.Step as back_step
 use Rattle.split_model.specs.World.{World, start_of, suspended}
@@ -42,7 +41,7 @@ use Rattle.split_model.proofs.Suspending.{suspend_cases, front_kept, back_cases,
 use Rattle.split_model.proofs.Attaching.{SaysServed, attach_cases}
 use Rattle.split_model.proofs.Shapes.{attaches_waiting, attaches_order, attaches_grefs}
 use Rattle.ring_laws.specs.Layout.{IsNamedFirst}
-use Rattle.ring_laws.proofs.ObeysRing.{ObeysRing, IsWhole, ring_none, ring_more, ring_epoch, foreign_stretch, none_whole, own_stretch}
+use Rattle.ring_laws.proofs.ObeysRing.{ObeysRing, IsWhole, ring_none, ring_more, ring_epoch, foreign_stretch, own_stretch}
 use Rattle.ring_laws.proofs.Anew.{new_sight, shows_epoch, new_follows, gone_follows}
 use Rattle.ring_laws.proofs.Pages.{AreEarlier, pages_earlier}
 use Rattle.ring_laws.proofs.Shows.{Sight, Shows}
@@ -52,6 +51,7 @@ use Rattle.ring_laws.proofs.Halting.{Stops, stops_cases}
 use Rattle.ring_laws.proofs.Stages.{back_goes}
 use Rattle.ring_laws.proofs.Outsiders.{IsBeside, outsiders_follow, front_outsiders, beside_outsiders}
 use Rattle.ring_laws.proofs.Free.{follow_named, follow_free, follow_all, job_free, job_running, free_told, free_end}
+use Rattle.ring_laws.proofs.EntryWords.{entry_values, none_whole, counted_more, counted_none}
 
 -- the lines so far keep the rules, the back has nothing left to tell, and the front's rings begin at that index
 pub record FollowsTo (start : ℕ) (before : List Line) (w : World) : Type 0 where
@@ -142,7 +142,7 @@ attached_follows start w before shape grefs port f =
         let n : Untold x w.back.ring.indices w.back.pages w.back.ring.seen w.back.halted w.back.fetched = waited start w before shape grefs f may in
         let waits : Waits x w.back.ring.indices w.back.ring.seen w.back.halted w.back.fetched = n.waits in
         let line : Line = lines.Move (layout_read w) in
-        let whole : IsWhole x = none_whole x waits.words in
+        let whole : IsWhole x = none_whole x.abi x.words waits.words in
         let few : length w.back.pages ≡ 0 = ap (λ (ps : List Mapping). length ps) n.none in
         let some = pow_pos shape.order in
         let knows : Maps (record x { abi = Some shape.abi }) shape (record { entries = entries_of shape.order; prod = w.back.ring.indices.prod; cons = w.back.ring.indices.prod }) grefs w.back.pages w.back.ring.seen w.back.halted w.back.fetched = record {
@@ -215,7 +215,7 @@ follows_after start (h ∷ hs) w before safe f =
 pub follows_begin : (config : Options) (detail : Detail) → Follows config.start [] (lines.Begin config detail ∷ []) (back.start_of config)
 follows_begin config detail =
     new_follows config.start (back.info_of config) (lines.Begin config detail ∷ [])
-    (record { pages = refl; replied = refl; produced = refl; words = refl; start = refl; values = refl; abi = refl; fresh = λ none. refl })
+    (record { pages = refl; replied = refl; produced = refl; words = refl; start = refl; values = refl; abi = refl; fresh = λ none. refl; counted = counted_more [] (lines.Begin config detail) refl (λ read. absurd (cc)) counted_none })
     (ring_more [] (lines.Begin config detail) config.start false (ring_none config.start) refl refl (λ over. refl) refl (λ read. absurd (cc)) (λ small. foreign_stretch [] (lines.Begin config detail) refl refl))
 
 report_follows : (config : Options) (detail : Detail) (history : List Happening) → FollowsTo config.start (report_of config detail history) (after history (start_of config))

@@ -19,9 +19,9 @@ use Rattle.blk_back.specs.View.{View, page_of, slot_page, slot_word}
 use Rattle.blk_back.proofs.Slots.{response_fits}
 use Rattle.ring_laws.specs.Layout.{reads_protocol}
 use Rattle.ring_laws.proofs.Sight.{is_other, other_touch, untouched_produced, untouched_word}
-use Rattle.ring_laws.proofs.Shows.{Sight, Shows, shows_other}
+use Rattle.ring_laws.proofs.Shows.{Sight, Shows, shows_other, unnamed_first}
 use Rattle.ring_laws.proofs.Touches.{IsPage, shows_index, shows_entry, shows_write, low_word, produced_not}
-use Rattle.ring_laws.proofs.ObeysRing.{ObeysRing, IsInside, IsWhole, ring_more, shows_none, unnamed_first, own_stretch, word_inside, untouched_inside}
+use Rattle.ring_laws.proofs.ObeysRing.{ObeysRing, IsInside, IsWhole, ring_more, shows_none, own_stretch, word_inside, untouched_inside}
 use Rattle.ring_laws.proofs.Entry.{entry_stretch, first_is, slot_is, high_slot, low_slot}
 use Rattle.ring_laws.proofs.Knows.{served_whole, Serves, IsOver, Knows, BackGoes, quiet}
 

@@ -1,7 +1,6 @@
 -- What the rules on the ring make of the lines before a line, and how one line more changes it.
-use Rattle.std.proofs.Common.{◌≡◌, ℕ, ◌&&◌, ◌==◌, Bool, true, false, if◌then◌else◌, List, [], ◌∷◌, refl, ap}
-use Rattle.std.specs.Prelude.{slice_get, Option, Some, None, is_some}
-use Rattle.std.specs.List.{list_any}
+use Rattle.std.proofs.Common.{◌≡◌, ℕ, ◌&&◌, ◌==◌, Bool, true, false, if◌then◌else◌, List, refl, ap}
+use Rattle.std.specs.Prelude.{slice_get, Option, Some, None}
 use Rattle.blk_base.specs.declared.operation.Abi.{Abi}
 use Rattle.blk_base.specs.declared.moves.BackMover.TheVariants as back
 use Rattle.blk_base.specs.declared.moves.Mover.TheVariants as mover
@@ -9,12 +8,10 @@ use Rattle.blk_base.specs.declared.moves.Move.TheVariants as moves
 use Rattle.schedule_text.specs.declared.line.Line.{Line}
 use Rattle.schedule_text.specs.declared.line.Line.TheVariants as lines
 use Rattle.report_rules.specs.declared.standing.Standing.{Standing}
-use Rattle.report_rules.specs.Standing.{is_epoch, this_epoch, has_number}
+use Rattle.report_rules.specs.Standing.{is_epoch, has_number}
 use Rattle.report_rules.specs.Ring.{page_made, ring_pages, start_told, produced_shown, replied_after, page_from, word_in, abi_named, abi_after}
-use Rattle.report_rules.specs.Stretch.{of_entries, entry_word_read, words_read}
-use Rattle.report_rules.specs.Reply.{is_of_back}
+use Rattle.report_rules.specs.Stretch.{of_entries, entry_word_read, is_back_move}
 use Rattle.ring_laws.specs.Layout.{reads_protocol}
-use Rattle.ring_laws.proofs.Lists.{count_none}
 
 -- the back reads or writes a word
 abbrev pub is_touch : Line → Bool
@@ -60,6 +57,11 @@ pub same_abi : (abi : Option Abi) (line : Line) → reads_protocol line ≡ fals
 same_abi abi (lines.Move (moves.GetKey mover.Back path text)) e = ap (λ (names : Bool). if names then abi_named text else abi) e
 same_abi abi line e = refl
 
+-- a line of the back's own: one of its moves, or its halt
+abbrev pub is_of_back : Line → Bool
+is_of_back (lines.Halt halt) = true
+is_of_back line = is_back_move line
+
 pub foreign_abi : (line : Line) → is_of_back line ≡ false → reads_protocol line ≡ false
 foreign_abi (lines.Move (moves.GetKey mover.Back path text)) e = absurd (cc)
 foreign_abi line e = refl
@@ -81,15 +83,3 @@ replied_same a b same n line = refl
 pub word_same : (a b : List Line) → ring_pages a ≡ ring_pages b → (line : Line) → entry_word_read a line ≡ entry_word_read b line
 word_same a b same (lines.Move (moves.Read back.Back number frame word value)) = ap (λ (pages : List Standing). of_entries (word_in (page_from 0 number pages) word)) same
 word_same a b same line = refl
-
--- a word of the ring is read only through a page of it
-pub no_words : (before : List Line) → ring_pages before ≡ [] → words_read before ≡ 0
-no_words before none = count_none (λ (line : Line). is_some (entry_word_read before line)) (λ (line : Line). false) (λ line e. ap (λ (word : Option ℕ). is_some word) (no_word line)) (this_epoch before) (no_line (this_epoch before))
-  where
-    no_word : (line : Line) → entry_word_read before line ≡ None
-    no_word (lines.Move (moves.Read back.Back number frame word value)) = ap (λ (pages : List Standing). of_entries (word_in (page_from 0 number pages) word)) none
-    no_word line = refl
-
-    no_line : (ls : List Line) → list_any (λ (line : Line). false) ls ≡ false
-    no_line [] = refl
-    no_line (l ∷ ls) = no_line ls

@@ -30,11 +30,12 @@ use Rattle.ring_laws.proofs.Shows.{Sight, Shows, shows_other}
 use Rattle.ring_laws.proofs.Touches.{shows_replied}
 use Rattle.ring_laws.proofs.Pages.{AreEarlier}
 use Rattle.ring_laws.proofs.Entry.{first_is}
-use Rattle.ring_laws.proofs.ObeysRing.{ObeysRing, IsWhole, none_whole, ring_more, shows_none, foreign_stretch, word_inside}
+use Rattle.ring_laws.proofs.ObeysRing.{ObeysRing, IsWhole, ring_more, shows_none, foreign_stretch, word_inside}
 use Rattle.ring_laws.proofs.Knows.{unhalted, Waits, Serves, IsOver, KnowsAt, Knows, knows_still, Follows, BackGoes}
 use Rattle.ring_laws.proofs.Serving.{not_over, served_line, between, rest_other, serve_other, serve_write, serve_slot, serve_index, over_other}
 use Rattle.ring_laws.proofs.Looking.{giving_knows, looked_goes, seen_producer}
 use Rattle.ring_laws.proofs.Back.{Goes, unbound_knows, bound_knows, map_goes, bind_goes, fetch_goes, word_goes, look_goes}
+use Rattle.ring_laws.proofs.EntryWords.{none_whole}
 
 -- an act of a back in its loop, by what it replies
 abbrev Loops : ℕ → List ℕ → List Line → Option Reply → View → BackAct → Type 0
@@ -78,7 +79,7 @@ producer_goes before v frame r answer x s shows stands =
 waits_goes : (before : List Line) (h : Hypervisor) (v : View) (a : BackAct) (x : Sight) → KnowsAt stage.InitWait x v → Knows x v → Shows before x → ObeysRing before x.start (is_some v.halted) → v.told ≡ None → back_act h back.Back ask.Wait Took ≡ Some a → Goes x.start x.values before stage.InitWait v a
 waits_goes before h v a x n kept shows stands told e =
     let w : Waits x v.ring.indices v.ring.seen v.halted v.fetched = n.waits in
-    let whole : IsWhole x = none_whole x w.words in
+    let whole : IsWhole x = none_whole x.abi x.words w.words in
     back_wait (Goes x.start x.values before stage.InitWait v) h back.Back a
     (rest_other before v v _ (moves.Event mover.Back) x whole (λ over. refl) shows stands refl refl told refl kept)
     (λ path. rest_other before v v _ (moves.Watched mover.Back path) x whole (λ over. refl) shows stands refl refl told refl kept) e

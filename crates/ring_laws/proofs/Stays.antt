@@ -1,6 +1,6 @@
 -- What a job is due stays due: a job that is at its end makes no step more, by the rule of steps.
 use Rattle.std.proofs.Common.{◌≡◌, ℕ, zero, suc, ◌<◌, ◌==◌, ◌&&◌, ◌||◌, Bool, true, false, if◌then◌else◌, List, [], ◌∷◌, ◌++◌, length, refl, ap, sym, ◌∙◌, subst, append_assoc, append-nil, arith}
-use Rattle.std.specs.Prelude.{Option, Some, None, is_some, IfSome, IsSomeAnd, slice_get, nat_le}
+use Rattle.std.specs.Prelude.{Option, Some, None, IfSome, IsSomeAnd, slice_get, nat_le}
 use Rattle.std.specs.List.{filter_map, list_any}
 use Rattle.std.proofs.lemmas.Bool.Decides.{nat_tests}
 use Rattle.std.proofs.lemmas.List.Sums.{fold-append}
@@ -15,15 +15,14 @@ use Rattle.report_rules.specs.declared.work.Task.{Task}
 use Rattle.report_rules.specs.declared.job.Fetched.{Fetched}
 use Rattle.report_rules.specs.Obeys.{Obeys}
 use Rattle.report_rules.specs.Standing.{is_epoch, this_epoch}
-use Rattle.report_rules.specs.Stretch.{entry_word_read}
 use Rattle.report_rules.specs.Work.{work_tasks, work_verdict, status_by}
-use Rattle.report_rules.specs.Job.{is_job, fetched_after, fetched_of}
+use Rattle.report_rules.specs.Job.{is_job, fetched_of}
 use Rattle.report_rules.specs.Step.{stepper, move_in, job_step, value_read, values_read, work_of}
 use Rattle.report_rules.specs.Walk.{spot, walked, walk_of, spot_of}
 use Rattle.report_rules.specs.Steps.{failed_in, IsNextStep, IsStepOf, IsStepAt}
 use Rattle.report_rules.specs.Reply.{end_of, status_at_end, words_with, words_due, response_due}
 use Rattle.report_rules.proofs.Walked.{next_of_step}
-use Rattle.report_rules.proofs.Prefixes.{fetched_more}
+use Rattle.ring_laws.proofs.EntryWords.{fetched_stays}
 use Rattle.blk_back.specs.declared.told.BackTold.{BackTold}
 use Rattle.blk_back.specs.declared.told.BackTold.TheVariants as back_told
 use Rattle.split_model.specs.Shown.{back_lines, effect_line}
@@ -113,12 +112,7 @@ fetched_known : (ys before : List Line) (k : ℕ) (f : Fetched) → list_any is_
 fetched_known [] before k f same known = ap (λ (ls : List Line). fetched_of ls k) (append-nil before) ∙ known
 fetched_known (y ∷ ys) before k f same known =
     let both : (is_epoch y ≡ false) × (list_any is_epoch ys ≡ false) = either_false (is_epoch y) (list_any is_epoch ys) same in
-    let one : fetched_of (before ++ y ∷ []) k ≡ Some f = fetched_more before y k ∙ (ap (λ (o : Option Fetched). fetched_after k o before y) known ∙ (ap (λ (b : Bool). if b then None else (if is_some (entry_word_read before y) then Some f else Some f)) both.0 ∙ same_either (is_some (entry_word_read before y)))) in
-    ap (λ (ls : List Line). fetched_of ls k) (sym (append_assoc before (y ∷ []) ys)) ∙ fetched_known ys (before ++ y ∷ []) k f both.1 one
-  where
-    same_either : (b : Bool) → (if b then Some f else Some f) ≡ Some f
-    same_either true = refl
-    same_either false = refl
+    ap (λ (ls : List Line). fetched_of ls k) (sym (append_assoc before (y ∷ []) ys)) ∙ fetched_known ys (before ++ y ∷ []) k f both.1 (fetched_stays before y k f both.0 known)
 
 -- lines that begin no epoch
 pub record IsOn (before ys : List Line) : Type 0 where

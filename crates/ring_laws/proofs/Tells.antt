@@ -6,7 +6,6 @@ use Rattle.std.proofs.lemmas.List.Folds.{list_any-append}
 use Rattle.blk_base.specs.Options.{Options}
 use Rattle.schedule_text.specs.declared.line.Line.{Line}
 use Rattle.report_rules.specs.Standing.{this_epoch}
-use Rattle.report_rules.specs.Job.{entry_values}
 use Rattle.report_rules.specs.Effect.{disk_move_shown}
 use Rattle.back_jobs.specs.Work.{Work}
 use Rattle.blk_back.specs.declared.stage.BackStage.{BackStage}
@@ -20,6 +19,7 @@ use Rattle.ring_laws.proofs.Free.{IsFree, AreFree}
 use Rattle.ring_laws.proofs.JobLines.{is_of}
 use Rattle.ring_laws.proofs.Works.{AreJobs, jobs_kept}
 use Rattle.ring_laws.proofs.Bystanders.{Tale, AreBystanders, Aside, bystanders_go, bystanders_aside}
+use Rattle.ring_laws.proofs.EntryWords.{entry_values}
 
 -- on which terms a back of these options serves
 abbrev pub terms_of : Options → View → Terms

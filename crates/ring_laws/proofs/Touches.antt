@@ -9,10 +9,9 @@ use Rattle.schedule_text.specs.declared.line.Line.TheVariants as lines
 use Rattle.report_rules.specs.declared.standing.Standing.{Standing}
 use Rattle.report_rules.specs.Ring.{is_first_page, replied_after, produced_shown, page_from, word_in, ring_word}
 use Rattle.report_rules.specs.Standing.{has_number}
-use Rattle.report_rules.specs.Job.{when, entry_value}
 use Rattle.std.specs.Option.{option_to_list}
 use Rattle.std.proofs.lemmas.List.{append-nil}
-use Rattle.report_rules.specs.Stretch.{of_entries, entry_word_read}
+use Rattle.report_rules.specs.Stretch.{of_entries, entry_word_read, entry_value, when}
 use Rattle.ring_laws.proofs.Shows.{Sight, Shows, IsOnPages, shows_more}
 
 -- the mapping of this number is the page of the ring at this place, and the back may touch its words
@@ -101,7 +100,7 @@ no_value before x number frame word value none =
 
 pub shows_producer : (before : List Line) (x : Sight) (number frame value : ℕ) → IsPage number 0 x → Shows before x → Shows (before ++ lines.Move (moves.Read back.Back number frame 0 value) ∷ []) (record x { produced = value })
 shows_producer before x number frame value is shows =
-    shows_more before (lines.Move (moves.Read back.Back number frame 0 value)) x x.replied value x.words x.values x.abi (read_on number frame 0 value) shows refl
+    shows_more before (lines.Move (moves.Read back.Back number frame 0 value)) x x.replied value x.words x.values x.abi (read_on number frame 0 value) (λ read. absurd (cc)) shows refl
     (ap (λ (shown : Option ℕ). unwrap_or shown x.produced) (produced_at before x number frame value shows is))
     (ap (λ (w : Option ℕ). x.words + cond (is_some w) 1 0) (low_word before x number 0 frame 0 value (omega arith) shows is) ∙ omega arith)
     (may_touch x number 0 true is)
@@ -110,7 +109,7 @@ shows_producer before x number frame value is shows =
 -- another of the ring's own words
 pub shows_index : (before : List Line) (x : Sight) (number frame word value : ℕ) → (1024 * 0 + word == 0) ≡ false → 1024 * 0 + word < 16 → IsPage number 0 x → Shows before x → Shows (before ++ lines.Move (moves.Read back.Back number frame word value) ∷ []) x
 shows_index before x number frame word value other low is shows =
-    shows_more before (lines.Move (moves.Read back.Back number frame word value)) x x.replied x.produced x.words x.values x.abi (read_on number frame word value) shows refl
+    shows_more before (lines.Move (moves.Read back.Back number frame word value)) x x.replied x.produced x.words x.values x.abi (read_on number frame word value) (λ read. absurd (cc)) shows refl
     (ap (λ (shown : Option ℕ). unwrap_or shown x.produced) (produced_not before x number 0 frame word value other shows is))
     (ap (λ (w : Option ℕ). x.words + cond (is_some w) 1 0) (low_word before x number 0 frame word value low shows is) ∙ omega arith)
     (may_touch x number 0 true is)
@@ -122,7 +121,7 @@ pub shows_entry : (before : List Line) (x : Sight) (number place frame word valu
 shows_entry before x number place frame word value high is shows =
     let other : (1024 * place + word == 0) ≡ false = grind (arith, nat_tests) in
     let read = high_word before x number place frame word value high shows is in
-    shows_more before (lines.Move (moves.Read back.Back number frame word value)) x x.replied x.produced (x.words + 1) (x.values ++ value ∷ []) x.abi (read_on number frame word value) shows refl
+    shows_more before (lines.Move (moves.Read back.Back number frame word value)) x x.replied x.produced (x.words + 1) (x.values ++ value ∷ []) x.abi (read_on number frame word value) (λ read. absurd (cc)) shows refl
     (ap (λ (shown : Option ℕ). unwrap_or shown x.produced) (produced_not before x number place frame word value other shows is))
     (ap (λ (w : Option ℕ). x.words + cond (is_some w) 1 0) read)
     (may_touch x number place true is)
@@ -132,7 +131,7 @@ shows_entry before x number place frame word value high is shows =
 shows_written : (before : List Line) (x : Sight) (number place frame word value replied : ℕ) → replied_after before x.replied (lines.Move (moves.Write back.Back number frame word value)) ≡ replied → IsPage number place x → Shows before x
     → Shows (before ++ lines.Move (moves.Write back.Back number frame word value) ∷ []) (record x { replied = replied })
 shows_written before x number place frame word value replied e is shows =
-    shows_more before (lines.Move (moves.Write back.Back number frame word value)) x replied x.produced x.words x.values x.abi (write_on number frame word value) shows
+    shows_more before (lines.Move (moves.Write back.Back number frame word value)) x replied x.produced x.words x.values x.abi (write_on number frame word value) (λ read. absurd (cc)) shows
     e refl (omega arith) (may_touch x number place true is) (append-nil x.values) refl
 
 pub shows_replied : (before : List Line) (x : Sight) (number frame value : ℕ) → IsPage number 0 x → Shows before x → Shows (before ++ lines.Move (moves.Write back.Back number frame 2 value) ∷ []) (record x { replied = value })

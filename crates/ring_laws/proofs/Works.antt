@@ -11,7 +11,7 @@ use Rattle.blk_layout.specs.declared.request.RawRequest.{RawRequest}
 use Rattle.blk_layout.specs.Entry.{request_of}
 use Rattle.segment_list.specs.declared.verdict.DiskInfo.{DiskInfo}
 use Rattle.report_rules.specs.declared.work.Task.{Task}
-use Rattle.report_rules.specs.Job.{words_of_job, id_of}
+use Rattle.report_rules.specs.Job.{id_of}
 use Rattle.back_jobs.specs.declared.stage.JobStage.{JobStage}
 use Rattle.back_jobs.specs.Work.{Work}
 use Rattle.back_jobs.specs.Jobs.{removed_at}
@@ -23,6 +23,7 @@ use Rattle.ring_laws.proofs.Places.{ending_aside}
 use Rattle.ring_laws.proofs.JobMoves.{at_aside}
 use Rattle.ring_laws.proofs.Copies.{copying_aside}
 use Rattle.ring_laws.proofs.Began.{Terms, entry_ends, none_read, request_at, IsDue, IsSettled, HasCome, serves, over, reads, IsJobOf}
+use Rattle.ring_laws.proofs.EntryWords.{words_of_job}
 
 abbrev pub number_of : Work → ℕ
 number_of t = t.number

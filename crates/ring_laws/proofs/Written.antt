@@ -1,5 +1,5 @@
 -- What the back wrote into the ring, one line further: a line that writes no word of a reply leaves it.
-use Rattle.std.proofs.Common.{◌≡◌, ℕ, ◌-◌, ◌/◌, ◌&&◌, ◌==◌, Bool, true, false, if◌then◌else◌, List, [], ◌∷◌, ◌++◌, length, refl, ap, sym, ◌∙◌, subst, append_assoc, arith}
+use Rattle.std.proofs.Common.{◌≡◌, ℕ, ◌-◌, ◌/◌, ◌&&◌, ◌==◌, true, false, if◌then◌else◌, List, [], ◌∷◌, ◌++◌, length, refl, ap, sym, ◌∙◌, subst, append_assoc}
 use Rattle.std.specs.Prelude.{Option, Some, None, is_some}
 use Rattle.std.specs.List.{AllByRecursion, filter_map, list_any, cons_option}
 use Rattle.std.specs.Option.{option_to_list}
@@ -16,16 +16,16 @@ use Rattle.report_rules.specs.declared.standing.Standing.{Standing}
 use Rattle.report_rules.specs.Obeys.{Obeys}
 use Rattle.report_rules.specs.Standing.{this_epoch}
 use Rattle.report_rules.specs.Ring.{page_from, word_in, ring_pages}
-use Rattle.report_rules.specs.Reply.{is_event, value_written, values_written, within_reply, row_of, reply_pushed, ends_with_write, is_reply, is_of_back, IsReplyAt}
+use Rattle.report_rules.specs.Reply.{is_event, value_written, values_written, within_reply, row_of, reply_pushed, ends_with_write, is_reply, IsReplyAt}
 use Rattle.report_rules.proofs.Obeys.{obeys_none, obeys_more}
 use Rattle.blk_back.specs.declared.stage.BackStage.{BackStage}
 use Rattle.blk_back.specs.declared.stage.BackStage.TheVariants as stage
 use Rattle.ring_laws.proofs.Lists.{gathered_same, gathered_none, or_false}
 use Rattle.ring_laws.proofs.Sight.{is_touch, is_other, other_touch}
-use Rattle.ring_laws.proofs.Shows.{Sight, Shows, IsOnPages, other_on_pages, epoch_longer, pages_kept, touched_more}
+use Rattle.ring_laws.proofs.Shows.{Sight, Shows, IsOnPages, other_on_pages, pages_kept, touched_more}
 use Rattle.ring_laws.proofs.Bystanders.{if_none}
 use Rattle.ring_laws.proofs.Due.{Answered, rows_of, under_way, Writes}
-use Rattle.ring_laws.proofs.WrittenRows.{within_is}
+use Rattle.ring_laws.proofs.EntryWords.{epoch_longer}
 
 -- which words are a reply's depends on the pages alone
 pub written_same : (a b : List Line) → ring_pages a ≡ ring_pages b → (line : Line) → value_written a line ≡ value_written b line
@@ -80,17 +80,12 @@ pushes_none before line none =
     let longer : List Line = before ++ line ∷ [] in
     pushed_more before line ∙ ap (λ (v : Option ℕ). if is_some v && (within_reply longer == 0) then Some (row_of (values_written longer) (length (values_written longer) / 4 - 1)) else None) none
 
--- between two replies
-pub between_replies : (before : List Line) (s : BackStage) (answered : List Answered) → Writes before s answered → under_way s ≡ [] → within_reply before ≡ 0
-between_replies before s answered w none = within_is (values_written before) answered [] (w.words ∙ ap (λ (u : List ℕ). rows_of answered ++ u) none) (omega arith)
-
--- the rule allows a line without a word of a reply that tells of none; a line of the back's own only between two replies
-pub unwritten_at : (before : List Line) (line : Line) (s : BackStage) (answered : List Answered) → Writes before s answered → value_written before line ≡ None → is_reply line ≡ false → (is_of_back line ≡ true → under_way s ≡ []) → IsReplyAt before line
-unwritten_at before line s answered w none untold own = record {
+-- the rule allows a line without a word of a reply that tells of none
+pub unwritten_at : (before : List Line) (line : Line) (s : BackStage) (answered : List Answered) → Writes before s answered → value_written before line ≡ None → is_reply line ≡ false → IsReplyAt before line
+unwritten_at before line s answered w none untold = record {
   next = if_none _ none;
   told = if_none _ w.pushed;
   only = λ told. absurd (cc);
-  whole = λ of_back unwritten. between_replies before s answered w (own of_back);
 }
 
 -- such a line leaves what was written
@@ -101,36 +96,31 @@ writes_still before line s answered w allowed still none = record {
   pushed = pushes_none before line none;
 }
 
--- a line in which no word of a reply is written, wherever it stands, and that tells of none; `own` says whether it may be one of the back's
-pub record Passes (own : Bool) (line : Line) : Type 0 where
+-- a line in which no word of a reply is written, wherever it stands, and that tells of none
+pub record Passes (line : Line) : Type 0 where
   pub on : IsOnPages line
   pub unwritten : (before : List Line) → value_written before line ≡ None
   pub untold : is_reply line ≡ false
-  pub foreign : own ≡ false → is_of_back line ≡ false
 
 -- a line that the rules on the ring pass over, but for those of replies
-pub passes_other : (own : Bool) (line : Line) → is_other line ≡ true → is_reply line ≡ false → (own ≡ false → is_of_back line ≡ false) → Passes own line
-passes_other own line other untold foreign = record { on = other_on_pages line other; unwritten = λ before. untouched_written before line (other_touch line other); untold = untold; foreign = foreign }
+pub passes_other : (line : Line) → is_other line ≡ true → is_reply line ≡ false → Passes line
+passes_other line other untold = record { on = other_on_pages line other; unwritten = λ before. untouched_written before line (other_touch line other); untold = untold }
 
-abbrev pub AllPass : Bool → List Line → Type 0
-AllPass own ls = AllByRecursion (Passes own) ls
+abbrev pub AllPass : List Line → Type 0
+AllPass ls = AllByRecursion Passes ls
 
-only_own : (own of_back : Bool) (s : BackStage) → (own ≡ true → under_way s ≡ []) → (own ≡ false → of_back ≡ false) → of_back ≡ true → under_way s ≡ []
-only_own true of_back s none foreign is = none refl
-only_own false of_back s none foreign is = let other : of_back ≡ false = foreign refl in absurd (cc)
-
-pub writes_pass : (own : Bool) (before : List Line) (line : Line) (s : BackStage) (answered : List Answered) → (own ≡ true → under_way s ≡ []) → Passes own line → Writes before s answered → Writes (before ++ line ∷ []) s answered
-writes_pass own before line s answered none p w =
+pub writes_pass : (before : List Line) (line : Line) (s : BackStage) (answered : List Answered) → Passes line → Writes before s answered → Writes (before ++ line ∷ []) s answered
+writes_pass before line s answered p w =
     writes_still before line s answered w
-    (unwritten_at before line s answered w (p.unwritten before) p.untold (only_own own (is_of_back line) s none p.foreign))
+    (unwritten_at before line s answered w (p.unwritten before) p.untold)
     (written_still before line p.on (p.unwritten before))
     (p.unwritten (before ++ line ∷ []))
 
-pub writes_all : (own : Bool) (before ys : List Line) (s : BackStage) (answered : List Answered) → (own ≡ true → under_way s ≡ []) → AllPass own ys → Writes before s answered → Writes (before ++ ys) s answered
-writes_all own before [] s answered none all w = subst (λ (ls : List Line). Writes ls s answered) (sym (append-nil before)) w
-writes_all own before (y ∷ ys) s answered none all w =
+pub writes_all : (before ys : List Line) (s : BackStage) (answered : List Answered) → AllPass ys → Writes before s answered → Writes (before ++ ys) s answered
+writes_all before [] s answered all w = subst (λ (ls : List Line). Writes ls s answered) (sym (append-nil before)) w
+writes_all before (y ∷ ys) s answered all w =
     subst (λ (ls : List Line). Writes ls s answered) (append_assoc before (y ∷ []) ys)
-    (writes_all own (before ++ y ∷ []) ys s answered none all.1 (writes_pass own before y s answered none all.0 w))
+    (writes_all (before ++ y ∷ []) ys s answered all.1 (writes_pass before y s answered all.0 w))
 
 -- only what is under way counts of the stage
 pub writes_stage : (before : List Line) (s t : BackStage) (answered : List Answered) → under_way s ≡ under_way t → Writes before s answered → Writes before t answered
@@ -139,10 +129,10 @@ writes_stage before s t answered same w = record { obeys = w.obeys; words = w.wo
 -- the first line, and the last
 pub start_writes : (config : Options) (detail : Detail) → Writes (lines.Begin config detail ∷ []) stage.InitWait []
 start_writes config detail = record {
-  obeys = obeys_more IsReplyAt [] (lines.Begin config detail) (obeys_none IsReplyAt) (record { next = tt; told = tt; only = λ told. absurd (cc); whole = λ own none. absurd (cc) });
+  obeys = obeys_more IsReplyAt [] (lines.Begin config detail) (obeys_none IsReplyAt) (record { next = tt; told = tt; only = λ told. absurd (cc) });
   words = refl;
   pushed = refl;
 }
 
 pub end_writes : (before : List Line) (s : BackStage) (answered : List Answered) → Writes before s answered → Obeys IsReplyAt (before ++ lines.End ∷ [])
-end_writes before s answered w = obeys_more IsReplyAt before lines.End w.obeys (unwritten_at before lines.End s answered w refl refl (λ own. absurd (cc)))
+end_writes before s answered w = obeys_more IsReplyAt before lines.End w.obeys (unwritten_at before lines.End s answered w refl refl)

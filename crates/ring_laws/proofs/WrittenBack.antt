@@ -23,7 +23,7 @@ use Rattle.ring_words.specs.Shape.{entry_words_of, slot_word_of}
 use Rattle.schedule_text.specs.declared.line.Line.{Line}
 use Rattle.schedule_text.specs.declared.line.Line.TheVariants as lines
 use Rattle.blk_layout.specs.Response.{response_words_of}
-use Rattle.report_rules.specs.Reply.{is_reply, row_of, are_alike, value_written, response_due, lines_before, answered_in}
+use Rattle.report_rules.specs.Reply.{row_of, are_alike, value_written, response_due, lines_before, answered_in}
 use Rattle.back_jobs.specs.Jobs.{first_mapping}
 use Rattle.blk_back.specs.declared.stage.Reply.{Reply}
 use Rattle.blk_back.specs.declared.stage.BackStage.{BackStage}
@@ -35,7 +35,6 @@ use Rattle.blk_back.specs.Ask.{ask_at, ask_of, loop_ask, index_ask, entry_ask, u
 use Rattle.blk_back.specs.Step.{at, unbound, bound, other_pages, mapped, unmapped_bound, unmapped_unbound, unmapping_next, abort, overrun, looked, loop_word, loop_step, fetched, fetch_step, replied, step_at, step_of}
 use Rattle.split_model.specs.Shown.{back_lines, halt_lines, halt_line}
 use Rattle.split_model.proofs.SafeActs.{of_back, back_wait}
-use Rattle.ring_laws.proofs.Sight.{is_other}
 use Rattle.ring_laws.proofs.Shows.{Sight, Shows, IsOnPages}
 use Rattle.ring_laws.proofs.Touches.{read_on, write_on}
 use Rattle.ring_laws.proofs.Entry.{first_is, slot_is, high_slot}
@@ -64,23 +63,20 @@ alone before answered s old answer shown new told halted w row =
     let all : back_lines new.told answer ++ halt_lines old.halted new.halted ≡ [] = untold new.told answer (halt_lines old.halted new.halted) told ∙ none in
     record { writes = subst (λ (ls : List Line). Writes (before ++ lines.Move shown ∷ ls) new.stage answered) (sym all) w; row = subst (λ (ls : List Line). RowGoes before (lines.Move shown ∷ ls) s new.stage) (sym all) row }
 
-own_passes : (line : Line) → is_other line ≡ true → is_reply line ≡ false → Passes true line
-own_passes line other plain = passes_other true line other plain (λ own. absurd (cc))
+read_passes : (number frame word value : ℕ) → Passes (lines.Move (moves.Read back.Back number frame word value))
+read_passes number frame word value = record { on = read_on number frame word value; unwritten = λ before. refl; untold = refl }
 
-read_passes : (number frame word value : ℕ) → Passes true (lines.Move (moves.Read back.Back number frame word value))
-read_passes number frame word value = record { on = read_on number frame word value; unwritten = λ before. refl; untold = refl; foreign = λ own. absurd (cc) }
-
-pub halt_passes : (old new : Option Halt) → AllPass true (halt_lines old new)
+pub halt_passes : (old new : Option Halt) → AllPass (halt_lines old new)
 halt_passes None None = tt
-halt_passes None (Some h) = (own_passes (lines.Halt (halt_line h)) refl refl, tt)
+halt_passes None (Some h) = (passes_other (lines.Halt (halt_line h)) refl refl, tt)
 halt_passes (Some g) new = tt
 
 -- a move between two replies that writes no word of one; the back may halt
-quiet : (before : List Line) (answered : List Answered) (s : BackStage) (old : View) (answer : BackAnswer) (shown : Move) (new : View) → Writes before s answered → under_way s ≡ [] → Passes true (lines.Move shown) → new.told ≡ None → under_way new.stage ≡ [] → MoveWrites before answered s old answer shown new
+quiet : (before : List Line) (answered : List Answered) (s : BackStage) (old : View) (answer : BackAnswer) (shown : Move) (new : View) → Writes before s answered → under_way s ≡ [] → Passes (lines.Move shown) → new.told ≡ None → under_way new.stage ≡ [] → MoveWrites before answered s old answer shown new
 quiet before answered s old answer shown new w none p told still =
-    let tail : AllPass true (back_lines new.told answer ++ halt_lines old.halted new.halted) = subst (λ (ls : List Line). AllPass true ls) (sym (untold new.told answer (halt_lines old.halted new.halted) told)) (halt_passes old.halted new.halted) in
+    let tail : AllPass (back_lines new.told answer ++ halt_lines old.halted new.halted) = subst (λ (ls : List Line). AllPass ls) (sym (untold new.told answer (halt_lines old.halted new.halted) told)) (halt_passes old.halted new.halted) in
     let ys : List Line = lines.Move shown ∷ (back_lines new.told answer ++ halt_lines old.halted new.halted) in
-    record { writes = writes_stage _ s new.stage answered (none ∙ sym still) (writes_all true before ys s answered (λ own. none) (p, tail) w); row = rests none still (answered_aside true ys before (p, tail)) }
+    record { writes = writes_stage _ s new.stage answered (none ∙ sym still) (writes_all before ys s answered (p, tail) w); row = rests none still (answered_aside ys before (p, tail)) }
 
 either_view : (P : View → Type 0) (b : Bool) (x y : View) → P x → P y → P (if b then x else y)
 either_view P true x y p q = p
@@ -122,15 +118,15 @@ map_writes before h v x answered k (Ok frame) none shows told w =
     let next : BackStage = if last then stage.MapRing else stage.Bind in
     alone before answered stage.MapRing v _ (moves.Map back.Back (next_gref v) ReadWrite (h.grants.made + 1) frame) (mapped (next_mapping h.grants (next_gref v) ReadWrite) v) told refl
     (writes_stage _ stage.MapRing next answered (sym (two_mappings last))
-    (writes_still before line stage.MapRing answered w (unwritten_at before line stage.MapRing answered w refl refl (λ own. refl)) (written_map before (next_gref v) (h.grants.made + 1) frame ReadWrite x none shows) refl))
+    (writes_still before line stage.MapRing answered w (unwritten_at before line stage.MapRing answered w refl refl) (written_map before (next_gref v) (h.grants.made + 1) frame ReadWrite x none shows) refl))
     (rests refl (two_mappings last) (answered_one before line refl refl))
 map_writes before h v x answered k (Err refusal) none shows told w =
-    quiet before answered stage.MapRing v _ (moves.MapRefused back.Back (next_gref v) ReadWrite (status_of refusal)) _ w refl (own_passes (lines.Move (moves.MapRefused back.Back (next_gref v) ReadWrite (status_of refusal))) refl refl) told (unbound_nothing v.pages)
+    quiet before answered stage.MapRing v _ (moves.MapRefused back.Back (next_gref v) ReadWrite (status_of refusal)) _ w refl (passes_other (lines.Move (moves.MapRefused back.Back (next_gref v) ReadWrite (status_of refusal))) refl refl) told (unbound_nothing v.pages)
 
 bind_writes : (before : List Line) (h : Hypervisor) (v : View) (answered : List Answered) (k : ℕ) (state : PortState) → v.told ≡ None → Writes before stage.Bind answered → BackWrites before stage.Bind answered k v (bind_act h v.ring.port state)
-bind_writes before h v answered k port.Unbound told w = quiet before answered stage.Bind v _ (moves.Bind v.ring.port) _ w refl (own_passes (lines.Move (moves.Bind v.ring.port)) refl refl) told refl
-bind_writes before h v answered k port.Closed told w = quiet before answered stage.Bind v _ (moves.BindRefused v.ring.port) _ w refl (own_passes (lines.Move (moves.BindRefused v.ring.port)) refl refl) told (unbound_nothing v.pages)
-bind_writes before h v answered k port.Bound told w = quiet before answered stage.Bind v _ (moves.BindRefused v.ring.port) _ w refl (own_passes (lines.Move (moves.BindRefused v.ring.port)) refl refl) told (unbound_nothing v.pages)
+bind_writes before h v answered k port.Unbound told w = quiet before answered stage.Bind v _ (moves.Bind v.ring.port) _ w refl (passes_other (lines.Move (moves.Bind v.ring.port)) refl refl) told refl
+bind_writes before h v answered k port.Closed told w = quiet before answered stage.Bind v _ (moves.BindRefused v.ring.port) _ w refl (passes_other (lines.Move (moves.BindRefused v.ring.port)) refl refl) told (unbound_nothing v.pages)
+bind_writes before h v answered k port.Bound told w = quiet before answered stage.Bind v _ (moves.BindRefused v.ring.port) _ w refl (passes_other (lines.Move (moves.BindRefused v.ring.port)) refl refl) told (unbound_nothing v.pages)
 
 -- a word is read, whatever the back makes of it
 read_writes : (before : List Line) (answered : List Answered) (s : BackStage) (old : View) (answer : BackAnswer) (number frame word value : ℕ) (new : View) → Writes before s answered → under_way s ≡ [] → new.told ≡ None → under_way new.stage ≡ [] → MoveWrites before answered s old answer (moves.Read back.Back number frame word value) new
@@ -159,11 +155,11 @@ fetch_writes before answered n v answer number frame place word w told =
 
 -- the back waits; its stage stays
 wait_writes : (before : List Line) (answered : List Answered) (s : BackStage) (old new : View) (answer : BackAnswer) → Writes before s answered → under_way s ≡ [] → new.told ≡ None → under_way new.stage ≡ under_way s → MoveWrites before answered s old answer (moves.Event mover.Back) new
-wait_writes before answered s old new answer w none told same = quiet before answered s old answer (moves.Event mover.Back) new w none (own_passes (lines.Move (moves.Event mover.Back)) refl refl) told (same ∙ none)
+wait_writes before answered s old new answer w none told same = quiet before answered s old answer (moves.Event mover.Back) new w none (passes_other (lines.Move (moves.Event mover.Back)) refl refl) told (same ∙ none)
 
 -- and so where it takes a watch
 watch_writes : (before : List Line) (answered : List Answered) (s : BackStage) (old new : View) (answer : BackAnswer) (path : List ℕ) → Writes before s answered → under_way s ≡ [] → new.told ≡ None → under_way new.stage ≡ under_way s → MoveWrites before answered s old answer (moves.Watched mover.Back path) new
-watch_writes before answered s old new answer path w none told same = quiet before answered s old answer (moves.Watched mover.Back path) new w none (own_passes (lines.Move (moves.Watched mover.Back path)) refl refl) told (same ∙ none)
+watch_writes before answered s old new answer path w none told same = quiet before answered s old answer (moves.Watched mover.Back path) new w none (passes_other (lines.Move (moves.Watched mover.Back path)) refl refl) told (same ∙ none)
 
 idle_writes : (before : List Line) (h : Hypervisor) (v : View) (o : Outcome) (a : BackAct) (answered : List Answered) (asleep none : Bool) → under_way v.stage ≡ [] → v.told ≡ None → Writes before stage.Loop answered
     → back_act h back.Back (if asleep then ask.Wait else (if none then index_ask v 0 else entry_ask v 0)) o ≡ Some a → Loops before answered None v a
@@ -209,7 +205,7 @@ event_writes before x v frame value answered k shows told w =
     let none : value_written before (lines.Move (moves.Write back.Back page.number frame 1 value)) ≡ None = written_event before x page.number frame value (first_is 0 x v k) shows in
     alone before answered stage.StoreEvent v answers.Done (moves.Write back.Back page.number frame 1 value) (at stage.EventFence v) told refl
     (writes_stage _ stage.StoreEvent stage.EventFence answered refl
-    (writes_still before line stage.StoreEvent answered w (unwritten_at before line stage.StoreEvent answered w none refl (λ own. refl)) (written_still before line on none) (written_after before line on ∙ none)))
+    (writes_still before line stage.StoreEvent answered w (unwritten_at before line stage.StoreEvent answered w none refl) (written_still before line on none) (written_after before line on ∙ none)))
     (rests refl refl (answered_one before line refl refl))
 
 -- the producer is raised, and the reply told
@@ -230,7 +226,7 @@ unmap_writes : (before : List Line) (h : Hypervisor) (s : BackStage) (v new : Vi
 unmap_writes before h s v new o a answered [] w none told still e =
     back_wait (λ (b : BackAct). MoveWrites before answered s v b.answer b.shown new) h back.Back a (wait_writes before answered s v new _ w none told (still ∙ sym none)) (λ path. watch_writes before answered s v new _ path w none told (still ∙ sym none)) e
 unmap_writes before h s v new o a answered (page ∷ pages) w none told still e =
-    of_back (λ (b : BackAct). MoveWrites before answered s v b.answer b.shown new) _ a (quiet before answered s v _ (moves.Unmap back.Back page.number) new w none (own_passes (lines.Move (moves.Unmap back.Back page.number)) refl refl) told still) e
+    of_back (λ (b : BackAct). MoveWrites before answered s v b.answer b.shown new) _ a (quiet before answered s v _ (moves.Unmap back.Back page.number) new w none (passes_other (lines.Move (moves.Unmap back.Back page.number)) refl refl) told still) e
 
 writes_at : (before : List Line) (h : Hypervisor) (s : BackStage) (v : View) (o : Outcome) (a : BackAct) (x : Sight) (answered : List Answered) (k : ℕ) → KnowsAt s x v → Shows before x → under_way v.stage ≡ under_way s → v.told ≡ None → Writes before s answered
     → IfSome (replying s v) (λ (p : Reply × ℕ). Candidate before p.1 (response_in p.0)) → ((r : Reply) → s ≡ stage.Producer r → r.op < 2 ^ 8)
@@ -247,18 +243,18 @@ writes_at before h (stage.ReplyHigh r) v o a x answered k n shows same told w jo
 writes_at before h (stage.ReplyLast r) v o a x answered k n shows same told w job small e =
     of_back (BackWrites before (stage.ReplyLast r) answered k v) _ a (word_writes before h x v _ answers.Done 2 r (stage.ReplyLast r) (stage.Producer r) answered n shows told refl refl w refl (omega arith) refl (λ words. refl) job refl (λ l i m. refl)) e
 writes_at before h (stage.Producer r) v o a x answered k n shows same told w job small e = of_back (BackWrites before (stage.Producer r) answered k v) _ a (raised_writes before x v (frame_of h.grants (page_of v 0)) k r answered n shows (small r refl) w job) e
-writes_at before h (stage.ProducerFence old) v o a x answered k n shows same told w job small e = of_back (BackWrites before (stage.ProducerFence old) answered k v) _ a (quiet before answered (stage.ProducerFence old) v _ (moves.Fence mover.Back) _ w refl (own_passes (lines.Move (moves.Fence mover.Back)) refl refl) told refl) e
+writes_at before h (stage.ProducerFence old) v o a x answered k n shows same told w job small e = of_back (BackWrites before (stage.ProducerFence old) answered k v) _ a (quiet before answered (stage.ProducerFence old) v _ (moves.Fence mover.Back) _ w refl (passes_other (lines.Move (moves.Fence mover.Back)) refl refl) told refl) e
 writes_at before h (stage.ResponseEvent old) v o a x answered k n shows same told w job small e =
     of_back (BackWrites before (stage.ResponseEvent old) answered k v) _ a
     (read_writes before answered (stage.ResponseEvent old) v _ _ (frame_of h.grants (page_of v 0)) 3 _ (at (if notifies old v.ring.indices.prod _ then stage.Send else stage.Loop) v) w refl told (two_stages (notifies old v.ring.indices.prod _))) e
-writes_at before h stage.Send v o a x answered k n shows same told w job small e = of_back (BackWrites before stage.Send answered k v) _ a (quiet before answered stage.Send v _ (moves.Send mover.Back) _ w refl (own_passes (lines.Move (moves.Send mover.Back)) refl refl) told refl) e
+writes_at before h stage.Send v o a x answered k n shows same told w job small e = of_back (BackWrites before stage.Send answered k v) _ a (quiet before answered stage.Send v _ (moves.Send mover.Back) _ w refl (passes_other (lines.Move (moves.Send mover.Back)) refl refl) told refl) e
 writes_at before h stage.StoreEvent v o a x answered k n shows same told w job small e = of_back (BackWrites before stage.StoreEvent answered k v) _ a (event_writes before x v (frame_of h.grants (page_of v 0)) (next_of v.ring.indices.cons) answered n shows told w) e
-writes_at before h stage.EventFence v o a x answered k n shows same told w job small e = of_back (BackWrites before stage.EventFence answered k v) _ a (quiet before answered stage.EventFence v _ (moves.Fence mover.Back) _ w refl (own_passes (lines.Move (moves.Fence mover.Back)) refl refl) told refl) e
+writes_at before h stage.EventFence v o a x answered k n shows same told w job small e = of_back (BackWrites before stage.EventFence answered k v) _ a (quiet before answered stage.EventFence v _ (moves.Fence mover.Back) _ w refl (passes_other (lines.Move (moves.Fence mover.Back)) refl refl) told refl) e
 writes_at before h stage.LookAgain v o a x answered k n shows same told w job small e =
     of_back (BackWrites before stage.LookAgain answered k v) _ a (looked_writes before answered stage.LookAgain v (record v { ring = record v.ring { seen = _; asleep = true }; stage = stage.Loop }) _ _ (frame_of h.grants (page_of v 0)) 0 _ w refl told told refl) e
-writes_at before h (stage.Abort m) v o a x answered k n shows same told w job small e = of_back (BackWrites before (stage.Abort m) answered k v) _ a (quiet before answered (stage.Abort m) v _ (moves.Unmap back.Back m.number) (abort v) w refl (own_passes (lines.Move (moves.Unmap back.Back m.number)) refl refl) told (giving_nothing (first_mapping v.jobs.works))) e
+writes_at before h (stage.Abort m) v o a x answered k n shows same told w job small e = of_back (BackWrites before (stage.Abort m) answered k v) _ a (quiet before answered (stage.Abort m) v _ (moves.Unmap back.Back m.number) (abort v) w refl (passes_other (lines.Move (moves.Unmap back.Back m.number)) refl refl) told (giving_nothing (first_mapping v.jobs.works))) e
 writes_at before h stage.UnmapRing v o a x answered k n shows same told w job small e = unmap_writes before h stage.UnmapRing v (unmapped_bound v) o a answered v.pages w refl told (bound_nothing (other_pages v.pages)) e
-writes_at before h stage.ClosePort v o a x answered k n shows same told w job small e = of_back (BackWrites before stage.ClosePort answered k v) _ a (quiet before answered stage.ClosePort v _ (moves.ClosePort mover.Back) _ w refl (own_passes (lines.Move (moves.ClosePort mover.Back)) refl refl) told refl) e
+writes_at before h stage.ClosePort v o a x answered k n shows same told w job small e = of_back (BackWrites before stage.ClosePort answered k v) _ a (quiet before answered stage.ClosePort v _ (moves.ClosePort mover.Back) _ w refl (passes_other (lines.Move (moves.ClosePort mover.Back)) refl refl) told refl) e
 writes_at before h stage.UnmapUnbound v o a x answered k n shows same told w job small e = unmap_writes before h stage.UnmapUnbound v (unmapped_unbound v) o a answered v.pages w refl told (unbound_nothing (other_pages v.pages)) e
 writes_at before h stage.Halted v o a x answered k n shows same told w job small e = back_wait (BackWrites before stage.Halted answered k v) h back.Back a (wait_writes before answered stage.Halted v v _ w refl told same) (λ path. watch_writes before answered stage.Halted v v _ path w refl told same) e
 

@@ -23,17 +23,17 @@ use Rattle.ring_laws.proofs.Written.{Passes, AllPass, passes_other, writes_all}
 
 -- a line of someone else's, which tells of no reply
 abbrev pub IsElse : Line → Type 0
-IsElse line = Passes false line
+IsElse line = Passes line
 
 abbrev pub AreElse : List Line → Type 0
-AreElse ls = AllPass false ls
+AreElse ls = AllPass ls
 
 pub other_writes : (before ys : List Line) (s : BackStage) (answered : List Answered) → AreElse ys → Writes before s answered → Writes (before ++ ys) s answered
-other_writes before ys s answered all w = writes_all false before ys s answered (λ own. absurd (cc)) all w
+other_writes before ys s answered all w = writes_all before ys s answered all w
 
 -- lines that the rules on the ring pass over, but for those of replies
 pub free_else : (over : Bool) (line : Line) → IsFree over line → is_reply line ≡ false → IsElse line
-free_else over line f untold = passes_other false line f.other untold (λ own. f.foreign)
+free_else over line f untold = passes_other line f.other untold
 
 effect_else : (id index : ℕ) (a : BackAnswer) → IsFree false (effect_line id index a) → IsElse (effect_line id index a)
 effect_else id index (answers.Sector words) f = free_else false (lines.EffectRead id index words) f refl

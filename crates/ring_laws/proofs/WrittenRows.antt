@@ -7,10 +7,10 @@ use Rattle.std.proofs.lemmas.Option.{unwrap_or-slice_get}
 use Rattle.schedule_text.specs.declared.line.Line.{Line}
 use Rattle.blk_layout.specs.Response.{response_words_of}
 use Rattle.blk_layout.specs.declared.response.Response.{Response}
-use Rattle.report_rules.specs.Job.{when}
-use Rattle.report_rules.specs.Reply.{value_at, row_of, are_alike, is_like, is_one_of, response_due, may_answer, lowest, most_jobs, lines_before, answered_in}
+use Rattle.report_rules.specs.Reply.{value_at, row_of, are_alike, is_like, is_one_of, response_due, may_answer, lowest, lines_before, answered_in}
 use Rattle.report_rules.proofs.Lowest.{lowest_some}
 use Rattle.ring_laws.proofs.Due.{Answered, Candidate, rows_of}
+use Rattle.report_rules.specs.Stretch.{entries_read, when}
 
 rows_long : (answered : List Answered) → length (rows_of answered) ≡ 4 * length answered
 rows_long [] = refl
@@ -82,5 +82,5 @@ candidate_may before n last r c =
     let like : is_like last (response_words_of r) (response_due (lines_before before n) c.job) ≡ true = ap (λ (due : Option (List ℕ)). is_like last (response_words_of r) due) c.due ∙ alike_itself last (response_words_of r) in
     rw (c.other, like) refl
 
-pub candidate_found : (before : List Line) (n : ℕ) (r : Response) → Candidate before n r → is_some (lowest (may_answer (lines_before before n) (answered_in before) n (response_words_of r)) (most_jobs (lines_before before n))) ≡ true
-candidate_found before n r c = lowest_some (may_answer (lines_before before n) (answered_in before) n (response_words_of r)) (most_jobs (lines_before before n)) c.job (candidate_may before n n r c) c.first c.last
+pub candidate_found : (before : List Line) (n : ℕ) (r : Response) → Candidate before n r → is_some (lowest (may_answer (lines_before before n) (answered_in before) n (response_words_of r)) (entries_read (lines_before before n))) ≡ true
+candidate_found before n r c = lowest_some (may_answer (lines_before before n) (answered_in before) n (response_words_of r)) (entries_read (lines_before before n)) c.job (candidate_may before n n r c) c.first c.last

@@ -18,14 +18,14 @@ use Rattle.report_rules.specs.Obeys.{Obeys}
 use Rattle.report_rules.specs.Ring.{ring_shape, replied_before}
 use Rattle.report_rules.specs.Standing.{this_epoch}
 use Rattle.report_rules.specs.Made.{left_to}
-use Rattle.report_rules.specs.Reply.{is_event, value_written, values_written, within_reply, row_of, are_alike, response_due, most_jobs, lines_before, answered_in, is_answer, next_place, is_next_value, reply_pushed, line_of, IsReplyAt}
+use Rattle.report_rules.specs.Reply.{is_event, value_written, values_written, within_reply, row_of, are_alike, response_due, lines_before, answered_in, is_answer, next_place, is_next_value, reply_pushed, line_of, IsReplyAt}
 use Rattle.report_rules.proofs.Obeys.{obeys_more}
 use Rattle.blk_back.specs.declared.stage.Reply.{Reply}
 use Rattle.blk_back.specs.declared.stage.BackStage.{BackStage}
 use Rattle.blk_back.specs.declared.stage.BackStage.TheVariants as stage
 use Rattle.blk_back.specs.View.{View, page_of, slot_page, slot_word}
 use Rattle.blk_back.proofs.Slots.{response_fits}
-use Rattle.ring_laws.proofs.Shows.{Sight, Shows, other_on_pages, epoch_longer}
+use Rattle.ring_laws.proofs.Shows.{Sight, Shows, other_on_pages}
 use Rattle.ring_laws.proofs.Touches.{IsPage, page_word, write_on}
 use Rattle.ring_laws.proofs.Entry.{first_is, slot_is, slot_at, high_slot, shape_is}
 use Rattle.ring_laws.proofs.Knows.{Serves}
@@ -36,6 +36,8 @@ use Rattle.ring_laws.proofs.Over.{left_aside}
 use Rattle.ring_laws.proofs.Rows.{lines_take, answered_one, answered_told}
 use Rattle.ring_laws.proofs.Choice.{IsChoice, choice}
 use Rattle.ring_laws.proofs.Written.{written_after, written_more, written_still, pushed_more, pushes_none}
+use Rattle.report_rules.specs.Stretch.{entries_read}
+use Rattle.ring_laws.proofs.EntryWords.{epoch_longer}
 
 -- what the back writes into the ring's pages: a word of a reply, but for req_event
 pub written_word : (before : List Line) (x : Sight) (number place frame word value : ℕ) → (1024 * place + word == 1) ≡ false → IsPage number place x → Shows before x → value_written before (lines.Move (moves.Write back.Back number frame word value)) ≡ Some value
@@ -67,7 +69,7 @@ due_word before answered u i w r e long small alike c =
     let other : (i == 3) ≡ false = not_three i small in
     let replies : length (values_written before) / 4 ≡ length answered = replies_are (values_written before) answered u e (omega arith) in
     let all : values_written before ++ w ∷ [] ≡ rows_of answered ++ (u ++ w ∷ []) = ap (λ (vs : List ℕ). vs ++ w ∷ []) e ∙ append_assoc (rows_of answered) u (w ∷ []) in
-    let most : ℕ = most_jobs (lines_before before i) in
+    let most : ℕ = entries_read (lines_before before i) in
     ap (λ (n : ℕ). if n == 3 then last else is_answer before n (row_of now (length (values_written before) / 4))) within
     ∙ (ap (λ (b : Bool). if b then last else is_answer before i (row_of now (length (values_written before) / 4))) other
     ∙ (ap (λ (n : ℕ). is_answer before i (row_of now n)) replies
@@ -91,7 +93,6 @@ word_allowed before x number place frame word value s other is shows shape pushe
       next = if_some _ written (some_and _ shape (page_word before x number place word shows is ∙ ap (λ (n : ℕ). Some n) at, next));
       told = if_none _ pushed;
       only = λ told. absurd (cc);
-      whole = λ own none. absurd (cc);
     }
 
 -- what was written, with that word
@@ -196,7 +197,6 @@ producer_writes before x v frame k r answered s shows small writes c =
       next = tt;
       told = if_some _ pushed (record { says = ap line_of (response_back (response_in r) small); job = λ none. none-some ch.job (sym none ∙ ch.found) });
       only = λ told none. absurd (cc);
-      whole = λ own none. absurd (cc);
     } in
     let joined : longer ++ reply ∷ [] ≡ before ++ line ∷ reply ∷ [] = append_assoc before (line ∷ []) (reply ∷ []) in
     record {

@@ -1,5 +1,6 @@
 -- What an end does with the keys of both (`io/xenbus.h`), what that makes of the directory, and the lines that it shows.
 use Rattle.std.specs.Prelude.{ℕ, Bool, true, false, not, ◌&&◌, ◌||◌, List, [], ◌∷◌, ◌++◌, Option, Some, None, if◌then◌else◌, ◌==◌, codes}
+use Rattle.std.specs.List.{list_all}
 use Rattle.std.specs.Str.{bytes_eq}
 use Rattle.blk_base.specs.declared.operation.Abi.{Abi}
 use Rattle.blk_base.specs.declared.operation.Abi.TheVariants.{X64, X32}
@@ -18,8 +19,6 @@ use Rattle.blk_back.specs.declared.stage.BackStage.{BackStage}
 use Rattle.blk_back.specs.declared.stage.BackStage.TheVariants as stage
 use Rattle.blk_back.specs.Ask.{is_led}
 use Rattle.segment_list.specs.declared.verdict.DiskInfo.{DiskInfo}
-use Rattle.report_rules.specs.declared.published.Serving.{Serving}
-use Rattle.report_rules.specs.Published.{is_offer, serving}
 
 -- it reads a key, sets one, watches a path, or takes the watch that fired first
 pub data KeyMove : Type 0 where
@@ -71,13 +70,29 @@ names_persistent path = bytes_eq path (codes "/local/domain/0/backend/vbd/1/5171
 abbrev pub is_zero_text : List ℕ → Bool
 is_zero_text text = bytes_eq text (codes "0")
 
--- what the back's keys say that it serves; a key that isn't there offers nothing
+-- a key of a feature says that there is one, unless it is 0
+abbrev pub is_offer : List ℕ → Bool
+is_offer digits = not (list_all (λ (d : ℕ). d == 48) digits)
+
+-- what the back's keys say that it serves beside reads and writes
+pub record Serving : Type 0 where
+  pub barrier : Bool
+  pub flush : Bool
+  pub discard : Bool
+  pub indirect : Bool
+
+-- a key that isn't there offers nothing
 abbrev pub offers : Option (List ℕ) → Bool
 offers None = false
 offers (Some text) = is_offer text
 
 abbrev pub said_by : Directory → Serving
-said_by d = serving (offers (key_of d.keys barrier_path)) (offers (key_of d.keys flush_path)) (offers (key_of d.keys discard_path)) (offers (key_of d.keys indirect_path))
+said_by d = record {
+  barrier = offers (key_of d.keys barrier_path);
+  flush = offers (key_of d.keys flush_path);
+  discard = offers (key_of d.keys discard_path);
+  indirect = offers (key_of d.keys indirect_path);
+}
 
 -- the disk that the back publishes has exactly that
 abbrev pub is_like : Bool → Bool → Bool

@@ -4,4 +4,3 @@ pub mod Follows
 pub mod Firsts
 pub mod Premises
 pub mod Told
-pub mod Sound

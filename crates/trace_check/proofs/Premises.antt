@@ -4,15 +4,11 @@ use Rattle.std.specs.Prelude.{IsTrue}
 use Rattle.std.specs.List.{list_all, list_any}
 use Rattle.std.proofs.lemmas.List.Folds.{list_all-append}
 use Rattle.std.proofs.lemmas.List.Elements.{All-head, All-tail}
-use Rattle.blk_base.specs.Options.{Options}
-use Rattle.schedule_text.specs.declared.line.Detail.{Detail}
 use Rattle.schedule_text.specs.declared.line.Line.{Line}
-use Rattle.schedule_text.specs.declared.line.Line.TheVariants as lines
 use Rattle.plain_disk.specs.Honest.{is_honest}
 use Rattle.report_rules.specs.Obeys.{Obeys}
 use Rattle.report_rules.specs.Touch.{IsTouchAt}
 use Rattle.report_rules.specs.Mapped.{IsMapAnswerAt}
-use Rattle.report_rules.specs.Stretch.{IsStretchAt}
 use Rattle.report_rules.specs.Steps.{IsStepAt}
 use Rattle.request_check.specs.Rules.{IsStateAt, IsSubmitAt, IsRefuseAt, IsEffectRuleAt, IsBarrierAt, IsServiceAt, IsReplyRuleAt, IsAnswerAt, IsDataRuleAt, IsQuietAt, KeepsRequests}
 use Rattle.trace_check.specs.declared.rule.Rule.{Rule}
@@ -144,9 +140,6 @@ keeps_requests report honest keeps before after line is =
       quiet = h.quiet yes;
     }
 
-first_stretch : (config : Options) (d : Detail) → IsStretchAt [] (lines.Begin config d)
-first_stretch config d = record { next = tt; whole = λ moves. absurd (true≢false (sym moves)); inside = tt }
-
 pub keeps_touches : (report : List Line) → list_any shows_moves report ≡ true → Obeys KeepsAll report → Obeys IsTouchAt report
 keeps_touches report shown keeps =
     obeys_shown IsTouchAt report (λ config d. tt) (in_order report keeps) shown (λ before after line is yes. (touch_at before line (keeps before after line is) yes).touch)
@@ -154,10 +147,6 @@ keeps_touches report shown keeps =
 pub keeps_answers : (report : List Line) → list_any shows_moves report ≡ true → Obeys KeepsAll report → Obeys IsMapAnswerAt report
 keeps_answers report shown keeps =
     obeys_shown IsMapAnswerAt report (λ config d. tt) (in_order report keeps) shown (λ before after line is yes. (touch_at before line (keeps before after line is) yes).answer)
-
-pub keeps_stretches : (report : List Line) → list_any shows_moves report ≡ true → Obeys KeepsAll report → Obeys IsStretchAt report
-keeps_stretches report shown keeps =
-    obeys_shown IsStretchAt report first_stretch (in_order report keeps) shown (λ before after line is yes. (fetch_at before line (keeps before after line is) yes).stretch)
 
 pub keeps_steps : (report : List Line) → list_any shows_moves report ≡ true → Obeys KeepsAll report → Obeys IsStepAt report
 keeps_steps report shown keeps =

@@ -1,5 +1,5 @@
 -- The rule that a check tells of a line is the first that it breaks.
-use Rattle.std.proofs.Common.{◌≡◌, not, ◌&&◌, ◌||◌, Bool, true, false, if◌then◌else◌, List, [], ◌++◌, refl, sym, ap, ◌∙◌, true≢false}
+use Rattle.std.proofs.Common.{◌≡◌, not, ◌&&◌, ◌||◌, Bool, true, false, if◌then◌else◌, List, [], ◌++◌, refl, sym, ap, subst, ◌∙◌, true≢false}
 use Rattle.std.specs.Prelude.{Option, Some, None, IsTrue}
 use Rattle.std.specs.List.{list_all, list_any}
 use Rattle.std.specs.Bool.{Decides}
@@ -28,7 +28,7 @@ use Rattle.ring_check.specs.State as ring
 use Rattle.ring_check.specs.Verdict.{allows_overrun}
 use Rattle.ring_check.proofs.Following.{kept_all}
 use Rattle.ring_check.proofs.Decided.{stretch_decides, overrun_decides}
-use Rattle.job_check.specs.Laws.{jobs_after, IsLayoutAt, AreFollowed}
+use Rattle.job_check.specs.Laws.{jobs_after, AreFollowed}
 use Rattle.job_check.proofs.Sees as followed
 use Rattle.job_check.proofs.Decided.{step_decided, effect_decided, data_decided}
 use Rattle.job_check.proofs.ReplySees.{replying_all}
@@ -36,14 +36,12 @@ use Rattle.job_check.proofs.ReplyDecided.{reply_decided}
 use Rattle.trace_check.specs.declared.rule.Rule.{Rule}
 use Rattle.trace_check.specs.declared.rule.Rule.TheVariants as rule
 use Rattle.trace_check.specs.Outline.{shows_moves, outlined}
-use Rattle.trace_check.specs.Rules.{IsTouchRuleAt, IsFetchAt, Keeps, KeepsEach, KeepsAll, request_rules, move_rules, all_rules, IsFirstBroken}
+use Rattle.trace_check.specs.Rules.{IsTouchRuleAt, IsFetchAt, Keeps, KeepsEach, KeepsAll, request_rules, move_rules, all_rules, Breaks, IsFirstBroken}
 use Rattle.trace_check.specs.Trace.{Trace, trace_after, allows_touch, allows_fetch, broken_request, broken_move, broken_by}
-use Rattle.trace_check.specs.Found.{rule_broken}
-use Rattle.trace_check.specs.Laws.{KeepsLayout}
 use Rattle.trace_check.proofs.Outlines.{order_decided}
 use Rattle.trace_check.proofs.Follows.{Follows, Moves, follows_all}
 use Rattle.trace_check.proofs.Firsts.{none_first, decided_first, both_first}
-use Rattle.trace_check.proofs.Premises.{in_order, keeps_requests, keeps_touches, keeps_answers, keeps_stretches, keeps_steps, from_submit, from_refuse, from_effect, from_barrier, from_service, from_reply, from_answer, from_data, from_quiet, from_touch, from_fetch, from_overrun}
+use Rattle.trace_check.proofs.Premises.{in_order, keeps_requests, keeps_touches, keeps_answers, keeps_steps, from_submit, from_refuse, from_effect, from_barrier, from_service, from_reply, from_answer, from_data, from_quiet, from_touch, from_fetch, from_overrun}
 
 -- ---- requests
 
@@ -117,13 +115,11 @@ pub record AreShown (before : List Line) : Type 0 where
   pub shown : list_any shows_moves before ≡ true
   pub followed : AreFollowed before
 
-shown_of : (before : List Line) → list_any shows_moves before ≡ true → Obeys KeepsAll before → Obeys IsLayoutAt before → AreShown before
-shown_of before shown keeps layout = record {
+shown_of : (before : List Line) → list_any shows_moves before ≡ true → Obeys KeepsAll before → AreShown before
+shown_of before shown keeps = record {
   shown = shown;
   followed = record {
     touched = record { touches = keeps_touches before shown keeps; answers = keeps_answers before shown keeps };
-    stretches = keeps_stretches before shown keeps;
-    layout = layout;
     steps = keeps_steps before shown keeps;
   };
 }
@@ -182,10 +178,10 @@ all_unshown before line unshown =
     (All-cons P rule.Overrun [] (λ yes. absurd (none yes))
     (All-nil P))))
 
-shown_told : (before : List Line) (line : Line) (t : Trace) (shown : Bool) → t.outline.shown ≡ shown → Follows before t → Obeys KeepsAll before → KeepsLayout before
+shown_told : (before : List Line) (line : Line) (t : Trace) (shown : Bool) → t.outline.shown ≡ shown → Follows before t → Obeys KeepsAll before
     → IsFirstBroken move_rules before line (if shown then broken_move t line else None)
-shown_told before line t false is f keeps layout = all_unshown before line (sym f.outline.shown ∙ is)
-shown_told before line t true is f keeps layout = moves_told before line t (f.moves is) (shown_of before (sym f.outline.shown ∙ is) keeps (layout (sym f.outline.shown ∙ is)))
+shown_told before line t false is f keeps = all_unshown before line (sym f.outline.shown ∙ is)
+shown_told before line t true is f keeps = moves_told before line t (f.moves is) (shown_of before (sym f.outline.shown ∙ is) keeps)
 
 -- ---- all
 
@@ -194,13 +190,27 @@ order_first : (before : List Line) (line : Line) (allowed : Bool) (found : Optio
 order_first before line true found d first = decided_first rule.Order (request_rules ++ move_rules) before line true found d first
 order_first before line false found d first = decided_first rule.Order (request_rules ++ move_rules) before line false found d first
 
-first_told : (before : List Line) (line : Line) (t : Trace) → Follows before t → Obeys KeepsAll before → KeepsLayout before → IsFirstBroken all_rules before line (broken_by t line)
-first_told before line t f keeps layout =
+first_told : (before : List Line) (line : Line) (t : Trace) → Follows before t → Obeys KeepsAll before → IsFirstBroken all_rules before line (broken_by t line)
+first_told before line t f keeps =
     let hostile = ap (λ b. b || not (is_honest line)) f.outline.hostile ∙ hostile_is (list_all is_honest before) (is_honest line) in
     order_first before line _ _ (order_decided before line t.outline f.outline)
     (both_first request_rules move_rules before line _ _
     (honest_told before line t (outlined t.outline line).hostile refl hostile f keeps)
-    (shown_told before line t t.outline.shown refl f keeps layout))
+    (shown_told before line t t.outline.shown refl f keeps))
 
-pub told_first : (before : List Line) (line : Line) → Obeys KeepsAll before → KeepsLayout before → IsFirstBroken all_rules before line (rule_broken before line)
-told_first before line keeps layout = first_told before line (trace_after before) (follows_all before (in_order before keeps)) keeps layout
+-- the rule that a check tells of a line after these
+abbrev pub rule_broken : List Line → Line → Option Rule
+rule_broken before line = broken_by (trace_after before) line
+
+-- after lines that keep all rules it is the first that the line breaks, and there is none exactly where the line keeps all
+told_first : (before : List Line) (line : Line) → Obeys KeepsAll before → IsFirstBroken all_rules before line (rule_broken before line)
+told_first before line keeps = first_told before line (trace_after before) (follows_all before (in_order before keeps)) keeps
+
+first_is : (before : List Line) (line : Line) (found : Option Rule) → Obeys KeepsAll before → rule_broken before line ≡ found → IsFirstBroken all_rules before line found
+first_is before line found keeps is = subst (λ (f : Option Rule). IsFirstBroken all_rules before line f) is (told_first before line keeps)
+
+pub told_none : (before : List Line) (line : Line) → Obeys KeepsAll before → rule_broken before line ≡ None → KeepsAll before line
+told_none before line keeps none = first_is before line None keeps none
+
+pub told_broken : (before : List Line) (line : Line) (broken : Rule) → Obeys KeepsAll before → rule_broken before line ≡ Some broken → Breaks all_rules before line broken
+told_broken before line broken keeps some = first_is before line (Some broken) keeps some

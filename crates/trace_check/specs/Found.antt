@@ -1,5 +1,5 @@
--- What a check of a report finds, by the bytes of its source: the lines that break no rule, up to the end or to the first one that breaks one.
-use Rattle.std.specs.Prelude.{◌≡◌, ℕ, ◌+◌, ◌<◌, ◌≤◌, ◌⊎◌, Bool, if◌then◌else◌, List, [], ◌∷◌, ◌++◌, length, Option, Some, None, Result, Ok, Err}
+-- What a check of a report finds, by the bytes of its source: the lines that keep all rules, up to the end or to the first one that breaks one, and the first rule that this one breaks.
+use Rattle.std.specs.Prelude.{◌≡◌, ℕ, ◌+◌, ◌<◌, ◌≤◌, ◌⊎◌, Bool, if◌then◌else◌, List, [], ◌∷◌, ◌++◌, length, Result, Ok, Err}
 use Rattle.schedule_text.specs.declared.line.Line.{Line}
 use Rattle.schedule_text.specs.declared.line.Line.TheVariants as line
 use Rattle.blk_io.specs.Outside.{SourceSeen, Rose}
@@ -14,52 +14,41 @@ use Rattle.trace_check.specs.declared.finding.Finding.{Finding}
 use Rattle.trace_check.specs.declared.finding.Finding.TheVariants.{Legal, Broken}
 use Rattle.trace_check.specs.declared.finding.CheckStop.{CheckStop}
 use Rattle.trace_check.specs.declared.finding.CheckStop.TheVariants.{BadLine, Source, TooLong, OutOfMemory}
-use Rattle.trace_check.specs.Trace.{trace_after, broken_by}
-
--- the rule that a line breaks first, after these lines
-abbrev pub rule_broken : List Line → Line → Option Rule
-rule_broken before line = broken_by (trace_after before) line
-
--- it breaks none
-abbrev pub IsSoundAt : List Line → Line → Type 0
-IsSoundAt before line = rule_broken before line ≡ None
-
-abbrev pub AreSound : List Line → Type 0
-AreSound report = Obeys IsSoundAt report
+use Rattle.trace_check.specs.Rules.{KeepsAll, Breaks, all_rules}
 
 -- the last line is `end`
 abbrev pub EndsWell : List Line → Type 0
 EndsWell report = (before : List Line) × (report ≡ before ++ line.End ∷ [])
 
--- the line of this number is the first that breaks a rule; up to its end there are no more bytes than may be taken
+-- the line of this number is the first that breaks a rule, and this is the first rule that it breaks; up to its end there are no more bytes than may be taken
 pub record IsBrokenAt (limit number : ℕ) (broken : Rule) (bytes : List ℕ) : Type 0 where
   pub before : List Line
   pub line : Line
   pub rest : List ℕ
   pub read : BeginsWith (before ++ line ∷ []) bytes rest
-  pub sound : AreSound before
+  pub kept : Obeys KeepsAll before
   pub counted : number ≡ length before + 1
-  pub rule : rule_broken before line ≡ Some broken
+  pub rule : Breaks all_rules before line broken
   pub within : length bytes ≤ limit + length rest
 
--- the bytes are the text of lines that break no rule, and so many would be with one more
-pub record IsSoundText (number : ℕ) (report : List Line) (bytes : List ℕ) : Type 0 where
+-- the bytes are the text of lines that keep all rules, and so many would be with one more
+pub record IsKeptText (number : ℕ) (report : List Line) (bytes : List ℕ) : Type 0 where
   pub read : IsReportText report bytes
-  pub sound : AreSound report
+  pub kept : Obeys KeepsAll report
   pub counted : number ≡ length report + 1
 
 -- a report ends without `end`: the line after its last breaks the order
 pub record LacksEnd (number : ℕ) (broken : Rule) (bytes : List ℕ) : Type 0 where
   pub report : List Line
-  pub text : IsSoundText number report bytes
+  pub text : IsKeptText number report bytes
   pub unended : EndsWell report → ⊥
   pub rule : broken ≡ rule.Order
 
--- a report is legal: none of its lines breaks a rule, and the last is `end`
+-- a report is legal: each of its lines keeps all rules, and the last is `end`
 pub record IsLegal (bytes : List ℕ) : Type 0 where
   pub report : List Line
   pub read : IsReportText report bytes
-  pub sound : AreSound report
+  pub kept : Obeys KeepsAll report
   pub ended : EndsWell report
 
 -- a finding; the end of the source was seen only where it has fewer bytes than may be taken
@@ -67,23 +56,23 @@ abbrev pub IsFound : ℕ → Finding → List ℕ → Type 0
 IsFound limit Legal bytes = IsLegal bytes × (length bytes < limit)
 IsFound limit (Broken number broken) bytes = IsBrokenAt limit number broken bytes ⊎ (LacksEnd number broken bytes × (length bytes < limit))
 
--- the line of this number is none of a report, and those before it break no rule; before it there are no more bytes than may be taken
+-- the line of this number is none of a report, and those before it keep all rules; before it there are no more bytes than may be taken
 pub record IsBadAt (limit number : ℕ) (bytes : List ℕ) : Type 0 where
   pub before : List Line
   pub rest : List ℕ
   pub read : BeginsWith before bytes rest
-  pub sound : AreSound before
+  pub kept : Obeys KeepsAll before
   pub counted : number ≡ length before + 1
   pub bad : IsNoLine rest
   pub within : length bytes ≤ limit + length rest
 
--- as many bytes were taken as may be: lines that break no rule, and a part of one more, without its line feed
+-- as many bytes were taken as may be: lines that keep all rules, and a part of one more, without its line feed
 pub record IsLong (limit : ℕ) (bytes : List ℕ) : Type 0 where
   pub before : List Line
   pub part : List ℕ
   pub rest : List ℕ
   pub read : BeginsWith before bytes (part ++ rest)
-  pub sound : AreSound before
+  pub kept : Obeys KeepsAll before
   pub unbroken : HasNoLineFeed part
   pub taken : length bytes ≡ limit + length rest
 

@@ -3,4 +3,3 @@ pub mod Rules
 pub mod Trace
 pub mod Found
 pub mod Text
-pub mod Laws

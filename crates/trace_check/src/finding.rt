@@ -13,7 +13,7 @@ use std::alloc::Global;
 /// What a check finds.
 #[derive(Clone, Copy, Debug, PartialEq, Eq)]
 pub enum Finding {
-    /// No line breaks a rule, and the last is `end`.
+    /// Each line keeps all rules, and the last is `end`.
     Legal,
     /// The first line that breaks a rule, from 1, and the first rule that it breaks; where a report
     /// ends without `end`, the line after its last breaks `Rule::Order`.

@@ -5,16 +5,11 @@
 #![tactic(auto)]
 
 mod finding;
-mod laws;
 mod outline;
 mod rule;
 mod text;
 mod trace;
 
 pub use finding::{CheckStop, Finding, check};
-pub use laws::{
-    a_report_that_is_found_sound_keeps_the_rules, a_report_that_keeps_the_rules_is_found_sound,
-    the_first_rule_that_a_line_breaks_is_told,
-};
 pub use rule::Rule;
 pub use text::write_finding;

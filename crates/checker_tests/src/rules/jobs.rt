@@ -26,31 +26,30 @@ const LOAD: Task = Task::Load {
 
 const PAGE: Task = Task::Page { gref: 30, words: 2 };
 
-fn id_read(abi: Abi, words: &[u32], k: u64) -> Option<u64> {
-    let request = entry_of(abi, words, k)?;
+fn id_read(abi: Option<Abi>, words: &[u32]) -> Option<u64> {
+    let request = entry_of(abi, words)?;
     Some(id_of(&request))
 }
 
-const STRETCHES: &[(Abi, usize, u64, Option<u64>)] = &[
-    (Abi::X64, 28, 1, Some(1)),
-    (Abi::X64, 56, 2, Some(2)),
-    (Abi::X64, 27, 1, None),
-    (Abi::X64, 55, 2, None),
-    (Abi::X64, 56, 0, None),
-    (Abi::X64, 56, 3, None),
+const STRETCHES: &[(Option<Abi>, usize, Option<u64>)] = &[
+    (Some(Abi::X64), 28, Some(1)),
+    (Some(Abi::X64), 27, None),
+    (Some(Abi::X64), 29, None),
     // On x86_32 the number begins at word 1.
-    (Abi::X32, 27, 1, Some(4294967296)),
+    (Some(Abi::X32), 27, Some(4294967296)),
+    (Some(Abi::X32), 28, None),
+    (None, 28, None),
 ];
 
-fn have_entries(rt: &impl Abort, cases: &[(Abi, usize, u64, Option<u64>)]) {
-    for (abi, count, k, id) in cases {
-        let found = id_read(*abi, &ENTRIES[..(*count).min(56)], *k);
-        assert_eq!(rt; found, *id, "{count} {k}");
+fn have_entries(rt: &impl Abort, cases: &[(Option<Abi>, usize, Option<u64>)]) {
+    for (abi, count, id) in cases {
+        let found = id_read(*abi, &ENTRIES[..(*count).min(56)]);
+        assert_eq!(rt; found, *id, "{count}");
     }
 }
 
 #[test]
-fn a_job_has_the_entry_of_its_stretch(rt: HostRuntime) {
+fn words_are_an_entry_where_they_are_as_many_as_one_has(rt: HostRuntime) {
     have_entries(&rt, STRETCHES);
 }
 

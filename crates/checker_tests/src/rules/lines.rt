@@ -2,8 +2,7 @@
 use crate::given::line_of;
 use blk_base::{Abi, Mode};
 use report_rules::{
-    Standing, abi_after, is_back_move, is_epoch, is_of_back, is_reply, is_service, page_made,
-    start_told,
+    Standing, abi_after, is_back_move, is_epoch, is_reply, is_service, page_made, start_told,
 };
 use schedule_text::Line;
 use std::process::Abort;
@@ -14,8 +13,7 @@ enum Told {
     Epoch(bool),
     // Whether it tells of a reply.
     Reply(bool),
-    // Whether it is the back's own, and whether it is a move of the back's own.
-    OfBack(bool),
+    // Whether it is a move of the back's own.
     BackMove(bool),
     // Whether the back serves.
     Serves(bool),
@@ -31,7 +29,6 @@ fn is_told(line: &Line, told: Told) -> bool {
     match told {
         Told::Epoch(begins) => is_epoch(line) == begins,
         Told::Reply(tells) => is_reply(line) == tells,
-        Told::OfBack(of) => is_of_back(line) == of,
         Told::BackMove(own) => is_back_move(line) == own,
         Told::Serves(serves) => is_service(line) == serves,
         Told::Page(made) => page_made(line) == made,
@@ -68,13 +65,7 @@ fn a_reply_is_told_by_its_line(rt: HostRuntime) {
     tell(&rt, REPLIES);
 }
 
-const OF_BACK: &[(&str, Told)] = &[
-    // A halt is a line of the back.
-    ("halt gone 5", Told::OfBack(true)),
-    ("m back fence", Told::OfBack(true)),
-    ("m job 1 fence", Told::OfBack(false)),
-    ("m front fence", Told::OfBack(false)),
-    ("reply 1 ok", Told::OfBack(false)),
+const BACK_MOVES: &[(&str, Told)] = &[
     // A move of the back's own is not one of its jobs.
     ("m back read 1 2 0 00000001", Told::BackMove(true)),
     ("m back unmap 1", Told::BackMove(true)),
@@ -88,8 +79,8 @@ const OF_BACK: &[(&str, Told)] = &[
 ];
 
 #[test]
-fn a_halt_and_the_moves_of_its_own_are_lines_of_the_back(rt: HostRuntime) {
-    tell(&rt, OF_BACK);
+fn the_moves_of_the_back_are_not_those_of_its_jobs(rt: HostRuntime) {
+    tell(&rt, BACK_MOVES);
 }
 
 const SERVICES: &[(&str, Told)] = &[

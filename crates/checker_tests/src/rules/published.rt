@@ -1,6 +1,6 @@
-// What one line tells of what both ends publish (`io/blkif.h`).
+// What one line tells of the disk, and of what both ends publish of grants (`io/blkif.h`).
 use crate::given::line_of;
-use report_rules::{Keeping, Serving, info_told, keeping_after, serving_after};
+use report_rules::{Keeping, info_told, keeping_after};
 use schedule_text::Line;
 use segment_list::DiskInfo;
 use std::process::Abort;
@@ -23,27 +23,13 @@ const READ_ONLY: DiskInfo = DiskInfo {
     max_indirect: 32,
 };
 
-// What is published after a line.
+// What is told after a line.
 #[derive(Clone, Copy)]
 enum Told {
-    // The disk that the back may publish, where another was told before.
+    // The disk, where another was told before.
     Disk(DiskInfo, DiskInfo),
-    // Whether the back serves barriers, flushes, discards and indirect requests, where it served
-    // barriers before.
-    Serves([bool; 4]),
     // Whether the back offered to keep grants and the front asked for it, where neither did before.
     Keeps(bool, bool),
-}
-
-fn served_after(line: &Line) -> [bool; 4] {
-    let s = Serving {
-        barrier: true,
-        flush: false,
-        discard: false,
-        indirect: false,
-    };
-    let s = serving_after(s, line);
-    [s.barrier, s.flush, s.discard, s.indirect]
 }
 
 fn is_kept(line: &Line, offered: bool, asked: bool) -> bool {
@@ -58,39 +44,22 @@ fn is_kept(line: &Line, offered: bool, asked: bool) -> bool {
 fn is_told(line: &Line, told: Told) -> bool {
     match told {
         Told::Disk(before, after) => info_told(before, line) == after,
-        Told::Serves(served) => served_after(line) == served,
         Told::Keeps(offered, asked) => is_kept(line, offered, asked),
     }
 }
 
 const CASES: &[(&str, Told)] = &[
-    // The options say what the back may publish.
+    // The options say what the disk is.
     (
         "begin 64 0 0 960 0 rw 16 moves",
         Told::Disk(READ_ONLY, DISK),
     ),
     ("begin 64 0 0 32 0 ro 8 moves", Told::Disk(DISK, READ_ONLY)),
     ("epoch", Told::Disk(DISK, DISK)),
-    // The back serves what its keys offer.
+    // No key changes them.
     (
         "m back setkey /local/domain/0/backend/vbd/1/51712/feature-barrier =0",
-        Told::Serves([false, false, false, false]),
-    ),
-    (
-        "m back setkey /local/domain/0/backend/vbd/1/51712/feature-flush-cache =1",
-        Told::Serves([true, true, false, false]),
-    ),
-    (
-        "m back setkey /local/domain/0/backend/vbd/1/51712/feature-discard =1",
-        Told::Serves([true, false, true, false]),
-    ),
-    (
-        "m back setkey /local/domain/0/backend/vbd/1/51712/feature-max-indirect-segments =32",
-        Told::Serves([true, false, false, true]),
-    ),
-    (
-        "m front setkey /local/domain/0/backend/vbd/1/51712/feature-barrier =0",
-        Told::Serves([true, false, false, false]),
+        Told::Disk(DISK, DISK),
     ),
     // Grants are kept where both ends publish 1.
     (
@@ -122,6 +91,6 @@ fn tell(rt: &impl Abort, cases: &[(&str, Told)]) {
 }
 
 #[test]
-fn both_ends_publish_what_their_keys_say(rt: HostRuntime) {
+fn the_options_say_the_disk_and_the_keys_what_is_kept(rt: HostRuntime) {
     tell(&rt, CASES);
 }

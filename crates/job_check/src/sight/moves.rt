@@ -2,9 +2,8 @@
 ghost use Rattle.std.specs.Prelude.{◌≡◌, IfOk, OnOk, OnErr, false, true};
 ghost use Rattle.blk_base.specs.Becomes.{Becomes};
 ghost use Rattle.schedule_text.specs.declared.line.Line.TheVariants as lines;
-ghost use Rattle.report_rules.specs.Job.{request_in};
+ghost use Rattle.report_rules.specs.Stretch.{entry_of};
 ghost use Rattle.report_rules.specs.Step.{stepper};
-ghost use Rattle.ring_check.specs.State.{shape_seen};
 ghost use Rattle.job_check.specs.Open.{opened, with_end, after_word, walked_by, is_word_read, is_disk_move, moved_by};
 ghost use Rattle.job_check.specs.State.{fetched_with, job_changed, fetched_by, after_entry_word, after_step, entry_value_seen, with_kept, after_line};
 
@@ -146,21 +145,11 @@ impl JobSight {
         }
     }
 
-    // The request of the entry, where all its words were read.
-    fn whole_entry(&self, ring: &RingSight) -> Option<RawRequest>
-        ensures { result ≡ request_in self.now.entry 1 (shape_seen ring.now) }
-    {
-        match (ring.abi(), ring.order()) {
-            (Some(abi), Some(_)) => entry_of(abi, self.entry.as_slice(), 1),
-            _ => None,
-        }
-    }
-
     // Opens the job of the entry, where all its words were read.
     fn fetch(&mut self, ring: &RingSight) -> Result<(), OutOfMemory>
-        ensures fetched { Becomes (fetched_by self.old self.old.entry (request_in self.old.entry 1 (shape_seen ring.now))) result self.old self.new }
+        ensures fetched { Becomes (fetched_by self.old self.old.entry (entry_of ring.now.abi self.old.entry)) result self.old self.new }
     {
-        let Some(request) = self.whole_entry(ring) else {
+        let Some(request) = entry_of(ring.abi(), self.entry.as_slice()) else {
             return Ok(());
         };
         let Some(number) = self.fetched.checked_add(1) else {

@@ -1,7 +1,6 @@
 // What a reader sees of the ring.
 ghost use Rattle.std.specs.Prelude.{◌≡◌, ◌<◌, ◌≤◌, IfSome};
-ghost use Rattle.ring_words.specs.Shape.{entry_words_of};
-ghost use Rattle.ring_check.specs.State.{order_seen, shape_seen, replied_seen, produced_seen, word_seen, is_page_on, is_first_on, index_seen, within_seen};
+ghost use Rattle.ring_check.specs.State.{order_seen, shape_seen, replied_seen, produced_seen, word_seen, is_page_on, is_first_on, index_seen};
 
 use super::RingSight;
 use crate::pages::{place_of, word_in};
@@ -80,27 +79,18 @@ impl RingSight {
         }
     }
 
-    /// How many words of entries the back read in this epoch.
-    pub fn words_read(&self) -> u64
-        ensures { result ≡ self.now.words }
-    {
-        self.words
-    }
-
     /// The index whose entry is fetched next, or is being fetched.
-    pub fn next_index(&self, shape: &RingShape) -> u32
-        ensures { result ≡ index_seen self.now shape.now }
+    pub fn next_index(&self) -> u32
+        ensures { result ≡ index_seen self.now }
     {
-        let entries = self.words / u64::from(shape.entry_words());
-        self.start.wrapping_add((entries % 4294967296) as u32)
+        self.start.wrapping_add((self.fetched % 4294967296) as u32)
     }
 
     /// How many words of that entry were read: 0 between two stretches.
-    pub fn words_within(&self, shape: &RingShape) -> u32
-        ensures value { result ≡ within_seen self.now shape.now }
-        ensures small { result < entry_words_of shape.now.abi }
+    pub fn words_within(&self) -> u64
+        ensures { result ≡ self.now.within }
     {
-        (self.words % u64::from(shape.entry_words())) as u32
+        self.within
     }
 
     /// The overrun that the last line shows.
