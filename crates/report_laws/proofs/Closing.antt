@@ -87,7 +87,7 @@ left_keeps v (Some e) n word =
     either (nat_lt (n + 1) (words_in e.request)) v _ _ told told
 
 -- a step of the front leaves whether it closes
-step_keeps : (s : FrontStage) (v : View) (a : FrontAnswer) → Keeps v (step_at s v a)
+pub step_keeps : (s : FrontStage) (v : View) (a : FrontAnswer) → Keeps v (step_at s v a)
 step_keeps stage.Loop v a = loop_keeps v (next_request v) a
 step_keeps (stage.GrantFlags place) v a = granted_keeps v (next_request v) place
 step_keeps (stage.ResponseLast low high) v (answer.Word last) = response_keeps v (response_of (low ∷ high ∷ last ∷ [])) low (issued v (low + high * 2 ^ 32))
@@ -103,7 +103,7 @@ step_keeps (stage.ResponseHigh low) v (answer.Word high) = refl
 step_keeps s v a = refl
 
 -- and so does a submission
-submit_keeps : (v : View) (job : Job) → Keeps v (submit_of v job).1
+pub submit_keeps : (v : View) (job : Job) → Keeps v (submit_of v job).1
 submit_keeps v job = submit_cases (Keeps v) v refl (λ wish taken. refl) job
 
 -- it begins to close with that line

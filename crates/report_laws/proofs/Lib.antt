@@ -7,7 +7,7 @@ mod Held
 mod Epochs
 mod Aside
 mod Phases
-mod Gone
+pub mod Gone
 pub mod Ready
 pub mod Closing
 pub mod AtRest

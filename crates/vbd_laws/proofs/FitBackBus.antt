@@ -117,7 +117,7 @@ ends_fit s v r at_stage ended here halts held = by_stage s at_stage ended held
     by_stage s e ended held = absurd (true≢false (sym ended))
 
 -- the negotiation has the end of the ring halt
-halts_ring : (reason : BackHalt) (r : ends.View) (s : BackStage) → r.stage ≡ s → halts (ring_halt reason) r ≡ ring_halts_at s (ring_halt reason) r
+pub halts_ring : (reason : BackHalt) (r : ends.View) (s : BackStage) → r.stage ≡ s → halts (ring_halt reason) r ≡ ring_halts_at s (ring_halt reason) r
 halts_ring reason r s here = rw (may reason, here) refl
   where
     may : (reason : BackHalt) → may_halt (ring_halt reason) ≡ true
@@ -182,7 +182,7 @@ reads_rests state.Connected r reads = ap is_serving reads
 reads_rests state.Closing r reads = ap is_serving reads
 reads_rests own r reads = absurd reads
 
-reads_between : (own : BusState) (r : BackStage) → BackReads own r → (is_unbound r ≡ true) ⊎ (r ≡ ring.Loop)
+pub reads_between : (own : BusState) (r : BackStage) → BackReads own r → (is_unbound r ≡ true) ⊎ (r ≡ ring.Loop)
 reads_between state.InitWait r reads = inl (ap is_unbound reads)
 reads_between state.Connected r reads = inr reads
 reads_between state.Closing r reads = inr reads

@@ -37,8 +37,7 @@ use Rattle.xenbus_state.specs.BackStep.{after_feature}
 use Rattle.negotiation_laws.specs.Negotiation.{back_state}
 use Rattle.negotiation_laws.proofs.Keys.{back_texts_other, back_texts_state, back_state_other, back_state_key, back_kept, back_said}
 use Rattle.negotiation_laws.proofs.Shown.{state_shown}
-use Rattle.report_rules.specs.Published.{is_offer}
-use Rattle.split_model.specs.Keys.{Sets, may_set, may_negotiate, offers, said_by, is_like, says_served, barrier_path, flush_path, discard_path, indirect_path, keys_after, negotiated}
+use Rattle.split_model.specs.Keys.{is_offer, Sets, may_set, may_negotiate, offers, said_by, is_like, says_served, barrier_path, flush_path, discard_path, indirect_path, keys_after, negotiated}
 use Rattle.vbd_back.specs.Ask as back
 use Rattle.vbd_model.specs.Happening.{front_key, back_key}
 use Rattle.vbd_model.specs.Fit.{IsOffered, SaysKey, IsServiceSaid, SaidBefore, SaidAt, IsAnnounced}

@@ -101,7 +101,7 @@ keyed (front_bus.SetState s) w a may is e =
 keyed ask w a may is e = absurd (true≢false (sym is))
 
 -- the states that the end of the ring enters tell nothing, and show what the negotiation made happen
-entered_told : (states : List FrontState) (f : front_ends.View) → (front_step.all_entered states f).told ≡ f.told
+pub entered_told : (states : List FrontState) (f : front_ends.View) → (front_step.all_entered states f).told ≡ f.told
 entered_told [] f = refl
 entered_told (s ∷ states) f = entered_told states (enters s f) ∙ (entered_kept s f).told
 

@@ -1,5 +1,5 @@
 -- The negotiation of the machine, as a run of it so far.
-use Rattle.std.proofs.Common.{◌≡◌, ◌∙◌, ap, sym, subst, ℕ, ◌≤◌, Bool, true, false, List, [], ◌∷◌, ◌++◌, refl}
+use Rattle.std.proofs.Common.{◌≡◌, ◌∙◌, ap, sym, subst, ℕ, ◌≤◌, ◌<◌, Bool, true, false, List, [], ◌∷◌, ◌++◌, refl}
 use Rattle.std.specs.Prelude.{Some}
 use Rattle.blk_base.specs.declared.parts.Mapping.{Mapping}
 use Rattle.xenbus_state.specs.States.{state_number}
@@ -94,3 +94,13 @@ late_at n j =
     let r = j.run in
     let kept = holds r.front r.offer r.facts r.happenings r.within r.ports in
     subst HaltsLate j.stands kept.back.halting_after
+
+-- a front that doesn't close has written no state of one that does
+abbrev IsEarly : Negotiation → Type 0
+IsEarly m = m.front.closing ≡ false → state_number m.front.state < 5
+
+pub early_at : (n : Negotiation) → Reached n → n.front.closing ≡ false → state_number n.front.state < 5
+early_at n j =
+    let r = j.run in
+    let kept = holds r.front r.offer r.facts r.happenings r.within r.ports in
+    subst IsEarly j.stands (λ still. (kept.front.leaves_open still).0)

@@ -38,7 +38,7 @@ use Rattle.vbd_laws.proofs.ServedGone.{gone_agrees}
 use Rattle.vbd_laws.proofs.ServedHonest.{Going, Honest, whole_now, waiting, going_quiet, honest_start, honest_after, all_of}
 
 -- the directory says both states
-said_at : (n : Negotiation) → Reached n → AreStatesSaid n
+pub said_at : (n : Negotiation) → Reached n → AreStatesSaid n
 said_at n j = subst AreStatesSaid j.stands (states_said j.run)
 
 -- a front without requests, in its loop or closed, is unoccupied

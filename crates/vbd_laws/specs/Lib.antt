@@ -1,6 +1,12 @@
 pub mod Moves
 pub mod Served
 pub mod Quiet
-pub mod Causes
-pub mod WrongCauses
+pub mod Halts
+pub mod WrongHalts
+pub mod StateLines
+pub mod WrongStates
+pub mod Asked
 pub mod Waits
+pub mod Breaks
+pub mod AnswersRead
+pub mod WrongBreaks

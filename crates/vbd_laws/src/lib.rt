@@ -2,8 +2,8 @@
 //! is fit whatever happens, each move of an end is what that end asks and is answered, and whatever
 //! happens is possible for the machine of the ring, of whose reports the other laws speak, and served
 //! until a word or a key is overwritten; until then both ends agree where all is quiet. Each end waits
-//! in three cases alone, and each halt and each word that breaks the front has its cause. The runner
-//! stands on it.
+//! in three cases alone; the back halts, the front is broken and the front shows its states exactly
+//! where that is due; and each answer is the response that was read. The runner stands on it.
 #![tactic(auto)]
 
 ghost use Rattle.std.specs.Prelude.{◌≡◌, ℕ, ℤ, ◌+◌, ◌^◌, ◌<◌, ◌≤◌, List, ◌++◌, length, Some, None};
@@ -23,8 +23,16 @@ ghost use Rattle.vbd_laws.specs.Moves.{IsFrontMove, IsBackMove, IsClose, IsNoMov
 ghost use Rattle.vbd_laws.specs.Served.{RingsPossible, RingsServed, RingGoesByTheTerms, RingIsMadeFirst};
 ghost use Rattle.vbd_laws.specs.Quiet.{StatesAgreeAtQuiet, RingsAgreed};
 ghost use Rattle.vbd_laws.specs.Waits.{FrontWaits, BackWaits, JobWaits};
-ghost use Rattle.vbd_laws.specs.Causes.{AreCaused, EachReportIsCaused, EachEndedIsCaused};
-ghost use Rattle.vbd_laws.specs.WrongCauses.{gone_while_connected, refused_though_mapped, bad_though_bound, broken_by_no_word, broken_late};
+ghost use Rattle.vbd_laws.specs.Breaks.{AreBreaksDue, EachReportBreaksWhereDue, EachEndedBreaksWhereDue, IsOverOnce, EachReportIsOverOnce, EachEndedIsOverOnce};
+ghost use Rattle.vbd_laws.specs.AnswersRead.{AreRead, EachReportAnswersWhatIsRead, EachEndedAnswersWhatIsRead};
+ghost use Rattle.vbd_laws.specs.WrongBreaks.{broken_by_no_response, broken_by_no_word, broken_late, broken_though_through, broken_by_its_own};
+ghost use Rattle.vbd_laws.specs.WrongBreaks.{goes_on_too_far, goes_on_mapped, goes_on_broken};
+ghost use Rattle.vbd_laws.specs.WrongBreaks.{answered_otherwise, answered_unread, read_further};
+ghost use Rattle.vbd_laws.specs.Halts.{HaltsByCauses, EachReportHalts, EachEndedHalts, EachHaltIsWorded};
+ghost use Rattle.vbd_laws.specs.WrongHalts.{gone_while_connected, out_of_order_early, on_at_a_beginning, on_at_no_state, halted_by_a_port, on_at_no_port, refused_though_mapped, bad_though_bound, on_though_refused, halted_by_nothing, works_on, reads_of_a_closed_front};
+ghost use Rattle.vbd_laws.specs.StateLines.{StandAsSaid, EachReportsStates, EachEndedsStates, EachClosingComes};
+ghost use Rattle.vbd_laws.specs.Asked.{ClosingIsAsked};
+ghost use Rattle.vbd_laws.specs.WrongStates.{ready_unsaid, closed_unsaid, connected_in_silence, closed_in_silence, on_at_closing, on_at_closed, closing_again, closing_though_broken, closed_at_once};
 
 /// The machine is fit at the start, whatever the options, of which a configuration allows at most 960
 /// segments of an indirect request, and stays so, whatever happens: its rings are safe, each negotiation
@@ -94,25 +102,126 @@ pub fn at_quiet_both_states_agree()
     ensures said { RingsAgreed }
 {}
 
-/// Each `halt` and each `broken` line of a report with moves stands directly after the move that is its
-/// cause, and says what that move showed, whatever happens: of a halt a read of the producer or of a
-/// key, or a port or a page that was refused; of a word that breaks the front its read of a state, a
-/// key, a producer, a response or a grant's entry, or the exchange of that entry.
-pub fn each_halt_and_break_has_its_cause()
-    ensures report { EachReportIsCaused }
-    ensures ended { EachEndedIsCaused }
-    ensures before { (first more : List Line) → AreCaused (first ++ more) → AreCaused first }
+/// In each report with moves the front is broken exactly where the lines say so, whatever happens, and
+/// by the word that they show. The line after a move of the front is `broken` where it read a producer
+/// of responses that is too far ahead (`io/ring.h`), a response whose id is that of no request which it
+/// issued in this epoch and hasn't answered, or whose status is none (`io/blkif.h`), a grant's entry
+/// whose frame is mapped still, or another word there than before (`grant_table.h`), a state by which
+/// its back is gone while an answer is owed, a text that is no state, or another bad key of its back
+/// (`io/xenbus.h`, `io/blkif.h`); and `broken` stands nowhere else.
+pub fn the_front_is_broken_exactly_by_its_causes()
+    ensures report { EachReportBreaksWhereDue }
+    ensures ended { EachEndedBreaksWhereDue }
+    ensures before { (first more : List Line) → AreBreaksDue (first ++ more) → AreBreaksDue first }
 {}
 
-/// The rule refuses a halt as gone after a read of state 4, a halt for a map that gave a mapping, one
-/// for a port that was bound, and a `broken` line with a word that the read before it didn't show, or
-/// with another line between.
-pub fn wrong_causes_are_refused()
-    ensures gone { (config : Options) → ¬ AreCaused (gone_while_connected config) }
-    ensures mapped { (config : Options) (gref : ℕ) (status : ℤ) → ¬ AreCaused (refused_though_mapped config gref status) }
-    ensures bound { (config : Options) (number : ℕ) → ¬ AreCaused (bad_though_bound config number) }
-    ensures unshown { (config : Options) → ¬ AreCaused (broken_by_no_word config) }
-    ensures late { (config : Options) → ¬ AreCaused (broken_late config) }
+/// Once a line of a report with moves says that the front is closed or broken, the front makes no move
+/// in any epoch but that it takes events and watches, tells nothing, and accepts no submission, whatever
+/// happens (`io/xenbus.h`).
+pub fn a_closed_or_broken_front_does_nothing_more()
+    ensures report { EachReportIsOverOnce }
+    ensures ended { EachEndedIsOverOnce }
+    ensures before { (first more : List Line) → IsOverOnce (first ++ more) → IsOverOnce first }
+{}
+
+/// In each report with moves each answer has the id and the status of the three words of the response
+/// at the front's consumer, which it read in their order, and no word of an entry after them, whatever
+/// happens (`io/ring.h`, RING_GET_RESPONSE; `io/blkif.h`, struct blkif_response).
+pub fn each_answer_is_the_response_that_was_read()
+    ensures report { EachReportAnswersWhatIsRead }
+    ensures ended { EachEndedAnswersWhatIsRead }
+    ensures before { (first more : List Line) → AreRead (first ++ more) → AreRead first }
+{}
+
+/// The rule refuses a front that is broken by a producer of responses that is its own consumer, by the
+/// id of a request that is issued and has no answer, by a back that is closed where no answer is owed,
+/// by a word that the read before didn't show, or with another line between; and one that goes on after
+/// a producer too far ahead, after a grant's entry that is mapped still, or after it was broken.
+pub fn wrong_breaks_are_refused()
+    ensures near { (config : Options) → ¬ AreBreaksDue (broken_by_no_response config) }
+    ensures own { (config : Options) → ¬ AreBreaksDue (broken_by_its_own config) }
+    ensures through { (config : Options) → ¬ AreBreaksDue (broken_though_through config) }
+    ensures unshown { (config : Options) → ¬ AreBreaksDue (broken_by_no_word config) }
+    ensures late { (config : Options) → ¬ AreBreaksDue (broken_late config) }
+    ensures far { (config : Options) → config.start < 2 ^ 32 → ¬ AreBreaksDue (goes_on_too_far config) }
+    ensures mapped { (config : Options) → ¬ AreBreaksDue (goes_on_mapped config) }
+    ensures over { (config : Options) → ¬ IsOverOnce (goes_on_broken config) }
+{}
+
+/// The rule refuses an answer of another status than that of the response that was read, an answer
+/// where none was read, and a read of a fourth word of the entry before the answer.
+pub fn wrong_answers_are_refused()
+    ensures status { (config : Options) → ¬ AreRead (answered_otherwise config) }
+    ensures unread { (config : Options) → ¬ AreRead (answered_unread config) }
+    ensures further { (config : Options) → ¬ AreRead (read_further config) }
+{}
+
+/// The back halts exactly by its causes, whatever happens: after each line of a report with moves the
+/// halt stands that is due there, and no halt stands anywhere else, but for overruns, which have a rule
+/// of their own. It is due where the back reads a state by which the front is gone, that may not come
+/// or that is none, or a key that is malformed or missing, and where its page of the ring can't be
+/// mapped, or the port not bound. Nothing that it serves stands after a halt in its epoch, or in an
+/// epoch before which the front was closed or broken. A halt for a front that is gone says `unplugged`
+/// exactly where the back was asked to close in that epoch.
+pub fn the_back_halts_exactly_by_its_causes()
+    ensures report { EachReportHalts }
+    ensures ended { EachEndedHalts }
+    ensures worded { EachHaltIsWorded }
+    ensures before { (first more : List Line) → HaltsByCauses (first ++ more) → HaltsByCauses first }
+{}
+
+/// The rule refuses a halt as gone after a read of state 4, a halt for a front that begins before the
+/// back is connected, a connected back that goes on then, one that goes on after a text that says no
+/// state or no port, a halt for a port that is a number, for a map that gave a mapping, for a port that
+/// was bound, or after no move, a back that goes on where its map was refused, a map after a halt, and
+/// a read in an epoch before which the front was closed.
+pub fn wrong_halts_are_refused()
+    ensures gone { (config : Options) → ¬ HaltsByCauses (gone_while_connected config) }
+    ensures early { (config : Options) → ¬ HaltsByCauses (out_of_order_early config) }
+    ensures beginning { (config : Options) → ¬ HaltsByCauses (on_at_a_beginning config) }
+    ensures no_state { (config : Options) → ¬ HaltsByCauses (on_at_no_state config) }
+    ensures good_port { (config : Options) → ¬ HaltsByCauses (halted_by_a_port config) }
+    ensures no_port { (config : Options) → ¬ HaltsByCauses (on_at_no_port config) }
+    ensures mapped { (config : Options) (gref : ℕ) (status : ℤ) → ¬ HaltsByCauses (refused_though_mapped config gref status) }
+    ensures bound { (config : Options) (number : ℕ) → ¬ HaltsByCauses (bad_though_bound config number) }
+    ensures refused { (config : Options) (gref : ℕ) (status : ℤ) → ¬ HaltsByCauses (on_though_refused config gref status) }
+    ensures uncaused { (config : Options) → ¬ HaltsByCauses (halted_by_nothing config) }
+    ensures works { (config : Options) (gref : ℕ) (status : ℤ) → ¬ HaltsByCauses (works_on config gref status) }
+    ensures anew { (config : Options) → ¬ HaltsByCauses (reads_of_a_closed_front config) }
+{}
+
+/// Each line of the front's state stands where it is due, whatever happens: `ready` directly after the
+/// front said that it is connected, `closed` after it said that it is closed, and both nowhere else;
+/// `closing` directly after it read that the back closes, is closed or is gone, once in a run, unless
+/// requests are unfinished of a back that is gone, which breaks it; and otherwise only as the front is
+/// asked to close, where it always comes unless the front has begun to, is closed or is broken. `closed`
+/// stands only after `closing`, and none of them after a line by which the front is closed or broken.
+pub fn the_front_shows_its_states_where_they_are_due()
+    ensures report { EachReportsStates }
+    ensures ended { EachEndedsStates }
+    ensures comes { EachClosingComes }
+    ensures before { (first more : List Line) → StandAsSaid (first ++ more) → StandAsSaid first }
+{}
+
+/// Before a hostile hand first overwrites a word or a key, a happening that shows `closing` is a close of
+/// an end, or one happened before it, however often the domain was suspended.
+pub fn the_front_closes_only_where_that_was_asked()
+    ensures { ClosingIsAsked }
+{}
+
+/// The rule refuses `ready` and `closed` of a front that hasn't said so, a front that says so without
+/// them, one that reads that the back closes, or is closed, and goes on, and `closing` a second time, or
+/// of a front that is broken, and `closed` of one that hasn't begun to close.
+pub fn wrong_states_are_refused()
+    ensures ready { (config : Options) → ¬ StandAsSaid (ready_unsaid config) }
+    ensures closed { (config : Options) → ¬ StandAsSaid (closed_unsaid config) }
+    ensures connected { (config : Options) → ¬ StandAsSaid (connected_in_silence config) }
+    ensures silent { (config : Options) → ¬ StandAsSaid (closed_in_silence config) }
+    ensures closes { (config : Options) → ¬ StandAsSaid (on_at_closing config) }
+    ensures leaves { (config : Options) → ¬ StandAsSaid (on_at_closed config) }
+    ensures again { (config : Options) → ¬ StandAsSaid (closing_again config) }
+    ensures broken { (config : Options) → ¬ StandAsSaid (closing_though_broken config) }
+    ensures early { (config : Options) → ¬ StandAsSaid (closed_at_once config) }
 {}
 
 /// Each end waits in three cases, and in no other, whatever a hostile hand overwrites. It is

@@ -1,5 +1,5 @@
 -- The key of the back that the front reads is one of those of its stage, whatever happens.
-use Rattle.std.proofs.Common.{◌≡◌, ℕ, ◌+◌, ◌||◌, Bool, true, false, if◌then◌else◌, List, refl, sym, subst}
+use Rattle.std.proofs.Common.{◌≡◌, ℕ, ◌+◌, ◌||◌, Bool, true, false, if◌then◌else◌, refl, sym, subst}
 use Rattle.std.specs.Prelude.{Option, Some, None, nat_lt, ◌==◌}
 use Rattle.blk_base.specs.declared.ask.FrontAnswer.{FrontAnswer}
 use Rattle.blk_base.specs.declared.ask.FrontAnswer.TheVariants as front_answer
@@ -20,7 +20,6 @@ use Rattle.xenbus_state.specs.States.{state_read}
 use Rattle.xenbus_state.specs.Tables as tables
 use Rattle.xenbus_state.specs.Programs.{IsFeature, IsFact, next_feature, next_fact, next_published}
 use Rattle.xenbus_state.specs.Reading.{count_read, fact_read}
-use Rattle.xenbus_state.specs.Causes.{IsBadBackKey}
 use Rattle.xenbus_state.specs.FrontView.{FrontView, closed, pages_of, ring_order, suspended_at, suspended, is_broken as is_broken_bus}
 use Rattle.xenbus_state.specs.FrontAsk.{ask_of, due, leaving, closing_stage}
 use Rattle.xenbus_state.specs.FrontStep.{at, acted, feature_step, fact_step, after_feature, after_fact, after_published, after_grants, after_state, step_at, step_of}
@@ -153,16 +152,3 @@ suspended_placed v placed = by_stage v.stage
     by_stage stage.Closed = placed
     by_stage (stage.Broken word) = placed
     by_stage s = tt
-
--- such a key that isn't read as a number is malformed, or missing
-pub bad_feature : (k : BackKey) (text : Option (List ℕ)) → IsFeature k → count_read text ≡ None → IsBadBackKey k text
-bad_feature key.Sectors text is e = absurd is
-bad_feature key.SectorSize text is e = absurd is
-bad_feature key.Info text is e = absurd is
-bad_feature k text is e = e
-
-pub bad_fact : (k : BackKey) (text : Option (List ℕ)) → IsFact k → fact_read k text ≡ None → IsBadBackKey k text
-bad_fact key.Sectors text is e = e
-bad_fact key.SectorSize text is e = e
-bad_fact key.Info text is e = e
-bad_fact k text is e = absurd is
