@@ -4,3 +4,4 @@ pub mod Unbroken
 pub mod Widths
 pub mod Spoken
 pub mod Counting
+pub mod Brief

@@ -8,7 +8,6 @@ use Rattle.schedule_run.specs.Reading.{HasBadLine, IsTooLong, Tells}
 use Rattle.report_lines.specs.Giving as Told
 use Rattle.trace_check.specs.Found.{IsBadAt, IsLong}
 use Rattle.legal_laws.proofs.Found.{whole_never_bad}
-use Rattle.bench_load.specs.Text.{schedule_bytes}
 use Rattle.commands.specs.declared.status.Stop.{Stop}
 use Rattle.commands.specs.declared.status.Stop.TheVariants.{Broken, Length, Words, BadLine, Source, Sink, OutOfMemory, Image, TooLong}
 use Rattle.commands.specs.Words.{Wish, a_run, a_ring, a_check, a_bench, wish_of}
@@ -72,10 +71,7 @@ bench_completes : (seed count : ℕ) (result : Result (Unit {0}) Stop) (old new 
 bench_completes seed count (Ok done) old new h may = inl refl
 bench_completes seed count (Err OutOfMemory) old new h may = inr refl
 bench_completes seed count (Err Sink) old new h may = absurd (may.written ((wish_settles (a_bench seed count) (Err Sink) old new h).output_failed refl))
-bench_completes seed count (Err TooLong) old new h may =
-    let long : bytes_limit ≤ length (schedule_bytes seed count) = h.0.0 in
-    let below : length (schedule_bytes seed count) < bytes_limit = may.input in
-    absurd (omega arith)
+bench_completes seed count (Err TooLong) old new h may = absurd h.0
 bench_completes seed count (Err Source) old new h may = absurd h.0
 bench_completes seed count (Err (BadLine number)) old new h may = absurd h.0
 bench_completes seed count (Err Image) old new h may = absurd h.0

@@ -5,6 +5,7 @@ pub mod Reporting
 pub mod Settling
 pub mod SameLines
 pub mod Completing
+pub mod Promising
 pub mod Zeros
 pub mod GeneratedLines
 pub mod Tallying

@@ -14,7 +14,9 @@ use Rattle.schedule_run.specs.declared.schedule.RunStop.TheVariants as run
 use Rattle.commands.specs.declared.status.Stop.{Stop}
 use Rattle.commands.specs.Scene.{Scene, scene, options_of, bytes_limit, with_image, reporting}
 use Rattle.commands.specs.Ending.{RunsOn, RunStops, run_stop}
-use Rattle.commands.specs.Reported.{IsReported, IsReportedSoFar, RunReports}
+use Rattle.machine_pipeline.specs.Submissions.{jobs_of}
+use Rattle.schedule_run.proofs.Headline.{lawful_keeps}
+use Rattle.commands.specs.Reported.{IsReported, IsReportedSoFar, ReportsTheHeadline, RunReports}
 use Rattle.commands.proofs.Runs.{run_left}
 
 -- a run as `run_schedule` calls it: the disk with the image attached, and the recorder as the run left it
@@ -85,5 +87,17 @@ done_reports image options sectors lender old new h =
       schedule = lawful.schedule;
       text = ap (λ (t : Told). t.text) lawful.told;
       echo = lawful.echo;
+      parts = lawful.parts;
+      faults = lawful.faults;
       lawful = lawful.lawful;
     }
+
+-- and a whole report keeps the headline
+pub keeps_the_headline : (image : List ℕ) (options : RunOptions) (old new : Scene) → IsReported image options old new → ReportsTheHeadline image options old new
+keeps_the_headline image options old new h = record {
+  sectors = h.sectors;
+  attached = h.attached;
+  report = h.report;
+  text = h.text;
+  headline = lawful_keeps (options_of options h.sectors) options.detail (jobs_of h.events) old.disk.content new.disk.content h.report h.lawful;
+}

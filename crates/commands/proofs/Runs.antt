@@ -47,7 +47,7 @@ record StopStays (why : RecordStop) (a b : Moment) : Type 0 where
   pub lender : b.recorder.lender ≡ a.recorder.lender
   pub because : Because why a.recorder.faults b.recorder.faults
 
-stop_stays : (history : List Happening) (last : Happening) (why : RecordStop) (a b : Moment) → StopsShowing history last why a b ⊎ LacksMemory history why a b → StopStays why a b
+stop_stays : (history : List Happening) (last : Happening) (why : RecordStop) (a b : Moment) → StopsShowing history last why a b ⊎ LacksMemory history last why a b → StopStays why a b
 stop_stays history last why a b (inl s) = record {
   attachment = runs_attachment (history ++ last ∷ []) a.world a.disk b.disk s.disk;
   detail = s.told.detail;

@@ -14,9 +14,10 @@ use Rattle.commands.specs.Bench.{FailsToSay, BenchEnds, BenchAt}
 use Rattle.commands.specs.Status.{status_of}
 use Rattle.commands.specs.Scene.{Scene, options_of, bytes_limit, with_image, reporting}
 use Rattle.commands.specs.Ending.{RunsOn, RunEnds, RingEnds, CommandEnds, CarriesOut}
-use Rattle.commands.specs.Reported.{RunReports, ReportsAt}
+use Rattle.commands.specs.Reported.{RunReports, ReportsAt, ReportsTheHeadline}
 use Rattle.commands.specs.Settled.{HandedOn, Settles}
 use Rattle.commands.proofs.Runs.{Left, run_left}
+use Rattle.commands.proofs.Reporting.{keeps_the_headline}
 
 -- the status of a result
 abbrev pub status_at : Result (Unit {0}) Stop → ℕ
@@ -134,7 +135,7 @@ bench_settles : (seed count : ℕ) (result : Result (Unit {0}) Stop) (old new : 
 bench_settles seed count (Ok done) old new h same = settles_done old new same (ap (λ s. s.kept_back) h.handed_on) (ap (λ s. s.faults) h.handed_on ∙ h.written.faults)
 bench_settles seed count (Err Sink) old new h same = settles_output old new same (fails_to_say _ old.output new.output h.failed)
 bench_settles seed count (Err OutOfMemory) old new h same = settles_other 6 old new (omega arith) (omega arith) (omega arith) (omega arith) same (same_output old.output new.output h)
-bench_settles seed count (Err TooLong) old new h same = settles_other 8 old new (omega arith) (omega arith) (omega arith) (omega arith) same (same_output old.output new.output h.1)
+bench_settles seed count (Err TooLong) old new h same = absurd h
 bench_settles seed count (Err Source) old new h same = absurd h
 bench_settles seed count (Err (BadLine number)) old new h same = absurd h
 bench_settles seed count (Err Image) old new h same = absurd h
@@ -196,6 +197,11 @@ reports_at image options (Err Broken) old new h = absurd h
 
 pub reports : (image : List ℕ) (options : RunOptions) (result : Result (Unit {0}) Stop) (status : ℕ) (old new : Scene) → status ≡ status_at result → RunReports image options result old new → ReportsAt status image options old new
 reports image options result status old new same h = rw same (reports_at image options result old new h)
+
+-- only what is done has status 0
+pub headline : (image : List ℕ) (options : RunOptions) (result : Result (Unit {0}) Stop) (old new : Scene) → RunReports image options result old new → status_at result ≡ 0 → ReportsTheHeadline image options old new
+headline image options result old new h zero =
+    keeps_the_headline image options old new ((reports_at image options result old new h).done zero)
 
 -- what a wish leads to isn't the status of bad words
 not_bad : (wish : Wish) (result : Result (Unit {0}) Stop) (old new : Scene) → CommandEnds wish result old new → status_at result ≡ 2 → ⊥
@@ -270,7 +276,6 @@ bench_at : (seed count : ℕ) (result : Result (Unit {0}) Stop) (old new : Scene
 bench_at seed count (Ok done) old new h = record {
   done = λ e. h.0;
   output = λ e. absurd (omega (arith, e));
-  too_long = λ e. absurd (omega (arith, e));
   only = inl refl;
   source = h.1;
   disk = h.2;
@@ -278,7 +283,6 @@ bench_at seed count (Ok done) old new h = record {
 bench_at seed count (Err Sink) old new h = record {
   done = λ e. absurd (omega (arith, e));
   output = λ e. h.0;
-  too_long = λ e. absurd (omega (arith, e));
   only = inr (inl refl);
   source = h.1;
   disk = h.2;
@@ -286,19 +290,11 @@ bench_at seed count (Err Sink) old new h = record {
 bench_at seed count (Err OutOfMemory) old new h = record {
   done = λ e. absurd (omega (arith, e));
   output = λ e. absurd (omega (arith, e));
-  too_long = λ e. absurd (omega (arith, e));
-  only = inr (inr (inl refl));
+  only = inr (inr refl);
   source = h.1;
   disk = h.2;
 }
-bench_at seed count (Err TooLong) old new h = record {
-  done = λ e. absurd (omega (arith, e));
-  output = λ e. absurd (omega (arith, e));
-  too_long = λ e. h.0.0;
-  only = inr (inr (inr refl));
-  source = h.1;
-  disk = h.2;
-}
+bench_at seed count (Err TooLong) old new h = absurd h.0
 bench_at seed count (Err Source) old new h = absurd h.0
 bench_at seed count (Err (BadLine number)) old new h = absurd h.0
 bench_at seed count (Err Image) old new h = absurd h.0
@@ -310,8 +306,7 @@ starved_at : (seed count : ℕ) (old new : Scene) → new ≡ old → BenchAt 6 
 starved_at seed count old new same = record {
   done = λ e. absurd (omega (arith, e));
   output = λ e. absurd (omega (arith, e));
-  too_long = λ e. absurd (omega (arith, e));
-  only = inr (inr (inl refl));
+  only = inr (inr refl);
   source = ap (λ s. s.source) same;
   disk = ap (λ s. s.disk) same;
 }

@@ -1,5 +1,5 @@
 -- The counts of a run of the generated schedule, over plain variables.
-use Rattle.std.proofs.Common.{◌≡◌, ℕ, ◌<◌, ◌^◌, ◌-◌, ◌⊎◌, List, Some, Ok, Err, inl, inr, length, sym, ap, ◌∙◌, subst, arith}
+use Rattle.std.proofs.Common.{◌≡◌, ℕ, ◌<◌, ◌≤◌, ◌^◌, ◌-◌, ◌⊎◌, List, Some, Ok, Err, inl, inr, length, sym, ap, ◌∙◌, subst, arith}
 use Rattle.std.specs.Prelude.{fold, true}
 use Rattle.std.proofs.lemmas.List.{length-replicate}
 use Rattle.blk_io.specs.Outside.{Rose, SourceSeen}
@@ -17,6 +17,7 @@ use Rattle.schedule_run.specs.declared.schedule.RunStop.{RunStop}
 use Rattle.schedule_run.specs.declared.schedule.RunStop.TheVariants as run
 use Rattle.bench_load.specs.Generated.{schedule_of}
 use Rattle.bench_load.specs.Text.{schedule_bytes}
+use Rattle.bench_load.proofs.Brief.{each_is_brief}
 use Rattle.commands.specs.declared.status.Stop.{Stop}
 use Rattle.commands.specs.Scene.{options_of, no_options, bytes_limit}
 use Rattle.commands.specs.Ending.{run_stop}
@@ -64,13 +65,15 @@ never_rose h = at h.above
     at (inl less) = omega arith
     at (inr most) = omega arith
 
-stops : (seed count : ℕ) (why : RunStop) (said : Stop) (rest : List ℕ) (disk disk' : DiskSeen) (tally : Tally) → said ≡ run_stop why → Runs (options_of no_options 4096) bytes_limit (Err why) (giving (schedule_bytes seed count)) (giving rest) (outside disk (counting no_counts)) (outside disk' (counting tally)) → Tallies seed count (Err said)
-stops seed count (run.BadLine n) said rest disk disk' tally is h = absurd (no_bad_line bytes_limit seed count n h.stands.1.0 h.stands.1.1)
-stops seed count run.Source said rest disk disk' tally is h = absurd (never_rose h.stands.0)
-stops seed count run.TooLong said rest disk disk' tally is h = rw is h.stands.1.1.reached
-stops seed count run.Sink said rest disk disk' tally is h =
+stops : (seed count : ℕ) (why : RunStop) (said : Stop) (rest : List ℕ) (disk disk' : DiskSeen) (tally : Tally) → said ≡ run_stop why → Runs (options_of no_options 4096) bytes_limit (Err why) (giving (schedule_bytes seed count)) (giving rest) (outside disk (counting no_counts)) (outside disk' (counting tally)) → count ≤ 100000 → Tallies seed count (Err said)
+stops seed count (run.BadLine n) said rest disk disk' tally is h few = absurd (no_bad_line bytes_limit seed count n h.stands.1.0 h.stands.1.1)
+stops seed count run.Source said rest disk disk' tally is h few = absurd (never_rose h.stands.0)
+stops seed count run.TooLong said rest disk disk' tally is h few =
+    let reached : bytes_limit ≤ length (schedule_bytes seed count) = h.stands.1.1.reached in
+    absurd (omega (arith, each_is_brief seed count))
+stops seed count run.Sink said rest disk disk' tally is h few =
     absurd (never_rose (run_left (options_of no_options 4096) bytes_limit (Err run.Sink) (giving (schedule_bytes seed count)) (giving rest) (outside disk (counting no_counts)) (outside disk' (counting tally)) h).sink)
-stops seed count run.OutOfMemory said rest disk disk' tally is h = rw is tt
+stops seed count run.OutOfMemory said rest disk disk' tally is h few = rw is tt
 
 -- a run that was done
 pub counts_told : (seed count : ℕ) (bytes : List ℕ) (disk disk' : DiskSeen) (begun tally : Tally) (rest : SourceSeen) → bytes ≡ schedule_bytes seed count → begun ≡ no_counts → disk.content ≡ Some zeros → (HasLength (content_of (outside disk (counting begun))) 4096 → RunsLawfully (options_of no_options 4096) bytes_limit (Ok tt) (giving bytes) rest (outside disk (counting begun)) (outside disk' (counting tally))) → IsTallyOf (schedule_of seed count) tally
@@ -82,8 +85,8 @@ counts_told seed count bytes disk disk' begun tally rest all none content lawful
     (subst (λ t. IsLawfulRun (options_of no_options 4096) bytes_limit (Some bytes) (outside disk (counting t)) (outside disk' (counting tally))) none told))
 
 -- a run that stopped
-pub stopped : (seed count : ℕ) (bytes rest : List ℕ) (disk disk' : DiskSeen) (begun tally : Tally) (why : RunStop) (said : Stop) → bytes ≡ schedule_bytes seed count → begun ≡ no_counts → said ≡ run_stop why → Runs (options_of no_options 4096) bytes_limit (Err why) (giving bytes) (giving rest) (outside disk (counting begun)) (outside disk' (counting tally)) → Tallies seed count (Err said)
-stopped seed count bytes rest disk disk' begun tally why said all none is h =
+pub stopped : (seed count : ℕ) (bytes rest : List ℕ) (disk disk' : DiskSeen) (begun tally : Tally) (why : RunStop) (said : Stop) → bytes ≡ schedule_bytes seed count → begun ≡ no_counts → said ≡ run_stop why → Runs (options_of no_options 4096) bytes_limit (Err why) (giving bytes) (giving rest) (outside disk (counting begun)) (outside disk' (counting tally)) → count ≤ 100000 → Tallies seed count (Err said)
+stopped seed count bytes rest disk disk' begun tally why said all none is h few =
     stops seed count why said rest disk disk' tally is
     (subst (λ b. Runs (options_of no_options 4096) bytes_limit (Err why) (giving b) (giving rest) (outside disk (counting no_counts)) (outside disk' (counting tally))) all
-    (subst (λ t. Runs (options_of no_options 4096) bytes_limit (Err why) (giving bytes) (giving rest) (outside disk (counting t)) (outside disk' (counting tally))) none h))
+    (subst (λ t. Runs (options_of no_options 4096) bytes_limit (Err why) (giving bytes) (giving rest) (outside disk (counting t)) (outside disk' (counting tally))) none h)) few

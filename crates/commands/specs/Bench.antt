@@ -1,5 +1,5 @@
 -- What the command `bench` leaves and says: the counts of a lawful report of exactly the generated schedule, run on 4096 sectors of zeros in memory.
-use Rattle.std.specs.Prelude.{◌≡◌, ℕ, ◌≤◌, ◌⊎◌, List, Option, Some, None, Result, Ok, Err, length, replicate, fold}
+use Rattle.std.specs.Prelude.{◌≡◌, ℕ, ◌⊎◌, List, Option, Some, None, Result, Ok, Err, replicate, fold}
 use Rattle.blk_io.specs.Outside.{SinkSeen, TakesBytes, FailsWriting, FailsHandingOn}
 use Rattle.blk_io.specs.Disk.{attached_of, zero_sector}
 use Rattle.image_disk.specs.Image.{Image, image_seen}
@@ -12,11 +12,10 @@ use Rattle.plain_disk.specs.Echo.{Echoes}
 use Rattle.machine_pipeline.specs.Submissions.{jobs_of}
 use Rattle.schedule_run.specs.Lawful.{IsLawful}
 use Rattle.bench_load.specs.Generated.{schedule_of}
-use Rattle.bench_load.specs.Text.{schedule_bytes}
 use Rattle.bench_load.specs.Summary.{summary_of}
 use Rattle.commands.specs.declared.status.Stop.{Stop}
-use Rattle.commands.specs.declared.status.Stop.TheVariants.{Sink, OutOfMemory, TooLong}
-use Rattle.commands.specs.Scene.{Scene, options_of, no_options, bytes_limit}
+use Rattle.commands.specs.declared.status.Stop.TheVariants.{Sink, OutOfMemory}
+use Rattle.commands.specs.Scene.{Scene, options_of, no_options}
 
 -- the sectors of the disk
 abbrev pub zeros : List (List ℕ)
@@ -38,11 +37,10 @@ pub record IsTallyOf (schedule : List Event) (tally : Tally) : Type 0 where
   pub lawful : IsLawful (options_of no_options 4096) Lines (jobs_of schedule) (Some zeros) left report
   pub counts : tally ≡ fold counted no_counts report
 
--- there is that tally; or no memory; or the schedule has as many bytes as a schedule may not have
+-- there is that tally, or no memory
 abbrev pub Tallies : ℕ → ℕ → Result Tally Stop → Type 0
 Tallies seed count (Ok tally) = IsTallyOf (schedule_of seed count) tally
 Tallies seed count (Err OutOfMemory) = Unit {0}
-Tallies seed count (Err TooLong) = bytes_limit ≤ length (schedule_bytes seed count)
 Tallies seed count (Err stop) = ⊥
 
 -- the summary was written, and the output handed on what it kept back
@@ -67,14 +65,12 @@ abbrev pub BenchEnds : ℕ → ℕ → Result (Unit {0}) Stop → SinkSeen → S
 BenchEnds seed count (Ok done) before after = IsSummed seed count before after
 BenchEnds seed count (Err Sink) before after = IsUnsummed seed count before after
 BenchEnds seed count (Err OutOfMemory) before after = after ≡ before
-BenchEnds seed count (Err TooLong) before after = (bytes_limit ≤ length (schedule_bytes seed count)) × (after ≡ before)
 BenchEnds seed count (Err stop) before after = ⊥
 
--- at each status of a bench: done (0), the output failed (5), no memory (6), a schedule too long (8), and no other; input and image are as before
+-- at each status of a bench: done (0), the output failed (5), no memory (6), and no other; input and image are as before
 pub record BenchAt (status seed count : ℕ) (old new : Scene) : Type 0 where
   pub done : status ≡ 0 → IsSummed seed count old.output new.output
   pub output : status ≡ 5 → IsUnsummed seed count old.output new.output
-  pub too_long : status ≡ 8 → bytes_limit ≤ length (schedule_bytes seed count)
-  pub only : (status ≡ 0) ⊎ (status ≡ 5) ⊎ (status ≡ 6) ⊎ (status ≡ 8)
+  pub only : (status ≡ 0) ⊎ (status ≡ 5) ⊎ (status ≡ 6)
   pub source : new.source ≡ old.source
   pub disk : new.disk ≡ old.disk

@@ -6,7 +6,6 @@ use Rattle.schedule_text.specs.declared.event.Event.{Event}
 use Rattle.schedule_run.specs.Reading.{IsWholeSchedule}
 use Rattle.schedule_text.specs.declared.line.Line.{Line}
 use Rattle.report_lines.specs.Text.{IsReportText}
-use Rattle.bench_load.specs.Text.{schedule_bytes}
 use Rattle.commands.specs.Words.{Wish, a_run, a_ring, a_check, a_bench}
 use Rattle.commands.specs.Scene.{Scene, bytes_limit}
 use Rattle.commands.specs.Ending.{FailsToAttach}
@@ -17,9 +16,9 @@ pub record IsWholeReport (bytes : List ℕ) : Type 0 where
   pub read : IsReportText report bytes
   pub below : length bytes < bytes_limit
 
--- the input, which exposes its bytes: fewer than 4294967296, whose lines all are silent or ask for events that are carried out; or just as many as the ring has; or the text of a report; a bench reads none, and its schedule has fewer
+-- the input, which exposes its bytes: fewer than 4294967296, whose lines all are silent or ask for events that are carried out; or just as many as the ring has; or the text of a report; a bench reads none
 abbrev pub IsInputOf : Wish → Option (List ℕ) → Type 0
-IsInputOf (a_bench seed count) left = length (schedule_bytes seed count) < bytes_limit
+IsInputOf (a_bench seed count) left = Unit {0}
 IsInputOf wish None = ⊥
 IsInputOf (a_run image options) (Some bytes) = (events : List Event) × IsWholeSchedule bytes_limit bytes events
 IsInputOf (a_ring abi order) (Some bytes) = length bytes ≡ bytes_of order

@@ -8,3 +8,4 @@ pub mod Ending
 pub mod Reported
 pub mod Settled
 pub mod Complete
+pub mod Promises

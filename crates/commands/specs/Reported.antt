@@ -8,6 +8,9 @@ use Rattle.schedule_text.specs.declared.event.Event.{Event}
 use Rattle.schedule_text.specs.Recorder.{report_text}
 use Rattle.plain_disk.specs.Echo.{Echoes}
 use Rattle.machine_pipeline.specs.Submissions.{jobs_of}
+use Rattle.event_laws.specs.Parts.{IsAllByEvents}
+use Rattle.event_laws.specs.Faults.{faults_in, IsRaised}
+use Rattle.schedule_run.specs.Headline.{KeepsTheHeadline}
 use Rattle.schedule_run.specs.Lawful.{IsLawful, RunsLawfully}
 use Rattle.schedule_run.specs.Reading.{IsWholeSchedule, Tells}
 use Rattle.schedule_run.specs.declared.schedule.RunStop.{RunStop}
@@ -17,7 +20,7 @@ use Rattle.commands.specs.declared.status.Stop.TheVariants.{Broken, Length, Word
 use Rattle.commands.specs.Scene.{Scene, options_of, bytes_limit, image_named, with_image, reporting}
 use Rattle.commands.specs.Ending.{FailsToAttach}
 
--- the image of that name is attached, and the output gained the text of a report that echoes the whole schedule and is lawful: a run of the plain disk from what the disk held to what it holds, and more (`schedule_run`)
+-- the image of that name is attached, and the output gained the text of a report that echoes the whole schedule, event by event, tells each fault of the disk, and is lawful: a run of the plain disk from what the disk held to what it holds, and more (`schedule_run`)
 pub record IsReported (image : List ℕ) (options : RunOptions) (old new : Scene) : Type 0 where
   pub sectors : ℕ
   pub attached : new.disk.attachment ≡ Some (image_named image options.read_only sectors)
@@ -26,7 +29,17 @@ pub record IsReported (image : List ℕ) (options : RunOptions) (old new : Scene
   pub schedule : Tells (λ bytes. IsWholeSchedule bytes_limit bytes events) old.source.left
   pub text : new.output.held ≡ written old.output.held (report_text report)
   pub echo : Echoes (options_of options sectors) options.detail events report
+  pub parts : IsAllByEvents (options_of options sectors) options.detail events report
+  pub faults : IsRaised (faults_in report) old.disk.faults new.disk.faults
   pub lawful : IsLawful (options_of options sectors) options.detail (jobs_of events) old.disk.content new.disk.content report
+
+-- the image of that name is attached, and the output gained the text of a report that keeps the headline
+pub record ReportsTheHeadline (image : List ℕ) (options : RunOptions) (old new : Scene) : Type 0 where
+  pub sectors : ℕ
+  pub attached : new.disk.attachment ≡ Some (image_named image options.read_only sectors)
+  pub report : List Line
+  pub text : new.output.held ≡ written old.output.held (report_text report)
+  pub headline : KeepsTheHeadline (options_of options sectors) options.detail old.disk.content new.disk.content report
 
 -- the image of that name is attached, and what was told before a stop is lawful
 pub record IsReportedSoFar (image : List ℕ) (options : RunOptions) (why : RunStop) (old new : Scene) : Type 0 where

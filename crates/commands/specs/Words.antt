@@ -48,9 +48,17 @@ abi_rule = option_rule (codes "abi") 32 64 (codes "64")
 abbrev pub order_rule : Rule
 order_rule = option_rule (codes "order") 0 4 (codes "0")
 
--- a number of 64 bits, which has to be there
-abbrev pub number_rule : Text → Rule
-number_rule id = record (new_rule id) { required = true; parser = Some (parser.Unsigned 0 18446744073709551615) }
+-- a number from 0 to this one, which has to be there
+abbrev pub number_rule : Text → ℕ → Rule
+number_rule id most = record (new_rule id) { required = true; parser = Some (parser.Unsigned 0 most) }
+
+-- a seed has 64 bits
+abbrev pub seed_rule : Rule
+seed_rule = number_rule (codes "seed") 18446744073709551615
+
+-- the lines of a generated load
+abbrev pub count_rule : Rule
+count_rule = number_rule (codes "count") 100000
 
 -- the first words of `run`, up to those on the shape of the ring
 abbrev pub shape_set : App
@@ -70,7 +78,7 @@ check_set = new_app (codes "check")
 
 -- `bench`, with a seed and a count
 abbrev pub bench_set : App
-bench_set = with_rule (with_rule (new_app (codes "bench")) (number_rule (codes "seed"))) (number_rule (codes "count"))
+bench_set = with_rule (with_rule (new_app (codes "bench")) seed_rule) count_rule
 
 -- a program that wants a subcommand, and whose words don't begin with its own name
 abbrev pub bare_set : App
@@ -107,6 +115,10 @@ start_of n = if nat_le n 4294967295 then Some n else None
 -- a number of segments of a request in indirect pages
 abbrev pub indirect_of : ℕ → Option ℕ
 indirect_of n = if nat_le n 960 then Some n else None
+
+-- a number of lines of a generated load
+abbrev pub count_of : ℕ → Option ℕ
+count_of n = if nat_le n 100000 then Some n else None
 
 -- a flag that was used has the text `true`
 abbrev pub is_yes : Option Text → Bool
@@ -151,7 +163,7 @@ bench_with None count = None
 bench_with (Some seed) count = option_map (a_bench seed) count
 
 abbrev pub bench_in : List Row → Option Wish
-bench_in rows = bench_with (number_in (codes "seed") rows) (number_in (codes "count") rows)
+bench_in rows = bench_with (number_in (codes "seed") rows) (option_and_then count_of (number_in (codes "count") rows))
 
 -- what the matches of a subcommand ask for
 abbrev pub wish_in : Text → List Row → Option Wish

@@ -1,5 +1,5 @@
 // The command `bench`.
-ghost use Rattle.std.specs.Prelude.{◌≡◌, IfOk, IfErr};
+ghost use Rattle.std.specs.Prelude.{◌≡◌, ◌≤◌, IfOk, IfErr};
 ghost use Rattle.commands.specs.Bench.{zeros, IsZeroDisk, Tallies, BenchEnds};
 
 use crate::status::Stop;
@@ -15,8 +15,9 @@ use std::alloc::Global;
 
 /// Runs the schedule of that seed and that many lines on 4096 sectors of zeros in memory, and writes
 /// what its report counts: requests submitted and refused, effects, answers, and the last word of
-/// `quiet` and `unsettled`. Where the schedule has 4294967296 bytes or more nothing is written.
+/// `quiet` and `unsettled`.
 pub fn bench<O: Sink>(alloc: Global, seed: u64, count: u64, out: &mut O) -> Result<(), Stop>
+    requires { count ≤ 100000 }
     ensures { BenchEnds seed count result (O.seen out.old) (O.seen out.new) }
 {
     let tally = tally_of(alloc, seed, count)?;
@@ -30,6 +31,7 @@ pub fn bench<O: Sink>(alloc: Global, seed: u64, count: u64, out: &mut O) -> Resu
 
 // Runs the generated schedule, and gives the counts of its report.
 fn tally_of(alloc: Global, seed: u64, count: u64) -> Result<Tally, Stop>
+    requires { count ≤ 100000 }
     ensures { Tallies seed count result }
 {
     let mut disk = zero_disk(alloc)?;

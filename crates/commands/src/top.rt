@@ -1,16 +1,13 @@
 // The program over its outside.
-ghost use Rattle.std.specs.Prelude.{◌≡◌, ◌≢◌, ◌≤◌, ◌⊎◌, ℕ, List, Some, map, IfErr};
+ghost use Rattle.std.specs.Prelude.{◌≡◌, ◌≤◌, ◌⊎◌, ℕ, List, map, IfErr};
 ghost use Rattle.std.specs.String.{string_bytes};
 ghost use Rattle.blk_io.specs.Outside.{HandsOn};
-ghost use Rattle.commands.specs.Words.{Wish, wish_of, AsksRun, AsksRing, AsksCheck, AsksBench, AsksNothing};
-ghost use Rattle.commands.specs.Check.{CheckAt};
-ghost use Rattle.commands.specs.Bench.{BenchAt};
+ghost use Rattle.commands.specs.Words.{AsksRun, AsksNothing};
 ghost use Rattle.commands.specs.Status.{status_of, line_of};
 ghost use Rattle.commands.specs.Scene.{scene};
-ghost use Rattle.commands.specs.Ending.{RunEnds, RingEnds, CarriesOut, EndsSilently, StopsWithReason, IsSaid, run_stop};
-ghost use Rattle.commands.specs.Reported.{RunReports, ReportsAt};
-ghost use Rattle.commands.specs.Settled.{Settles};
-ghost use Rattle.commands.specs.Complete.{MayBeDone, IsDoneAt};
+ghost use Rattle.commands.specs.Ending.{RunEnds, RingEnds, CarriesOut, IsSaid, run_stop};
+ghost use Rattle.commands.specs.Reported.{RunReports};
+ghost use Rattle.commands.specs.Promises.{Promises};
 
 use crate::bench::bench;
 use crate::checking::check_report;
@@ -47,7 +44,7 @@ use std::alloc::Global;
 /// - 6: there was no memory; likewise. Reading the words takes memory too.
 /// - 7: the image failed where it was attached. Nothing was read or written.
 /// - 8: 4294967296 bytes of the input were taken, and the source didn't end before. Their whole
-///   lines were carried out, and are reported. A generated schedule can be as long, and nothing is said.
+///   lines were carried out, and are reported.
 ///
 /// The first reason ends the run: an output that fails after it to hand on what it kept back changes
 /// no status. The image of a run is the one that the words name, attached for writing unless they say
@@ -66,49 +63,16 @@ pub fn blkring<S: Source, D: SectorDisk, O: Sink, E: Sink>(
     out: &mut O,
     err: &mut E,
 ) -> u8
-    // Done: the command of the words made of the outside what it is, and nothing was said.
-    ensures done { result ≡ 0 → EndsSilently (map string_bytes words.now)
+    // By the words and the status: what the outside was and is, and what the error output was given.
+    ensures promised { Promises (map string_bytes words.now) result
         (scene (S.seen src.old) (D.seen disk.old) (O.seen out.old))
         (scene (S.seen src.new) (D.seen disk.new) (O.seen out.new)) (E.seen err.old) (E.seen err.new) }
-    // Any other status is that of a reason, which says what came before, and was said.
-    ensures stopped { result ≢ 0 → StopsWithReason (map string_bytes words.now) result
-        (scene (S.seen src.old) (D.seen disk.old) (O.seen out.old))
-        (scene (S.seen src.new) (D.seen disk.new) (O.seen out.new)) (E.seen err.old) (E.seen err.new) }
-    // A run's image is the one named, and its report is lawful: whole, or as far as it was written.
-    ensures reported { (image : List ℕ) → (options : RunOptions) → AsksRun (map string_bytes words.now) image options
-        → ReportsAt result image options
-        (scene (S.seen src.old) (D.seen disk.old) (O.seen out.old))
-        (scene (S.seen src.new) (D.seen disk.new) (O.seen out.new)) }
-    // A ring's showing leaves the disk as it was.
-    ensures untouched { (abi : Abi) → (order : ℕ) → AsksRing (map string_bytes words.now) abi order
-        → D.seen disk.new ≡ D.seen disk.old }
-    // A check finds what the report is worth by the rules, and leaves the disk as it was.
-    ensures checked { AsksCheck (map string_bytes words.now)
-        → CheckAt result
-        (scene (S.seen src.old) (D.seen disk.old) (O.seen out.old))
-        (scene (S.seen src.new) (D.seen disk.new) (O.seen out.new)) }
-    // A bench says the counts of exactly its schedule, and touches neither input nor image.
-    ensures benched { (seed : ℕ) → (count : ℕ) → AsksBench (map string_bytes words.now) seed count
-        → BenchAt result seed count
-        (scene (S.seen src.old) (D.seen disk.old) (O.seen out.old))
-        (scene (S.seen src.new) (D.seen disk.new) (O.seen out.new)) }
-    // The first reason stands, and each count of faults rose only where it says so; what was written
-    // was handed on, or the output failed.
-    ensures settled { Settles result
-        (scene (S.seen src.old) (D.seen disk.old) (O.seen out.old))
-        (scene (S.seen src.new) (D.seen disk.new) (O.seen out.new)) }
     // Words that ask for nothing are status 2, or 6 where there was no memory to read them; and then
     // nothing was done.
     ensures bad_words { result ≡ 2 → AsksNothing (map string_bytes words.now) }
     ensures refused { AsksNothing (map string_bytes words.now) → (result ≡ 2) ⊎ (result ≡ 6) }
     ensures nothing_done { AsksNothing (map string_bytes words.now)
         → (src.new ≡ src.old) × (out.new ≡ out.old) × (disk.new ≡ disk.old) }
-    // What can be done is done, but for want of memory.
-    ensures completes { (wish : Wish) → wish_of (map string_bytes words.now) ≡ Some wish
-        → MayBeDone wish
-        (scene (S.seen src.old) (D.seen disk.old) (O.seen out.old))
-        (scene (S.seen src.new) (D.seen disk.new) (O.seen out.new))
-        → IsDoneAt wish result }
 {
     match do_command(alloc, words, src, disk, out) {
         Ok(()) => 0,

@@ -2,8 +2,8 @@
 ghost use Rattle.std.specs.Prelude.{◌≡◌, ℕ, IfOk, codes, map, option_map, option_and_then};
 ghost use Rattle.std.specs.String.{string_bytes};
 ghost use Rattle.clap.specs.Words.{first_of, found_of, rows_of, subcommand_rows_of, rule_of};
-ghost use Rattle.commands.specs.Words.{wish_of, wish_by, wish_in, run_in, run_with, ring_in, bench_in, flag_in, number_in, start_of, indirect_of, layout_of, order_of};
-ghost use Rattle.commands.specs.Words.{command_set, read_set, run_set, shape_set, inspect_set, check_set, bench_set, image_rule, flag_rule, option_rule, abi_rule, order_rule, number_rule};
+ghost use Rattle.commands.specs.Words.{wish_of, wish_by, wish_in, run_in, run_with, ring_in, bench_in, flag_in, number_in, start_of, indirect_of, count_of, layout_of, order_of};
+ghost use Rattle.commands.specs.Words.{command_set, read_set, run_set, shape_set, inspect_set, check_set, bench_set, image_rule, flag_rule, option_rule, abi_rule, order_rule, seed_rule, count_rule};
 ghost use Rattle.commands.specs.Reading.{IsArgument, IsSet};
 
 use blk_base::{Abi, OutOfMemory};
@@ -21,7 +21,8 @@ pub enum Command<'a> {
     Run { image: &'a str, options: RunOptions },
     /// Hold the report that the input holds against the rules.
     Check,
-    /// Run the schedule of that seed and that many lines on zeros in memory, and count what comes.
+    /// Run the schedule of that seed and that many lines (0 to 100000) on zeros in memory, and count
+    /// what comes.
     Bench { seed: u64, count: u64 },
 }
 
@@ -45,10 +46,10 @@ pub struct RunOptions {
 /// The command that the words after the program's name ask for, as `clap` reads them: `run` with an
 /// image's name, and `--moves`, `--read-only`, `--abi` 64 or 32, `--order` from 0 to 4, `--start`, a
 /// number of 32 bits, and `--indirect` from 0 to 960, before or after it; `inspect`, with `--abi`
-/// and `--order`; `check`; or `bench`, with a seed and a count, numbers of 64 bits. Each option comes
-/// at most once, and a number may have a plus and zeros before it. Without them the layout is that
-/// of x86_64, the order 0, the ring's first index 0, no request has indirect pages, and the disk may
-/// be written.
+/// and `--order`; `check`; or `bench`, with a seed, a number of 64 bits, and a count from 0 to 100000.
+/// Each option comes at most once, and a number may have a plus and zeros before it. Without them the
+/// layout is that of x86_64, the order 0, the ring's first index 0, no request has indirect pages, and
+/// the disk may be written.
 ///
 /// `None` where `clap` finds a fault in the words, of which a wish for help is one, and at an `--abi`
 /// between 32 and 64. The error comes where there was no memory.
@@ -128,8 +129,8 @@ fn bench_command<'a>(alloc: Global) -> Result<clap::Command<'a>, AllocError>
     ensures { IfOk result (IsSet bench_set) }
 {
     clap::Command::new(alloc, "bench")
-        .arg(number_argument(alloc, "seed"))?
-        .arg(number_argument(alloc, "count"))
+        .arg(seed_argument(alloc))?
+        .arg(count_argument(alloc))
 }
 
 fn image_argument<'a>(alloc: Global) -> Arg<'a>
@@ -138,12 +139,20 @@ fn image_argument<'a>(alloc: Global) -> Arg<'a>
     Arg::new(alloc, "image").required(true)
 }
 
-fn number_argument<'a>(alloc: Global, id: &'a str) -> Arg<'a>
-    ensures { IsArgument (number_rule id.now) result }
+fn seed_argument<'a>(alloc: Global) -> Arg<'a>
+    ensures { IsArgument seed_rule result }
 {
-    Arg::new(alloc, id)
+    Arg::new(alloc, "seed")
         .required(true)
         .value_parser(value_parser!(u64))
+}
+
+fn count_argument<'a>(alloc: Global) -> Arg<'a>
+    ensures { IsArgument count_rule result }
+{
+    Arg::new(alloc, "count")
+        .required(true)
+        .value_parser(value_parser!(u64).range(0..=100_000))
 }
 
 // `--ID`.
@@ -248,7 +257,7 @@ fn bench<'a>(found: &ArgMatches<'a>) -> Option<Command<'a>>
     ensures { option_map wish_by result ≡ bench_in (rows_of (found_of found.now)) }
 {
     let seed = number(found, "seed")?;
-    let count = number(found, "count")?;
+    let count = count(number(found, "count")?)?;
     Some(Command::Bench { seed, count })
 }
 
@@ -287,6 +296,17 @@ fn indirect(number: u64) -> Option<u32>
 {
     if number <= 960 {
         Some(number as u32)
+    } else {
+        None
+    }
+}
+
+// A number of lines of a generated load.
+fn count(number: u64) -> Option<u64>
+    ensures { result ≡ count_of number }
+{
+    if number <= 100_000 {
+        Some(number)
     } else {
         None
     }

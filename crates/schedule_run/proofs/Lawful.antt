@@ -60,14 +60,14 @@ use Rattle.report_laws.proofs.Ready.{report_ready, ended_ready}
 use Rattle.report_laws.proofs.QuietRing.{report_quiet, ended_quiet}
 use Rattle.report_laws.proofs.States.{report_agreed, ended_agreed}
 use Rattle.report_laws.proofs.FewPorts.{report_ports, ended_ports}
-use Rattle.vbd_laws.specs.Causes.{IsCausedAt, AreCaused}
 use Rattle.refusal_laws.specs.Ruled.{IsRuledAt, AreRuled}
 use Rattle.refusal_laws.proofs.Serves.{AreServing}
 use Rattle.refusal_laws.proofs.Runs.{report_ruled}
 use Rattle.refusal_laws.proofs.Kept.{kept_ruled}
 use Rattle.schedule_run.proofs.Wished.{possible_wished}
 use Rattle.schedule_run.proofs.FewReads.{IsBrief}
-use Rattle.schedule_run.specs.Lawful.{ObeysMoves, ShowsWork, ServesRequests, ServesRequestsSoFar, IsLawful, IsLawfulSoFar}
+use Rattle.schedule_run.proofs.Caused.{caused_before, nothing_caused}
+use Rattle.schedule_run.specs.Lawful.{ObeysMoves, ShowsWork, ServesRequests, ServesRequestsSoFar, HasCauses, IsLawful, IsLawfulSoFar}
 
 -- the moves, where they are shown
 whole_moves : (config : Options) (history : List Happening) → IsPlain config → ArePossible history (start_of config) → ObeysMoves config.order (report_of config Moves history)
@@ -168,7 +168,6 @@ pub record IsTold (config : Options) (detail : Detail) (history : List Happening
   pub possible : ArePossible history (start_of config)
   pub served : AreServed (honest_history history) (start_of config)
   pub agreed : AreAgreed (honest_history history) (start_of config)
-  pub caused : AreCaused (report_of config Moves history)
   pub serving : AreServing config history
   pub brief : IsBrief config detail history
 
@@ -189,22 +188,6 @@ alike detail config history are same = subst (λ (d : Detail). AreStatesAgreed (
 
 ended_alike : (detail : Detail) (config : Options) (history : List Happening) → AreAgreed history (start_of config) → detail ≡ Moves → AreStatesAgreed (kept_of detail (ended_report_of config detail history))
 ended_alike detail config history are same = subst (λ (d : Detail). AreStatesAgreed (kept_of d (ended_report_of config d history))) (sym same) (ended_agreed config history are)
-
--- halts and words that break the front, where the moves are shown
-caused : (detail : Detail) (config : Options) (history : List Happening) → AreCaused (report_of config Moves history) → detail ≡ Moves → AreCaused (kept_of detail (report_of config detail history))
-caused detail config history are same =
-    subst (λ (d : Detail). AreCaused (kept_of d (report_of config d history))) (sym same) (subst (λ (ls : List Line). AreCaused ls) (sym (report_kept config history)) are)
-
-ended_caused : (detail : Detail) (config : Options) (history : List Happening) → AreCaused (report_of config Moves history) → detail ≡ Moves → AreCaused (kept_of detail (ended_report_of config detail history))
-ended_caused detail config history are same =
-    subst (λ (d : Detail). AreCaused (kept_of d (ended_report_of config d history))) (sym same)
-    (subst (λ (ls : List Line). AreCaused ls) (sym (ended_kept config history)) (obeys_more IsCausedAt (report_of config Moves history) End are tt))
-
--- of the first part of a history
-pub caused_before : (config : Options) (first rest : List Happening) → AreCaused (report_of config Moves (first ++ rest)) → AreCaused (report_of config Moves first)
-caused_before config first rest are =
-    obeys_before IsCausedAt (report_of config Moves first) (lines_of rest (after first (start_of config)))
-    (subst (λ (ls : List Line). AreCaused (Begin config Moves ∷ ls)) (lines_of-append first rest (start_of config)) are)
 
 -- each submission is answered by the first rule that applies
 whole_ruled : (config : Options) (detail : Detail) (history : List Happening) → IsTold config detail history → AreRuled (submitted_of history) (report_of config detail history)
@@ -406,8 +389,8 @@ begun_honest config detail history last part rest before now h long runs all of 
         (whole_report config detail (honest_history history) before part_disk.0 h.plain (served_before history (last ∷ []) (start_of config) h.served) long part_disk.1
         (subst (IsOfADisk config.sectors before.content) same of)))
 
-pub report_lawful : (config : Options) (detail : Detail) (history : List Happening) (before now : DiskSeen) → IsTold config detail history → HasLength before.content config.sectors → DiskRuns history (start_of config) before now → IsLawful config detail (submitted_of history) before.content now.content (kept_of detail (report_of config detail history))
-report_lawful config detail history before now h long runs =
+pub report_lawful : (config : Options) (detail : Detail) (history : List Happening) (before now : DiskSeen) → IsTold config detail history → HasLength before.content config.sectors → DiskRuns history (start_of config) before now → (detail ≡ Moves → HasCauses (kept_of detail (report_of config detail history))) → IsLawful config detail (submitted_of history) before.content now.content (kept_of detail (report_of config detail history))
+report_lawful config detail history before now h long runs causes =
     let report = kept_of detail (report_of config detail history) in
     let first = kept_of detail (report_of config detail (honest_history history)) in
     let same : honest_part report ≡ first = report_honest config detail history h in
@@ -424,14 +407,14 @@ report_lawful config detail history before now h long runs =
       ring = λ moves. subst IsQuietRing (sym same) (report_quiet config detail (honest_history history) h.plain (allowed h) moves);
       agreed = λ moves. subst AreStatesAgreed (sym same) (alike detail config (honest_history history) h.agreed moves);
       ports = λ moves. report_ports config detail history;
-      causes = caused detail config history h.caused;
+      causes = causes;
       moves = shown detail config history h.plain h.possible;
       work = λ moves. worked detail config history h.plain moves h.brief.reads;
     }
 
 -- with its last line
-pub ended_lawful : (config : Options) (detail : Detail) (history : List Happening) (before now : DiskSeen) → IsTold config detail history → HasLength before.content config.sectors → DiskRuns history (start_of config) before now → IsLawful config detail (submitted_of history) before.content now.content (kept_of detail (ended_report_of config detail history))
-ended_lawful config detail history before now h long runs =
+pub ended_lawful : (config : Options) (detail : Detail) (history : List Happening) (before now : DiskSeen) → IsTold config detail history → HasLength before.content config.sectors → DiskRuns history (start_of config) before now → (detail ≡ Moves → HasCauses (kept_of detail (ended_report_of config detail history))) → IsLawful config detail (submitted_of history) before.content now.content (kept_of detail (ended_report_of config detail history))
+ended_lawful config detail history before now h long runs causes =
     record {
       begun = ended_begun config detail history;
       kept = λ fixed. content_kept config history before now fixed runs;
@@ -449,7 +432,7 @@ ended_lawful config detail history before now h long runs =
           of_part config detail history h AreStatesAgreed (λ all. ended_alike detail config history (subst (λ (hs : List Happening). AreAgreed hs (start_of config)) all h.agreed) moves)
           (alike detail config (honest_history history) h.agreed moves);
       ports = λ moves. ended_ports config detail history;
-      causes = ended_caused detail config history h.caused;
+      causes = causes;
       moves = ended_shown detail config history h.plain h.possible;
       work = λ moves. ended_worked detail config history h.plain moves h.brief.reads;
     }
@@ -458,8 +441,9 @@ ended_lawful config detail history before now h long runs =
 pub begun_lawful : (config : Options) (detail : Detail) (history : List Happening) (before : Option (List (List ℕ))) (said rest : List Line) → IsTold config detail history
     → said ++ rest ≡ ended_report_of config detail history
     → (IsOfADisk config.sectors before (honest_part (kept_of detail said)) → HasRunSoFar (submitted_of history) before (honest_part (kept_of detail said)))
+    → (detail ≡ Moves → HasCauses (kept_of detail (ended_report_of config detail history)))
     → IsLawfulSoFar config detail (submitted_of history) before (kept_of detail said)
-begun_lawful config detail history before said rest h all run =
+begun_lawful config detail history before said rest h all run causes =
     let one = kept_of detail said in
     let other = kept_of detail rest in
     let split : one ++ other ≡ kept_of detail (ended_report_of config detail history) = sym (kept_of-append detail said rest) ∙ ap (kept_of detail) all in
@@ -473,7 +457,7 @@ begun_lawful config detail history before said rest h all run =
       ring = λ moves. obeys_before IsQuietRingAt (honest_part one) part.0 (subst (Obeys IsQuietRingAt) (sym part.1) (ended_quiet config detail (honest_history history) h.plain (allowed h) moves));
       agreed = λ moves. obeys_before IsAgreedAt (honest_part one) part.0 (subst (Obeys IsAgreedAt) (sym part.1) (ended_alike detail config (honest_history history) h.agreed moves));
       ports = λ moves. obeys_before IsFewPortsAt one other (subst (Obeys IsFewPortsAt) (sym split) (ended_ports config detail history));
-      causes = λ moves. obeys_before IsCausedAt one other (subst (Obeys IsCausedAt) (sym split) (ended_caused detail config history h.caused moves));
+      causes = λ moves. caused_before one other (subst HasCauses (sym split) (causes moves));
       moves = λ moves. moves_before config.order one other (subst (ObeysMoves config.order) (sym split) (ended_shown detail config history h.plain h.possible moves));
       work = λ moves. work_before one other (subst ShowsWork (sym split) (ended_worked detail config history h.plain moves h.brief.reads));
     }
@@ -506,7 +490,7 @@ nothing_lawful config detail jobs before =
       ring = λ same. obeys_none IsQuietRingAt;
       agreed = λ same. obeys_none IsAgreedAt;
       ports = λ same. obeys_none IsFewPortsAt;
-      causes = λ same. obeys_none IsCausedAt;
+      causes = λ same. nothing_caused;
       moves = λ same. record { coherent = obeys_none _; answered = obeys_none _; touched = obeys_none _; grantable = obeys_none _; overruns = obeys_none _; stretches = obeys_none _; dumps = obeys_none _; layout = obeys_none _ };
       work = λ same. record { steps = obeys_none _; data_given = obeys_none _; effects = obeys_none _; unmaps = obeys_none _; own = obeys_none _; replies = obeys_none _ };
     }

@@ -21,12 +21,15 @@ use Rattle.vbd_model.proofs.Echo.{echo_of, schedule_echo, kept_echo}
 use Rattle.vbd_model.proofs.Submitting.{events_submit}
 use Rattle.schedule_run.specs.Outcome.{Outside, outside, HasCarriedOut, EndsWhole, IsCut, IsUnsent, HasRead, StandsAtStop, StopsWith, EndsUnsent, Runs}
 use Rattle.schedule_run.specs.Reading.{IsWholeSchedule, HasBegun, HasComeTo, IsReadSoFar, Tells}
-use Rattle.schedule_run.specs.Lawful.{IsLawful, IsLawfulSoFar, HasLawfulReport, IsToldSoFar, HasLawfulBeginning, IsLawfulRun, ToldOf, IsLawfulStop, RunsLawfully}
+use Rattle.schedule_run.specs.Lawful.{IsLawful, IsLawfulSoFar, HasLawfulReport, IsToldSoFar, HasLawfulBeginning, IsLawfulRun, ToldOf, BeginsLawfully, IsLawfulStop, RunsLawfully}
 use Rattle.schedule_run.specs.declared.schedule.RunStop.{RunStop}
 use Rattle.schedule_run.specs.declared.schedule.RunStop.TheVariants as stop
 use Rattle.schedule_run.proofs.Lawful.{nothing_lawful}
-use Rattle.schedule_run.proofs.Whole.{ended_lawful, begun_lawful, ended_honest_run, content_kept}
-use Rattle.schedule_run.proofs.Told.{told_of, is_told, carried_lawful, carried_so_far, stopped_at_first, stopped_in_event, stopped_at_end, have_widths}
+use Rattle.schedule_run.proofs.Image.{whole_image, nothing_image}
+use Rattle.event_laws.proofs.Parts.{ended_by_events}
+use Rattle.event_laws.proofs.Faults.{ended_raised, no_faults}
+use Rattle.schedule_run.proofs.Whole.{submitted, ended_lawful, begun_lawful, ended_honest_run, content_kept}
+use Rattle.schedule_run.proofs.Told.{told_of, is_told, are_made, carried_lawful, carried_so_far, stopped_at_first, stopped_in_event, stopped_at_end, have_widths}
 
 -- what was read, as it is told where the recorder stopped the run
 read_none : (limit : ℕ) (left : Option (List ℕ)) → Tells (λ (bytes : List ℕ). IsReadSoFar limit bytes []) left
@@ -47,22 +50,22 @@ read_whole limit events (Some bytes) h = inr (inr h)
 
 -- a recorder that tells the same tells a report that is as lawful, or a beginning
 report_same : (config : Options) (events : List Event) (old new : Outside) (before : RecorderSeen) → HasLawfulReport config events old (outside new.disk before) → new.recorder.told ≡ before.told → HasLawfulReport config events old new
-report_same config events old new before h same = record { report = h.report; told = same ∙ h.told; echo = h.echo; widths = h.widths; lawful = h.lawful }
+report_same config events old new before h same =
+    record { report = h.report; told = same ∙ h.told; echo = h.echo; parts = h.parts; faults = h.faults; widths = h.widths; lawful = h.lawful }
 
-beginning_same : (config : Options) (events : List Event) (old new : Outside) (before : RecorderSeen) → HasLawfulBeginning config events old (outside new.disk before) → new.recorder.told ≡ before.told → HasLawfulBeginning config events old new
-beginning_same config events old new before h same = record {
+beginning_same : (config : Options) (why : RecordStop) (events : List Event) (old new : Outside) (before : RecorderSeen) → HasLawfulBeginning config why events old (outside new.disk before) → new.recorder.told ≡ before.told → HasLawfulBeginning config why events old new
+beginning_same config why events old new before h same = record {
   report = h.report;
-  told = subst (IsToldSoFar old.recorder.detail h.report old.recorder.told) (sym same) h.told;
+  told = subst (IsToldSoFar why old.recorder.detail h.report old.recorder.told) (sym same) h.told;
   lawful = h.lawful;
+  image = h.image;
+  faults = h.faults;
   kept = h.kept;
 }
 
 -- a run that was stopped by its recorder, wherever
-abbrev BeginsLawfully : Options → ℕ → SourceSeen → Outside → Outside → Type 0
-BeginsLawfully config limit a old new = (events : List Event) × Tells (λ bytes. IsReadSoFar limit bytes events) a.left × HasLawfulBeginning config events old new
-
-begins_same : (config : Options) (limit : ℕ) (a : SourceSeen) (old new : Outside) (before : RecorderSeen) → BeginsLawfully config limit a old (outside new.disk before) → new.recorder.told ≡ before.told → BeginsLawfully config limit a old new
-begins_same config limit a old new before h same = (h.0, h.1, beginning_same config h.0 old new before h.2 same)
+begins_same : (config : Options) (limit : ℕ) (why : RecordStop) (a : SourceSeen) (old new : Outside) (before : RecorderSeen) → BeginsLawfully config limit why a old (outside new.disk before) → new.recorder.told ≡ before.told → BeginsLawfully config limit why a old new
+begins_same config limit why a old new before h same = (h.0, h.1, beginning_same config why h.0 old new before h.2 same)
 
 -- the whole report, with its last line
 done_told : (config : Options) (events : List Event) (old new : Outside) (before : RecorderSeen) → (h : HasCarriedOut config events old (outside new.disk before)) → new.recorder.told ≡ gained before.told (kept_of before.detail (End ∷ [])) → (let carried = h.1 in let leads = carried.leads in new.recorder.told ≡ gained old.recorder.told (kept_of old.recorder.detail (ended_report_of config old.recorder.detail leads.history)))
@@ -100,13 +103,15 @@ done_lawful config limit a b old new long done =
       report = kept_of detail (ended_report_of config detail leads.history);
       told = done_told config done.events old new done.before done.carried ended.told;
       echo = echoes config done.events old new done.before done.carried;
+      parts = ended_by_events config detail done.events leads.history (are_made config done.events old (moment (let h = done.carried in h.0) new.disk done.before) carried);
+      faults = ended_raised config detail leads.history old.disk new.disk leads.disk;
       widths = have_widths config done.events old (moment (let h = done.carried in h.0) new.disk done.before) carried;
       lawful = subst (λ (jobs : List Job). IsLawful config detail jobs old.disk.content new.disk.content (kept_of detail (ended_report_of config detail leads.history))) (events_submit done.events (start_of config) leads.history leads.is_kind)
           (ended_lawful config detail leads.history old.disk new.disk (is_told config done.events old (moment (let h = done.carried in h.0) new.disk done.before) carried) long leads.disk);
     }
 
 -- it was told whole, but not handed on
-unsent_lawful : (config : Options) (limit : ℕ) (a b : SourceSeen) (old new : Outside) → HasLength old.disk.content config.sectors → EndsUnsent config limit a b old new → BeginsLawfully config limit a old new
+unsent_lawful : (config : Options) (limit : ℕ) (a b : SourceSeen) (old new : Outside) → HasLength old.disk.content config.sectors → EndsUnsent config limit a b old new → BeginsLawfully config limit record_stop.Failed a old new
 unsent_lawful config limit a b old new long h =
     let done = h.done in
     let ended = done.ended in
@@ -123,13 +128,17 @@ unsent_lawful config limit a b old new long h =
         lawful = subst (λ (jobs : List Job). IsLawfulSoFar config detail jobs old.disk.content (kept_of detail report)) (events_submit done.events (start_of config) leads.history leads.is_kind)
             (begun_lawful config detail leads.history old.disk.content report [] told (append-nil report)
             (ended_honest_run config detail leads.history old.disk new.disk told long leads.disk));
+        image = λ honest.
+            whole_image config detail (submitted config leads.history) old.disk.content new.disk.content (kept_of detail report)
+            (ended_lawful config detail leads.history old.disk new.disk told long leads.disk) honest;
+        faults = inl (ended_raised config detail leads.history old.disk new.disk leads.disk);
         kept = λ fixed. content_kept config leads.history old.disk new.disk fixed leads.disk;
       },
     )
 
 -- the recorder stopped at the first line, in an event, or at the last line
-cut_lawful : (config : Options) (limit : ℕ) (a : SourceSeen) (why : RecordStop) (old new : Outside) → HasLength old.disk.content config.sectors → IsCut config limit a.left why old new → BeginsLawfully config limit a old new
-cut_lawful config limit a why old new long (inl h) = ([], read_none limit a.left, stopped_at_first config h.word why old new h.disk h.told)
+cut_lawful : (config : Options) (limit : ℕ) (a : SourceSeen) (why : RecordStop) (old new : Outside) → HasLength old.disk.content config.sectors → IsCut config limit a.left why old new → BeginsLawfully config limit why a old new
+cut_lawful config limit a why old new long (inl h) = ([], read_none limit a.left, stopped_at_first config h.word why old new long h.disk h.told)
 cut_lawful config limit a why old new long (inr (inl h)) =
     (h.events ++ h.event ∷ [], read_come limit h.events h.event a.left h.schedule, stopped_in_event config h.events h.event why old h.middle (moment h.last new.disk new.recorder) long h.carried h.stopped)
 cut_lawful config limit a why old new long (inr (inr h)) =
@@ -137,21 +146,23 @@ cut_lawful config limit a why old new long (inr (inr h)) =
     (h.events, read_whole limit h.events a.left h.schedule, stopped_at_end config h.events why old (moment carried.0 new.disk h.before) new refl long carried.1 h.told)
 
 -- it failed to hand on what was told of whole events
-kept_lawful : (config : Options) (limit : ℕ) (a : SourceSeen) (old new : Outside) → HasLength old.disk.content config.sectors → IsUnsent config a.left old new → BeginsLawfully config limit a old new
+kept_lawful : (config : Options) (limit : ℕ) (a : SourceSeen) (old new : Outside) → HasLength old.disk.content config.sectors → IsUnsent config a.left old new → BeginsLawfully config limit record_stop.Failed a old new
 kept_lawful config limit a old new long h =
     let carried = h.carried in
     let failed = h.failed in
-    (h.events, read_begun limit h.events a.left h.schedule, beginning_same config h.events old new h.before (carried_so_far config h.events old (moment carried.0 new.disk h.before) long carried.1) failed.told)
+    (h.events, read_begun limit h.events a.left h.schedule, beginning_same config record_stop.Failed h.events old new h.before (carried_so_far config record_stop.Failed h.events old (moment carried.0 new.disk h.before) long carried.1) failed.told)
 
 -- nothing was told
-none_lawful : (config : Options) (limit : ℕ) (a : SourceSeen) (old new : Outside) → new ≡ old → BeginsLawfully config limit a old new
-none_lawful config limit a old new same = (
+none_lawful : (config : Options) (limit : ℕ) (a : SourceSeen) (old new : Outside) → HasLength old.disk.content config.sectors → new ≡ old → BeginsLawfully config limit record_stop.OutOfMemory a old new
+none_lawful config limit a old new long same = (
   [],
   read_none limit a.left,
   record {
     report = [];
-    told = inl (ap (λ (x : Outside). x.recorder.told) same ∙ sym (gained_none old.recorder.told));
+    told = ap (λ (x : Outside). x.recorder.told) same ∙ sym (gained_none old.recorder.told);
     lawful = nothing_lawful config old.recorder.detail [] old.disk.content;
+    image = λ honest. nothing_image config old.disk new.disk long (ap (λ (x : Outside). x.disk.content) same);
+    faults = inl (no_faults old.disk.faults new.disk.faults (ap (λ (x : Outside). x.disk.faults) same));
     kept = λ fixed. ap (λ (x : Outside). x.disk.content) same;
   },
 )
@@ -168,13 +179,13 @@ stands_lawful config limit a b stop.Source old new long h = read_lawful config _
 stands_lawful config limit a b stop.TooLong old new long h = read_lawful config _ old new long h.1
 stands_lawful config limit a b stop.Sink old new long h = by_end h.1
   where
-    by_end : IsCut config limit a.left record_stop.Failed old new ⊎ IsUnsent config a.left old new → BeginsLawfully config limit a old new
+    by_end : IsCut config limit a.left record_stop.Failed old new ⊎ IsUnsent config a.left old new → BeginsLawfully config limit record_stop.Failed a old new
     by_end (inl cut) = cut_lawful config limit a record_stop.Failed old new long cut
     by_end (inr kept) = kept_lawful config limit a old new long kept
 stands_lawful config limit a b stop.OutOfMemory old new long h = by_end h.1
   where
-    by_end : (new ≡ old) ⊎ IsCut config limit a.left record_stop.OutOfMemory old new → BeginsLawfully config limit a old new
-    by_end (inl same) = none_lawful config limit a old new same
+    by_end : (new ≡ old) ⊎ IsCut config limit a.left record_stop.OutOfMemory old new → BeginsLawfully config limit record_stop.OutOfMemory a old new
+    by_end (inl same) = none_lawful config limit a old new long same
     by_end (inr cut) = cut_lawful config limit a record_stop.OutOfMemory old new long cut
 
 told_same : (config : Options) (claim : List Event → Type 0) (old new : Outside) (before : RecorderSeen) → ToldOf config claim old (outside new.disk before) → new.recorder.told ≡ before.told → ToldOf config claim old new
@@ -184,8 +195,8 @@ stop_same : (config : Options) (limit : ℕ) (a b : SourceSeen) (why : RunStop) 
 stop_same config limit a b (stop.BadLine n) old new before h same = told_same config _ old new before h same
 stop_same config limit a b stop.Source old new before h same = told_same config _ old new before h same
 stop_same config limit a b stop.TooLong old new before h same = told_same config _ old new before h same
-stop_same config limit a b stop.Sink old new before h same = begins_same config limit a old new before h same
-stop_same config limit a b stop.OutOfMemory old new before h same = begins_same config limit a old new before h same
+stop_same config limit a b stop.Sink old new before h same = begins_same config limit record_stop.Failed a old new before h same
+stop_same config limit a b stop.OutOfMemory old new before h same = begins_same config limit record_stop.OutOfMemory a old new before h same
 
 stopped_lawful : (config : Options) (limit : ℕ) (a b : SourceSeen) (why : RunStop) (old new : Outside) → HasLength old.disk.content config.sectors → StopsWith config limit a b why old new → IsLawfulStop config limit a b why old new
 stopped_lawful config limit a b why old new long h =

@@ -10,9 +10,12 @@ pub mod Jobs
 pub mod Counts
 pub mod FewReads
 pub mod Wished
+pub mod Caused
 pub mod Lawful
 pub mod Whole
 pub mod Begins
+pub mod Image
 pub mod Told
 pub mod LawfulEnds
+pub mod Headline
 pub mod Suspended

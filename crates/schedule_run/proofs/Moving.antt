@@ -25,7 +25,7 @@ use Rattle.blk_base.specs.declared.ask.BackAsk.TheVariants as back_asks
 use Rattle.blk_back.specs.Ask.{is_wait}
 use Rattle.hypervisor.specs.Act.{has_to_take, back_watched}
 use Rattle.hypervisor.specs.Disk.{DiskDoes}
-use Rattle.hypervisor.specs.May.{FrontMay, BackMay}
+use Rattle.hypervisor.specs.May.{FrontMay, BackMay, FrontTakesMemory, BackTakesMemory}
 use Rattle.back_jobs.specs.Hands.{Names}
 use Rattle.blk_back.specs.Hands.{hands_of}
 use Rattle.blk_back.specs.declared.told.BackTold.{BackTold}
@@ -339,11 +339,11 @@ pub front_asked_may : (w : World) (ask : FrontAsk) → IsFit w → ask ≡ front
 front_asked_may w ask fit asked within = subst (FrontMay w.rings.under) (sym asked) (front_asks_may w fit (subst front.StaysInMemory asked within))
 
 -- there was no memory for what an end asks, and nothing happened
-pub front_lacks : (w : World) (u : Hypervisor) (c : DiskSeen) (r : RecorderSeen) → u ≡ w.rings.under → Goes (Is (FrontMoves ∷ [])) (Is (FrontMoves ∷ [])) 0 (Err OutOfMemory) (moment w c r) (moment (record { rings = record { front = w.rings.front; back = w.rings.back; under = u }; front = w.front; back = w.back }) c r)
-front_lacks w u c r same = rw same (goes_lacking (Is (FrontMoves ∷ [])) (Is (FrontMoves ∷ [])) 0 FrontMoves (moment w c r) (moment w c r) refl refl refl refl)
+pub front_lacks : (w : World) (ask : FrontAsk) (u : Hypervisor) (c : DiskSeen) (r : RecorderSeen) → ask ≡ front.ask_of (frontend_of w) → FrontTakesMemory ask → u ≡ w.rings.under → Goes (Is (FrontMoves ∷ [])) (Is (FrontMoves ∷ [])) 0 (Err OutOfMemory) (moment w c r) (moment (record { rings = record { front = w.rings.front; back = w.rings.back; under = u }; front = w.front; back = w.back }) c r)
+front_lacks w ask u c r asked takes same = rw same (goes_lacking (Is (FrontMoves ∷ [])) (Is (FrontMoves ∷ [])) 0 FrontMoves (moment w c r) (moment w c r) refl (subst FrontTakesMemory asked takes) refl refl refl)
 
-pub back_lacks : (w : World) (u : Hypervisor) (c d : DiskSeen) (r : RecorderSeen) → u ≡ w.rings.under → d ≡ c → Goes (Is (BackMoves ∷ [])) (Is (BackMoves ∷ [])) 41 (Err OutOfMemory) (moment w c r) (moment (record { rings = record { front = w.rings.front; back = w.rings.back; under = u }; front = w.front; back = w.back }) d r)
-back_lacks w u c d r same untouched = rw (same, untouched) (goes_lacking (Is (BackMoves ∷ [])) (Is (BackMoves ∷ [])) 41 BackMoves (moment w c r) (moment w c r) refl refl refl refl)
+pub back_lacks : (w : World) (ask : BackAsk) (u : Hypervisor) (c d : DiskSeen) (r : RecorderSeen) → ask ≡ back.ask_of (backend_of w) → BackTakesMemory ask → u ≡ w.rings.under → d ≡ c → Goes (Is (BackMoves ∷ [])) (Is (BackMoves ∷ [])) 41 (Err OutOfMemory) (moment w c r) (moment (record { rings = record { front = w.rings.front; back = w.rings.back; under = u }; front = w.front; back = w.back }) d r)
+back_lacks w ask u c d r asked takes same untouched = rw (same, untouched) (goes_lacking (Is (BackMoves ∷ [])) (Is (BackMoves ∷ [])) 41 BackMoves (moment w c r) (moment w c r) refl (subst BackTakesMemory asked takes) refl refl refl)
 
 pub back_asked_may : (w v : World) (ask : BackAsk) (attached : Option ℕ) → w ≡ v → IsFit w → ask ≡ back.ask_of (backend_of w) → Names (hands_of w.rings.back) ask → length (hands_of w.rings.back) ≤ 529 → attached ≡ Some v.rings.front.sectors → mappings_of v + 41 < 2 ^ 64 → BackMay w.rings.under attached ask
 back_asked_may w v ask attached is fit asked names few disk left =
@@ -399,7 +399,7 @@ overwrote w name text u allowed set = rw (set, allowed) refl
 -- or there was no memory for it
 pub key_lacks : (w : World) (name text : List ℕ) (u : Hypervisor) (c : DiskSeen) (r : RecorderSeen) → u ≡ w.rings.under
     → Goes (Is (OverwritesKey name text ∷ [])) (Is (OverwritesKey name text ∷ [])) 0 (Err OutOfMemory) (moment w c r) (moment (record { rings = record { front = w.rings.front; back = w.rings.back; under = u }; front = w.front; back = w.back }) c r)
-key_lacks w name text u c r same = rw same (goes_lacking (Is (OverwritesKey name text ∷ [])) (Is (OverwritesKey name text ∷ [])) 0 (OverwritesKey name text) (moment w c r) (moment w c r) refl refl refl refl)
+key_lacks w name text u c r same = rw same (goes_lacking (Is (OverwritesKey name text ∷ [])) (Is (OverwritesKey name text ∷ [])) 0 (OverwritesKey name text) (moment w c r) (moment w c r) refl tt refl refl refl)
 
 -- the words of the ring were said of the machine as it stands
 pub dumped_goes : (w : World) (c : DiskSeen) (r s : RecorderSeen) (result : Result (Unit {0}) RecordStop) → Adds (ring.lines_at w.rings ring.Dumps) result r s → Goes (Is (Dumps ∷ [])) (Is (Dumps ∷ [])) 0 result (moment w c r) (moment w c s)

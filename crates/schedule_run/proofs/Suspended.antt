@@ -68,5 +68,5 @@ pub suspend_lacks : (w v : World) (c : DiskSeen) (r : RecorderSeen) → v ≡ w 
 suspend_lacks w v c r same = rw same (by_may (may_suspend w.rings) refl)
   where
     by_may : (b : Bool) → may_suspend w.rings ≡ b → Goes (IsSuspend w) (IsSuspendSoFar w) 0 (Err OutOfMemory) (moment w c r) (moment w c r)
-    by_may true may = goes_lacking (IsSuspend w) (IsSuspendSoFar w) 0 Suspends (moment w c r) (moment w c r) (inl (refl, may)) refl refl refl
-    by_may false none = goes_lacking (IsSuspend w) (IsSuspendSoFar w) 0 (Looks false) (moment w c r) (moment w c r) (inr (refl, none)) refl refl refl
+    by_may true may = goes_lacking (IsSuspend w) (IsSuspendSoFar w) 0 Suspends (moment w c r) (moment w c r) (inl (refl, may)) tt refl refl refl
+    by_may false none = goes_lacking (IsSuspend w) (IsSuspendSoFar w) 0 (Looks false) (moment w c r) (moment w c r) (inr (refl, none)) none refl refl refl

@@ -1,10 +1,11 @@
 -- The laws of the ring's machine, of the report of the whole machine, of which each happening is one or two of that machine's.
-use Rattle.std.proofs.Common.{◌≡◌, ℕ, ◌⊎◌, inl, inr, true, List, [], ◌∷◌, ◌++◌, Option, refl, ap, sym, ◌∙◌, subst, append_assoc, append-nil}
+use Rattle.std.proofs.Common.{◌≡◌, ℕ, ◌≤◌, ◌⊎◌, inl, inr, true, List, [], ◌∷◌, ◌++◌, Option, refl, ap, sym, ◌∙◌, subst, append_assoc, append-nil}
 use Rattle.std.proofs.lemmas.List.Elements.{filter_map-append}
 use Rattle.blk_base.specs.Options.{Options}
 use Rattle.blk_base.specs.declared.config.Job.{Job}
 use Rattle.blk_io.specs.Disk.{DiskSeen, HasLength}
 use Rattle.schedule_text.specs.declared.line.Detail.{Detail}
+use Rattle.schedule_text.specs.declared.line.Detail.TheVariants.{Moves}
 use Rattle.schedule_text.specs.declared.line.Line.{Line}
 use Rattle.schedule_text.specs.declared.line.Line.TheVariants.{Begin}
 use Rattle.schedule_text.specs.Recorder.{kept_of}
@@ -23,8 +24,9 @@ use Rattle.vbd_model.specs.World.{World, start_of}
 use Rattle.vbd_model.specs.Happening.{Happening, does, lines_at, DiskRuns, after, all_does}
 use Rattle.vbd_model.specs.Report.{report_of, ended_report_of}
 use Rattle.vbd_model.proofs.Running.{all_does-append, after_rings, disk_lift, report_lift, ended_report_lift}
-use Rattle.schedule_run.specs.Lawful.{IsLawful, IsLawfulSoFar}
+use Rattle.schedule_run.specs.Lawful.{HasCauses, IsLawful, IsLawfulSoFar}
 use Rattle.schedule_run.proofs.FewReads.{brief_first}
+use Rattle.schedule_run.proofs.Caused.{report_caused, ended_caused}
 use Rattle.schedule_run.proofs.Lawful as of_rings
 
 -- what happened, to the ring's machine
@@ -49,7 +51,6 @@ told_first config detail first rest h = record {
   possible = possible_first first rest (rings.start_of config) h.possible;
   served = served_before first rest (rings.start_of config) h.served;
   agreed = of_rings.agreed_before first rest (rings.start_of config) h.agreed;
-  caused = of_rings.caused_before config first rest h.caused;
   serving = of_rings.serving_before config first rest h.serving;
   brief = brief_first config detail first rest h.brief;
 }
@@ -62,16 +63,25 @@ history_first config detail history last h =
 pub content_kept : (config : Options) (history : List Happening) (before now : DiskSeen) → config.read_only ≡ true → DiskRuns history (start_of config) before now → now.content ≡ before.content
 content_kept config history before now fixed runs = read_only.content_kept config (to_rings config history) before now fixed (disk_lift history (start_of config) before now runs)
 
+-- where causes stand
+few_segments : (config : Options) (detail : Detail) (history : List Happening) → IsTold config detail history → config.indirect ≤ 960
+few_segments config detail history h = let plain = h.plain in plain.indirect
+
+ended_lift_caused : (config : Options) (detail : Detail) (history : List Happening) → IsTold config detail history → detail ≡ Moves → HasCauses (kept_of detail (ring_report.ended_report_of config detail (to_rings config history)))
+ended_lift_caused config detail history h =
+    subst (λ (report : List Line). detail ≡ Moves → HasCauses (kept_of detail report)) (ended_report_lift config detail history) (ended_caused config detail history h.options (few_segments config detail history h))
+
 -- the whole report
 pub report_lawful : (config : Options) (detail : Detail) (history : List Happening) (before now : DiskSeen) → IsTold config detail history → HasLength before.content config.sectors → DiskRuns history (start_of config) before now → IsLawful config detail (submitted config history) before.content now.content (kept_of detail (report_of config detail history))
 report_lawful config detail history before now h long runs =
     subst (λ (report : List Line). IsLawful config detail (submitted config history) before.content now.content (kept_of detail report)) (sym (report_lift config detail history))
-    (of_rings.report_lawful config detail (to_rings config history) before now h long (disk_lift history (start_of config) before now runs))
+    (of_rings.report_lawful config detail (to_rings config history) before now h long (disk_lift history (start_of config) before now runs)
+    (subst (λ (report : List Line). detail ≡ Moves → HasCauses (kept_of detail report)) (report_lift config detail history) (report_caused config detail history h.options (few_segments config detail history h))))
 
 pub ended_lawful : (config : Options) (detail : Detail) (history : List Happening) (before now : DiskSeen) → IsTold config detail history → HasLength before.content config.sectors → DiskRuns history (start_of config) before now → IsLawful config detail (submitted config history) before.content now.content (kept_of detail (ended_report_of config detail history))
 ended_lawful config detail history before now h long runs =
     subst (λ (report : List Line). IsLawful config detail (submitted config history) before.content now.content (kept_of detail report)) (sym (ended_report_lift config detail history))
-    (of_rings.ended_lawful config detail (to_rings config history) before now h long (disk_lift history (start_of config) before now runs))
+    (of_rings.ended_lawful config detail (to_rings config history) before now h long (disk_lift history (start_of config) before now runs) (ended_lift_caused config detail history h))
 
 -- the run of the plain disk that its honest part is
 pub report_honest_run : (config : Options) (detail : Detail) (history : List Happening) (before now : DiskSeen) → IsTold config detail history → HasLength before.content config.sectors → DiskRuns history (start_of config) before now
@@ -93,7 +103,8 @@ pub begun_lawful : (config : Options) (detail : Detail) (history : List Happenin
     → said ++ rest ≡ ended_report_of config detail history
     → (IsOfADisk config.sectors before (honest_part (kept_of detail said)) → HasRunSoFar (submitted config history) before (honest_part (kept_of detail said)))
     → IsLawfulSoFar config detail (submitted config history) before (kept_of detail said)
-begun_lawful config detail history before said rest h all run = of_rings.begun_lawful config detail (to_rings config history) before said rest h (all ∙ ended_report_lift config detail history) run
+begun_lawful config detail history before said rest h all run =
+    of_rings.begun_lawful config detail (to_rings config history) before said rest h (all ∙ ended_report_lift config detail history) run (ended_lift_caused config detail history h)
 
 -- more may be submitted later
 pub run_later : (config : Options) (history : List Happening) (last : Happening) (before : Option (List (List ℕ))) (report : List Line) → HasRunSoFar (submitted config history) before report → HasRunSoFar (submitted config (history ++ last ∷ [])) before report

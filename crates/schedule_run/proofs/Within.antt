@@ -16,7 +16,7 @@ within_on w v events n le few made within =
     (omega arith, omega arith)
 
 -- what it made happen led on
-stopped_reached : (history : List Happening) (last : Happening) (stop : RecordStop) (a b : Moment) → StopsShowing history last stop a b ⊎ LacksMemory history stop a b → IsReached a.world → IsReached b.world
+stopped_reached : (history : List Happening) (last : Happening) (stop : RecordStop) (a b : Moment) → StopsShowing history last stop a b ⊎ LacksMemory history last stop a b → IsReached a.world → IsReached b.world
 stopped_reached history last stop a b (inl s) r = subst IsReached (sym s.world) (reached_on a.world (history ++ last ∷ []) r)
 stopped_reached history last stop a b (inr s) r = subst IsReached (sym s.world) (reached_on a.world history r)
 

@@ -4,5 +4,6 @@ pub mod Reading
 pub mod Outcome
 pub mod Carrying
 pub mod Lawful
+pub mod Headline
 pub mod Following
 pub mod Going

@@ -13,7 +13,7 @@ use Rattle.schedule_text.specs.declared.line.Line.{Line}
 use Rattle.schedule_text.specs.declared.line.Line.TheVariants as lines
 use Rattle.schedule_text.specs.declared.recorder.RecordStop.{RecordStop}
 use Rattle.schedule_text.specs.declared.recorder.RecordStop.TheVariants.{Failed, OutOfMemory}
-use Rattle.schedule_text.specs.Recorder.{Told, gained, recorded, kept_of, line_bytes, report_text, StopsWithin, RecorderSeen, Gained, Because, StopsAmong, Adds}
+use Rattle.schedule_text.specs.Recorder.{Told, gained, recorded, kept_of, line_bytes, report_text, StopsAt, RecorderSeen, Gained, Because, StopsAmong, Adds}
 use Rattle.schedule_text.specs.Recorders.{listing, KeepsLine, writing, WritesLine}
 use Rattle.schedule_text.proofs.Gaining as told
 
@@ -52,10 +52,10 @@ stopped_first xs ys stop r s p = record {
 }
 
 -- it took these, and then stopped at a line after more of them
-cut_then : (xs ys : List Line) (cut : Line) (r s t : RecorderSeen) → Gained xs r s → StopsWithin (gained s.told (kept_of s.detail ys)) (recorded s.detail cut) t.told → StopsWithin (gained r.told (kept_of r.detail (xs ++ ys))) (recorded r.detail cut) t.told
-cut_then xs ys cut r s t p q =
-    subst (λ (d : Detail). StopsWithin (gained r.told (kept_of r.detail (xs ++ ys))) (recorded d cut) t.told) p.detail
-    (subst (λ (x : Told). StopsWithin x (recorded s.detail cut) t.told) (told_then xs ys r s p) q)
+cut_then : (xs ys : List Line) (cut : Line) (stop : RecordStop) (r s t : RecorderSeen) → Gained xs r s → StopsAt stop (gained s.told (kept_of s.detail ys)) (recorded s.detail cut) t.told → StopsAt stop (gained r.told (kept_of r.detail (xs ++ ys))) (recorded r.detail cut) t.told
+cut_then xs ys cut stop r s t p q =
+    subst (λ (d : Detail). StopsAt stop (gained r.told (kept_of r.detail (xs ++ ys))) (recorded d cut) t.told) p.detail
+    (subst (λ (x : Told). StopsAt stop x (recorded s.detail cut) t.told) (told_then xs ys r s p) q)
 
 -- it stopped at one of the last
 pub stopped_last : (xs ys : List Line) (stop : RecordStop) (r s t : RecorderSeen) → Gained xs r s → StopsAmong [] ys stop s t → StopsAmong [] (xs ++ ys) stop r t
@@ -64,7 +64,7 @@ stopped_last xs ys stop r s t p q = record {
   cut = q.cut;
   rest = q.rest;
   all = ap (λ (l : List Line). xs ++ l) q.all ∙ sym (append_assoc xs q.said (q.cut ∷ q.rest));
-  stops = cut_then xs q.said q.cut r s t p q.stops;
+  stops = cut_then xs q.said q.cut stop r s t p q.stops;
   detail = q.detail ∙ p.detail;
   because = subst (λ f. Because stop f t.faults) p.faults q.because;
   lender = q.lender ∙ p.lender;
@@ -78,8 +78,8 @@ stopped_later xs before ys stop r s t p q = record {
   rest = q.rest;
   all = q.all;
   stops =
-      subst (λ (l : List Line). StopsWithin (gained r.told (kept_of r.detail l)) (recorded r.detail q.cut) t.told) (sym (append_assoc xs before q.said))
-      (cut_then xs (before ++ q.said) q.cut r s t p q.stops);
+      subst (λ (l : List Line). StopsAt stop (gained r.told (kept_of r.detail l)) (recorded r.detail q.cut) t.told) (sym (append_assoc xs before q.said))
+      (cut_then xs (before ++ q.said) q.cut stop r s t p q.stops);
   detail = q.detail ∙ p.detail;
   because = subst (λ f. Because stop f t.faults) p.faults q.because;
   lender = q.lender ∙ p.lender;
@@ -118,13 +118,13 @@ pub took_nothing : (line : Line) (a : RecorderSeen) → recorded a.detail line �
 took_nothing line a none = took line a a (sym (told.gained_none a.told) ∙ ap (gained a.told) (sym none)) refl refl refl
 
 -- it stopped at one line
-pub stopped : (line : Line) (stop : RecordStop) (a b : RecorderSeen) → StopsWithin a.told (recorded a.detail line) b.told → b.detail ≡ a.detail → Because stop a.faults b.faults → b.lender ≡ a.lender → StopsAmong [] (line ∷ []) stop a b
+pub stopped : (line : Line) (stop : RecordStop) (a b : RecorderSeen) → StopsAt stop a.told (recorded a.detail line) b.told → b.detail ≡ a.detail → Because stop a.faults b.faults → b.lender ≡ a.lender → StopsAmong [] (line ∷ []) stop a b
 stopped line stop a b within detail because lender = record {
   said = [];
   cut = line;
   rest = [];
   all = refl;
-  stops = subst (λ (x : Told). StopsWithin x (recorded a.detail line) b.told) (sym (told.gained_none a.told)) within;
+  stops = subst (λ (x : Told). StopsAt stop x (recorded a.detail line) b.told) (sym (told.gained_none a.told)) within;
   detail = detail;
   because = because;
   lender = lender;
@@ -136,7 +136,7 @@ listed line shown d (Ok done) xs ys one p =
     took line (listing d xs) (listing d ys) (ap (λ (l : List Line). record { lines = Some l; text = None; tally = None }) (p ∙ ap (λ (l : List Line). xs ++ l) (sym one))) refl refl refl
 listed line shown d (Err Failed) xs ys one p = absurd p
 listed line shown d (Err OutOfMemory) xs ys one p =
-    stopped line OutOfMemory (listing d xs) (listing d ys) (record { lines = ap Some p; tally = refl; text = (0, omega arith, refl) }) refl refl refl
+    stopped line OutOfMemory (listing d xs) (listing d ys) (ap (λ (l : List Line). record { lines = Some l; text = None; tally = None }) p) refl refl refl
 
 -- the text of one line
 text_one : (line : Line) → report_text (line ∷ []) ≡ line_bytes line

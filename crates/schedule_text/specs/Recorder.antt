@@ -65,11 +65,16 @@ recorded detail (Begin config other) = Begin config detail ∷ []
 recorded Lines (Move move) = []
 recorded detail line = line ∷ []
 
--- after a stop nothing more is told than before, but that a beginning of the lines' text may have been taken
+-- after a failure nothing more is told than before, but that a beginning of the lines' text may have been taken
 pub record StopsWithin (old : Told) (more : List Line) (new : Told) : Type 0 where
   pub lines : new.lines ≡ old.lines
   pub tally : new.tally ≡ old.tally
   pub text : IsPartlyWritten old.text (report_text more) new.text
+
+-- after any stop: want of memory leaves what is told as it was
+abbrev pub StopsAt : RecordStop → Told → List Line → Told → Type 0
+StopsAt Failed old more new = StopsWithin old more new
+StopsAt OutOfMemory old more new = new ≡ old
 
 -- what these lines are to a recorder that keeps them
 abbrev pub kept_of : Detail → List Line → List Line
@@ -101,7 +106,7 @@ pub record StopsAmong (before more : List Line) (stop : RecordStop) (a b : Recor
   pub cut : Line
   pub rest : List Line
   pub all : more ≡ said ++ cut ∷ rest
-  pub stops : StopsWithin (gained a.told (kept_of a.detail (before ++ said))) (recorded a.detail cut) b.told
+  pub stops : StopsAt stop (gained a.told (kept_of a.detail (before ++ said))) (recorded a.detail cut) b.told
   pub detail : b.detail ≡ a.detail
   pub because : Because stop a.faults b.faults
   pub lender : b.lender ≡ a.lender

@@ -13,7 +13,8 @@ pub enum Detail {
     Moves,
 }
 
-/// Why the front refuses a request, in the order in which it looks.
+/// Why the front refuses a request, in the order in which it looks; but a front that closes says that
+/// before it says that it isn't connected.
 #[derive(Clone, Copy, Debug, PartialEq, Eq)]
 pub enum Refusal {
     /// The last number was given.

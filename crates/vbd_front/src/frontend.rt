@@ -62,8 +62,10 @@ impl Frontend {
     }
 
     /// The front is to close: it takes no more requests, and closes once it has finished those that it
-    /// has. Where it closes already, or is closed or broken, nothing happens.
+    /// has. Where it closes already, or is closed or broken, nothing happens. What the negotiation made
+    /// happen before is to be told first, so that none of it is lost.
     pub fn close(&mut self)
+        requires told { self.old.news ≡ None }
         ensures { self.new ≡ closes self.old }
     {
         self.ends.close();
@@ -188,6 +190,7 @@ impl Frontend {
     fn tell_by_turn<'a>(&mut self, answer: &FrontAnswer<'a>)
         requires kind { IsAnswer (ask_of self.old) answer.now }
         requires told { self.old.ring.told ≡ None }
+        requires heard { self.old.news ≡ None }
         ensures { self.new ≡ step_of self.old answer.now }
     {
         self.ends.complete(self.turn, answer);
@@ -206,7 +209,7 @@ impl<'a> Endpoint<'a> for Frontend {
 
     ghost asked = { ask_of };
 
-    ghost MayComplete = { λ front answer. IsAnswer (ask_of front) answer × (front.ring.told ≡ None) };
+    ghost MayComplete = { λ front answer. IsAnswer (ask_of front) answer × (front.ring.told ≡ None) × (front.news ≡ None) };
 
     #[inline(always)]
     #[tactic(auto, using(crate::proofs::Turns::made_asks))]
@@ -224,7 +227,7 @@ impl<'a> Endpoint<'a> for Frontend {
     #[inline(always)]
     #[tactic(auto, using(crate::proofs::Turns::made_answers, crate::proofs::Turns::made_steps))]
     fn complete(&mut self, answer: &FrontAnswer<'a>) -> Result<(), OutOfMemory>
-        requires { IsAnswer (ask_of self.old) answer.now × (self.old.ring.told ≡ None) }
+        requires { IsAnswer (ask_of self.old) answer.now × (self.old.ring.told ≡ None) × (self.old.news ≡ None) }
         ensures completed { self.new ≡ step_of self.old answer.now }
         ensures takes_no_memory { IsOk result }
         ensures unchanged { OnErr result (self.new ≡ self.old) }

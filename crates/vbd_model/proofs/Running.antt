@@ -19,7 +19,7 @@ use Rattle.vbd_model.specs.World.{World, start_of}
 use Rattle.vbd_model.specs.Happening.{Happening, does, happens, lines_at, after, lines_of, DiskRuns, DiskGoes, all_does}
 use Rattle.vbd_model.specs.Mappings.{mappings_of}
 use Rattle.vbd_model.specs.Report.{report_of, ended_report_of}
-use Rattle.vbd_model.specs.Leads.{Moment, IsReadyFor, Keeps, Leads, StopsShowing, LacksMemory, LeadsToStop, Ends, Goes}
+use Rattle.vbd_model.specs.Leads.{Moment, IsReadyFor, Keeps, Leads, StopsShowing, NeedsMemory, LacksMemory, LeadsToStop, Ends, Goes}
 use Rattle.vbd_model.proofs.Keeping.{disk_attachment}
 pub use Rattle.split_model.proofs.Running.{kept_of-append}
 
@@ -128,17 +128,18 @@ stop_shown_on xs ys last stop a b c here disk told q =
       told = stopped_on xs ys last stop a.world b.world a.recorder b.recorder c.recorder here told q.told;
     }
 
-memory_lacks_on : (xs ys : List Happening) (stop : RecordStop) (a b c : Moment) → b.world ≡ after xs a.world → DiskRuns xs a.world a.disk b.disk → Gained (lines_of xs a.world) a.recorder b.recorder → LacksMemory ys stop b c → LacksMemory (xs ++ ys) stop a c
-memory_lacks_on xs ys stop a b c here disk told q = record {
+memory_lacks_on : (xs ys : List Happening) (last : Happening) (stop : RecordStop) (a b c : Moment) → b.world ≡ after xs a.world → DiskRuns xs a.world a.disk b.disk → Gained (lines_of xs a.world) a.recorder b.recorder → LacksMemory ys last stop b c → LacksMemory (xs ++ ys) last stop a c
+memory_lacks_on xs ys last stop a b c here disk told q = record {
   lacks = q.lacks;
+  needed = subst (λ (w : World). NeedsMemory w last) (ap (after ys) here ∙ sym (after-append xs ys a.world)) q.needed;
   world = went_on xs ys a.world b.world c.world here q.world;
   disk = disk_went_on xs ys a.world b.world a.disk b.disk c.disk here disk q.disk;
   told = gained_on xs ys a.world b.world a.recorder b.recorder c.recorder here told q.told;
 }
 
-stopped_after : (xs ys : List Happening) (last : Happening) (stop : RecordStop) (a b c : Moment) → b.world ≡ after xs a.world → DiskRuns xs a.world a.disk b.disk → Gained (lines_of xs a.world) a.recorder b.recorder → StopsShowing ys last stop b c ⊎ LacksMemory ys stop b c → StopsShowing (xs ++ ys) last stop a c ⊎ LacksMemory (xs ++ ys) stop a c
+stopped_after : (xs ys : List Happening) (last : Happening) (stop : RecordStop) (a b c : Moment) → b.world ≡ after xs a.world → DiskRuns xs a.world a.disk b.disk → Gained (lines_of xs a.world) a.recorder b.recorder → StopsShowing ys last stop b c ⊎ LacksMemory ys last stop b c → StopsShowing (xs ++ ys) last stop a c ⊎ LacksMemory (xs ++ ys) last stop a c
 stopped_after xs ys last stop a b c here disk told (inl q) = inl (stop_shown_on xs ys last stop a b c here disk told q)
-stopped_after xs ys last stop a b c here disk told (inr q) = inr (memory_lacks_on xs ys stop a b c here disk told q)
+stopped_after xs ys last stop a b c here disk told (inr q) = inr (memory_lacks_on xs ys last stop a b c here disk told q)
 
 -- what happened, and then more, of which the last was stopped
 pub stops_on : (one other both : List Happening → Type 0) (stop : RecordStop) (a b c : Moment) → ((xs ys : List Happening) → one xs → b.world ≡ after xs a.world → other ys → both (xs ++ ys)) → Leads one a b → LeadsToStop other stop b c → LeadsToStop both stop a c
@@ -164,12 +165,12 @@ pub stops_one : (h : Happening) (stop : RecordStop) (a b : Moment) → b.world �
 stops_one h stop a b world disk told = record { history = []; last = h; is_kind = refl; stopped = inl (record { world = world; disk = (b.disk, disk, refl); told = told }) }
 
 -- nothing of it happened, by want of memory
-pub lacks_one : (h : Happening) (a b : Moment) → b.world ≡ a.world → b.disk ≡ a.disk → b.recorder ≡ a.recorder → LeadsToStop (λ hs. hs ≡ h ∷ []) OutOfMemory a b
-lacks_one h a b world disk recorder = record {
+pub lacks_one : (h : Happening) (a b : Moment) → NeedsMemory a.world h → b.world ≡ a.world → b.disk ≡ a.disk → b.recorder ≡ a.recorder → LeadsToStop (λ hs. hs ≡ h ∷ []) OutOfMemory a b
+lacks_one h a b needed world disk recorder = record {
   history = [];
   last = h;
   is_kind = refl;
-  stopped = inr (record { lacks = refl; world = world; disk = disk; told = subst (λ (r : RecorderSeen). Gained [] a.recorder r) (sym recorder) (gained_none a.recorder) });
+  stopped = inr (record { lacks = refl; needed = needed; world = world; disk = disk; told = subst (λ (r : RecorderSeen). Gained [] a.recorder r) (sym recorder) (gained_none a.recorder) });
 }
 
 pub ends_one : (h : Happening) (result : Result (Unit {0}) RecordStop) (a b : Moment) → b.world ≡ happens a.world h → DiskGoes a.world h a.disk b.disk → Adds (lines_at a.world h) result a.recorder b.recorder → Ends (λ hs. hs ≡ h ∷ []) (λ hs. hs ≡ h ∷ []) result a b
@@ -188,11 +189,11 @@ goes_one kind so_far n h result a b is far world made sectors disk told = record
 }
 
 -- nothing of one thing happened, by want of memory
-pub goes_lacking : (kind so_far : List Happening → Type 0) (n : ℕ) (h : Happening) (a b : Moment) → so_far (h ∷ []) → b.world ≡ a.world → b.disk ≡ a.disk → b.recorder ≡ a.recorder → Goes kind so_far n (Err OutOfMemory) a b
-goes_lacking kind so_far n h a b far world disk recorder =
+pub goes_lacking : (kind so_far : List Happening → Type 0) (n : ℕ) (h : Happening) (a b : Moment) → so_far (h ∷ []) → NeedsMemory a.world h → b.world ≡ a.world → b.disk ≡ a.disk → b.recorder ≡ a.recorder → Goes kind so_far n (Err OutOfMemory) a b
+goes_lacking kind so_far n h a b far needed world disk recorder =
     let made : mappings_of b.world ≡ mappings_of a.world = ap mappings_of world in
     record {
-      ends = stops_as (λ hs. hs ≡ h ∷ []) so_far OutOfMemory a b (λ xs e. subst so_far (sym e) far) (lacks_one h a b world disk recorder);
+      ends = stops_as (λ hs. hs ≡ h ∷ []) so_far OutOfMemory a b (λ xs e. subst so_far (sym e) far) (lacks_one h a b needed world disk recorder);
       keeps = record { made = omega arith; sectors = ap (λ (w : World). w.rings.front.sectors) world; attachment = ap (λ (d : DiskSeen). d.attachment) disk };
     }
 

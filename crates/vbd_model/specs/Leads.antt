@@ -1,12 +1,16 @@
 -- What happened between two moments: the machine, the disk and the recorder went along.
-use Rattle.std.specs.Prelude.{◌≡◌, ℕ, ◌+◌, ◌<◌, ◌≤◌, ◌^◌, ◌⊎◌, List, [], ◌∷◌, ◌++◌, Some, Result, Ok, Err}
+use Rattle.std.specs.Prelude.{◌≡◌, ℕ, ◌+◌, ◌<◌, ◌≤◌, ◌^◌, ◌⊎◌, false, List, [], ◌∷◌, ◌++◌, Some, Result, Ok, Err}
 use Rattle.blk_io.specs.Disk.{DiskSeen, attached_of}
 use Rattle.schedule_text.specs.declared.recorder.RecordStop.{RecordStop}
 use Rattle.schedule_text.specs.declared.recorder.RecordStop.TheVariants.{OutOfMemory}
 use Rattle.schedule_text.specs.Recorder.{RecorderSeen, Gained, StopsAmong}
-use Rattle.vbd_model.specs.World.{World}
+use Rattle.hypervisor.specs.May.{FrontTakesMemory, BackTakesMemory}
+use Rattle.split_model.specs.World.{may_suspend}
+use Rattle.vbd_front.specs.Ask as front
+use Rattle.vbd_back.specs.Ask as back
+use Rattle.vbd_model.specs.World.{World, frontend_of, backend_of}
 use Rattle.vbd_model.specs.Mappings.{mappings_of}
-use Rattle.vbd_model.specs.Happening.{Happening, lines_at, after, lines_of, DiskRuns}
+use Rattle.vbd_model.specs.Happening.{Happening, FrontMoves, BackMoves, OverwritesKey, Suspends, Looks, lines_at, after, lines_of, DiskRuns}
 
 -- a moment: the machine, and what the disk and the recorder expose
 pub record Moment : Type 0 where
@@ -42,9 +46,19 @@ pub record StopsShowing (history : List Happening) (last : Happening) (stop : Re
   pub disk : DiskRuns (history ++ last ∷ []) a.world a.disk b.disk
   pub told : StopsAmong (lines_of history a.world) (lines_at (after history a.world) last) stop a.recorder b.recorder
 
--- or before anything of it happened, by want of memory for a key, a watch or a new back, or of a number for another port
-pub record LacksMemory (history : List Happening) (stop : RecordStop) (a b : Moment) : Type 0 where
+-- what may happen that needs memory: an end's move that sets a key or a watch, by what it asks for; a key that a hostile hand sets; a suspend, for a new back and the keys of its epoch; and a suspend that finds no number for another port, of which nothing but a look is left
+abbrev pub NeedsMemory : World → Happening → Type 0
+NeedsMemory w FrontMoves = FrontTakesMemory (front.ask_of (frontend_of w))
+NeedsMemory w BackMoves = BackTakesMemory (back.ask_of (backend_of w))
+NeedsMemory w (OverwritesKey name text) = Unit {0}
+NeedsMemory w Suspends = Unit {0}
+NeedsMemory w (Looks quiet) = may_suspend w.rings ≡ false
+NeedsMemory w happening = ⊥
+
+-- or before anything of it happened, by want of memory for it
+pub record LacksMemory (history : List Happening) (last : Happening) (stop : RecordStop) (a b : Moment) : Type 0 where
   pub lacks : stop ≡ OutOfMemory
+  pub needed : NeedsMemory (after history a.world) last
   pub world : b.world ≡ after history a.world
   pub disk : DiskRuns history a.world a.disk b.disk
   pub told : Gained (lines_of history a.world) a.recorder b.recorder
@@ -54,7 +68,7 @@ pub record LeadsToStop (kind : List Happening → Type 0) (stop : RecordStop) (a
   pub history : List Happening
   pub last : Happening
   pub is_kind : kind (history ++ last ∷ [])
-  pub stopped : StopsShowing history last stop a b ⊎ LacksMemory history stop a b
+  pub stopped : StopsShowing history last stop a b ⊎ LacksMemory history last stop a b
 
 -- happenings of the one kind where the call was done, of the other where it was stopped
 abbrev pub Ends : (kind so_far : List Happening → Type 0) → Result (Unit {0}) RecordStop → Moment → Moment → Type 0

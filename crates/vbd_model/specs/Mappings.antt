@@ -24,7 +24,7 @@ maps_at s t = length t.rest
 abbrev pub maps_left : Work → ℕ
 maps_left t = maps_at t.stage t
 
--- a job has 960 segments and eight indirect pages at most, and its entry as many words at least as `fewest_entry_words` says: 40 mappings for each word that is copied are enough for it
+-- a job has 960 segments and eight indirect pages at most, and its entry 27 words at least: 40 mappings for each word that is copied are enough for it
 abbrev pub words_copied : BackStage → ℕ
 words_copied (Fetch k) = k
 words_copied s = 0

@@ -153,7 +153,8 @@ fn take_told(front: &mut Frontend) -> News {
     front.take_told()
 }
 
-fn close(front: &mut Frontend) {
+fn close(rt: &impl Abort, front: &mut Frontend) {
+    same(rt, front.take_told(), (None, None));
     front.close();
 }
 
@@ -297,7 +298,7 @@ fn submit_read(rt: &impl Abort, front: &mut Frontend) -> Result<u32, Refusal> {
 }
 
 fn closes(rt: &impl Abort, front: &mut Frontend) {
-    close(front);
+    close(rt, front);
     same(rt, take_told(front), (None, Some(FrontNews::Closing)));
 }
 

@@ -8,4 +8,4 @@ returns-in-Ok c =
 
 pub returns : goal.returns
 returns c =
-    stopped c.args.seed c.args.count c.new-load.result c.run.new.source _ _ c.new-recorder.result.tally c.run.new.recorder.tally c.in-Err.stop c.run_stop.result c.new-load.ensures c.new-recorder.ensures c.run_stop.ensures c.in-Err.ensures.runs
+    stopped c.args.seed c.args.count c.new-load.result c.run.new.source _ _ c.new-recorder.result.tally c.run.new.recorder.tally c.in-Err.stop c.run_stop.result c.new-load.ensures c.new-recorder.ensures c.run_stop.ensures c.in-Err.ensures.runs c.requires

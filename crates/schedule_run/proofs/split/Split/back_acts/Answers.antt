@@ -22,7 +22,7 @@ back-requires g c =
 pub returns-in_default : goal.returns-in_default
 returns-in_default g c =
     let w : World = world_of c.self.inside.front c.self.inside.back c.self.inside.under in
-    rw (← c.self.view_is) (back_lacks w c.back.new.self _ _ _ c.in_default.ensures.unchanged c.in_default.ensures.untouched)
+    rw (← c.self.view_is) (back_lacks w c.ask-ask.result c.back.new.self _ _ _ c.ask-ask.ensures.value c.in_default.ensures.memory c.in_default.ensures.unchanged c.in_default.ensures.untouched)
 
 pub invariant_of-self-in_default-answer : goal.invariant_of-self-in_default-answer
 invariant_of-self-in_default-answer g c =

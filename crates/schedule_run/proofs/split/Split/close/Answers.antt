@@ -3,6 +3,9 @@ use Rattle.schedule_run.specs.Inside.{world_of}
 use Rattle.schedule_run.proofs.Moving.{front_close_fit, front_close_goes, back_close_fit}
 use Rattle.schedule_run.proofs.split.Split.close.Goals as goal
 
+pub close-requires : goal.close-requires
+close-requires g c = record { told = c.self.invariant.0 }
+
 pub invariant_of-self : goal.invariant_of-self
 invariant_of-self g c =
     let w : World = world_of c.self.inside.front c.self.inside.back c.self.inside.under in

@@ -17,7 +17,8 @@ front-requires g c =
 pub returns-in_default : goal.returns-in_default
 returns-in_default g c =
     let w : World = world_of c.self.inside.front c.self.inside.back c.self.inside.under in
-    rw (← c.self.view_is) (λ disk. front_lacks w c.front.new.self disk _ c.in_default.ensures.unchanged)
+    rw (← c.self.view_is) (λ disk. front_lacks w c.ask-ask.result c.front.new.self disk _
+    (asked_now c.self.inside.front c.ask-ask.result c.self.invariant.0 c.ask-ask.ensures.value) c.in_default.ensures.memory c.in_default.ensures.unchanged)
 
 pub returns-in_default-answer : goal.returns-in_default-answer
 returns-in_default-answer g c =
@@ -31,7 +32,7 @@ complete-requires g c =
     let w : World = world_of c.self.inside.front c.self.inside.back c.self.inside.under in
     let fit = c.self.invariant.1 in
     let acted = front_told_so w.rings.under c.ask-ask.result c.in-Ok.answer c.in-Some.answer c.in-Some.is c.in-Ok.ensures.acted in
-    (front_told w.rings.under c.self.inside.front c.ask-ask.result c.in-Some.answer c.ask-ask.ensures.value acted, fit.safe.front_told)
+    (front_told w.rings.under c.self.inside.front c.ask-ask.result c.in-Some.answer c.ask-ask.ensures.value acted, fit.safe.front_told, c.self.invariant.0)
 
 pub invariant_of-self-2 : goal.invariant_of-self-2
 invariant_of-self-2 g c =

@@ -1,0 +1,9 @@
+pub mod Made
+pub mod Worded
+pub mod Closing
+pub mod Asked
+pub mod Once
+pub mod Dumped
+pub mod Parts
+pub mod Faults
+pub mod Refused

@@ -1,0 +1,5 @@
+pub mod Closing
+pub mod Parts
+pub mod Faults
+pub mod Laws
+pub mod Wrong
