@@ -12,8 +12,10 @@ import sys
 import tempfile
 import time
 
+sys.path.insert(0, str(pathlib.Path(__file__).resolve().parent.parent / "tools"))
+from words import timing  # noqa: E402
+
 SECTORS = 4096
-HERE = pathlib.Path(__file__).resolve().parent
 
 
 def settled(submissions):
@@ -41,10 +43,10 @@ def timed(program, words, room, runs):
     return best
 
 
-def main(schedule):
+def main(schedule, about):
     """Runs the program that the command line names on a schedule, as often as it says, and prints what the fastest run took."""
-    program = pathlib.Path(sys.argv[1] if len(sys.argv) > 1 else HERE / "../crates/blkring/out/blkring").resolve()
-    runs = int(sys.argv[2]) if len(sys.argv) > 2 else 10
+    asked = timing(f"bench/{pathlib.Path(sys.argv[0]).name}", about, 10).parse_args()
+    program, runs = asked.program, asked.runs
     with tempfile.TemporaryDirectory(prefix="schedule-times-") as name:
         room = pathlib.Path(name)
         with open(room / "image", "wb") as image:

@@ -1,9 +1,18 @@
 # What the examples share. They run the program that ./build made, or the one that BLKRING names; where there is none yet, or the
-# sources are newer, the program as it is written, without a proof.
+# sources are newer, the program as it is written, without a proof, which tools/unproved compiles once.
+#
+# The report goes to standard output, so it may be piped to `blkring check` or draw/sequence; what was to be seen, to standard error.
 
 top=$(cd "$(dirname "$0")/.." && pwd)
-crate=$top/crates/blkring
-program=${BLKRING:-$crate/out/blkring}
+program=${BLKRING:-$top/crates/blkring/out/blkring}
+
+# --help prints what the example says at its head
+case ${1:-} in
+-h | --help)
+    sed -n '2,/^[^#]/{/^#/s/^# \{0,1\}//p}' "$0"
+    exit 0
+    ;;
+esac
 
 room=$(mktemp -d)
 trap 'rm -rf "$room"' EXIT
@@ -14,36 +23,26 @@ is_current() {
     [ -z "$(find "$top/crates" "$top/crates.txt" -path '*/out' -prune -o -type f -newer "$program" -print | head -n 1)" ]
 }
 
+is_current || program=$("$top/tools/unproved")
+
 # run_on_zeros SCHEDULE [WORDS]: runs a schedule on an image of 8 zero sectors, or of as many as `sectors` says, and prints the report
 run_on_zeros() {
     schedule=$1
     shift
     head -c $((512 * ${sectors:-8})) /dev/zero >"$room/image"
-    if is_current; then
-        "$program" run "$room/image" "$@" <"$schedule"
-    else
-        as_written --data image="$room/image" -- run image "$@" <"$schedule"
-    fi
+    "$program" run "$room/image" "$@" <"$schedule" || {
+        status=$?
+        [ "$status" -ne 2 ] || sed -n 's/^#   /usage: /p' "$0" >&2
+        exit "$status"
+    }
 }
 
 # check_report REPORT: holds a report against the rules, which it may break (status 1)
 check_report() {
-    if is_current; then
-        "$program" check <"$1" || [ $? -eq 1 ]
-    else
-        as_written -- check <"$1" || [ $? -eq 1 ]
-    fi
+    "$program" check <"$1" || [ $? -eq 1 ]
 }
 
-as_written() {
-    echo "This is the program as it is written, not yet proved; ./build proves and builds it." >&2
-    status=0
-    (cd "$crate" && rt try "$@" 2>"$room/said") || status=$?
-    [ "$status" -eq 0 ] || cat "$room/said" >&2
-    return "$status"
-}
-
-# the line at the end of an example: what was to be seen
+# the lines at the end of an example, on standard error: what was to be seen
 seen() {
-    echo "# $*"
+    echo "# $*" >&2
 }

@@ -25,6 +25,6 @@ void serve_event(void);
 void event_sent(void);
 
 /* Ends the program, with a line on the error output. */
-void give_up(const char *what) __attribute__((noreturn));
+void die(const char *what) __attribute__((noreturn));
 
 #endif
