@@ -61,7 +61,7 @@ def comparison(name: str, about: str | None, what: str, count: int) -> tuple[int
 def timing(name: str, about: str | None, runs: int) -> argparse.ArgumentParser:
     """The words of a measurement: the program and how often it is run."""
     words = words_of(name, about)
-    words.add_argument("program", type=program, nargs="?", default=PROGRAM)
+    words.add_argument("program", type=program, nargs="?", default=str(PROGRAM))
     words.add_argument("runs", type=number(1), nargs="?", default=runs)
     return words
 
