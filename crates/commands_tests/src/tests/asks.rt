@@ -194,11 +194,7 @@ const BENCHES: &[(&str, u64, u64)] = &[
     ("bench 7 10", 7, 10),
     ("bench 0 0", 0, 0),
     ("bench +007 +1", 7, 1),
-    (
-        "bench 18446744073709551615 18446744073709551615",
-        u64::MAX,
-        u64::MAX,
-    ),
+    ("bench 18446744073709551615 100000", u64::MAX, 100_000),
 ];
 
 const NO_BENCHES: &[&str] = &[
@@ -207,6 +203,7 @@ const NO_BENCHES: &[&str] = &[
     "bench 7 10 1",
     "bench 7 x",
     "bench 18446744073709551616 1",
+    "bench 7 100001",
     "bench 7 18446744073709551616",
     "bench 7 -1",
     "bench 7 10 --moves",
