@@ -14,6 +14,17 @@ case ${1:-} in
     ;;
 esac
 
+# usage: says how the example is called, by its head, at a word that it doesn't take
+usage() {
+    sed -n 's/^#   /usage: /p' "$0" >&2
+    exit 2
+}
+
+# an example that names no words in its head takes none
+if [ $# -gt 0 ] && ! sed -n 's/^#   //p' "$0" | grep -q '\['; then
+    usage
+fi
+
 room=$(mktemp -d)
 trap 'rm -rf "$room"' EXIT
 
@@ -32,7 +43,7 @@ run_on_zeros() {
     head -c $((512 * ${sectors:-8})) /dev/zero >"$room/image"
     "$program" run "$room/image" "$@" <"$schedule" || {
         status=$?
-        [ "$status" -ne 2 ] || sed -n 's/^#   /usage: /p' "$0" >&2
+        [ "$status" -ne 2 ] || usage
         exit "$status"
     }
 }
