@@ -190,7 +190,6 @@ impl Frontend {
     fn tell_by_turn<'a>(&mut self, answer: &FrontAnswer<'a>)
         requires kind { IsAnswer (ask_of self.old) answer.now }
         requires told { self.old.ring.told ≡ None }
-        requires heard { self.old.news ≡ None }
         ensures { self.new ≡ step_of self.old answer.now }
     {
         self.ends.complete(self.turn, answer);
@@ -209,7 +208,7 @@ impl<'a> Endpoint<'a> for Frontend {
 
     ghost asked = { ask_of };
 
-    ghost MayComplete = { λ front answer. IsAnswer (ask_of front) answer × (front.ring.told ≡ None) × (front.news ≡ None) };
+    ghost MayComplete = { λ front answer. IsAnswer (ask_of front) answer × (front.ring.told ≡ None) };
 
     #[inline(always)]
     #[tactic(auto, using(crate::proofs::Turns::made_asks))]
@@ -227,7 +226,7 @@ impl<'a> Endpoint<'a> for Frontend {
     #[inline(always)]
     #[tactic(auto, using(crate::proofs::Turns::made_answers, crate::proofs::Turns::made_steps))]
     fn complete(&mut self, answer: &FrontAnswer<'a>) -> Result<(), OutOfMemory>
-        requires { IsAnswer (ask_of self.old) answer.now × (self.old.ring.told ≡ None) × (self.old.news ≡ None) }
+        requires { IsAnswer (ask_of self.old) answer.now × (self.old.ring.told ≡ None) }
         ensures completed { self.new ≡ step_of self.old answer.now }
         ensures takes_no_memory { IsOk result }
         ensures unchanged { OnErr result (self.new ≡ self.old) }

@@ -32,7 +32,7 @@ complete-requires g c =
     let w : World = world_of c.self.inside.front c.self.inside.back c.self.inside.under in
     let fit = c.self.invariant.1 in
     let acted = front_told_so w.rings.under c.ask-ask.result c.in-Ok.answer c.in-Some.answer c.in-Some.is c.in-Ok.ensures.acted in
-    (front_told w.rings.under c.self.inside.front c.ask-ask.result c.in-Some.answer c.ask-ask.ensures.value acted, fit.safe.front_told, c.self.invariant.0)
+    (front_told w.rings.under c.self.inside.front c.ask-ask.result c.in-Some.answer c.ask-ask.ensures.value acted, fit.safe.front_told)
 
 pub invariant_of-self-2 : goal.invariant_of-self-2
 invariant_of-self-2 g c =

@@ -36,4 +36,4 @@ complete-requires g c =
     let w : World = world_of c.self.inside.front c.self.inside.back c.self.inside.under in
     let ask = Read c.args.frame c.args.word in
     let asked = subst (λ (x : World). ask ≡ ask_of (frontend_of x)) (sym c.self.view_is) c.requires.asked in
-    (subst (λ (a : FrontAsk). IsAnswer a (Word c.read_front.result)) (asked_here c.self.inside.front ask c.self.invariant.0 asked) tt, c.self.invariant.1.safe.front_told, c.self.invariant.0)
+    (subst (λ (a : FrontAsk). IsAnswer a (Word c.read_front.result)) (asked_here c.self.inside.front ask c.self.invariant.0 asked) tt, c.self.invariant.1.safe.front_told)

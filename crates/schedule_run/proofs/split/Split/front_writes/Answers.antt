@@ -34,4 +34,4 @@ complete-requires g c =
     let w : World = world_of c.self.inside.front c.self.inside.back c.self.inside.under in
     let ask = Write c.args.frame c.args.word c.args.value in
     let asked = subst (λ (x : World). ask ≡ ask_of (frontend_of x)) (sym c.self.view_is) c.requires.asked in
-    (subst (λ (a : FrontAsk). IsAnswer a Done) (asked_here c.self.inside.front ask c.self.invariant.0 asked) tt, c.self.invariant.1.safe.front_told, c.self.invariant.0)
+    (subst (λ (a : FrontAsk). IsAnswer a Done) (asked_here c.self.inside.front ask c.self.invariant.0 asked) tt, c.self.invariant.1.safe.front_told)
