@@ -1,0 +1,9 @@
+pub mod JobLeft
+pub mod BackLeft
+pub mod Happening
+pub mod Run
+pub mod Deed
+pub mod Ledger
+pub mod Life
+pub mod Laws
+pub mod JobSteps

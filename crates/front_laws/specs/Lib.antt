@@ -1,0 +1,9 @@
+pub mod History
+pub mod Sight
+pub mod Told
+pub mod Answers
+pub mod Honest
+pub mod Touches
+pub mod Samples
+pub mod Left
+pub mod Laws
