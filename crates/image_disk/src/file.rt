@@ -3,20 +3,18 @@ ghost use Rattle.std.specs.Prelude.{◌≡◌, None, OnOk, OnErr};
 ghost use Rattle.blk_io.specs.Outside.{Rose};
 
 use crate::attachment::Attached;
+use crate::zeros::{SECTOR, zero_sectors};
 use blk_base::SectorWords;
 use blk_io::{AttachStop, Failed, SectorDisk};
 use byteorder::{ByteOrder, LittleEndian};
 use std::alloc::Global;
-use std::fs::{OpenFile, OpenOptions};
-use std::io;
-use std::os::unix::fs::FileExt;
+use std::fs::{Metadata, OpenFile, OpenOptions, metadata};
+use std::io::{self, Seek, SeekFrom};
+use std::os::unix::fs::{FileExt, FileTypeExt};
 use std::rt::Files;
 
-/// The bytes of a sector.
-const SECTOR: u64 = 512;
-
-/// A raw disk image in a file. Each error of the file is a fault; it exposes what is attached, and
-/// nothing of what the file holds.
+/// A raw disk image in a file or on a block device; nothing else is attached, as a folder or a FIFO.
+/// Each error of the file is a fault; it exposes what is attached, and nothing of what the file holds.
 #[derive(Drop)]
 pub struct FileDisk<R: Files + Drop> {
     files: R,
@@ -44,13 +42,25 @@ impl<R: Files + Drop> FileDisk<R> {
     }
 }
 
-// Opens an image, and answers its whole number of sectors.
+// Opens an image, and answers its whole number of sectors. A FIFO is looked at before it is opened, since
+// that may wait for whoever writes to it.
 fn open<R: Files>(files: &R, name: &str, writable: bool) -> io::Result<(R::File, u64)> {
+    holds_sectors(&metadata(files, name)?)?;
     let mut options = OpenOptions::new();
     options.read(true).write(writable);
-    let file = options.open(files, name)?;
-    let sectors = file.metadata()?.len() / SECTOR;
-    Ok((file, sectors))
+    let mut file = options.open(files, name)?;
+    holds_sectors(&file.metadata()?)?;
+    // A device tells its length by its end alone.
+    let length = file.seek(SeekFrom::End(0))?;
+    Ok((file, length / SECTOR as u64))
+}
+
+// Refuses what isn't a regular file or a block device.
+fn holds_sectors(found: &Metadata) -> io::Result<()> {
+    if found.is_file() || found.file_type().is_block_device() {
+        return Ok(());
+    }
+    Err(io::Error::from(io::ErrorKind::InvalidInput))
 }
 
 // Counts an error of the file as a fault.
@@ -69,7 +79,7 @@ fn counted(outcome: io::Result<()>, faults: &mut u64) -> Result<(), Failed>
 
 // The file, and where a sector begins in it.
 fn placed<F>(file: &Option<F>, sector: u64) -> io::Result<(&F, u64)> {
-    match (file, sector.checked_mul(SECTOR)) {
+    match (file, sector.checked_mul(SECTOR as u64)) {
         (Some(file), Some(place)) => Ok((file, place)),
         _ => Err(io::Error::from(io::ErrorKind::NotFound)),
     }
@@ -113,7 +123,7 @@ where
     }
 
     fn trim(&mut self, sector: u64, count: u64) -> Result<(), Failed> {
-        let trimmed = zero_sectors(&self.file, sector, count);
+        let trimmed = trim_sectors(&self.file, sector, count);
         counted(trimmed, &mut self.faults)
     }
 }
@@ -144,11 +154,7 @@ fn flush_file<F: OpenFile>(file: &Option<F>) -> io::Result<()> {
     }
 }
 
-fn zero_sectors<F: FileExt>(file: &Option<F>, sector: u64, count: u64) -> io::Result<()> {
-    let zeros = [0u8; 512];
-    for done in 0..count {
-        let (file, place) = placed(file, sector.saturating_add(done))?;
-        file.write_all_at(&zeros, place)?;
-    }
-    Ok(())
+fn trim_sectors<F: FileExt>(file: &Option<F>, sector: u64, count: u64) -> io::Result<()> {
+    let (file, place) = placed(file, sector)?;
+    zero_sectors(file, place, count)
 }

@@ -1,13 +1,15 @@
 // Recorders that write lines to a sink, or count them.
 ghost use Rattle.std.specs.Prelude.{◌≡◌, OnOk, codes};
 ghost use Rattle.blk_io.specs.Outside.{written};
+ghost use Rattle.schedule_text.specs.Recorders.{kept_back_of};
 
 use crate::expected::same;
 use blk_base::{Access, BackMover, Move};
-use blk_io::{MemorySink, Sink};
+use blk_io::{BufferedSink, MemorySink, Sink, WriterSink};
 use line_text::LineText;
 use schedule_text::{Detail, Line, LineSink, LineTally, RecordStop, Recorder, Shown, Tally};
 use std::alloc::Global;
+use std::io::Write;
 use std::process::Abort;
 
 /// What a sink holds after two lines, as a stranger says it.
@@ -46,6 +48,46 @@ fn a_sink_gets_the_lines(rt: HostRuntime) {
 #[test]
 fn a_full_sink_stops_the_recorder(rt: HostRuntime) {
     holds_lines(&rt, rt.alloc(), 8, Err(RecordStop::Failed), b"quiet\n");
+}
+
+/// What a sink keeps back after a change of the disk was told, as a stranger says it.
+fn tells_a_change<S: Sink>(out: &mut S) -> Result<(), RecordStop>
+    ensures { OnOk result (kept_back_of (S.seen out.new) ≡ 0) }
+{
+    let mut recorder = LineSink {
+        sink: out,
+        detail: Detail::Lines,
+        room: LineText::new(),
+    };
+    recorder.add(&Line::Quiet)?;
+    recorder.add(&Line::Trimmed { id: 7 })
+}
+
+// Lines go to a writer through a sink that keeps them back, and is never asked to hand them on.
+fn writes_lines<W: Write + Drop>(rt: &impl Abort, writer: W, lines: &[Line]) {
+    let mut sink = BufferedSink::new(WriterSink::new(writer));
+    tells_a_change(&mut sink).expect(rt, "room");
+    let mut recorder = LineSink {
+        sink: &mut sink,
+        detail: Detail::Lines,
+        room: LineText::new(),
+    };
+    for line in lines {
+        recorder.add(line).expect(rt, "room");
+    }
+}
+
+#[test]
+fn a_change_is_told_at_once_with_what_came_before_it(rt: HostRuntime) {
+    let mut held: Vec<u8> = Vec::new(rt.alloc());
+    let effect = Line::Effect { id: 1, index: 0 };
+    let fault = Line::Fault { id: 2, index: 0 };
+    writes_lines(&rt, &mut held, &[Line::Busy, effect, fault, Line::End]);
+    same(
+        &rt,
+        held.as_slice(),
+        b"quiet\ntrimmed 7\nbusy\neffect 1 0\nfault 2 0\n",
+    );
 }
 
 // A move that makes a port.

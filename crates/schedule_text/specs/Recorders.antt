@@ -1,10 +1,11 @@
 -- What the recorders expose, and what they make of one line.
-use Rattle.std.specs.Prelude.{◌≡◌, List, [], ◌∷◌, ◌++◌, Result, Ok, Err, Some, None}
+use Rattle.std.specs.Prelude.{◌≡◌, ℕ, Bool, true, false, List, [], ◌∷◌, ◌++◌, Result, Ok, Err, Some, None}
 use Rattle.std.specs.Borrow.{GName}
 use Rattle.blk_io.specs.Outside.{SinkSeen, TakesBytes, FailsWriting}
 use Rattle.schedule_text.specs.declared.line.Detail.{Detail}
 use Rattle.schedule_text.specs.declared.line.Detail.TheVariants.{Lines}
 use Rattle.schedule_text.specs.declared.line.Line.{Line}
+use Rattle.schedule_text.specs.declared.line.Line.TheVariants.{Effect, Trimmed, Fault}
 use Rattle.schedule_text.specs.declared.recorder.RecordStop.{RecordStop}
 use Rattle.schedule_text.specs.declared.recorder.RecordStop.TheVariants.{Failed, OutOfMemory}
 use Rattle.schedule_text.specs.declared.recorder.Tally.{Tally}
@@ -41,6 +42,17 @@ abbrev pub WritesLine : Line → Result (Unit {0}) RecordStop → SinkSeen → S
 WritesLine line (Ok done) a b = TakesBytes (line_bytes line) a b
 WritesLine line (Err Failed) a b = FailsWriting (line_bytes line) a b
 WritesLine line (Err OutOfMemory) a b = ⊥
+
+-- the lines that tell of a call of the disk that may have changed its sectors: a sector was written, sectors were discarded, or the call failed
+abbrev pub tells_of_change : Line → Bool
+tells_of_change (Effect id index) = true
+tells_of_change (Trimmed id) = true
+tells_of_change (Fault id index) = true
+tells_of_change line = false
+
+-- how many of the bytes that it took a sink keeps back
+abbrev pub kept_back_of : SinkSeen → ℕ
+kept_back_of sink = sink.kept_back
 
 -- a recorder that counts: it keeps no lines of moves, and never fails
 abbrev pub counting : Tally → RecorderSeen

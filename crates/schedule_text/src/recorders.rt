@@ -1,12 +1,12 @@
 // Three recorders: one keeps the lines, one writes their text to a sink, one counts.
-ghost use Rattle.std.specs.Prelude.{◌≡◌, ◌<◌, [], None};
+ghost use Rattle.std.specs.Prelude.{◌≡◌, ◌<◌, ◌∷◌, [], None, OnOk, true};
 ghost use Rattle.std.specs.Option.{option_to_list};
 ghost use Rattle.arrayvec.specs.ArrayString.{array_string_len};
 ghost use Rattle.blk_base.specs.Access.{move_of};
 ghost use Rattle.schedule_text.specs.declared.line.Line.{Line};
 ghost use Rattle.schedule_text.specs.Line.{text_of};
-ghost use Rattle.schedule_text.specs.Recorder.{recorded, counted};
-ghost use Rattle.schedule_text.specs.Recorders.{KeepsLine, WritesLine};
+ghost use Rattle.schedule_text.specs.Recorder.{recorded, counted, Adds};
+ghost use Rattle.schedule_text.specs.Recorders.{KeepsLine, WritesLine, kept_back_of, tells_of_change, writing};
 
 use crate::accesses::write_access;
 use crate::line::{Detail, Line};
@@ -97,8 +97,9 @@ fn kept(detail: Detail, line: &Line) -> Option<Line>
     }
 }
 
-/// A recorder that writes each line, with its line feed, to a sink by one call. Each line is made in
-/// the same room.
+/// A recorder that writes each line, with its line feed, to a sink by one call. A line that tells of a
+/// change of the disk is handed on at once, with all that the sink kept back before it: so before the
+/// disk is changed again, the former change is told. Each line is made in the same room.
 #[derive(Drop)]
 pub struct LineSink<'a, S> {
     pub sink: &'a mut S,
@@ -111,7 +112,12 @@ impl<'a, S: Sink> Recorder for LineSink<'a, S> {
 
     ghost seen = { λ r. writing r.detail r.sink.ghost_name (S.seen r.sink.now) };
 
-    fn add(&mut self, line: &Line) -> Result<(), RecordStop> {
+    fn add(&mut self, line: &Line) -> Result<(), RecordStop>
+        ensures added { Adds (line.now ∷ []) result
+            (writing self.old.detail self.old.sink.ghost_name (S.seen self.old.sink.now))
+            (writing self.new.detail self.new.sink.ghost_name (S.seen self.new.sink.now)) }
+        ensures at_once { tells_of_change line.now ≡ true → OnOk result (kept_back_of (S.seen self.new.sink.now) ≡ 0) }
+    {
         match line {
             Line::Begin { config, .. } => write_begin(
                 self.sink,
@@ -123,6 +129,9 @@ impl<'a, S: Sink> Recorder for LineSink<'a, S> {
                 Detail::Lines => Ok(()),
                 Detail::Moves => write(self.sink, &mut self.room, line),
             },
+            Line::Effect { .. } | Line::Trimmed { .. } | Line::Fault { .. } => {
+                write_at_once(self.sink, &mut self.room, line)
+            }
             _ => write(self.sink, &mut self.room, line),
         }
     }
@@ -150,6 +159,19 @@ fn write<S: Sink>(sink: &mut S, text: &mut LineText, line: &Line) -> Result<(), 
 {
     write_line(line, text);
     send(sink, text)
+}
+
+// Writes a line and its line feed, and hands it on with all that was kept back before it.
+#[inline(never)]
+fn write_at_once<S: Sink>(sink: &mut S, text: &mut LineText, line: &Line) -> Result<(), RecordStop>
+    ensures written { WritesLine line.now result (S.seen sink.old) (S.seen sink.new) }
+    ensures at_once { OnOk result (kept_back_of (S.seen sink.new) ≡ 0) }
+{
+    write(sink, text, line)?;
+    match sink.flush() {
+        Ok(()) => Ok(()),
+        Err(Failed) => Err(RecordStop::Failed),
+    }
 }
 
 // Writes a line's text and its line feed.
